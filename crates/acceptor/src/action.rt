@@ -1,0 +1,78 @@
+//! Actions.
+ghost use Rattle.std.specs.Prelude.{◌≡◌};
+ghost use Rattle.acceptor.specs.Effect as spelling;
+
+use crate::effect::{Sending, Timer};
+use crate::state::State;
+
+/// What is done at an event, named as PS3.8 Tables 9-6 to 9-9 name it.
+#[derive(Clone, Copy, Debug, PartialEq, Eq)]
+pub enum Action {
+    /// No action: the event doesn't belong to the state (this product's own profile).
+    Nothing,
+    /// AE-5: the transport connection is answered, and the ARTIM timer starts.
+    Ae5,
+    /// AE-6: where the request is acceptable the timer stops and the local user is asked; else an
+    /// A-ASSOCIATE-RJ is sent and the timer starts.
+    Ae6,
+    /// AE-7: an A-ASSOCIATE-AC is sent.
+    Ae7,
+    /// AE-8: an A-ASSOCIATE-RJ is sent and the timer starts.
+    Ae8,
+    /// AR-2: the local user is told of the release.
+    Ar2,
+    /// AR-4: an A-RELEASE-RP is sent and the timer starts.
+    Ar4,
+    /// AR-5: the timer stops.
+    Ar5,
+    /// AA-1: an A-ABORT of the service user is sent and the timer starts.
+    Aa1,
+    /// AA-2: the timer stops and the transport connection is closed.
+    Aa2,
+    /// AA-3: the local user is told of the peer's abort, and the transport connection is closed.
+    Aa3,
+    /// AA-4: the local user is told that the transport connection is gone.
+    Aa4,
+    /// AA-5: the timer stops.
+    Aa5,
+    /// AA-6: the PDU is ignored.
+    Aa6,
+    /// AA-7: an A-ABORT of the service provider is sent; the timer goes on.
+    Aa7,
+    /// AA-8: an A-ABORT of the service provider is sent, the local user is told, and the timer
+    /// starts.
+    Aa8,
+    /// DT-2: the data goes to the local user.
+    Dt2,
+}
+
+impl Action {
+    /// What this action sends where it leads to the state `next`. `reason` is the reason of an
+    /// A-ABORT of the service provider (PS3.8 section 9.3.8); the other actions don't use it.
+    pub fn sends(self, next: State, reason: u8) -> Sending
+        ensures { result ≡ spelling.sending self next reason }
+    {
+        match (self, next) {
+            (Action::Ae6, State::Sta13) => Sending::Answer,
+            (Action::Ae7 | Action::Ae8, _) => Sending::Answer,
+            (Action::Ar4, _) => Sending::ReleaseResponse,
+            (Action::Aa1, _) => Sending::Abort(0, 0),
+            (Action::Aa7 | Action::Aa8, _) => Sending::Abort(2, reason),
+            (_, _) => Sending::Nothing,
+        }
+    }
+
+    /// What this action does to the ARTIM timer where it leads to the state `next`.
+    pub fn timer(self, next: State) -> Timer
+        ensures { result ≡ spelling.timer self next }
+    {
+        match (self, next) {
+            (Action::Ae6, State::Sta13) => Timer::Starts,
+            (Action::Ae6, _) => Timer::Stops,
+            (Action::Ae5 | Action::Ae8 | Action::Ar4 | Action::Aa1 | Action::Aa8, _) =>
+                Timer::Starts,
+            (Action::Aa2 | Action::Aa5 | Action::Ar5, _) => Timer::Stops,
+            (_, _) => Timer::GoesOn,
+        }
+    }
+}

@@ -1,0 +1,42 @@
+//! The state table.
+ghost use Rattle.std.specs.Prelude.{◌≡◌};
+ghost use Rattle.acceptor.specs.Effect.{timer, timer_runs, runs_after};
+ghost use Rattle.acceptor.specs.Table.{table};
+
+use crate::action::Action;
+use crate::event::Event;
+use crate::state::State;
+
+/// The action that the event asks for in this state, and the next state: the acceptor's part of
+/// PS3.8 Table 9-10. Every other pair asks for no action and keeps the state. The ARTIM timer then
+/// runs exactly where the next state has it run.
+pub fn act(state: State, event: Event) -> (Action, State)
+    ensures table { result ≡ table state event }
+    ensures timer { runs_after (timer result.0 result.1) (timer_runs state) ≡ timer_runs result.1 }
+{
+    use Action::*;
+    use Event::*;
+    use State::*;
+    match (state, event) {
+        (Sta1, Connected) => (Ae5, Sta2),
+        (Sta2, Request(true)) => (Ae6, Sta3),
+        (Sta2, Request(false)) => (Ae6, Sta13),
+        (Sta2, Ac | Rj | Data | ReleaseRq | ReleaseRp | Invalid) => (Aa1, Sta13),
+        (Sta2, Abort | Expired) => (Aa2, Sta1),
+        (Sta2, Closed) => (Aa5, Sta1),
+        (Sta3, UserAccepts) => (Ae7, Sta6),
+        (Sta3, UserRefuses) => (Ae8, Sta13),
+        (Sta6, Data) => (Dt2, Sta6),
+        (Sta6, ReleaseRq) => (Ar2, Sta8),
+        (Sta6, Request(_) | Ac | Rj | ReleaseRp | Invalid) => (Aa8, Sta13),
+        (Sta6, Abort) => (Aa3, Sta1),
+        (Sta6, Closed) => (Aa4, Sta1),
+        (Sta6, UserAborts) => (Aa1, Sta13),
+        (Sta8, UserReleases) => (Ar4, Sta13),
+        (Sta13, Ac | Rj | Data | ReleaseRq | ReleaseRp) => (Aa6, Sta13),
+        (Sta13, Request(_) | Invalid) => (Aa7, Sta13),
+        (Sta13, Abort | Expired) => (Aa2, Sta1),
+        (Sta13, Closed) => (Ar5, Sta1),
+        (state, _) => (Nothing, state),
+    }
+}

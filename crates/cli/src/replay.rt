@@ -1,0 +1,96 @@
+//! `dcmbox replay`: a recorded association runs again.
+ghost use Rattle.std.specs.Prelude.{◌<◌};
+
+use crate::error::ProgramError;
+use crate::hexadecimal;
+use crate::limits::{COMMAND, DEPTH, REQUEST, VALUES};
+use arrayvec::ArrayVec;
+use element::AeTitle;
+use engine::{Given, ListSource, Report, run};
+use negotiate::Config;
+use part10::{Filing, MemoryFiling};
+use pdu::MemoryWire;
+use std::alloc::{AllocError, Allocator};
+use std::io::{Read, Write};
+use std::{fs, io};
+
+/// The bytes of a piece, where the words don't say it.
+const PIECE: usize = 4096;
+
+/// The title that the program answers to, where the words don't say it.
+const TITLE: AeTitle = AeTitle(*b"DCMBOX          ");
+
+/// The recording in pieces of `cut` bytes, and then the transport's close.
+fn inputs_of<'a, A: Allocator>(
+    alloc: A,
+    recording: &'a [u8],
+    cut: usize,
+) -> Result<Vec<Given<'a>, A>, AllocError>
+    requires { 0 < cut }
+{
+    let mut inputs = Vec::new(alloc);
+    for piece in recording.chunks(cut) {
+        inputs.push(Given::Piece(piece))?;
+    }
+    inputs.push(Given::Closed)?;
+    Ok(inputs)
+}
+
+/// Runs the recording that the reader gives, in pieces of `cut` bytes, over a wire in memory and the
+/// filing; writes what was sent in hexadecimal, and answers how it ended.
+///
+/// A recording that can't be read, a failed wire, an output that can't be written and want of memory
+/// are errors; where the wire failed, nothing is written.
+pub fn replay_over<A: Allocator + Copy, R: Read, F: Filing, O: Write>(
+    alloc: A,
+    input: &mut R,
+    cut: usize,
+    config: &Config,
+    filing: &mut F,
+    out: &mut O,
+) -> Result<Report, ProgramError>
+    requires { 0 < cut }
+{
+    let mut recording = Vec::new(alloc);
+    input
+        .read_to_end(&mut recording)
+        .map_err(ProgramError::Read)?;
+    let inputs = inputs_of(alloc, recording.as_slice(), cut)?;
+    let mut source = ListSource::new(inputs.as_slice());
+    let mut wire = MemoryWire::new(alloc);
+    let turns = inputs.len() as u64;
+    let report = run::<REQUEST, COMMAND, VALUES, DEPTH, _, _, _>(
+        &mut source,
+        config,
+        &mut wire,
+        filing,
+        turns,
+    );
+    if wire.failed() {
+        return Err(ProgramError::Wire);
+    }
+    hexadecimal::write_lines(wire.sent(), out).map_err(ProgramError::Write)?;
+    Ok(report)
+}
+
+/// Runs the recording of a file, and prints what was sent and how it ended.
+pub fn replay(rt: &HostRuntime, file: &str) -> Result<(), ProgramError> {
+    let alloc = rt.alloc();
+    let mut input = fs::open(rt, file).map_err(ProgramError::Open)?;
+    let config = Config::new(
+        TITLE,
+        ArrayVec::new(),
+        Config::DEFAULT_MAX_PDU,
+        Config::DEFAULT_MAX_DATA,
+    );
+    let mut filing = MemoryFiling::new(alloc);
+    let mut out = io::writer(rt);
+    let report = replay_over(alloc, &mut input, PIECE, &config, &mut filing, &mut out)?;
+    let files = filing.files().len();
+    writeln!(
+        out,
+        "{} held {} files {files}",
+        report.standing, report.held
+    )
+    .map_err(ProgramError::Write)
+}

@@ -1,0 +1,24 @@
+-- Faults of the file header.
+use Rattle.std.proofs.Common.{[], refl, sym, arith, codes}
+use Rattle.std.proofs.lemmas.List.{append-nil}
+use Rattle.element.specs.Vr.{is_short}
+use Rattle.part10.specs.MetaText.{SpellsMeta, HasMeta}
+use Rattle.part10.specs.Tried.{least_header, least_said}
+use Rattle.part10.proofs.Tried.{no_headers, other_syntax_is_told, least_read}
+use Rattle.dicomdir.specs.CheckFault.{in_header, in_syntax}
+use Rattle.dicomdir.specs.HeaderFaults.{HeaderFaults}
+
+implicit_is : SpellsMeta (least_said (codes "1.2.840.10008.1.2")) (least_header (codes "1.2.840.10008.1.2"))
+unfolding is_short
+implicit_is = least_read (codes "1.2.840.10008.1.2") refl (omega arith)
+
+implicit_has : HasMeta (least_said (codes "1.2.840.10008.1.2")) (least_header (codes "1.2.840.10008.1.2"))
+implicit_has = record {
+  front = least_header (codes "1.2.840.10008.1.2");
+  back = [];
+  whole = sym (append-nil (least_header (codes "1.2.840.10008.1.2")));
+  spelled = implicit_is;
+}
+
+pub header_faults : HeaderFaults
+header_faults = (in_header no_headers.0, in_header other_syntax_is_told.1, in_syntax implicit_has refl)

@@ -1,0 +1,5 @@
+pub mod HeaderFaults
+pub mod Laid
+pub mod NoFault
+pub mod OneImage
+pub mod Walking

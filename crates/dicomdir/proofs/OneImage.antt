@@ -1,0 +1,200 @@
+-- The directory of one image is linked, and offsets that leave the preamble out link nothing.
+use Rattle.std.proofs.Common.{◌≡◌, ℕ, ◌≤◌, List, [], ◌++◌, length, replicate, Option, Some, None, refl, subst, arith, codes}
+use Rattle.element.specs.declared.syntax.Syntax.TheVariants.{Explicit}
+use Rattle.element.specs.Vr.{is_short}
+use Rattle.part10.specs.declared.meta.Meta.{Meta}
+use Rattle.part10.specs.File.{head, meta_group, instance_elements, implementation_elements, title_element}
+use Rattle.part10.specs.MetaText.{SpellsMeta, said_of}
+use Rattle.part10.proofs.MetaLemmas.{head_is_read}
+use Rattle.sequence.specs.Tree.{Elements}
+use Rattle.dicomdir.specs.TreeOf.{Forest, no_nodes, node, TreeOf}
+use Rattle.dicomdir.specs.Directory.{IsExplicitFile, IsDirectoryFile, Record, carried, records_of}
+use Rattle.dicomdir.specs.Linked.{Linked, PlacedNode, carried_forest, record_at, first_place, AreLinked}
+use Rattle.dicomdir.specs.DirFault.{directory_fault, elements_at}
+use Rattle.dicomdir.specs.Layout.{spelled}
+use Rattle.dicomdir.specs.OneImage.{one_image_row, one_image_header, one_image_file, one_image_elements, OneImageIsLinked, OneImageFaults, preamble_left_out, PreambleCounts, RecordFaults, no_rows_elements, NoRowsAreLinked}
+use Rattle.dicomdir.specs.Groups.{RowsAreGrouped, FileIdsAreRead}
+use Rattle.dicomdir.specs.Record.{patient_record, study_record, series_record, image_record}
+use Rattle.dicomdir.proofs.Laid.{laid_elements}
+
+one_image_meta : Meta
+one_image_meta = record {
+  class = codes "1.2.840.10008.1.3.10";
+  instance = codes "2.25.1";
+  syntax = Explicit;
+  calling = record { 0 = replicate 16 32 };
+}
+
+header_is : head one_image_meta ≡ one_image_header
+unfolding one_image_meta instance_elements implementation_elements title_element is_short
+header_is = refl
+
+group_short : length (meta_group one_image_meta) ≤ 360
+unfolding one_image_meta instance_elements implementation_elements title_element is_short
+group_short = omega arith
+
+elements_are : one_image_file ≡ one_image_header ++ spelled (one_image_elements 320 320 0 404 534 626)
+unfolding is_short
+elements_are = refl
+
+pub one_image_faults : OneImageFaults
+unfolding directory_fault is_short
+one_image_faults = (refl, refl, refl, refl, refl, refl, refl)
+
+-- behind that header stands the data set
+explicit_file : (file back : List ℕ) → file ≡ one_image_header ++ back → IsExplicitFile file one_image_header back
+unfolding one_image_meta
+explicit_file file back whole = record {
+  said = said_of one_image_meta;
+  whole = whole;
+  header = subst (λ b. SpellsMeta (said_of one_image_meta) b) header_is (head_is_read one_image_meta refl refl refl group_short);
+  syntax = refl;
+}
+
+records_or_none : Option (List Record) → List Record
+records_or_none None = []
+records_or_none (Some records) = records
+
+the_elements : Elements
+the_elements = one_image_elements 320 320 0 404 534 626
+
+the_records : List Record
+the_records = records_or_none (records_of 266 the_elements)
+
+placed : ℕ → Elements → PlacedNode
+placed place es = record { place = place; carries = carried es }
+
+the_places : Forest PlacedNode
+the_places =
+    node (placed 320 (patient_record one_image_row))
+    (node (placed 404 (study_record one_image_row))
+    (node (placed 534 (series_record one_image_row))
+    (node (placed 626 (image_record one_image_row)) no_nodes no_nodes)
+    no_nodes)
+    no_nodes)
+    no_nodes
+
+pub one_image_is_linked : OneImageIsLinked
+unfolding records_or_none the_elements the_records placed the_places TreeOf one_image_meta is_short
+one_image_is_linked = record {
+  start = 266;
+  elements = the_elements;
+  is_file = record {
+    front = one_image_header;
+    back = spelled the_elements;
+    explicit = explicit_file one_image_file (spelled the_elements) elements_are;
+    data_set = laid_elements 0 the_elements refl;
+    begins = refl;
+  };
+  linked = record {
+    records = the_records;
+    placed = the_places;
+    has_records = refl;
+    good = refl;
+    tree_is = refl;
+    linked = (
+      record { elements = elements_at the_records 320; stands = refl; carries = refl; fits = refl; names_lower = refl; names_next = refl },
+      (
+        record { elements = elements_at the_records 404; stands = refl; carries = refl; fits = refl; names_lower = refl; names_next = refl },
+        (
+          record { elements = elements_at the_records 534; stands = refl; carries = refl; fits = refl; names_lower = refl; names_next = refl },
+          (
+            record { elements = elements_at the_records 626; stands = refl; carries = refl; fits = refl; names_lower = refl; names_next = refl },
+            tt,
+            tt,
+          ),
+          tt,
+        ),
+        tt,
+      ),
+      tt,
+    );
+    distinct = refl;
+    names_first = refl;
+    names_last = refl;
+  };
+}
+
+preamble_is_file : IsDirectoryFile (one_image_header ++ spelled preamble_left_out) 266 preamble_left_out
+unfolding one_image_meta is_short
+preamble_is_file = record {
+  front = one_image_header;
+  back = spelled preamble_left_out;
+  explicit = explicit_file (one_image_header ++ spelled preamble_left_out) (spelled preamble_left_out) refl;
+  data_set = laid_elements 0 preamble_left_out refl;
+  begins = refl;
+}
+
+preamble_records : List Record
+preamble_records = records_or_none (records_of 266 preamble_left_out)
+
+records_are : (o : Option (List Record)) (records : List Record) → o ≡ Some records → records ≡ records_or_none o
+unfolding records_or_none
+records_are None records e = absurd cc
+records_are (Some found) records e = cc
+
+none_there : record_at 192 preamble_records ≡ None
+unfolding preamble_records records_or_none is_short
+none_there = refl
+
+not_linked : (records : List Record) (placed : Forest PlacedNode) → records ≡ preamble_records → Some 192 ≡ Some (first_place placed) → AreLinked records 1 placed → ⊥
+not_linked records no_nodes is first linked = absurd cc
+not_linked records (node n below next) is first linked =
+    let here : n.place ≡ 192 = cc in
+    let nothing : record_at n.place records ≡ None = rw (here, is) none_there in
+    let something : record_at n.place records ≡ Some linked.0.elements = linked.0.stands in
+    absurd cc
+
+pub preamble_counts : PreambleCounts
+unfolding preamble_records is_short
+preamble_counts = (
+  preamble_is_file,
+  λ tree linked. not_linked linked.records linked.placed (records_are (records_of 266 preamble_left_out) linked.records linked.has_records) linked.names_first linked.linked,
+)
+
+pub rows_are_grouped : RowsAreGrouped
+unfolding TreeOf
+rows_are_grouped = (refl, refl, refl)
+
+pub file_ids_are_read : FileIdsAreRead
+file_ids_are_read = (refl, refl, refl, refl, refl, refl)
+
+pub record_faults : RecordFaults
+unfolding directory_fault is_short
+record_faults = (refl, refl, refl, refl, refl, refl, refl, refl)
+
+no_rows_size : length (one_image_header ++ spelled no_rows_elements) ≡ 320
+unfolding is_short
+no_rows_size = refl
+
+no_rows_linked : Linked (one_image_header ++ spelled no_rows_elements) (carried_forest (TreeOf []))
+unfolding TreeOf is_short
+no_rows_linked = record {
+  start = 266;
+  elements = no_rows_elements;
+  is_file = record {
+    front = one_image_header;
+    back = spelled no_rows_elements;
+    explicit = explicit_file (one_image_header ++ spelled no_rows_elements) (spelled no_rows_elements) refl;
+    data_set = laid_elements 0 no_rows_elements refl;
+    begins = refl;
+  };
+  linked = record {
+    records = [];
+    placed = no_nodes;
+    has_records = refl;
+    good = refl;
+    tree_is = refl;
+    linked = tt;
+    distinct = refl;
+    names_first = refl;
+    names_last = refl;
+  };
+}
+
+no_rows_fault : directory_fault 266 no_rows_elements ≡ None
+unfolding directory_fault is_short
+no_rows_fault = refl
+
+pub no_rows_are_linked : NoRowsAreLinked
+no_rows_are_linked = (no_rows_size, no_rows_linked, no_rows_fault)

@@ -1,0 +1,32 @@
+-- What is first found wrong with a file that ought to be a directory (this product's own profile).
+use Rattle.std.specs.Prelude.{◌≡◌, ℕ, ◌+◌, ◌^◌, List, [], length, Some, nat_eq, if◌then◌else◌}
+use Rattle.element.specs.declared.syntax.Syntax.TheVariants.{Implicit, Explicit}
+use Rattle.element.specs.declared.tag.Tag.{Tag}
+use Rattle.dictionary.specs.Syntaxes.{syntax_uid}
+use Rattle.part10.specs.MetaText.{Said, HasMeta, MetaFaultOf}
+use Rattle.sequence.specs.Tree.{Elements, DataSet}
+use Rattle.sequence.specs.Rules.{Limits, no_tag}
+use Rattle.sequence.specs.FirstFault.{IsUnbroken, FirstFault, EndFault}
+use Rattle.dicomdir.specs.Directory.{IsExplicitFile}
+use Rattle.dicomdir.specs.DirFault.{Fault, directory_fault}
+
+-- what the data set is held to: 64 open levels and 2^48 bytes; no value of it is kept
+abbrev pub check_limits : Limits
+check_limits = record { wanted = []; depth = 64; bytes = 2 ^ 48 }
+
+-- where a fault of the file header is told: at its letters, and else behind them
+abbrev pub place_of_meta_fault : ℕ → ℕ
+place_of_meta_fault number = if nat_eq number 50 then 128 else 132
+
+-- the fault's number, its place in the file, and the tag where it is a fault of the data set: first those of the
+-- file header, with Implicit as another syntax; then those of the data set; then those of the directory
+pub data CheckFault (file : List ℕ) : ℕ → ℕ → Tag → Type 0 where
+  in_header : {n : ℕ} → MetaFaultOf file n → CheckFault file n (place_of_meta_fault n) no_tag
+  in_syntax : {said : Said} → HasMeta said file → said.syntax ≡ syntax_uid Implicit → CheckFault file 53 132 no_tag
+  in_data_set : {front back p u : List ℕ} {rule : ℕ} {tag : Tag} → IsExplicitFile file front back
+      → FirstFault Explicit check_limits back p u rule tag → CheckFault file rule (length front + length p) tag
+  at_the_end : {front back : List ℕ} {tag : Tag} → IsExplicitFile file front back
+      → EndFault Explicit check_limits back tag → CheckFault file 20 (length file) tag
+  in_directory : {front back : List ℕ} {elements : Elements} {f : Fault} → IsExplicitFile file front back
+      → IsUnbroken Explicit check_limits back → DataSet Explicit 0 elements back
+      → directory_fault (length front) elements ≡ Some f → CheckFault file f.number f.place no_tag

@@ -1,0 +1,143 @@
+-- A directory as it is read (PS3.3 sections F.3 and F.4): its root, its records with their places, and what a
+-- record says. Offsets count from the file's first byte to the tag of a record's item.
+use Rattle.std.specs.Prelude.{◌≡◌, ℕ, ◌+◌, Bool, true, false, not, ◌&&◌, ◌||◌, List, [], ◌∷◌, ◌++◌, length, Option, Some, None, is_some, nat_eq, if◌then◌else◌, codes}
+use Rattle.std.specs.Str.{bytes_eq}
+use Rattle.byteorder.specs.Endian.{little_number}
+use Rattle.element.specs.declared.syntax.Syntax.TheVariants.{Explicit}
+use Rattle.element.specs.declared.header.Header.{Header}
+use Rattle.element.specs.Header.{number, header_bytes}
+use Rattle.dictionary.specs.Syntaxes.{syntax_uid}
+use Rattle.part10.specs.MetaText.{Said, SpellsMeta}
+use Rattle.sequence.specs.Shape.{is_undefined}
+use Rattle.sequence.specs.Tree.{Elements, no_elements, value, sequence, Items, no_items, item, DataSet}
+use Rattle.dicomdir.specs.FileId.{file_id_of}
+use Rattle.dicomdir.specs.Row.{key}
+
+-- the file is a file header that names Explicit, and what follows
+pub record IsExplicitFile (file front back : List ℕ) : Type 0 where
+  pub said : Said
+  pub whole : file ≡ front ++ back
+  pub header : SpellsMeta said front
+  pub syntax : said.syntax ≡ syntax_uid Explicit
+
+-- what follows is a data set of these elements, which begins at `start`
+pub record IsDirectoryFile (file : List ℕ) (start : ℕ) (elements : Elements) : Type 0 where
+  pub front : List ℕ
+  pub back : List ℕ
+  pub explicit : IsExplicitFile file front back
+  pub data_set : DataSet Explicit 0 elements back
+  pub begins : start ≡ length front
+
+-- how many bytes a header takes, and the delimitation behind an undefined length
+abbrev pub header_size : Header → ℕ
+header_size h = length (header_bytes h)
+
+abbrev pub end_size : ℕ → ℕ
+end_size n = if is_undefined n then 8 else 0
+
+-- how many bytes spell these elements, and these items
+abbrev mutual
+  pub size_of : Elements → ℕ
+  size_of no_elements = 0
+  size_of (value h v es) = header_size h + length v + size_of es
+  size_of (sequence h is es) = header_size h + size_of_items is + end_size h.length + size_of es
+
+  pub size_of_items : Items → ℕ
+  size_of_items no_items = 0
+  size_of_items (item h es is) = header_size h + size_of es + end_size h.length + size_of_items is
+
+-- what stands under a tag: a value or items, behind a header at a place
+pub data Found : Type 0 where
+  missing : Found
+  value_at : ℕ → List ℕ → Found
+  items_at : ℕ → Header → Items → Found
+
+-- among elements of which the first stands at `place`
+abbrev pub found : ℕ → ℕ → Elements → Found
+found tag place no_elements = missing
+found tag place (value h v es) =
+    if nat_eq (number h.tag) tag then value_at place v else found tag (place + header_size h + length v) es
+found tag place (sequence h is es) =
+    if nat_eq (number h.tag) tag then items_at place h is
+    else found tag (place + header_size h + size_of_items is + end_size h.length) es
+
+-- the number in a value of this many bytes
+abbrev pub number_in : ℕ → Found → Option ℕ
+number_in size missing = None
+number_in size (value_at place v) = if nat_eq (length v) size then Some (little_number size v) else None
+number_in size (items_at place h is) = None
+
+-- a record: the place of its item, and its elements
+pub record Record : Type 0 where
+  pub place : ℕ
+  pub elements : Elements
+
+-- the records of which the first stands at `place`
+abbrev pub records_at : ℕ → Items → List Record
+records_at place no_items = []
+records_at place (item h es is) =
+    record { place = place; elements = es } ∷ records_at (place + header_size h + size_of es + end_size h.length) is
+
+abbrev pub records_in : Found → Option (List Record)
+records_in missing = None
+records_in (value_at place v) = None
+records_in (items_at place h is) = Some (records_at (place + header_size h) is)
+
+-- the root: the offsets of the first and the last record of its level, and all records
+abbrev pub first_offset : ℕ → Elements → Option ℕ
+first_offset start es = number_in 4 (found 0x00041200 start es)
+
+abbrev pub last_offset : ℕ → Elements → Option ℕ
+last_offset start es = number_in 4 (found 0x00041202 start es)
+
+abbrev pub records_of : ℕ → Elements → Option (List Record)
+records_of start es = records_in (found 0x00041220 start es)
+
+-- a record's elements: its offsets, whether it is in use, its type and its file ID
+
+abbrev pub next_offset : Elements → Option ℕ
+next_offset es = number_in 4 (found 0x00041400 0 es)
+
+abbrev pub lower_offset : Elements → Option ℕ
+lower_offset es = number_in 4 (found 0x00041420 0 es)
+
+abbrev pub is_in_use : Option ℕ → Bool
+is_in_use None = false
+is_in_use (Some flag) = nat_eq flag 0xffff
+
+-- spaces and 00H at the end of a type do not count
+abbrev pub kind_in : Found → List ℕ
+kind_in missing = []
+kind_in (value_at place v) = key v
+kind_in (items_at place h is) = []
+
+abbrev pub file_id_in : Found → Option (List ℕ)
+file_id_in missing = None
+file_id_in (value_at place v) = file_id_of v
+file_id_in (items_at place h is) = None
+
+abbrev pub is_missing : Found → Bool
+is_missing missing = true
+is_missing (value_at place v) = false
+is_missing (items_at place h is) = false
+
+-- what a node of the tree carries: its type, and its file ID where there is one
+pub record Node : Type 0 where
+  pub kind : List ℕ
+  pub file_id : Option (List ℕ)
+
+-- what the node of a record with these elements carries
+abbrev pub carried : Elements → Node
+carried es = record { kind = kind_in (found 0x00041430 0 es); file_id = file_id_in (found 0x00041500 0 es) }
+
+-- a record has its offsets, is in use, and has a type
+abbrev pub has_record : Elements → Bool
+has_record es =
+    (is_some (next_offset es) && is_in_use (number_in 2 (found 0x00041410 0 es)))
+    && (is_some (lower_offset es) && not (bytes_eq (carried es).kind []))
+
+-- what it has for a file ID is one, and an image has one
+abbrev pub has_file_id : Elements → Bool
+has_file_id es =
+    is_some (carried es).file_id
+    || (is_missing (found 0x00041500 0 es) && not (bytes_eq (carried es).kind (codes "IMAGE")))

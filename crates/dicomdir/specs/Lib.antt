@@ -1,0 +1,13 @@
+pub mod FileId
+pub mod Row
+pub mod Record
+pub mod TreeOf
+pub mod Directory
+pub mod Linked
+pub mod DirFault
+pub mod CheckFault
+pub mod Layout
+pub mod OneImage
+pub mod Groups
+pub mod HeaderFaults
+pub mod NoFault

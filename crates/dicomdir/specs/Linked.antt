@@ -1,0 +1,101 @@
+-- When a directory's records are linked to a tree (PS3.3 section F.4; that an image directory has just these
+-- levels is this product's own profile).
+use Rattle.std.specs.Prelude.{◌≡◌, ℕ, suc, Bool, true, not, ◌&&◌, ◌||◌, List, [], ◌∷◌, ◌++◌, Option, Some, None, nat_eq, if◌then◌else◌, codes}
+use Rattle.std.specs.List.{list_any, list_all}
+use Rattle.std.specs.Str.{bytes_eq}
+use Rattle.sequence.specs.Tree.{Elements}
+use Rattle.dicomdir.specs.TreeOf.{Forest, no_nodes, node}
+use Rattle.dicomdir.specs.Directory.{IsDirectoryFile, Record, Node, carried, first_offset, last_offset, records_of, next_offset, lower_offset, has_record, has_file_id}
+
+-- what the nodes carry whose elements are those of a forest
+abbrev pub carried_forest : Forest Elements → Forest Node
+carried_forest no_nodes = no_nodes
+carried_forest (node es below next) = node (carried es) (carried_forest below) (carried_forest next)
+
+abbrev pub is_upper_kind : List ℕ → Bool
+is_upper_kind kind = bytes_eq kind (codes "PATIENT") || bytes_eq kind (codes "STUDY") || bytes_eq kind (codes "SERIES")
+
+-- levels 1 to 3 are patients, studies and series; level 4 has any other type, and nothing stands below it
+abbrev pub fits_level : ℕ → List ℕ → Bool
+fits_level level kind =
+    if nat_eq level 1 then bytes_eq kind (codes "PATIENT")
+    else (if nat_eq level 2 then bytes_eq kind (codes "STUDY")
+    else (if nat_eq level 3 then bytes_eq kind (codes "SERIES")
+    else (nat_eq level 4 && not (is_upper_kind kind))))
+
+-- a node, and the place of its record
+pub record PlacedNode : Type 0 where
+  pub place : ℕ
+  pub carries : Node
+
+abbrev pub nodes_of : Forest PlacedNode → Forest Node
+nodes_of no_nodes = no_nodes
+nodes_of (node n below next) = node n.carries (nodes_of below) (nodes_of next)
+
+-- depth first
+abbrev pub places_of : Forest PlacedNode → List ℕ
+places_of no_nodes = []
+places_of (node n below next) = n.place ∷ (places_of below ++ places_of next)
+
+-- of siblings, the first and the last; 0 where there is none
+abbrev pub first_place : Forest PlacedNode → ℕ
+first_place no_nodes = 0
+first_place (node n below next) = n.place
+
+abbrev pub last_place_behind : ℕ → Forest PlacedNode → ℕ
+last_place_behind place no_nodes = place
+last_place_behind place (node n below next) = last_place_behind n.place next
+
+abbrev pub last_place : Forest PlacedNode → ℕ
+last_place nodes = last_place_behind 0 nodes
+
+abbrev pub is_distinct : List ℕ → Bool
+is_distinct [] = true
+is_distinct (place ∷ places) = not (list_any (nat_eq place) places) && is_distinct places
+
+abbrev pub record_at : ℕ → List Record → Option Elements
+record_at place [] = None
+record_at place (r ∷ records) = if nat_eq r.place place then Some r.elements else record_at place records
+
+-- one of the records stands at the node's place, is of its type and file ID, fits its level, and names these places
+pub record IsRecordOf (records : List Record) (level : ℕ) (n : PlacedNode) (lower next : ℕ) : Type 0 where
+  pub elements : Elements
+  pub stands : record_at n.place records ≡ Some elements
+  pub carries : carried elements ≡ n.carries
+  pub fits : fits_level level n.carries.kind ≡ true
+  pub names_lower : lower_offset elements ≡ Some lower
+  pub names_next : next_offset elements ≡ Some next
+
+-- each record names the first record below it and its next sibling
+abbrev pub AreLinked : List Record → ℕ → Forest PlacedNode → Type 0
+AreLinked records level no_nodes = Unit {0}
+AreLinked records level (node n below next) =
+    IsRecordOf records level n (first_place below) (first_place next)
+    × AreLinked records (suc level) below
+    × AreLinked records level next
+
+abbrev pub are_records : List Record → Bool
+are_records records = list_all (λ r. has_record r.elements && has_file_id r.elements) records
+
+-- of a directory with these elements, of which the first stands at `start`, the records are linked to the tree
+pub record LinkedElements (start : ℕ) (elements : Elements) (tree : Forest Node) : Type 0 where
+  pub records : List Record
+  pub placed : Forest PlacedNode
+  pub has_records : records_of start elements ≡ Some records
+  pub good : are_records records ≡ true
+  pub tree_is : nodes_of placed ≡ tree
+  pub linked : AreLinked records 1 placed
+  pub distinct : is_distinct (places_of placed) ≡ true
+  pub names_first : first_offset start elements ≡ Some (first_place placed)
+  pub names_last : last_offset start elements ≡ Some (last_place placed)
+
+-- the file is a directory whose records are linked to the tree
+pub record Linked (file : List ℕ) (tree : Forest Node) : Type 0 where
+  pub start : ℕ
+  pub elements : Elements
+  pub is_file : IsDirectoryFile file start elements
+  pub linked : LinkedElements start elements tree
+
+-- each of its records is a node of the tree
+abbrev pub IsAllReached : {start : ℕ} {elements : Elements} {tree : Forest Node} → LinkedElements start elements tree → Type 0
+IsAllReached linked = list_all (λ r. list_any (nat_eq r.place) (places_of linked.placed)) linked.records ≡ true

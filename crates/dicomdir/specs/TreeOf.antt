@@ -1,0 +1,56 @@
+-- The tree of a directory (PS3.3 section F.4): patients, their studies, their series, their images.
+use Rattle.std.specs.Prelude.{ℕ, suc, ◌+◌, List, [], ◌∷◌, ◌++◌, map, filter, if◌then◌else◌}
+use Rattle.std.specs.List.{list_any}
+use Rattle.std.specs.Str.{bytes_eq}
+use Rattle.sequence.specs.Tree.{Elements}
+use Rattle.dicomdir.specs.Row.{Row, key, without_doubles}
+use Rattle.dicomdir.specs.Record.{patient_record, study_record, series_record, image_record}
+
+-- siblings: each node carries something, and has nodes below it
+pub data Forest (N : Type 0) : Type 0 where
+  no_nodes : Forest N
+  node : N → Forest N → Forest N → Forest N
+
+-- how many nodes there are
+abbrev pub count_of : {N : Type 0} → Forest N → ℕ
+count_of no_nodes = 0
+count_of (node n below next) = suc (count_of below + count_of next)
+
+abbrev pub with_key : List ℕ → List (List ℕ) → List (List ℕ)
+with_key k keys = if list_any (bytes_eq k) keys then keys else (keys ++ k ∷ [])
+
+-- the keys, and then the new ones of a list, in first-seen order
+abbrev pub seen_after : List (List ℕ) → List (List ℕ) → List (List ℕ)
+seen_after keys [] = keys
+seen_after keys (k ∷ ks) = seen_after (with_key k keys) ks
+
+abbrev pub rows_with : (Row → List ℕ) → List ℕ → List Row → List Row
+rows_with key_of k rows = filter (λ row. bytes_eq k (key_of row)) rows
+
+-- the node of a group of rows: it carries what its first row says
+abbrev pub group_node : (Row → Elements) → (List Row → Forest Elements) → List Row → Forest Elements → Forest Elements
+group_node record_for below [] next = next
+group_node record_for below (row ∷ rows) next = node (record_for row) (below (row ∷ rows)) next
+
+abbrev pub group_nodes : (Row → List ℕ) → (Row → Elements) → (List Row → Forest Elements) → List Row → List (List ℕ) → Forest Elements
+group_nodes key_of record_for below rows [] = no_nodes
+group_nodes key_of record_for below rows (k ∷ keys) =
+    group_node record_for below (rows_with key_of k rows) (group_nodes key_of record_for below rows keys)
+
+-- a node for each group of rows that have the same key, in first-seen order
+abbrev pub grouped : (Row → List ℕ) → (Row → Elements) → (List Row → Forest Elements) → List Row → Forest Elements
+grouped key_of record_for below rows = group_nodes key_of record_for below rows (seen_after [] (map key_of rows))
+
+abbrev pub images : List Row → Forest Elements
+images [] = no_nodes
+images (row ∷ rows) = node (image_record row) no_nodes (images rows)
+
+abbrev pub series : List Row → Forest Elements
+series rows = grouped (λ row. key row.series_instance_uid) series_record images rows
+
+abbrev pub studies : List Row → Forest Elements
+studies rows = grouped (λ row. key row.study_instance_uid) study_record series rows
+
+-- the tree of these rows; a node is its record's elements but for the two offsets
+unfoldable pub TreeOf : List Row → Forest Elements
+TreeOf rows = grouped (λ row. key row.patient_id) patient_record studies (without_doubles [] rows)

@@ -1,0 +1,52 @@
+//! What holds of the definitions: each function has a law as its contract, and does nothing.
+ghost use Rattle.dicomdir.specs.Groups.{RowsAreGrouped, FileIdsAreRead};
+ghost use Rattle.dicomdir.specs.HeaderFaults.{HeaderFaults};
+ghost use Rattle.dicomdir.specs.NoFault.{LinkedHasNoFault};
+ghost use Rattle.dicomdir.specs.OneImage.{OneImageIsLinked, OneImageFaults, PreambleCounts, RecordFaults, NoRowsAreLinked};
+
+/// The directory of one image, laid out byte by byte, is linked to the tree of its row.
+pub fn one_image_is_linked()
+    ensures { OneImageIsLinked }
+{}
+
+/// Offsets that are counted from behind the preamble link that directory to no tree.
+pub fn preamble_counts()
+    ensures { PreambleCounts }
+{}
+
+/// Where one of its offsets is changed, the fault that is found first and its place are those of the
+/// rules.
+pub fn one_image_faults()
+    ensures { OneImageFaults }
+{}
+
+/// Rows are grouped in first-seen order, padding does not count in keys, and doubles are left out.
+pub fn rows_are_grouped()
+    ensures { RowsAreGrouped }
+{}
+
+/// File IDs have one to eight components, and spaces at the end of the value do not count.
+pub fn file_ids_are_read()
+    ensures { FileIdsAreRead }
+{}
+
+/// What a record or the root lacks is told at the place of the rules, and so is a level that does not
+/// fit.
+pub fn record_faults()
+    ensures { RecordFaults }
+{}
+
+/// The directory of no rows has 320 bytes and is linked.
+pub fn no_rows_are_linked()
+    ensures { NoRowsAreLinked }
+{}
+
+/// Files without a file header, and of another syntax than Explicit, are told so.
+pub fn header_faults()
+    ensures { HeaderFaults }
+{}
+
+/// A directory whose records are linked to a tree, which leaves none of them out, has no fault.
+pub fn linked_has_no_fault()
+    ensures { LinkedHasNoFault }
+{}

@@ -1,0 +1,4 @@
+pub mod Classes
+pub mod Syntaxes
+pub mod Tags
+pub mod Entries

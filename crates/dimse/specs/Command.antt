@@ -1,0 +1,117 @@
+-- Command sets and the commands that they spell (PS3.7 sections 6.3.1, 9.3.1, 9.3.5 and annex E).
+use Rattle.std.specs.Prelude.{◌≡◌, ℕ, ◌^◌, ◌<◌, ◌%◌, Bool, true, false, not, ◌&&◌, List, [], ◌∷◌, ◌++◌, length, Option, Some, None, Result, Ok, Err, nat_eq, if◌then◌else◌, ◌⊎◌}
+use Rattle.byteorder.specs.Endian.{little_number}
+use Rattle.element.specs.Numbers.{le}
+use Rattle.element.specs.Header.{header_bytes}
+use Rattle.element.specs.Uid.{is_uid, uid_of}
+use Rattle.dimse.specs.declared.fault.DimseFault.{DimseFault}
+use Rattle.dimse.specs.declared.fault.DimseFault.TheVariants.{BadCommand, UnknownField, WrongKind}
+
+-- an element of group 0000: its number in the group, and its value
+pub record Element : Type 0 where
+  pub number : ℕ
+  pub value : List ℕ
+
+-- tag, length and value, in Implicit VR Little Endian
+unfoldable pub element_bytes : Element → List ℕ
+element_bytes e = header_bytes (record { tag = record { 0 = 0; 1 = e.number }; vr = None; length = length e.value }) ++ e.value
+
+abbrev pub elements_bytes : List Element → List ℕ
+elements_bytes [] = []
+elements_bytes (e ∷ es) = element_bytes e ++ elements_bytes es
+
+-- the number is one of the group, and the length even and of four bytes; so it is never the undefined length
+pub record IsElement (e : Element) : Type 0 where
+  pub in_group : e.number < 2 ^ 16
+  pub even : length e.value % 2 ≡ 0
+  pub fits : length e.value < 2 ^ 32
+
+-- elements whose numbers rise from above `last`
+abbrev pub AreRising : ℕ → List Element → Type 0
+AreRising last [] = Unit {0}
+AreRising last (e ∷ es) = IsElement e × (last < e.number) × AreRising e.number es
+
+-- a command set: (0000,0000), which counts the bytes after it, and the elements after it
+abbrev pub set_bytes : List Element → List ℕ
+set_bytes es = element_bytes (record { number = 0; value = le (length (elements_bytes es)) 4 }) ++ elements_bytes es
+
+-- the text is the command set of these elements
+pub record SpellsSet (text : List ℕ) (es : List Element) : Type 0 where
+  pub rising : AreRising 0 es
+  pub counted : length (elements_bytes es) < 2 ^ 32
+  pub whole : text ≡ set_bytes es
+
+-- the value of the element of this number
+abbrev pub value_of : ℕ → List Element → Option (List ℕ)
+value_of n [] = None
+value_of n (e ∷ es) = if nat_eq e.number n then Some e.value else value_of n es
+
+-- the number that a value of two bytes spells
+abbrev pub two_bytes : List ℕ → Option ℕ
+two_bytes value = if nat_eq (length value) 2 then Some (little_number 2 value) else None
+
+-- What a request of C-STORE (field 0001H) or C-ECHO (field 0030H) says. The identifiers stand without trailing
+-- zero bytes and spaces; C-STORE alone names an instance and has a data set after it.
+pub record CommandRecord : Type 0 where
+  pub class : List ℕ
+  pub field : ℕ
+  pub message : ℕ
+  pub with_data : Bool
+  pub instance : Option (List ℕ)
+
+abbrev pub is_request : ℕ → Bool → Option (List ℕ) → Bool
+is_request field with_data None = nat_eq field 0x0030 && not with_data
+is_request field with_data (Some instance) = nat_eq field 0x0001 && with_data
+
+abbrev pub is_uid_or_none : Option (List ℕ) → Bool
+is_uid_or_none None = true
+is_uid_or_none (Some uid) = is_uid uid
+
+-- what every such command is
+pub record IsCommand (c : CommandRecord) : Type 0 where
+  pub request : is_request c.field c.with_data c.instance ≡ true
+  pub class : is_uid c.class ≡ true
+  pub instance : is_uid_or_none c.instance ≡ true
+
+infixl 10 ◌>>=◌
+abbrev pub ◌>>=◌ : {A B : Type 0} → Result A DimseFault → (A → Result B DimseFault) → Result B DimseFault
+(Ok x) >>= f = f x
+(Err e) >>= f = Err e
+
+-- an element that has to be there, readable by `reads`
+abbrev pub needed : {A : Type 0} → (List ℕ → Option A) → Option (List ℕ) → Result A DimseFault
+needed reads None = Err BadCommand
+needed reads (Some value) = elim (reads value) [ None ↦ Err BadCommand | Some x ↦ Ok x ]
+
+-- affected SOP class 0002, command field 0100, message id 0110, data set type 0800 (0101H: no data set), and for
+-- C-STORE affected SOP instance 1000
+unfoldable pub stored : List ℕ → ℕ → List Element → Result CommandRecord DimseFault
+stored class message es = do
+  instance ← needed uid_of (value_of 0x1000 es)
+  Ok (record { class = class; field = 0x0001; message = message; with_data = true; instance = Some instance })
+
+abbrev pub request_of : List ℕ → ℕ → ℕ → ℕ → List Element → Result CommandRecord DimseFault
+request_of class field message kind es =
+    if nat_eq field 0x0030 then
+    (if nat_eq kind 0x0101 then Ok (record { class = class; field = 0x0030; message = message; with_data = false; instance = None })
+    else Err WrongKind)
+    else (if nat_eq field 0x0001 then
+    (if nat_eq kind 0x0101 then Err WrongKind else stored class message es)
+    else Err UnknownField)
+
+-- the command that a set's elements say, or the first rule that they break
+unfoldable pub command_of : List Element → Result CommandRecord DimseFault
+command_of es = do
+  class ← needed uid_of (value_of 0x0002 es)
+  field ← needed two_bytes (value_of 0x0100 es)
+  message ← needed two_bytes (value_of 0x0110 es)
+  kind ← needed two_bytes (value_of 0x0800 es)
+  request_of class field message kind es
+
+-- the text spells the command
+abbrev pub CommandText : CommandRecord → List ℕ → Type 0
+CommandText command text = (es : List Element) × SpellsSet text es × (command_of es ≡ Ok command)
+
+-- the first rule that the text breaks: it is no command set, or its elements say no command
+abbrev pub CommandFault : DimseFault → List ℕ → Type 0
+CommandFault fault text = ((es : List Element) × SpellsSet text es × (command_of es ≡ Err fault)) ⊎ ((fault ≡ BadCommand) × ¬ ((es : List Element) × SpellsSet text es))

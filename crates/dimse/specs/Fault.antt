@@ -1,0 +1,11 @@
+-- The numbers of the refusals of messages (this product's own profile).
+use Rattle.std.specs.Prelude.{ℕ}
+use Rattle.dimse.specs.declared.fault.DimseFault.{DimseFault}
+use Rattle.dimse.specs.declared.fault.DimseFault.TheVariants.{CommandTooLong, BadCommand, UnknownField, WrongKind, OtherContext}
+
+abbrev pub number_of : DimseFault → ℕ
+number_of CommandTooLong = 40
+number_of BadCommand = 41
+number_of UnknownField = 42
+number_of WrongKind = 43
+number_of OtherContext = 44

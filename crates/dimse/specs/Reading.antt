@@ -1,0 +1,60 @@
+-- The command that a text spells, computed from its front: what the definitions of Command.antt determine.
+use Rattle.std.specs.Prelude.{ℕ, zero, suc, ◌-◌, ◌%◌, Bool, ◌&&◌, List, [], ◌∷◌, length, take, drop, Option, Some, None, Result, Err, nat_eq, nat_le, nat_lt, if◌then◌else◌}
+use Rattle.byteorder.specs.Endian.{little_number}
+use Rattle.element.specs.Padding.{is_empty}
+use Rattle.dimse.specs.declared.fault.DimseFault.{DimseFault}
+use Rattle.dimse.specs.declared.fault.DimseFault.TheVariants.{BadCommand}
+use Rattle.dimse.specs.Command.{Element, CommandRecord, command_of}
+
+-- a header of group 0000 with an even length, and as many bytes after it
+abbrev pub is_element : List ℕ → Bool
+is_element b =
+    nat_le 8 (length b) && (nat_eq (little_number 2 b) 0 && (nat_eq (little_number 4 (drop 4 b) % 2) 0 && nat_le (little_number 4 (drop 4 b)) (length b - 8)))
+
+-- the element at the front, and the bytes after it
+unfoldable pub element_at : List ℕ → Option (Element × List ℕ)
+element_at b =
+    if is_element b then
+    Some (record { number = little_number 2 (drop 2 b); value = take (little_number 4 (drop 4 b)) (drop 8 b) }, drop (little_number 4 (drop 4 b)) (drop 8 b))
+    else None
+
+abbrev pub with_element : Element → Option (List Element) → Option (List Element)
+with_element e None = None
+with_element e (Some es) = Some (e ∷ es)
+
+-- the elements of a text of no more than `most` bytes, their numbers rising from above `last`
+unfoldable pub elements_in : ℕ → ℕ → List ℕ → Option (List Element)
+elements_in zero last b = if is_empty b then Some [] else None
+elements_in (suc most) last b =
+    if is_empty b then Some []
+    else (elim (element_at b) [
+      | None ↦ None
+      | Some x ↦ if nat_lt last x.0.number then with_element x.0 (elements_in most x.0.number x.1) else None
+    ])
+
+-- the elements that the text spells
+unfoldable pub elements_of : List ℕ → Option (List Element)
+elements_of b = elements_in (length b) 0 b
+
+-- (0000,0000) with a value of four bytes that counts the bytes after it
+abbrev pub counts : Element → ℕ → Bool
+counts e rest = nat_eq e.number 0 && (nat_eq (length e.value) 4 && nat_eq (little_number 4 e.value) rest)
+
+-- the elements of a command set but (0000,0000)
+unfoldable pub set_of : List ℕ → Option (List Element)
+set_of text = elim (element_at text) [
+  | None ↦ None
+  | Some x ↦ if counts x.0 (length x.1) then elements_of x.1 else None
+]
+
+abbrev pub command_in_set : Option (List Element) → Result CommandRecord DimseFault
+command_in_set None = Err BadCommand
+command_in_set (Some es) = command_of es
+
+-- the command that the text spells, or the first rule that it breaks
+unfoldable pub command_in : List ℕ → Result CommandRecord DimseFault
+command_in text = command_in_set (set_of text)
+
+abbrev pub known_elements : Option (List Element) → List Element
+known_elements None = []
+known_elements (Some es) = es

@@ -1,0 +1,69 @@
+-- Responses to C-ECHO and C-STORE (PS3.7 sections 9.3.1.2, 9.3.5.2 and annex E), and how their command sets are cut into
+-- P-DATA-TF PDUs of one presentation data value each (PS3.8 annex D.1 and annex E).
+use Rattle.std.specs.Prelude.{◌≡◌, ℕ, zero, suc, ◌+◌, ◌-◌, ◌*◌, ◌/◌, ◌%◌, ◌≤◌, ◌⊎◌, true, false, List, [], ◌∷◌, ◌++◌, length, take, drop, Option, Some, None, nat_eq, nat_le, if◌then◌else◌}
+use Rattle.element.specs.Numbers.{le}
+use Rattle.pdu.specs.Pieces.{joined}
+use Rattle.pdu.specs.Texts.{data_text}
+use Rattle.dimse.specs.Command.{Element, CommandRecord, set_bytes}
+
+-- an identifier as a value: a zero byte makes its length even (PS3.5 section 9.1)
+abbrev pub even_uid : List ℕ → List ℕ
+even_uid uid = if nat_eq (length uid % 2) 0 then uid else (uid ++ 0 ∷ [])
+
+abbrev pub element : ℕ → List ℕ → Element
+element number value = record { number = number; value = value }
+
+abbrev pub instance_elements : Option (List ℕ) → List Element
+instance_elements None = []
+instance_elements (Some uid) = element 0x1000 (even_uid uid) ∷ []
+
+-- affected SOP class 0002, command field 0100 (that of the request with its highest bit set), message id responded to
+-- 0120, data set type 0800 (none), status 0900, and of C-STORE affected SOP instance 1000
+abbrev pub reply_elements : CommandRecord → ℕ → List Element
+reply_elements command status =
+    element 0x0002 (even_uid command.class) ∷ element 0x0100 (le (command.field + 0x8000) 2) ∷ element 0x0120 (le command.message 2)
+    ∷ element 0x0800 (le 0x0101 2) ∷ element 0x0900 (le status 2) ∷ instance_elements command.instance
+
+-- the command set of the response
+unfoldable pub reply_command : CommandRecord → ℕ → List ℕ
+reply_command command status = set_bytes (reply_elements command status)
+
+-- a peer's maximum length that leaves room for a fragment; 0 is no maximum
+abbrev pub IsMaximum : ℕ → Type 0
+IsMaximum maximum = (maximum ≡ 0) ⊎ (8 ≤ maximum)
+
+-- the bytes of a fragment: the greatest even number up to the peer's maximum less the 6 of a presentation data value's
+-- head; without a maximum all of them
+abbrev pub fragment_size : ℕ → ℕ → ℕ
+fragment_size maximum all = if nat_eq maximum 0 then all else ((maximum - 6) / 2 * 2)
+
+-- fragments of this size, of which the last one alone may be shorter; it is empty only where it stands alone
+abbrev pub HaveSize : ℕ → List (List ℕ) → Type 0
+HaveSize size [] = ⊥
+HaveSize size (last ∷ []) = length last ≤ size
+HaveSize size (fragment ∷ next ∷ more) = (length fragment ≡ size) × (1 ≤ length next) × HaveSize size (next ∷ more)
+
+-- the text cut into such fragments
+pub record IsCut (size : ℕ) (text : List ℕ) (cut : List (List ℕ)) : Type 0 where
+  pub whole : text ≡ joined cut
+  pub sizes : HaveSize size cut
+
+-- the one cut of the text, computed: at most `more` fragments of this size, and a last one
+abbrev pub fragments_in : ℕ → ℕ → List ℕ → List (List ℕ)
+fragments_in zero size text = text ∷ []
+fragments_in (suc more) size text = if nat_le (length text) size then text ∷ [] else (take size text ∷ fragments_in more size (drop size text))
+
+unfoldable pub fragments : ℕ → List ℕ → List (List ℕ)
+fragments size text = fragments_in (length text) size text
+
+-- the PDUs of a command's fragments, of which the last one is marked so
+abbrev pub command_pdus : ℕ → List (List ℕ) → List ℕ
+command_pdus context [] = []
+command_pdus context (fragment ∷ []) = data_text context true true fragment
+command_pdus context (fragment ∷ next ∷ more) = data_text context true false fragment ++ command_pdus context (next ∷ more)
+
+-- the response as it is sent
+unfoldable pub reply_bytes : CommandRecord → ℕ → ℕ → ℕ → List ℕ
+reply_bytes command status context maximum =
+    let set = reply_command command status in
+    command_pdus context (fragments (fragment_size maximum (length set)) set)

@@ -1,0 +1,57 @@
+//! The elements of a command set.
+ghost use Rattle.std.specs.Prelude.{◌≡◌, List, option_map, Some};
+ghost use Rattle.std.specs.Option.{is_some};
+ghost use Rattle.dimse.specs.Command.{Element, value_of};
+ghost use Rattle.dimse.specs.Reading as spelling;
+
+use byteorder::{ByteOrder, LittleEndian};
+
+/// The element at the front: its number in group 0000 and its value; and the bytes after it. `None`
+/// where no whole element of group 0000 with an even length stands there.
+#[tactic(auto, unfolding(crate::specs::Reading::element_at))]
+pub fn element_at(bytes: &[u8]) -> Option<(u16, &[u8], &[u8])>
+    ensures { option_map (λ x. (record { number = x.0; value = x.1.now }, x.2.now)) result ≡ spelling.element_at bytes.now }
+{
+    if bytes.len() < 8 || LittleEndian::read_u16(bytes) != 0 {
+        return None;
+    }
+    let number = LittleEndian::read_u16(&bytes[2..]);
+    let length = LittleEndian::read_u32(&bytes[4..]) as usize;
+    let rest = &bytes[8..];
+    if length % 2 != 0 || length > rest.len() {
+        return None;
+    }
+    let (value, rest) = rest.split_at(length);
+    Some((number, value, rest))
+}
+
+/// Whether the bytes are whole elements of rising numbers above 0000.
+#[tactic(auto, unfolding(crate::specs::Reading::elements_of))]
+pub fn are_rising(bytes: &[u8]) -> bool
+    ensures { result ≡ is_some (spelling.elements_of bytes.now) }
+{
+    let mut last = 0;
+    let mut rest = bytes;
+    while let Some((number, _, more)) = element_at(rest) {
+        if number <= last {
+            return false;
+        }
+        last = number;
+        rest = more;
+    }
+    rest.is_empty()
+}
+
+/// The value of the element of this number.
+pub fn value_in(bytes: &[u8], number: u16) -> Option<&[u8]>
+    ensures { (es : List Element) → spelling.elements_of bytes.now ≡ Some es → option_map (λ v. v.now) result ≡ value_of number es }
+{
+    let mut rest = bytes;
+    while let Some((at, value, more)) = element_at(rest) {
+        if at == number {
+            return Some(value);
+        }
+        rest = more;
+    }
+    None
+}

@@ -1,0 +1,80 @@
+//! Command sets.
+ghost use Rattle.std.specs.Prelude.{◌≡◌, true, length, option_map, IfOk};
+ghost use Rattle.dimse.specs.Command.{needed, two_bytes, value_of};
+ghost use Rattle.dimse.specs.Reading as spelling;
+ghost use Rattle.dimse.specs.Reading.{set_of};
+ghost use Rattle.element.specs.Uid.{is_uid, uid_of};
+
+use crate::elements::{are_rising, element_at, value_in};
+use crate::fault::DimseFault;
+use byteorder::{ByteOrder, LittleEndian};
+use element::Uid;
+use std::marker::Model;
+
+/// The elements of a command set but (0000,0000) (PS3.7 section 6.3.1).
+#[derive(Drop)]
+pub struct CommandSet<'a> {
+    elements: &'a [u8],
+}
+
+impl<'a> Model for CommandSet<'a> {
+    ghost use Rattle.std.specs.Prelude.{◌≡◌, List, Some};
+    ghost use Rattle.dimse.specs.Command.{Element};
+    ghost use Rattle.dimse.specs.Reading.{elements_of, known_elements};
+
+    ghost Value = { List Element };
+
+    ghost view = { λ s. known_elements (elements_of s.elements.now) };
+
+    ghost invariant = { λ s. elements_of s.elements.now ≡ Some (known_elements (elements_of s.elements.now)) };
+}
+
+/// Whether the element is (0000,0000) with the count of the bytes after it.
+fn counts(number: u16, count: &[u8], elements: &[u8]) -> bool
+    ensures { result ≡ spelling.counts (record { number = number; value = count.now }) (length elements.now) }
+{
+    number == 0 && count.len() == 4 && LittleEndian::read_u32(count) as usize == elements.len()
+}
+
+impl<'a> CommandSet<'a> {
+    /// The command set that the bytes are; `None` where they are none.
+    #[tactic(auto, unfolding(crate::specs::Reading::set_of))]
+    pub fn read(bytes: &'a [u8]) -> Option<CommandSet<'a>>
+        ensures { result ≡ set_of bytes.now }
+    {
+        match element_at(bytes) {
+            Some((number, count, elements))
+                if counts(number, count, elements) && are_rising(elements) => {
+                Some(CommandSet { elements })
+            }
+            _ => None,
+        }
+    }
+
+    /// The value of the element of this number.
+    pub fn value(&self, number: u16) -> Option<&'a [u8]>
+        ensures { option_map (λ v. v.now) result ≡ value_of number self.now }
+    {
+        value_in(self.elements, number)
+    }
+
+    /// The unique identifier that this element holds; BadCommand where it is missing or holds none.
+    pub fn uid(&self, number: u16) -> Result<Uid, DimseFault>
+        ensures value { result ≡ needed uid_of (value_of number self.now) }
+        ensures is_uid { IfOk result (λ u. is_uid u ≡ true) }
+    {
+        let value = self.value(number).ok_or(DimseFault::BadCommand)?;
+        Uid::read(value).ok_or(DimseFault::BadCommand)
+    }
+
+    /// The number of two bytes that this element holds; BadCommand where it is missing or holds
+    /// none.
+    pub fn number(&self, number: u16) -> Result<u16, DimseFault>
+        ensures { result ≡ needed two_bytes (value_of number self.now) }
+    {
+        match self.value(number) {
+            Some(value) if value.len() == 2 => Ok(LittleEndian::read_u16(value)),
+            _ => Err(DimseFault::BadCommand),
+        }
+    }
+}

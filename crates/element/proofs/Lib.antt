@@ -1,0 +1,4 @@
+pub mod Trimming
+pub mod Headers
+pub mod Written
+pub mod LastZero

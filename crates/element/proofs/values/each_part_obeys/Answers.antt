@@ -1,0 +1,10 @@
+use Rattle.std.proofs.Common.{rules, tests}
+use Rattle.std.proofs.lemmas.Iterator.Search.{all_from_yields_List}
+use Rattle.std.proofs.lemmas.Iterator.Splits.{YieldsList-from_slice_split}
+use Rattle.element.specs.Values.{obeys, part_text, is_backslash}
+use Rattle.element.proofs.values.each_part_obeys.Goals as goal
+
+pub returns : goal.returns
+returns c = all_from_yields_List (λ part. obeys c.args.rule c.args.kind (part_text c.args.kind part)) _ _ _ c.all.ensures.ran
+    (YieldsList-from_slice_split _ is_backslash c.args.text.now c.split.ensures.rest c.split.ensures.done c.split.ensures.closure (λ x r q k. search (rules, tests)))
+    (λ x r q k. search (rules, tests))

@@ -1,0 +1,24 @@
+-- What the values of each VR are made of (PS3.5 section 6.2). Which VRs are tested is this product's own profile.
+use Rattle.std.specs.Prelude.{ℕ, List, [], ◌∷◌, Bool, nat_eq, codes, if◌then◌else◌}
+use Rattle.std.specs.List.{list_any}
+use Rattle.std.specs.Cmp.Lexicographic.{pointwise}
+use Rattle.element.specs.declared.kinds.Kind.{Kind}
+use Rattle.element.specs.declared.kinds.Kind.TheVariants.{Words, Longs, Doubles, Title, Code, Date, Time, Age, Integer, Decimal, Identifier, Free}
+
+abbrev pub is_one_of : List (List ℕ) → List ℕ → Bool
+is_one_of names vr = list_any (pointwise nat_eq vr) names
+
+abbrev pub kind_of : List ℕ → Kind
+kind_of vr =
+    if is_one_of (codes "US" ∷ codes "SS" ∷ codes "OW" ∷ []) vr then Words
+    else (if is_one_of (codes "UL" ∷ codes "SL" ∷ codes "FL" ∷ codes "AT" ∷ codes "OL" ∷ codes "OF" ∷ []) vr then Longs
+    else (if is_one_of (codes "FD" ∷ codes "SV" ∷ codes "UV" ∷ codes "OD" ∷ codes "OV" ∷ []) vr then Doubles
+    else (if pointwise nat_eq vr (codes "AE") then Title
+    else (if pointwise nat_eq vr (codes "CS") then Code
+    else (if pointwise nat_eq vr (codes "DA") then Date
+    else (if pointwise nat_eq vr (codes "TM") then Time
+    else (if pointwise nat_eq vr (codes "AS") then Age
+    else (if pointwise nat_eq vr (codes "IS") then Integer
+    else (if pointwise nat_eq vr (codes "DS") then Decimal
+    else (if pointwise nat_eq vr (codes "UI") then Identifier
+    else Free))))))))))

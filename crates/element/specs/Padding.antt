@@ -1,0 +1,26 @@
+-- Padding round values (PS3.5 section 6.2).
+use Rattle.std.specs.Prelude.{ℕ, Bool, true, false, ◌&&◌, ◌||◌, List, [], ◌∷◌, nat_eq, if◌then◌else◌}
+
+abbrev pub is_space : ℕ → Bool
+is_space c = nat_eq c 32
+
+-- a space or a zero byte
+abbrev pub is_padding : ℕ → Bool
+is_padding c = nat_eq c 32 || nat_eq c 0
+
+abbrev pub is_empty : List ℕ → Bool
+is_empty [] = true
+is_empty (x ∷ xs) = false
+
+abbrev pub onto : (ℕ → Bool) → ℕ → List ℕ → List ℕ
+onto p x rest = if is_empty rest && p x then [] else x ∷ rest
+
+-- the text without what passes p at its end
+abbrev pub without_trailing : (ℕ → Bool) → List ℕ → List ℕ
+without_trailing p [] = []
+without_trailing p (x ∷ xs) = onto p x (without_trailing p xs)
+
+-- the text without what passes p at its front
+abbrev pub without_leading : (ℕ → Bool) → List ℕ → List ℕ
+without_leading p [] = []
+without_leading p (x ∷ xs) = if p x then without_leading p xs else x ∷ xs

@@ -1,0 +1,33 @@
+//! A count that only contracts read. It takes no bytes.
+ghost use Rattle.std.specs.Prelude.{◌≡◌, ℕ, ◌+◌};
+ghost use Rattle.std.specs.Borrow.{ftrue};
+
+use std::marker::{Model, PhantomData};
+
+/// How often something happened, as a whole number without a greatest value that contracts alone
+/// see: the program never reads it.
+#[derive(Drop)]
+pub struct Count {
+    marker: PhantomData<u8>,
+    pub ghost total: { ℕ },
+}
+
+impl Model for Count {
+    ghost also_owns = { λ _. ftrue };
+}
+
+impl Count {
+    /// Nothing happened yet.
+    pub fn new() -> Count
+        ensures { result.total ≡ 0 }
+    {
+        Count {
+            marker: PhantomData,
+        }
+    }
+
+    /// It happened once more.
+    pub fn add_one(&mut self)
+        ensures { self.new.total ≡ self.old.total + 1 }
+    {}
+}

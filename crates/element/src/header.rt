@@ -1,0 +1,12 @@
+//! Headers of data elements, items and delimitations.
+use crate::{Tag, Vr};
+
+/// The header of a data element, an item or a delimitation (PS3.5 sections 7.1 and 7.5).
+#[derive(Clone, Copy, Debug, PartialEq, Eq)]
+pub struct Header {
+    pub tag: Tag,
+    /// `None` in Implicit and for group FFFE.
+    pub vr: Option<Vr>,
+    /// The bytes of the value that follows; FFFFFFFFH is undefined.
+    pub length: u32,
+}

@@ -1,0 +1,65 @@
+//! What VRs ask of their values.
+ghost use Rattle.std.specs.Prelude.{◌≡◌, nat_eq};
+ghost use Rattle.std.specs.List.{list_any};
+ghost use Rattle.std.specs.Cmp.Lexicographic.{pointwise};
+ghost use Rattle.element.specs.Kinds as rules;
+
+use crate::Vr;
+
+/// What the values of a VR are made of (PS3.5 section 6.2).
+#[derive(Clone, Copy)]
+pub(crate) enum Kind {
+    /// Words of two bytes.
+    Words,
+    /// Words of four bytes.
+    Longs,
+    /// Words of eight bytes.
+    Doubles,
+    Title,
+    Code,
+    Date,
+    Time,
+    Age,
+    Integer,
+    Decimal,
+    Identifier,
+    /// Nothing is asked.
+    Free,
+}
+
+fn is_one_of(vr: Vr, names: &[Vr]) -> bool
+    ensures { result ≡ list_any (pointwise nat_eq vr) names.now }
+{
+    names.iter().any(|name| vr == *name)
+}
+
+/// What the values of a VR are made of.
+pub(crate) fn kind_of(vr: Vr) -> Kind
+    ensures { result ≡ rules.kind_of vr }
+{
+    if is_one_of(vr, &[Vr::US, Vr::SS, Vr::OW]) {
+        Kind::Words
+    } else if is_one_of(vr, &[Vr::UL, Vr::SL, Vr::FL, Vr::AT, Vr::OL, Vr::OF]) {
+        Kind::Longs
+    } else if is_one_of(vr, &[Vr::FD, Vr::SV, Vr::UV, Vr::OD, Vr::OV]) {
+        Kind::Doubles
+    } else if vr == Vr::AE {
+        Kind::Title
+    } else if vr == Vr::CS {
+        Kind::Code
+    } else if vr == Vr::DA {
+        Kind::Date
+    } else if vr == Vr::TM {
+        Kind::Time
+    } else if vr == Vr::AS {
+        Kind::Age
+    } else if vr == Vr::IS {
+        Kind::Integer
+    } else if vr == Vr::DS {
+        Kind::Decimal
+    } else if vr == Vr::UI {
+        Kind::Identifier
+    } else {
+        Kind::Free
+    }
+}

@@ -1,0 +1,32 @@
+//! Data elements: tags, value representations, headers, unique identifiers and titles
+//! (PS3.5 sections 6 and 7).
+#![tactic(auto)]
+
+pub mod count;
+mod header;
+mod kinds;
+mod padding;
+mod parts;
+mod reading;
+mod size;
+mod syntax;
+mod tag;
+#[cfg(test)]
+mod tests;
+mod title;
+mod uid;
+mod values;
+mod vr;
+mod writing;
+
+pub use header::Header;
+pub use padding::unpadded;
+pub use reading::{need, read_header, read_tag};
+pub use size::Need;
+pub use syntax::Syntax;
+pub use tag::Tag;
+pub use title::AeTitle;
+pub use uid::Uid;
+pub use values::{ValueFault, check_value};
+pub use vr::Vr;
+pub use writing::{header_fits, write_header};

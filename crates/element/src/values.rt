@@ -1,0 +1,127 @@
+//! The check of values.
+ghost use Rattle.std.specs.Prelude.{◌≡◌, Some, None, MatchResult};
+ghost use Rattle.std.specs.List.{list_all, slice_split};
+ghost use Rattle.element.specs.Values as rules;
+
+use crate::Vr;
+use crate::kinds::{Kind, kind_of};
+use crate::padding::trimmed;
+use crate::parts::{Rule, obeys};
+
+/// Why a value is not good.
+#[derive(Clone, Copy, Debug, PartialEq, Eq)]
+pub enum ValueFault {
+    /// 1: a part has a character that its VR does not allow.
+    BadCharacter,
+    /// 2: the value is not whole words, or a date or an age has another length than it must have.
+    WrongSize,
+    /// 3: a part is longer than its VR allows.
+    TooLongValue,
+    /// 4: a component of a unique identifier is empty, or begins with 0 and is not `0`.
+    BadUid,
+}
+
+impl ValueFault {
+    /// Its number, from 1 to 4.
+    pub fn number(self) -> u8
+        ensures { result ≡ rules.fault_number self }
+    {
+        match self {
+            ValueFault::BadCharacter => 1,
+            ValueFault::WrongSize => 2,
+            ValueFault::TooLongValue => 3,
+            ValueFault::BadUid => 4,
+        }
+    }
+
+    /// Its name, as it is printed.
+    pub fn name(self) -> &'static str
+        ensures { result.now ≡ rules.fault_name self }
+    {
+        match self {
+            ValueFault::BadCharacter => "BadCharacter",
+            ValueFault::WrongSize => "WrongSize",
+            ValueFault::TooLongValue => "TooLongValue",
+            ValueFault::BadUid => "BadUid",
+        }
+    }
+}
+
+fn without_last_zero(value: &[u8]) -> &[u8]
+    ensures { result.now ≡ rules.without_last_zero value.now }
+{
+    let size = value.len();
+    if size > 0 && value[size - 1] == 0 {
+        &value[..size - 1]
+    } else {
+        value
+    }
+}
+
+fn content(kind: Kind, value: &[u8]) -> &[u8]
+    ensures { result.now ≡ rules.content kind value.now }
+{
+    match kind {
+        Kind::Identifier => without_last_zero(value),
+        _ => value,
+    }
+}
+
+fn part_text(kind: Kind, part: &[u8]) -> &[u8]
+    ensures { result.now ≡ rules.part_text kind part.now }
+{
+    match kind {
+        Kind::Identifier => part,
+        _ => trimmed(part),
+    }
+}
+
+fn each_part_obeys(rule: Rule, kind: Kind, text: &[u8]) -> bool
+    ensures { result ≡ list_all (λ part. rules.obeys rule kind (rules.part_text kind part)) (slice_split rules.is_backslash text.now) }
+{
+    text.split(|byte| *byte == b'\\')
+        .all(|part| obeys(rule, kind, part_text(kind, part)))
+}
+
+fn parts_obey(rule: Rule, kind: Kind, value: &[u8]) -> bool
+    ensures { result ≡ rules.parts_obey rule kind value.now }
+{
+    match kind {
+        Kind::Words | Kind::Longs | Kind::Doubles | Kind::Free => true,
+        _ => each_part_obeys(rule, kind, content(kind, value)),
+    }
+}
+
+fn is_whole_words(kind: Kind, value: &[u8]) -> bool
+    ensures { result ≡ rules.is_whole_words kind value.now }
+{
+    match kind {
+        Kind::Words => value.len() % 2 == 0,
+        Kind::Longs => value.len() % 4 == 0,
+        Kind::Doubles => value.len() % 8 == 0,
+        _ => true,
+    }
+}
+
+/// Whether a value is what its VR asks for (PS3.5 section 6.2), rule by rule over the whole value: the
+/// size of each part, then the greatest size, then the characters, then the form of a unique
+/// identifier. Text values are split at backslash, and spaces at both ends of a part do not count; of
+/// a unique identifier one zero byte at the end of the value does not. An empty part is good. A VR of
+/// another kind is always good.
+#[tactic(auto, unfolding(crate::specs::Values::value_fault))]
+pub fn check_value(vr: Vr, value: &[u8]) -> Result<(), ValueFault>
+    ensures { MatchResult result (λ _. rules.value_fault vr value.now ≡ None) (λ fault. rules.value_fault vr value.now ≡ Some fault) }
+{
+    let kind = kind_of(vr);
+    if !is_whole_words(kind, value) || !parts_obey(Rule::Size, kind, value) {
+        Err(ValueFault::WrongSize)
+    } else if !parts_obey(Rule::Longest, kind, value) {
+        Err(ValueFault::TooLongValue)
+    } else if !parts_obey(Rule::Characters, kind, value) {
+        Err(ValueFault::BadCharacter)
+    } else if !parts_obey(Rule::Form, kind, value) {
+        Err(ValueFault::BadUid)
+    } else {
+        Ok(())
+    }
+}

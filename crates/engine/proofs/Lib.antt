@@ -1,0 +1,3 @@
+pub mod AnswerableLemmas
+pub mod TimelineLemmas
+pub mod Tried

@@ -1,0 +1,5 @@
+use Rattle.engine.proofs.Tried.{another_called_title}
+use Rattle.engine.proofs.laws.another_called_title.Goals as goal
+
+pub returns : goal.returns
+returns c = another_called_title

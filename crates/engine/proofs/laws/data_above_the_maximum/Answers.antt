@@ -1,0 +1,5 @@
+use Rattle.engine.proofs.Tried.{data_above_the_maximum}
+use Rattle.engine.proofs.laws.data_above_the_maximum.Goals as goal
+
+pub returns : goal.returns
+returns c = data_above_the_maximum

@@ -1,0 +1,5 @@
+use Rattle.engine.proofs.Tried.{held_while_the_echo_comes}
+use Rattle.engine.proofs.laws.held_while_the_echo_comes.Goals as goal
+
+pub returns : goal.returns
+returns c = held_while_the_echo_comes

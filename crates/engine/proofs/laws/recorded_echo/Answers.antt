@@ -1,0 +1,5 @@
+use Rattle.engine.proofs.Tried.{recorded_echo}
+use Rattle.engine.proofs.laws.recorded_echo.Goals as goal
+
+pub returns : goal.returns
+returns c = recorded_echo

@@ -1,0 +1,5 @@
+use Rattle.engine.proofs.TimelineLemmas.{entries_append}
+use Rattle.engine.proofs.laws.timeline_only_grows.Goals as goal
+
+pub returns : goal.returns
+returns c = entries_append

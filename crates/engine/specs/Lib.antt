@@ -1,0 +1,17 @@
+pub mod Inputs
+pub mod ListSource
+pub mod Answerable
+pub mod Idle
+pub mod Timeline
+pub mod Progress
+pub mod Heads
+pub mod Requests
+pub mod Stores
+pub mod Replies
+pub mod Run
+pub mod Come
+pub mod Held
+pub mod Stands
+pub mod Laws
+pub mod Recording
+pub mod Tried

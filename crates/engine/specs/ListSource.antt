@@ -1,0 +1,7 @@
+-- The inputs that a source over a list has left.
+use Rattle.std.specs.Prelude.{List, drop, map}
+use Rattle.engine.specs.declared.list_source.ListSource.{ListSource}
+use Rattle.engine.specs.Inputs.{Received, received_of}
+
+abbrev pub inputs_left : ListSource → List Received
+inputs_left s = map received_of (drop s.at s.inputs.now)

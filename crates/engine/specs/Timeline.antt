@@ -1,0 +1,32 @@
+-- The timeline of an association: what becomes whole along the received stream, with each other input placed after
+-- what is whole by then (PS3.8 section 9.2.1).
+use Rattle.std.specs.Prelude.{ℕ, Bool, List, [], ◌∷◌, ◌++◌, map, Option}
+use Rattle.pdu.specs.Marks.{Mark, new_marks}
+use Rattle.engine.specs.Inputs.{Received, Bytes, Close, Expiry, UserAbort}
+
+pub data Entry : Type 0 where
+  At : (mark : Mark) → Entry
+  Shut : Entry
+  TimedOut : Entry
+  Aborted : Entry
+
+-- the entries that the inputs bring, behind the bytes that came before
+abbrev pub entries : List ℕ → List Received → List Entry
+entries before [] = []
+entries before (Bytes piece ∷ inputs) = map At (new_marks before piece) ++ entries (before ++ piece) inputs
+entries before (Close ∷ inputs) = Shut ∷ entries before inputs
+entries before (Expiry ∷ inputs) = TimedOut ∷ entries before inputs
+entries before (UserAbort ∷ inputs) = Aborted ∷ entries before inputs
+
+-- What came of an entry: where the wire failed in it, how many of its bytes went out; whether a filing call failed
+-- since the entry before; and, where a store's message ends in it, the status of its reply.
+pub record Outcome : Type 0 where
+  pub wire : Option ℕ
+  pub filing : Bool
+  pub status : ℕ
+
+abbrev pub Happened : Type 0
+Happened = Entry × Outcome
+
+abbrev pub entries_of : List Happened → List Entry
+entries_of story = map (λ h. h.0) story

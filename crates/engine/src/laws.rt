@@ -1,0 +1,49 @@
+//! Laws of the definitions, and the associations on which they are tried: each the contract of a
+//! function that does nothing.
+ghost use Rattle.engine.specs.Laws.{EntriesAppend};
+ghost use Rattle.engine.specs.Tried.{ARequestAboveTheRoom, BytesThatAreNoPdu, DataAboveTheMaximum, AfterTheEnd, AnotherCalledTitle, RecordedEcho, HeldWhileTheEchoComes, AGoodPdvBeforeABadOne};
+
+/// The timeline with more inputs is the old one with their entries appended.
+pub fn timeline_only_grows()
+    ensures { EntriesAppend }
+{}
+
+/// A request above its room is rejected at its head.
+pub fn a_request_above_the_room()
+    ensures { ARequestAboveTheRoom }
+{}
+
+/// Bytes that are no PDU are aborted at the sixth.
+pub fn bytes_that_are_no_pdu()
+    ensures { BytesThatAreNoPdu }
+{}
+
+/// P-DATA above the announced maximum is aborted at its head.
+pub fn data_above_the_maximum()
+    ensures { DataAboveTheMaximum }
+{}
+
+/// After the end P-DATA is dropped, and a request is aborted.
+pub fn after_the_end()
+    ensures { AfterTheEnd }
+{}
+
+/// A request to another title is rejected.
+pub fn another_called_title()
+    ensures { AnotherCalledTitle }
+{}
+
+/// The recorded echo gives the recorded answer.
+pub fn recorded_echo()
+    ensures { RecordedEcho }
+{}
+
+/// The bytes that are held while the recorded echo comes.
+pub fn held_while_the_echo_comes()
+    ensures { HeldWhileTheEchoComes }
+{}
+
+/// A PDV is answered although a bad one follows in its PDU.
+pub fn a_good_pdv_before_a_bad_one()
+    ensures { AGoodPdvBeforeABadOne }
+{}

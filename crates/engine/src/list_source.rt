@@ -1,0 +1,69 @@
+//! A source over a list of inputs.
+ghost use Rattle.std.specs.Prelude.{◌≡◌, ◌≤◌, ℕ, Some, length, map};
+ghost use Rattle.engine.specs.Inputs.{received_of};
+
+use crate::source::{Input, Source};
+
+/// An input that is written down, a piece with its bytes.
+#[derive(Clone, Copy)]
+pub enum Given<'a> {
+    Piece(&'a [u8]),
+    Closed,
+    Expired,
+    LocalAbort,
+}
+
+/// Gives the inputs of a list one after the other, whether the timer runs or not; at the end the
+/// transport connection is closed.
+#[derive(Drop)]
+pub struct ListSource<'a> {
+    inputs: &'a [Given<'a>],
+    at: usize,
+    piece: &'a [u8],
+    ghost within: { at ≤ length inputs.now },
+}
+
+impl<'a> ListSource<'a> {
+    ghost use Rattle.engine.specs.ListSource.{inputs_left};
+
+    /// A source of these inputs.
+    pub fn new(inputs: &'a [Given<'a>]) -> ListSource<'a>
+        ensures { inputs_left result ≡ map received_of inputs.entry.now }
+    {
+        ListSource {
+            inputs,
+            at: 0,
+            piece: &[],
+        }
+    }
+}
+
+impl Source for ListSource<'_> {
+    ghost use Rattle.std.specs.Prelude.{Some};
+    ghost use Rattle.engine.specs.ListSource.{inputs_left};
+
+    ghost to_come = { λ s. Some (inputs_left s) };
+
+    ghost last = { λ s. s.piece.now };
+
+    fn next(&mut self, _timer: bool) -> Input {
+        if self.at == self.inputs.len() {
+            return Input::Closed;
+        }
+        let given = self.inputs[self.at];
+        self.at += 1;
+        match given {
+            Given::Piece(bytes) => {
+                self.piece = bytes;
+                Input::Piece
+            }
+            Given::Closed => Input::Closed,
+            Given::Expired => Input::Expired,
+            Given::LocalAbort => Input::LocalAbort,
+        }
+    }
+
+    fn piece(&self) -> &[u8] {
+        self.piece
+    }
+}

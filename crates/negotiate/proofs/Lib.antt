@@ -1,0 +1,4 @@
+pub mod AnswerLemmas
+pub mod AcceptLemmas
+pub mod GatherLemmas
+pub mod RequestLemmas

@@ -1,0 +1,8 @@
+use Rattle.std.proofs.Common.{sym, ◌∙◌}
+use Rattle.negotiate.specs.Answer.{same_title}
+use Rattle.negotiate.proofs.AnswerLemmas.{list_any-map}
+use Rattle.negotiate.proofs.answer.is_among.Goals as goal
+
+pub returns : goal.returns
+returns c =
+    c.contains.ensures.value ∙ sym (list_any-map (λ title. same_title title c.args.calling.0) (λ t. t.0) c.args.callers.now)

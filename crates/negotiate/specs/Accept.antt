@@ -1,0 +1,45 @@
+-- The answer's bytes: A-ASSOCIATE-AC (PS3.8 section 9.3.3 and annex D.1, PS3.7 annex D.3.3.2) or A-ASSOCIATE-RJ (PS3.8
+-- section 9.3.4). Reserved bytes are zeros.
+use Rattle.std.specs.Prelude.{ℕ, List, ◌∷◌, ◌++◌, length, codes}
+use Rattle.std.specs.List.{flat_map}
+use Rattle.element.specs.Numbers.{be}
+use Rattle.dictionary.specs.Syntaxes.{application_context, syntax_uid}
+use Rattle.pdu.specs.Record.{Record, Proposal}
+use Rattle.pdu.specs.Texts.{pdu_text, reject_text}
+use Rattle.negotiate.specs.declared.answer.Answer.{Answer}
+use Rattle.negotiate.specs.declared.answer.Answer.TheVariants.{Accept, Reject}
+use Rattle.negotiate.specs.Answer.{judged}
+use Rattle.negotiate.specs.Contexts.{result_of, carried}
+use Rattle.negotiate.specs.Settings.{Settings}
+
+-- type, reserved byte, length, content
+abbrev pub item_text : ℕ → List ℕ → List ℕ
+item_text kind content = kind ∷ 0 ∷ (be (length content) 2 ++ content)
+
+-- 21H: id, reserved byte, result, reserved byte, and 40H with the transfer syntax
+abbrev pub context_text : Proposal → List ℕ
+context_text p = item_text 0x21 (p.id ∷ 0 ∷ result_of p ∷ 0 ∷ item_text 0x40 (syntax_uid (carried p)))
+
+-- 50H: 51H the greatest P-DATA length that is taken; 52H and 55H the implementation's class and version name (this
+-- product's own)
+abbrev pub user_text : ℕ → List ℕ
+user_text max_pdu = item_text 0x50 (item_text 0x51 (be max_pdu 4) ++ item_text 0x52 (codes "2.25.20260101") ++ item_text 0x55 (codes "DCMBOX_1"))
+
+-- version 1, the titles and the 32 reserved bytes as in the request, 10H
+abbrev pub before_contexts : Record → List ℕ
+before_contexts r = 0 ∷ 1 ∷ 0 ∷ 0 ∷ (r.called ++ r.calling ++ r.reserved ++ item_text 0x10 application_context)
+
+-- then a 21H for each proposed context in its order, and 50H
+abbrev pub accept_body : Settings → Record → List ℕ
+accept_body s r = before_contexts r ++ flat_map context_text r.contexts ++ user_text s.max_pdu
+
+abbrev pub accept_text : Settings → Record → List ℕ
+accept_text s r = pdu_text 2 (accept_body s r)
+
+abbrev pub text_by : Answer → Settings → Record → List ℕ
+text_by Accept s r = accept_text s r
+text_by (Reject result source reason) s r = reject_text result source reason
+
+-- the bytes of the answer to this request
+abbrev pub answer_bytes : Settings → Record → List ℕ
+answer_bytes s r = text_by (judged s r) s r

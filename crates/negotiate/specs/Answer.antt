@@ -1,0 +1,39 @@
+-- How a request is judged (PS3.8 sections 7.1.1 and 9.3.4; PS3.7 annex A.2.1).
+use Rattle.std.specs.Prelude.{ℕ, ◌%◌, Bool, not, ◌&&◌, ◌||◌, List, length, nat_eq, nat_le, if◌then◌else◌}
+use Rattle.std.specs.List.{list_any}
+use Rattle.std.specs.Cmp.Lexicographic.{pointwise}
+use Rattle.dictionary.specs.Syntaxes.{application_context}
+use Rattle.element.specs.Title.{title_text}
+use Rattle.pdu.specs.Record.{Record}
+use Rattle.negotiate.specs.declared.answer.Answer.{Answer}
+use Rattle.negotiate.specs.declared.answer.Answer.TheVariants.{Accept, Reject}
+use Rattle.negotiate.specs.Settings.{Settings}
+
+abbrev pub same_bytes : List ℕ → List ℕ → Bool
+same_bytes a b = pointwise nat_eq a b
+
+-- titles are compared without the spaces at both ends
+abbrev pub same_title : List ℕ → List ℕ → Bool
+same_title a b = same_bytes (title_text a) (title_text b)
+
+abbrev pub is_among : (callers : List (List ℕ)) → (calling : List ℕ) → Bool
+is_among callers calling = list_any (λ caller. same_title caller calling) callers
+
+-- no callers means any
+abbrev pub may_call : (callers : List (List ℕ)) → (calling : List ℕ) → Bool
+may_call callers calling = nat_eq (length callers) 0 || is_among callers calling
+
+-- bit 0 is version 1
+abbrev pub has_version_1 : Record → Bool
+has_version_1 r = nat_eq (r.version % 2) 1
+
+-- the first of these that holds. That a maximum length from 1 to 7, in which no fragment fits, is rejected is this
+-- product's own profile; so is that the last four are the local user's.
+abbrev pub judged : Settings → Record → Answer
+judged s r =
+    if not (has_version_1 r) then Reject 1 2 2
+    else (if not (same_bytes r.application_context application_context) then Reject 1 1 2
+    else (if not (same_title r.called s.ae) then Reject 1 1 7
+    else (if not (may_call s.callers r.calling) then Reject 1 1 3
+    else (if nat_le 1 r.maximum && nat_le r.maximum 7 then Reject 1 1 1
+    else Accept))))

@@ -1,0 +1,57 @@
+-- The result of each proposed presentation context (PS3.8 sections 7.1.1.14 and 9.3.3.2).
+use Rattle.std.specs.Prelude.{ℕ, Bool, true, false, List, Option, Some, None, nat_eq, if◌then◌else◌, option_and_then}
+use Rattle.std.specs.List.{list_any, find}
+use Rattle.element.specs.declared.syntax.Syntax.{Syntax}
+use Rattle.element.specs.declared.syntax.Syntax.TheVariants.{Implicit, Explicit}
+use Rattle.dictionary.specs.declared.class.Class.{Class}
+use Rattle.dictionary.specs.Classes.{class_of}
+use Rattle.dictionary.specs.Syntaxes.{syntax_of}
+use Rattle.pdu.specs.Record.{Record, Proposal}
+use Rattle.negotiate.specs.declared.proposals.Context.{Context}
+
+abbrev pub is_explicit : Option Syntax → Bool
+is_explicit (Some Explicit) = true
+is_explicit other = false
+
+abbrev pub is_implicit : Option Syntax → Bool
+is_implicit (Some Implicit) = true
+is_implicit other = false
+
+abbrev pub proposes_explicit : List (List ℕ) → Bool
+proposes_explicit uids = list_any (λ uid. is_explicit (syntax_of uid)) uids
+
+abbrev pub proposes_implicit : List (List ℕ) → Bool
+proposes_implicit uids = list_any (λ uid. is_implicit (syntax_of uid)) uids
+
+-- the transfer syntax that is taken of those proposed: Explicit VR Little Endian before Implicit VR Little Endian, and
+-- no other (this product's own profile)
+abbrev pub taken : List (List ℕ) → Option Syntax
+taken uids = if proposes_explicit uids then Some Explicit else (if proposes_implicit uids then Some Implicit else None)
+
+-- 0 acceptance, 3 abstract syntax not supported, 4 transfer syntaxes not supported
+abbrev pub result_by : Option Class → Option Syntax → ℕ
+result_by None syntax = 3
+result_by (Some class) None = 4
+result_by (Some class) (Some syntax) = 0
+
+-- a refused context carries Implicit VR Little Endian in its answer, which the peer doesn't read
+abbrev pub carried_by : Option Class → Option Syntax → Syntax
+carried_by (Some class) (Some syntax) = syntax
+carried_by class syntax = Implicit
+
+abbrev pub accepted_by : Option Class → Option Syntax → Option Context
+accepted_by (Some class) (Some syntax) = Some (record { class = class; syntax = syntax })
+accepted_by class syntax = None
+
+abbrev pub result_of : Proposal → ℕ
+result_of p = result_by (class_of p.abstract_syntax) (taken p.transfer_syntaxes)
+
+abbrev pub carried : Proposal → Syntax
+carried p = carried_by (class_of p.abstract_syntax) (taken p.transfer_syntaxes)
+
+abbrev pub accepted : Proposal → Option Context
+accepted p = accepted_by (class_of p.abstract_syntax) (taken p.transfer_syntaxes)
+
+-- the accepted context of this id
+abbrev pub context_of : Record → ℕ → Option Context
+context_of r id = option_and_then accepted (find (λ p. nat_eq p.id id) r.contexts)

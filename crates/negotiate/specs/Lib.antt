@@ -1,0 +1,5 @@
+pub mod Settings
+pub mod Answer
+pub mod Contexts
+pub mod Accept
+pub mod Gathers

@@ -1,0 +1,14 @@
+-- What the receiver is set to (this product's own profile).
+use Rattle.std.specs.Prelude.{ℕ, List, map}
+use Rattle.negotiate.specs.declared.config.Config.{Config}
+
+-- the receiver's own title and those that may call, each of 16 bytes; the greatest P-DATA length that it announces; the
+-- greatest data set that it takes
+pub record Settings : Type 0 where
+  pub ae : List ℕ
+  pub callers : List (List ℕ)
+  pub max_pdu : ℕ
+  pub max_data : ℕ
+
+abbrev pub settings_of : Config → Settings
+settings_of c = record { ae = c.ae.0; callers = map (λ t. t.0) c.callers.items; max_pdu = c.max_pdu; max_data = c.max_data }

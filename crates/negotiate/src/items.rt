@@ -1,0 +1,65 @@
+//! Lays out the items of an A-ASSOCIATE-AC.
+ghost use Rattle.std.specs.Prelude.{◌≡◌, ◌+◌, ◌<◌, ◌≤◌, ◌++◌, length};
+ghost use Rattle.arrayvec.specs.ArrayVec.{array_vec_len};
+ghost use Rattle.negotiate.specs.Accept.{item_text, context_text, user_text};
+
+use crate::proposals::{carried, result_of};
+use arrayvec::ArrayVec;
+use byteorder::{BigEndian, ByteOrder};
+use dictionary::syntax_uid;
+use pdu::Proposal;
+
+/// The implementation's class (PS3.7 annex D.3.3.2).
+const IMPLEMENTATION_CLASS: &[u8] = b"2.25.20260101";
+
+/// The implementation's version name.
+const IMPLEMENTATION_VERSION: &[u8] = b"DCMBOX_1";
+
+/// Appends bytes to a room in which they fit.
+pub(crate) fn extend<const N: usize>(room: &mut ArrayVec<u8, N>, bytes: &[u8])
+    requires { array_vec_len room.old + length bytes.now ≤ N }
+    ensures { room.new.items ≡ room.old.items ++ bytes.now }
+{
+    let _ = room.try_extend_from_slice(bytes);
+}
+
+/// Appends an item to a room in which it fits.
+pub(crate) fn extend_by_item<const N: usize>(room: &mut ArrayVec<u8, N>, kind: u8, content: &[u8])
+    requires short { length content.now < 65536 }
+    requires fits { array_vec_len room.old + (length content.now + 4) ≤ N }
+    ensures { room.new.items ≡ room.old.items ++ item_text kind content.now }
+{
+    let mut head = [kind, 0, 0, 0];
+    BigEndian::write_u16(&mut head[2..4], content.len() as u16);
+    extend(room, &head);
+    extend(room, content);
+}
+
+/// The answer to a proposed presentation context (PS3.8 section 9.3.3.2).
+pub(crate) fn context_item(proposal: &Proposal) -> ArrayVec<u8, 64>
+    ensures items { result.items ≡ context_text proposal.now }
+    ensures short { array_vec_len result ≤ 31 }
+{
+    let mut content = ArrayVec::<u8, 64>::new();
+    extend(&mut content, &[proposal.id(), 0, result_of(proposal), 0]);
+    extend_by_item(&mut content, 0x40, syntax_uid(carried(proposal)));
+    let mut item = ArrayVec::<u8, 64>::new();
+    extend_by_item(&mut item, 0x21, content.as_slice());
+    item
+}
+
+/// What the receiver tells of itself (PS3.8 section 9.3.3.3).
+pub(crate) fn user_item(max_pdu: u32) -> ArrayVec<u8, 64>
+    ensures items { result.items ≡ user_text max_pdu }
+    ensures size { array_vec_len result ≡ 41 }
+{
+    let mut maximum = [0u8; 4];
+    BigEndian::write_u32(&mut maximum, max_pdu);
+    let mut content = ArrayVec::<u8, 64>::new();
+    extend_by_item(&mut content, 0x51, &maximum);
+    extend_by_item(&mut content, 0x52, IMPLEMENTATION_CLASS);
+    extend_by_item(&mut content, 0x55, IMPLEMENTATION_VERSION);
+    let mut item = ArrayVec::<u8, 64>::new();
+    extend_by_item(&mut item, 0x50, content.as_slice());
+    item
+}

@@ -1,0 +1,4 @@
+pub mod Bounds
+pub mod MetaLemmas
+pub mod OneHeader
+pub mod Tried

@@ -1,0 +1,5 @@
+use Rattle.part10.proofs.Tried.{no_headers}
+use Rattle.part10.proofs.laws.no_headers.Goals as goal
+
+pub returns : goal.returns
+returns c = no_headers

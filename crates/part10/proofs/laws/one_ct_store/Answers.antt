@@ -1,0 +1,5 @@
+use Rattle.part10.proofs.Tried.{one_ct_store}
+use Rattle.part10.proofs.laws.one_ct_store.Goals as goal
+
+pub returns : goal.returns
+returns c = one_ct_store

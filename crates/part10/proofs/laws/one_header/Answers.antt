@@ -1,0 +1,5 @@
+use Rattle.part10.proofs.OneHeader.{one_header}
+use Rattle.part10.proofs.laws.one_header.Goals as goal
+
+pub returns : goal.returns
+returns c = one_header

@@ -1,0 +1,53 @@
+-- The file of a stored instance (PS3.10 section 7.1). Which optional elements stand in its header, and what
+-- names this implementation, is this product's own profile.
+use Rattle.std.specs.Prelude.{ℕ, List, [], ◌∷◌, ◌++◌, length, replicate, if◌then◌else◌, codes}
+use Rattle.element.specs.Numbers.{le}
+use Rattle.element.specs.Padding.{is_empty}
+use Rattle.element.specs.Title.{title_text}
+use Rattle.dictionary.specs.Syntaxes.{syntax_uid}
+use Rattle.part10.specs.declared.meta.Meta.{Meta}
+use Rattle.part10.specs.Written.{padded, element_bytes}
+
+-- 128 zero bytes and the four letters
+abbrev pub prefix : List ℕ
+prefix = replicate 128 0 ++ codes "DICM"
+
+-- the element (0002,number)
+abbrev pub meta_element : ℕ → List ℕ → List ℕ → List ℕ
+meta_element number vr value = element_bytes (record { 0 = 2; 1 = number }) vr value
+
+abbrev pub uid_element : ℕ → List ℕ → List ℕ
+uid_element number text = meta_element number (codes "UI") (padded 0 text)
+
+-- the version of the header, the class, the instance and its transfer syntax
+unfoldable pub instance_elements : Meta → List ℕ
+instance_elements meta =
+    meta_element 0x0001 (codes "OB") (0 ∷ 1 ∷ [])
+    ++ uid_element 0x0002 meta.class
+    ++ uid_element 0x0003 meta.instance
+    ++ uid_element 0x0010 (syntax_uid meta.syntax)
+
+-- Implementation Class UID and Implementation Version Name
+unfoldable pub implementation_elements : List ℕ
+implementation_elements =
+    uid_element 0x0012 (codes "2.25.20260101") ++ meta_element 0x0013 (codes "SH") (codes "DCMBOX_1")
+
+-- Source Application Entity Title, left out where nothing remains of the title
+unfoldable pub title_element : List ℕ → List ℕ
+title_element text = if is_empty text then [] else meta_element 0x0016 (codes "AE") (padded 32 text)
+
+-- the elements of group 0002 behind its length; of the calling title, what is left without spaces round it
+abbrev pub meta_group : Meta → List ℕ
+meta_group meta = instance_elements meta ++ implementation_elements ++ title_element (title_text meta.calling.0)
+
+-- File Meta Information Group Length: the bytes of the group behind it
+abbrev pub length_element : ℕ → List ℕ
+length_element bytes = meta_element 0x0000 (codes "UL") (le bytes 4)
+
+-- what stands before the data set
+abbrev pub head : Meta → List ℕ
+head meta = prefix ++ length_element (length (meta_group meta)) ++ meta_group meta
+
+-- the file: its head, and the data set as it was sent
+abbrev pub File : Meta → List ℕ → List ℕ
+File meta data_set = head meta ++ data_set

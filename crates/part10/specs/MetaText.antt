@@ -1,0 +1,79 @@
+-- The file header as it is read, and what is wrong with a file that has none (PS3.10 section 7.1). That the
+-- preamble is not looked at, and that the VRs behind the first element are not, is this product's own profile.
+use Rattle.std.specs.Prelude.{◌≡◌, ◌≢◌, ℕ, ◌%◌, ◌^◌, ◌<◌, List, [], ◌∷◌, ◌++◌, length, take, drop, Option, Some, None, nat_eq, if◌then◌else◌, codes}
+use Rattle.element.specs.declared.syntax.Syntax.{Syntax}
+use Rattle.element.specs.declared.syntax.Syntax.TheVariants.{Explicit}
+use Rattle.element.specs.declared.header.Header.{Header}
+use Rattle.element.specs.Header.{SpellsHeader}
+use Rattle.element.specs.Uid.{uid_of}
+use Rattle.dictionary.specs.Syntaxes.{syntax_uid}
+use Rattle.part10.specs.declared.meta.Meta.{Meta}
+use Rattle.part10.specs.File.{length_element}
+
+-- an element of group 0002: its element number and its value
+pub record MetaElement : Type 0 where
+  pub number : ℕ
+  pub value : List ℕ
+
+abbrev pub meta_element_of : Header → List ℕ → MetaElement
+meta_element_of h v = record { number = h.tag.1; value = v }
+
+-- b spells these elements of group 0002, whose numbers rise and are above `last`: each is a header and as
+-- many bytes as its even, so defined, length says
+pub data MetaElements : ℕ → List MetaElement → List ℕ → Type 0 where
+  no_more : {last : ℕ} → MetaElements last [] []
+  element_then : {last : ℕ} {h : Header} {hb v : List ℕ} {es : List MetaElement} {b : List ℕ}
+      → SpellsHeader Explicit h hb → h.tag.0 ≡ 2 → last < h.tag.1 → h.length % 2 ≡ 0 → length v ≡ h.length
+      → MetaElements h.tag.1 es b
+      → MetaElements last (meta_element_of h v ∷ es) (hb ++ (v ++ b))
+
+-- the unique identifier in the element with this number, where it is there and can be read
+abbrev pub uid_at : ℕ → List MetaElement → Option (List ℕ)
+uid_at number [] = None
+uid_at number (e ∷ es) = if nat_eq e.number number then uid_of e.value else uid_at number es
+
+-- what a file header says of its instance
+pub record Said : Type 0 where
+  pub class : List ℕ
+  pub instance : List ℕ
+  pub syntax : List ℕ
+
+-- what is written for an instance
+abbrev pub said_of : Meta → Said
+said_of meta = record { class = meta.class; instance = meta.instance; syntax = syntax_uid meta.syntax }
+
+-- b is a file header: any preamble, the letters, and group 0002, which begins with the count of its bytes and
+-- says the class, the instance and the transfer syntax
+pub record SpellsMeta (said : Said) (b : List ℕ) : Type 0 where
+  pub preamble : List ℕ
+  pub group : List ℕ
+  pub elements : List MetaElement
+  pub preamble_size : length preamble ≡ 128
+  pub group_size : length group < 2 ^ 32
+  pub whole : b ≡ preamble ++ codes "DICM" ++ length_element (length group) ++ group
+  pub spelled : MetaElements 0 elements group
+  pub class : uid_at 0x0002 elements ≡ Some said.class
+  pub instance : uid_at 0x0003 elements ≡ Some said.instance
+  pub syntax : uid_at 0x0010 elements ≡ Some said.syntax
+
+-- the file is a file header and what follows
+pub record HasMeta (said : Said) (file : List ℕ) : Type 0 where
+  pub front : List ℕ
+  pub back : List ℕ
+  pub whole : file ≡ front ++ back
+  pub spelled : SpellsMeta said front
+
+abbrev pub HasLetters : List ℕ → Type 0
+HasLetters file = take 4 (drop 128 file) ≡ codes "DICM"
+
+-- what is first found wrong with a file: 50, the letters do not stand behind 128 bytes; 51, it has no file
+-- header; 53, its transfer syntax is not one that is taken
+pub data MetaFaultOf : List ℕ → ℕ → Type 0 where
+  not_part10 : {file : List ℕ} → ¬ HasLetters file → MetaFaultOf file 50
+  bad_meta : {file : List ℕ} → HasLetters file → ((said : Said) → ¬ HasMeta said file) → MetaFaultOf file 51
+  other_syntax : {file : List ℕ} {said : Said} → HasMeta said file → ((s : Syntax) → said.syntax ≢ syntax_uid s)
+      → MetaFaultOf file 53
+
+-- no file has two file headers that say different things
+abbrev pub OneHeader : Type 0
+OneHeader = (file : List ℕ) (said told : Said) → HasMeta said file → HasMeta told file → said ≡ told

@@ -1,0 +1,95 @@
+//! A filing over memory.
+ghost use Rattle.std.specs.Prelude.{◌≡◌, ◌+◌, [], Some, None, is_some, map};
+ghost use Rattle.part10.specs.Shelf.{shelf_of};
+
+use crate::filing::{Filing, FilingFailed};
+use element::count::Count;
+use std::alloc::Allocator;
+use std::marker::Model;
+
+/// Keeps the files. A growth that the allocator refuses is a failure.
+#[derive(Drop)]
+pub struct MemoryFiling<A: Allocator + Copy> {
+    alloc: A,
+    files: Vec<Vec<u8, A>, A>,
+    draft: Option<Vec<u8, A>>,
+    failures: Count,
+}
+
+impl<A: Allocator + Copy> Model for MemoryFiling<A> {
+    ghost use Rattle.std.specs.Prelude.{map, option_map};
+    ghost use Rattle.part10.specs.Shelf.{Kept};
+
+    ghost Value = { Kept };
+
+    ghost view = { λ f. record { files = map (λ v. v.items) f.files.items; draft = option_map (λ v. v.items) f.draft; failures = f.failures.total } };
+}
+
+impl<A: Allocator + Copy> MemoryFiling<A> {
+    /// No file and no draft is there, and no call has failed.
+    pub fn new(alloc: A) -> MemoryFiling<A>
+        ensures files { result.files ≡ [] }
+        ensures draft { result.draft ≡ None }
+        ensures never { result.failures ≡ 0 }
+    {
+        MemoryFiling {
+            alloc,
+            files: Vec::new(alloc),
+            draft: None,
+            failures: Count::new(),
+        }
+    }
+
+    /// The files, oldest first.
+    pub fn files(&self) -> &[Vec<u8, A>]
+        ensures { map (λ v. v.items) result.now ≡ self.now.files }
+    {
+        self.files.as_slice()
+    }
+
+    fn fail(&mut self)
+        ensures files { self.new.files ≡ self.old.files }
+        ensures draft { self.new.draft ≡ None }
+        ensures counted { self.new.failures ≡ self.old.failures + 1 }
+    {
+        self.draft = None;
+        self.failures.add_one();
+    }
+}
+
+impl<A: Allocator + Copy> Filing for MemoryFiling<A> {
+    ghost failures = { λ f. f.failures };
+
+    ghost has_draft = { λ f. is_some f.draft };
+
+    ghost told = { λ f. Some (shelf_of f) };
+
+    fn begin(&mut self) -> Result<(), FilingFailed> {
+        self.draft = Some(Vec::new(self.alloc));
+        Ok(())
+    }
+
+    fn append(&mut self, bytes: &[u8]) -> Result<(), FilingFailed> {
+        if let Some(draft) = &mut self.draft {
+            if draft.extend_from_slice(bytes).is_ok() {
+                return Ok(());
+            }
+        }
+        self.fail();
+        Err(FilingFailed)
+    }
+
+    fn commit(&mut self) -> Result<(), FilingFailed> {
+        if let Some(draft) = self.draft.take() {
+            if self.files.push(draft).is_ok() {
+                return Ok(());
+            }
+        }
+        self.fail();
+        Err(FilingFailed)
+    }
+
+    fn discard(&mut self) {
+        let _draft = self.draft.take();
+    }
+}

@@ -1,0 +1,140 @@
+//! Writes file headers.
+ghost use Rattle.std.specs.Prelude.{◌≡◌, ◌+◌, ◌<◌, ◌≤◌, ◌∷◌, ◌++◌, [], ℕ, true, length};
+ghost use Rattle.arrayvec.specs.ArrayVec.{array_vec_len};
+ghost use Rattle.element.specs.Title.{title_text};
+ghost use Rattle.element.specs.Uid.{is_uid};
+ghost use Rattle.element.specs.Vr.{is_short_vr};
+ghost use Rattle.part10.specs.File as file;
+ghost use Rattle.part10.specs.MetaText.{SpellsMeta, said_of};
+ghost use Rattle.part10.specs.Written.{padded};
+
+use crate::Meta;
+use arrayvec::ArrayVec;
+use byteorder::{ByteOrder, LittleEndian};
+use dictionary::syntax_uid;
+use element::AeTitle;
+
+type Head = ArrayVec<u8, 512>;
+
+fn put(head: &mut Head, bytes: &[u8])
+    requires { array_vec_len head.old + length bytes.now ≤ 512 }
+    ensures { head.new.items ≡ head.old.items ++ bytes.now }
+{
+    head.try_extend_from_slice(bytes).unwrap();
+}
+
+/// Puts an element of group 0002 at the end, under a VR with a length of two bytes.
+fn put_element(head: &mut Head, number: u16, vr: [u8; 2], value: &[u8], padding: u8)
+    requires room { array_vec_len head.old + length value.now + 9 ≤ 512 }
+    requires short { is_short_vr vr ≡ true }
+    ensures items { head.new.items ≡ head.old.items ++ file.meta_element number vr (padded padding value.now) }
+    ensures bound { array_vec_len head.new ≤ array_vec_len head.old + length value.now + 9 }
+{
+    let odd = value.len() % 2;
+    let mut header = [2, 0, 0, 0, vr[0], vr[1], 0, 0];
+    LittleEndian::write_u16(&mut header[2..4], number);
+    LittleEndian::write_u16(&mut header[6..8], (value.len() + odd) as u16);
+    put(head, &header);
+    put(head, value);
+    if odd == 1 {
+        head.push(padding);
+    }
+}
+
+#[tactic(auto, unfolding(element::specs::Vr::is_short))]
+fn put_uid(head: &mut Head, number: u16, text: &[u8])
+    requires fits { length text.now ≤ 64 }
+    requires room { array_vec_len head.old + 73 ≤ 512 }
+    ensures items { head.new.items ≡ head.old.items ++ file.uid_element number text.now }
+    ensures bound { array_vec_len head.new ≤ array_vec_len head.old + 73 }
+{
+    put_element(head, number, *b"UI", text, 0);
+}
+
+/// The version of the file header, and what the instance is.
+#[tactic(auto, using(crate::proofs::Bounds::syntax_uid_short), unfolding(element::specs::Vr::is_short, crate::specs::File::instance_elements))]
+fn instance_elements(meta: &Meta) -> Head
+    ensures items { result.items ≡ file.instance_elements meta.now }
+    ensures class { is_uid meta.now.class ≡ true }
+    ensures instance { is_uid meta.now.instance ≡ true }
+    ensures bound { array_vec_len result ≤ 240 }
+{
+    let mut group = Head::new();
+    put(
+        &mut group,
+        &[2, 0, 1, 0, b'O', b'B', 0, 0, 2, 0, 0, 0, 0, 1],
+    );
+    // `len` ensures that an identifier has at most 64 bytes.
+    meta.class.len();
+    put_uid(&mut group, 0x0002, meta.class.as_bytes());
+    meta.instance.len();
+    put_uid(&mut group, 0x0003, meta.instance.as_bytes());
+    put_uid(&mut group, 0x0010, syntax_uid(meta.syntax));
+    group
+}
+
+/// What names this implementation.
+#[tactic(auto, unfolding(element::specs::Vr::is_short, crate::specs::File::implementation_elements))]
+fn put_implementation(group: &mut Head)
+    requires room { array_vec_len group.old ≤ 240 }
+    ensures items { group.new.items ≡ group.old.items ++ file.implementation_elements }
+    ensures bound { array_vec_len group.new ≤ 330 }
+{
+    put_uid(group, 0x0012, b"2.25.20260101");
+    put_element(group, 0x0013, *b"SH", b"DCMBOX_1", b' ');
+}
+
+/// Who sent the instance, where anything remains of the title.
+#[tactic(auto, using(crate::proofs::Bounds::title_text_short), unfolding(element::specs::Vr::is_short, crate::specs::File::title_element))]
+fn put_title(group: &mut Head, calling: AeTitle)
+    requires room { array_vec_len group.old ≤ 330 }
+    ensures items { group.new.items ≡ group.old.items ++ file.title_element (title_text calling.0) }
+    ensures title { length calling.0 ≡ 16 }
+    ensures bound { array_vec_len group.new ≤ 360 }
+{
+    let title = calling.trimmed();
+    if !title.is_empty() {
+        put_element(group, 0x0016, *b"AE", title, b' ');
+    }
+}
+
+fn meta_group(meta: &Meta) -> Head
+    ensures items { result.items ≡ file.meta_group meta.now }
+    ensures class { is_uid meta.now.class ≡ true }
+    ensures instance { is_uid meta.now.instance ≡ true }
+    ensures title { length meta.now.calling.0 ≡ 16 }
+    ensures bound { array_vec_len result ≤ 360 }
+{
+    let mut group = instance_elements(meta);
+    put_implementation(&mut group);
+    put_title(&mut group, meta.calling);
+    group
+}
+
+#[tactic(auto, unfolding(element::specs::Vr::is_short))]
+fn file_header(meta: &Meta) -> Head
+    ensures bytes { result.items ≡ file.head meta.now }
+    ensures class { is_uid meta.now.class ≡ true }
+    ensures instance { is_uid meta.now.instance ≡ true }
+    ensures title { length meta.now.calling.0 ≡ 16 }
+    ensures bound { length (file.meta_group meta.now) ≤ 360 }
+{
+    let group = meta_group(meta);
+    let mut length = [0; 4];
+    LittleEndian::write_u32(&mut length, group.len() as u32);
+    let mut head = Head::new();
+    put(&mut head, &[0; 128]);
+    put(&mut head, b"DICM");
+    put_element(&mut head, 0x0000, *b"UL", &length, 0);
+    put(&mut head, group.as_slice());
+    head
+}
+
+/// The file header: what stands before the data set (PS3.10 section 7.1). 128 zero bytes, `DICM`, and
+/// group 0002 in Explicit VR Little Endian.
+pub fn meta_bytes(meta: &Meta) -> ArrayVec<u8, 512>
+    ensures bytes { result.items ≡ file.head meta.now }
+    ensures reads_back { SpellsMeta (said_of meta.now) result.items }
+{
+    file_header(meta)
+}

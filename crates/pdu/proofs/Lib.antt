@@ -1,0 +1,14 @@
+pub mod SentLemmas
+pub mod PieceLemmas
+pub mod ItemLemmas
+pub mod TextLemmas
+pub mod FitLemmas
+pub mod PartLemmas
+pub mod ContextLemmas
+pub mod RequestLemmas
+pub mod PdvLemmas
+pub mod FrameLemmas
+pub mod Tried
+pub mod StandingLemmas
+pub mod ChunkLemmas
+pub mod ValueLemmas

@@ -1,0 +1,5 @@
+use Rattle.pdu.proofs.RequestLemmas.{one_request}
+use Rattle.pdu.proofs.laws.body_has_one_request.Goals as goal
+
+pub returns : goal.returns
+returns c = one_request

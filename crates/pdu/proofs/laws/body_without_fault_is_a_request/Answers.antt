@@ -1,0 +1,5 @@
+use Rattle.pdu.proofs.RequestLemmas.{request_text, request_fits}
+use Rattle.pdu.proofs.laws.body_without_fault_is_a_request.Goals as goal
+
+pub returns : goal.returns
+returns c = record { text = request_text; none = request_fits }

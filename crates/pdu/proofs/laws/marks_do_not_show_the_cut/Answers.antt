@@ -1,0 +1,5 @@
+use Rattle.pdu.proofs.FrameLemmas.{same_marks}
+use Rattle.pdu.proofs.laws.marks_do_not_show_the_cut.Goals as goal
+
+pub returns : goal.returns
+returns c = same_marks

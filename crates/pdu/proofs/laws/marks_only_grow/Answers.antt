@@ -1,0 +1,5 @@
+use Rattle.pdu.proofs.FrameLemmas.{marks_grow}
+use Rattle.pdu.proofs.laws.marks_only_grow.Goals as goal
+
+pub returns : goal.returns
+returns c = marks_grow

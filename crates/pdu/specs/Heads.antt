@@ -1,0 +1,27 @@
+-- The heads of PDUs (PS3.8 section 9.3.1) and of presentation data values (PS3.8 section 9.3.5.1 and annex E.2).
+-- Numbers are big endian.
+use Rattle.std.specs.Prelude.{ℕ, ◌%◌, ◌/◌, Bool, List, drop, get_or, nat_eq}
+use Rattle.byteorder.specs.Endian.{big_number}
+use Rattle.pdu.specs.declared.head.PduHead.{PduHead}
+use Rattle.pdu.specs.declared.head.PdvHead.{PdvHead}
+
+-- type 1, reserved 1, length 4; the reserved byte is not tested
+abbrev pub pdu_head_of : List ℕ → PduHead
+pdu_head_of b = record { kind = get_or b 0 0; length = big_number 4 (drop 2 b) }
+
+-- bit 0 of a control byte: the fragment is of a command; else of a data set
+abbrev pub is_command : ℕ → Bool
+is_command control = nat_eq (control % 2) 1
+
+-- bit 1 of a control byte: the fragment is the last one. Bits 2 to 7 are not tested
+abbrev pub is_last : ℕ → Bool
+is_last control = nat_eq (control / 2 % 2) 1
+
+-- length 4 (of what follows it), context 1, control 1
+abbrev pub pdv_head_of : List ℕ → PdvHead
+pdv_head_of b = record {
+  length = big_number 4 b;
+  context = get_or b 4 0;
+  command = is_command (get_or b 5 0);
+  last = is_last (get_or b 5 0);
+}

@@ -1,0 +1,99 @@
+-- What the items of an association request say (PS3.8 sections 9.3.2.1 to 9.3.2.3 and annex D.1).
+use Rattle.std.specs.Prelude.{◌≡◌, ◌<◌, ℕ, Bool, ◌&&◌, List, [], ◌∷◌, length, take, drop, map, get_or, nat_eq, nat_le, if◌then◌else◌}
+use Rattle.std.specs.List.{filter}
+use Rattle.byteorder.specs.Endian.{big_number}
+use Rattle.element.specs.Padding.{is_padding, without_trailing}
+use Rattle.pdu.specs.Pieces.{Layout, pieces_of}
+use Rattle.pdu.specs.Record.{Proposal, Record}
+
+-- type 1, reserved 1, length 2 of the content that follows
+abbrev pub item : Layout
+item = record { head = 4; said = λ text. big_number 2 (drop 2 text) }
+
+-- the whole items at the front of a text
+unfoldable pub items_of : List ℕ → List (List ℕ)
+items_of text = (pieces_of item text).0
+
+-- what is left after them, which begins no whole item
+unfoldable pub left_over : List ℕ → List ℕ
+left_over text = (pieces_of item text).1
+
+-- the text begins with the whole item f, and t follows it
+pub record Begins (text f t : List ℕ) : Type 0 where
+  pub items : items_of text ≡ f ∷ items_of t
+  pub rest : left_over text ≡ left_over t
+  pub shorter : length t < length text
+
+-- the text begins with no whole item
+pub record BeginsNone (text : List ℕ) : Type 0 where
+  pub items : items_of text ≡ []
+  pub rest : left_over text ≡ text
+
+abbrev pub kind : List ℕ → ℕ
+kind i = get_or i 0 0
+
+abbrev pub content : List ℕ → List ℕ
+content i = drop 4 i
+
+abbrev pub is_kind : ℕ → List ℕ → Bool
+is_kind k i = nat_eq (kind i) k
+
+abbrev pub of_kind : ℕ → List (List ℕ) → List (List ℕ)
+of_kind k items = filter (is_kind k) items
+
+abbrev pub first_or_none : List (List ℕ) → List ℕ
+first_or_none [] = []
+first_or_none (i ∷ is) = i
+
+-- the content of the first item of this type; none where there is no such item
+abbrev pub content_in : ℕ → List (List ℕ) → List ℕ
+content_in k items = content (first_or_none (of_kind k items))
+
+-- an identifier is read without trailing zero bytes and spaces
+abbrev pub unpadded : List ℕ → List ℕ
+unpadded bytes = without_trailing is_padding bytes
+
+-- a proposed presentation context: an item of type 20H with its id and three reserved bytes
+abbrev pub is_context : List ℕ → Bool
+is_context i = is_kind 0x20 i && nat_le 8 (length i)
+
+-- its sub-items, after the id and the reserved bytes
+abbrev pub parts : List ℕ → List (List ℕ)
+parts i = items_of (drop 8 i)
+
+abbrev pub identifier : List ℕ → List ℕ
+identifier i = unpadded (content i)
+
+-- the identifiers of the 40H among these items, in their order
+abbrev pub syntaxes : List (List ℕ) → List (List ℕ)
+syntaxes items = map identifier (of_kind 0x40 items)
+
+-- one 30H abstract syntax, one or more 40H transfer syntaxes
+abbrev pub proposal_of : List ℕ → Proposal
+proposal_of i = record {
+  id = get_or i 4 0;
+  abstract_syntax = unpadded (content_in 0x30 (parts i));
+  transfer_syntaxes = syntaxes (parts i);
+}
+
+abbrev pub proposals : List (List ℕ) → List Proposal
+proposals items = map proposal_of (filter is_context items)
+
+-- 51H in 50H, of four bytes (PS3.8 annex D.1.1); 0 where it is absent
+abbrev pub four_or_none : List ℕ → ℕ
+four_or_none bytes = if nat_eq (length bytes) 4 then big_number 4 bytes else 0
+
+abbrev pub maximum_in : List (List ℕ) → ℕ
+maximum_in items = four_or_none (content_in 0x51 (items_of (content_in 0x50 items)))
+
+-- what the body of a request says: version 2, reserved 2, called title 16, calling title 16, reserved 32, items
+abbrev pub record_of : List ℕ → Record
+record_of b = let items = items_of (drop 68 b) in record {
+  version = big_number 2 b;
+  called = take 16 (drop 4 b);
+  calling = take 16 (drop 20 b);
+  reserved = take 32 (drop 36 b);
+  application_context = unpadded (content_in 0x10 items);
+  contexts = proposals items;
+  maximum = maximum_in items;
+}

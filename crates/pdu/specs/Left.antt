@@ -1,0 +1,12 @@
+-- What the walks over a request's items have still to give.
+use Rattle.std.specs.Prelude.{ℕ, List}
+use Rattle.pdu.specs.declared.contexts.Contexts.{Contexts}
+use Rattle.pdu.specs.declared.syntaxes.TransferSyntaxes.{TransferSyntaxes}
+use Rattle.pdu.specs.Record.{Proposal}
+use Rattle.pdu.specs.Items.{items_of, proposals, syntaxes}
+
+abbrev pub proposals_left : Contexts → List Proposal
+proposals_left c = proposals (items_of c.items.rest.now)
+
+abbrev pub syntaxes_left : TransferSyntaxes → List (List ℕ)
+syntaxes_left t = syntaxes (items_of t.items.rest.now)

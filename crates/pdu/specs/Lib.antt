@@ -1,0 +1,14 @@
+pub mod Sent
+pub mod Heads
+pub mod Texts
+pub mod Fault
+pub mod Record
+pub mod Pieces
+pub mod Items
+pub mod Frames
+pub mod Marks
+pub mod Standing
+pub mod Left
+pub mod Request
+pub mod Refusal
+pub mod Told

@@ -1,0 +1,20 @@
+-- What an association request asks for (PS3.8 section 9.3.2).
+use Rattle.std.specs.Prelude.{ℕ, List}
+
+-- a proposed presentation context: its id, the abstract syntax, and the transfer syntaxes in their order, each
+-- identifier without trailing zero bytes and spaces
+pub record Proposal : Type 0 where
+  pub id : ℕ
+  pub abstract_syntax : List ℕ
+  pub transfer_syntaxes : List (List ℕ)
+
+-- a request: the protocol version, the titles of 16 bytes, the 32 reserved bytes, the application context without
+-- trailing zero bytes and spaces, the contexts in their order, and the peer's maximum length, 0 where it has none
+pub record Record : Type 0 where
+  pub version : ℕ
+  pub called : List ℕ
+  pub calling : List ℕ
+  pub reserved : List ℕ
+  pub application_context : List ℕ
+  pub contexts : List Proposal
+  pub maximum : ℕ

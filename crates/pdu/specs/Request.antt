@@ -1,0 +1,75 @@
+-- The body of an A-ASSOCIATE-RQ: which bytes spell which request (PS3.8 section 9.3.2 and annex D.1).
+use Rattle.std.specs.Prelude.{◌≡◌, ℕ, ◌≤◌, ◌%◌, List, [], ◌∷◌, length}
+use Rattle.std.specs.List.{AllByRecursion}
+use Rattle.byteorder.specs.Endian.{big_number}
+use Rattle.pdu.specs.Record.{Proposal, Record}
+use Rattle.pdu.specs.Pieces.{IsWhole, joined}
+use Rattle.pdu.specs.Items.{item, content, of_kind, identifier, syntaxes}
+
+-- there is one, and it is such
+abbrev pub One : (List ℕ → Type 0) → List (List ℕ) → Type 0
+One P [] = ⊥
+One P (i ∷ []) = P i
+One P (i ∷ j ∷ is) = ⊥
+
+-- at most one 51H, of four bytes
+abbrev pub MaximumText : ℕ → List (List ℕ) → Type 0
+MaximumText maximum [] = maximum ≡ 0
+MaximumText maximum (m ∷ []) = (length (content m) ≡ 4) × (maximum ≡ big_number 4 (content m))
+MaximumText maximum (m ∷ n ∷ ms) = ⊥
+
+-- user information (PS3.8 section 9.3.2.3): sub-items, of which 51H tells the maximum length; others are read over
+pub record InformationText (maximum : ℕ) (i : List ℕ) : Type 0 where
+  pub parts : List (List ℕ)
+  pub whole : content i ≡ joined parts
+  pub each : AllByRecursion (IsWhole item) parts
+  pub told : MaximumText maximum (of_kind 0x51 parts)
+
+-- a proposed presentation context (PS3.8 section 9.3.2.2): its id, which is odd, three reserved bytes, and
+-- sub-items: one 30H abstract syntax, one or more 40H transfer syntaxes; others are read over
+pub record ContextText (p : Proposal) (i : List ℕ) : Type 0 where
+  pub a : ℕ
+  pub b : ℕ
+  pub c : ℕ
+  pub parts : List (List ℕ)
+  pub whole : content i ≡ p.id ∷ a ∷ b ∷ c ∷ joined parts
+  pub each : AllByRecursion (IsWhole item) parts
+  pub abstract_one : One (λ s. p.abstract_syntax ≡ identifier s) (of_kind 0x30 parts)
+  pub transfer : p.transfer_syntaxes ≡ syntaxes parts
+  pub some : 1 ≤ length p.transfer_syntaxes
+  pub odd : p.id % 2 ≡ 1
+
+-- one after the other, each spells its proposal
+abbrev pub ContextTexts : List Proposal → List (List ℕ) → Type 0
+ContextTexts [] [] = Unit {0}
+ContextTexts [] (i ∷ is) = ⊥
+ContextTexts (p ∷ ps) [] = ⊥
+ContextTexts (p ∷ ps) (i ∷ is) = ContextText p i × ContextTexts ps is
+
+-- no two of them are equal
+abbrev pub IsNew : ℕ → List Proposal → Type 0
+IsNew id ps = AllByRecursion (λ q. q.id ≡ id → ⊥) ps
+
+abbrev pub AreDistinct : List Proposal → Type 0
+AreDistinct [] = Unit {0}
+AreDistinct (p ∷ ps) = IsNew p.id ps × AreDistinct ps
+
+-- the body b spells the request r: version, two reserved bytes, titles, 32 reserved bytes, and items in any order,
+-- one of them 10H, one 50H, one or more 20H; others are read over
+pub record RequestText (r : Record) (b : List ℕ) : Type 0 where
+  pub version : List ℕ
+  pub unused : List ℕ
+  pub items : List (List ℕ)
+  pub whole : b ≡ joined (version ∷ unused ∷ r.called ∷ r.calling ∷ r.reserved ∷ items)
+  pub version_size : length version ≡ 2
+  pub unused_size : length unused ≡ 2
+  pub called_size : length r.called ≡ 16
+  pub calling_size : length r.calling ≡ 16
+  pub reserved_size : length r.reserved ≡ 32
+  pub version_told : r.version ≡ big_number 2 version
+  pub each : AllByRecursion (IsWhole item) items
+  pub application : One (λ i. r.application_context ≡ identifier i) (of_kind 0x10 items)
+  pub information : One (InformationText r.maximum) (of_kind 0x50 items)
+  pub contexts : ContextTexts r.contexts (of_kind 0x20 items)
+  pub some : 1 ≤ length r.contexts
+  pub distinct : AreDistinct r.contexts

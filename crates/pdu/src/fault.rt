@@ -1,0 +1,40 @@
+//! Why a PDU is refused.
+ghost use Rattle.std.specs.Prelude.{◌≡◌};
+
+/// Why a PDU is refused.
+#[derive(Clone, Copy, Debug, PartialEq, Eq)]
+pub enum PduFault {
+    /// 30: a type that is not from 01H to 07H.
+    UnknownType,
+    /// 31: a body of a request below 68 bytes, an item or sub-item that passes the end of what holds
+    /// it, one to three bytes left over, or a proposed context without its id and reserved bytes.
+    BadLength,
+    /// 32: a second application context, user information or maximum length, a maximum length that
+    /// is not of four bytes, or a proposed context without exactly one abstract syntax and at least
+    /// one transfer syntax.
+    BadItem,
+    /// 33: an even presentation context id.
+    BadContextId,
+    /// 34: a presentation context id that came before.
+    DoubleContext,
+    /// 35: no application context, no proposed context or no user information.
+    Missing,
+}
+
+impl PduFault {
+    ghost use Rattle.pdu.specs.Fault.{fault_number};
+
+    /// Its number, from 30 to 35.
+    pub fn number(self) -> u8
+        ensures { result ≡ fault_number self }
+    {
+        match self {
+            PduFault::UnknownType => 30,
+            PduFault::BadLength => 31,
+            PduFault::BadItem => 32,
+            PduFault::BadContextId => 33,
+            PduFault::DoubleContext => 34,
+            PduFault::Missing => 35,
+        }
+    }
+}

@@ -1,0 +1,138 @@
+//! Items of an association request.
+ghost use Rattle.std.specs.Prelude.{◌≡◌, ◌≤◌, length, MatchOption};
+ghost use Rattle.std.specs.Iterator.{YieldsFirstBy, item_count};
+ghost use Rattle.pdu.specs.Items as spelling;
+ghost use Rattle.element.specs.Padding.{is_empty};
+ghost use Rattle.pdu.specs.Items.{item, items_of, left_over, Begins, BeginsNone};
+
+use byteorder::{BigEndian, ByteOrder};
+
+/// How many bytes follow the head of an item.
+fn said(head: &[u8]) -> u16
+    requires { 4 ≤ length head.now }
+    ensures { result ≡ item.said head.now }
+{
+    BigEndian::read_u16(&head[2..])
+}
+
+/// A whole item or sub-item: type 1, reserved 1, length 2, content (PS3.8 section 9.3.2).
+#[derive(Clone, Copy)]
+pub struct Item<'a> {
+    bytes: &'a [u8],
+    ghost headed: { 4 ≤ length bytes.now },
+}
+
+impl<'a> Item<'a> {
+    /// Its type.
+    pub fn kind(self) -> u8
+        ensures { result ≡ spelling.kind self.entry.bytes.now }
+    {
+        self.bytes[0]
+    }
+
+    /// All of its bytes, with its head of four.
+    pub fn bytes(self) -> &'a [u8]
+        ensures { result.now ≡ self.entry.bytes.now }
+    {
+        self.bytes
+    }
+
+    /// Whether it is a proposed presentation context with its id and three reserved bytes.
+    pub fn is_context(self) -> bool
+        ensures { result ≡ spelling.is_context self.entry.bytes.now }
+    {
+        self.kind() == 0x20 && self.bytes.len() >= 8
+    }
+
+    /// What follows its head.
+    pub fn content(self) -> &'a [u8]
+        ensures { result.now ≡ spelling.content self.entry.bytes.now }
+    {
+        &self.bytes[4..]
+    }
+}
+
+/// The whole items at the front of a text, in their order.
+#[derive(Clone, Copy)]
+pub struct Items<'a> {
+    rest: &'a [u8],
+}
+
+impl<'a> Items<'a> {
+    /// Those of a text.
+    pub fn of(text: &'a [u8]) -> Items<'a>
+        ensures { items_of result.rest.now ≡ items_of text.now }
+    {
+        Items { rest: text }
+    }
+}
+
+/// The first item of a text, where it is whole, and what follows it.
+#[tactic(auto, using(crate::proofs::ItemLemmas::begins_short, crate::proofs::ItemLemmas::begins_begun, crate::proofs::ItemLemmas::begins_cut))]
+pub fn first_item<'a>(text: &'a [u8]) -> Option<(Item<'a>, &'a [u8])>
+    ensures { MatchOption result (BeginsNone text.now) (λ p. Begins text.now p.0.bytes.now p.1.now) }
+{
+    if text.len() < 4 {
+        return None;
+    }
+    let size = 4 + usize::from(said(text));
+    if text.len() < size {
+        return None;
+    }
+    let (bytes, rest) = text.split_at(size);
+    Some((Item { bytes }, rest))
+}
+
+impl<'a> Iterator for Items<'a> {
+    type Item = Item<'a>;
+
+    ghost next_gives = { YieldsFirstBy (λ i. i.bytes.now) (λ s. items_of s.rest.now) };
+
+    ghost remaining = { item_count (λ s. items_of s.rest.now) };
+
+    fn next(&mut self) -> Option<Item<'a>> {
+        match first_item(self.rest) {
+            None => None,
+            Some((item, rest)) => {
+                self.rest = rest;
+                Some(item)
+            }
+        }
+    }
+}
+
+/// The content of the first item of this type; empty where there is none.
+pub fn content_in<'a>(kind: u8, text: &'a [u8]) -> &'a [u8]
+    ensures { result.now ≡ spelling.content_in kind (items_of text.now) }
+{
+    for item in Items::of(text) {
+        if item.kind() == kind {
+            return item.content();
+        }
+    }
+    &[]
+}
+
+/// How many items of this type there are.
+pub fn count_of(kind: u8, text: &[u8]) -> usize
+    ensures { result ≡ length (spelling.of_kind kind (items_of text.now)) }
+{
+    let mut count = 0;
+    for item in Items::of(text) {
+        if item.kind() == kind {
+            count += 1;
+        }
+    }
+    count
+}
+
+/// Whether a text is whole items and nothing else.
+pub fn is_whole(text: &[u8]) -> bool
+    ensures { result ≡ is_empty (left_over text.now) }
+{
+    let mut rest = text;
+    while let Some((_, more)) = first_item(rest) {
+        rest = more;
+    }
+    rest.is_empty()
+}

@@ -1,0 +1,29 @@
+//! Protocol data units of the upper layer: their layouts, association requests, and the wire on
+//! which they are sent (PS3.8 section 9.3).
+#![tactic(auto)]
+
+mod contexts;
+mod fault;
+mod head;
+mod item;
+mod judge;
+pub mod laws;
+mod memory_wire;
+mod proposal;
+mod request;
+mod syntaxes;
+mod wire;
+mod writers;
+
+pub use contexts::Contexts;
+pub use fault::PduFault;
+pub use head::{PduHead, PdvHead, read_pdu_head, read_pdv_head};
+pub use memory_wire::MemoryWire;
+pub use proposal::Proposal;
+pub use request::{Request, read_request};
+pub use syntaxes::TransferSyntaxes;
+pub use wire::{Wire, WireFailed};
+pub use writers::{write_abort, write_data, write_reject, write_release};
+
+#[cfg(test)]
+mod tests;

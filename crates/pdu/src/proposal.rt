@@ -1,0 +1,64 @@
+//! One proposed presentation context.
+ghost use Rattle.std.specs.Prelude.{◌≡◌, true};
+ghost use Rattle.pdu.specs.Items.{is_context, proposal_of};
+
+use crate::item::{Item, content_in};
+use crate::syntaxes::TransferSyntaxes;
+use element::unpadded;
+use std::marker::Model;
+
+/// A proposed presentation context (PS3.8 section 9.3.2.2): a view of its item.
+#[derive(Drop)]
+pub struct Proposal<'a> {
+    id: u8,
+    abstract_name: &'a [u8],
+    parts: &'a [u8],
+}
+
+impl<'a> Model for Proposal<'a> {
+    ghost use Rattle.pdu.specs.Record as asked;
+    ghost use Rattle.pdu.specs.Items.{items_of, syntaxes};
+
+    ghost Value = { asked.Proposal };
+
+    ghost view = { λ p. record { id = p.id; abstract_syntax = p.abstract_name.now; transfer_syntaxes = syntaxes (items_of p.parts.now) } };
+}
+
+impl<'a> Proposal<'a> {
+    /// The one that an item of type 20H proposes.
+    pub(crate) fn of(item: Item<'a>) -> Proposal<'a>
+        requires { is_context item.bytes.now ≡ true }
+        ensures { result ≡ proposal_of item.entry.bytes.now }
+    {
+        let bytes = item.bytes();
+        let parts = &bytes[8..];
+        Proposal {
+            id: bytes[4],
+            abstract_name: unpadded(content_in(0x30, parts)),
+            parts,
+        }
+    }
+
+    /// The presentation context's id.
+    pub fn id(&self) -> u8
+        ensures { result ≡ self.now.id }
+    {
+        self.id
+    }
+
+    /// The abstract syntax, without trailing zero bytes and spaces.
+    pub fn abstract_syntax(&self) -> &'a [u8]
+        ensures { result.now ≡ self.now.abstract_syntax }
+    {
+        self.abstract_name
+    }
+
+    ghost use Rattle.pdu.specs.Left.{syntaxes_left};
+
+    /// The transfer syntaxes in their order.
+    pub fn transfer_syntaxes(&self) -> TransferSyntaxes<'a>
+        ensures { syntaxes_left result ≡ self.now.transfer_syntaxes }
+    {
+        TransferSyntaxes::of(self.parts)
+    }
+}

@@ -1,0 +1,46 @@
+//! The transfer syntaxes of a proposed presentation context.
+ghost use Rattle.std.specs.Prelude.{◌≡◌};
+ghost use Rattle.std.specs.Iterator.{YieldsFirstRef, item_count};
+ghost use Rattle.pdu.specs.Items.{items_of, syntaxes};
+
+use crate::item::Items;
+use element::unpadded;
+
+/// The transfer syntaxes of a proposed presentation context in their order, without trailing zero
+/// bytes and spaces.
+#[derive(Clone, Copy)]
+pub struct TransferSyntaxes<'a> {
+    items: Items<'a>,
+}
+
+impl<'a> TransferSyntaxes<'a> {
+    ghost use Rattle.pdu.specs.Left.{syntaxes_left};
+
+    /// Those among the items of a text.
+    pub(crate) fn of(text: &'a [u8]) -> TransferSyntaxes<'a>
+        ensures { syntaxes_left result ≡ syntaxes (items_of text.now) }
+    {
+        TransferSyntaxes {
+            items: Items::of(text),
+        }
+    }
+}
+
+impl<'a> Iterator for TransferSyntaxes<'a> {
+    type Item = &'a [u8];
+
+    ghost use Rattle.pdu.specs.Left.{syntaxes_left};
+
+    ghost next_gives = { YieldsFirstRef syntaxes_left };
+
+    ghost remaining = { item_count syntaxes_left };
+
+    fn next(&mut self) -> Option<&'a [u8]> {
+        while let Some(item) = self.items.next() {
+            if item.kind() == 0x40 {
+                return Some(unpadded(item.content()));
+            }
+        }
+        None
+    }
+}

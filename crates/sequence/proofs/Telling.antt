@@ -1,0 +1,157 @@
+-- What is told of the text at which the machine stands.
+use Rattle.std.proofs.Common.{◌≡◌, ℕ, zero, suc, ◌+◌, ◌-◌, ◌*◌, ◌<◌, ◌≤◌, ◌≢◌, ◌⊎◌, Bool, true, false, not, ◌&&◌, List, [], ◌∷◌, ◌++◌, length, get_or, Option, Some, None, is_some, nat_eq, nat_le, nat_lt, refl, sym, ap, subst, ◌∙◌, inl, inr, arith, lit<, append_assoc, append-nil, length-append, ltb-false, leb-true, leb-false, ne_eqb, eqb-true, eq-eqb, if◌then◌else◌}
+use Rattle.std.proofs.lemmas.Bool.Decides.{nat_tests}
+use Rattle.element.specs.declared.syntax.Syntax.{Syntax}
+use Rattle.element.specs.declared.tag.Tag.{Tag}
+use Rattle.element.specs.declared.header.Header.{Header}
+use Rattle.element.specs.declared.size.Need.{Need}
+use Rattle.element.specs.declared.size.Need.TheVariants.{More, Size, BadVr}
+use Rattle.element.specs.Header.{number, is_plain, tag_at, need, is_whole, has_size}
+use Rattle.element.proofs.Headers.{NeedIs, few, plain_eight, no_vr, refused, short_eight, long_twelve, need_is}
+use Rattle.sequence.specs.declared.level.Frame.{Frame}
+use Rattle.sequence.specs.declared.spot.Spot.{Spot}
+use Rattle.sequence.specs.declared.wanted.Want.{Want}
+use Rattle.sequence.specs.declared.shape.Shape.TheVariants.{Value}
+use Rattle.sequence.specs.Shape.{shape}
+use Rattle.sequence.specs.Tree.{Elements, IsElement, DataSet}
+use Rattle.sequence.specs.Open.{Entry, Tail, in_header, in_value, IsTail, header_tail, value_tail, IsUnfinished, IsLeft, AreLeft, IsInnermost, Nested, at_elements, in_sequence_of, Open, sequence_entry, last_of}
+use Rattle.sequence.specs.Wanted.{Values, kept_of}
+use Rattle.sequence.specs.Rules.{Limits, Broken, broken, passes, broken_need}
+use Rattle.sequence.specs.Machine.{set_frame, sequence_frame, stop_of, stops_at, spot_of, nearest, nearer, less, State, Mode, Heading, Reading, Stopped, next, run, start}
+use Rattle.sequence.specs.Keeping.{keep, keeps}
+use Rattle.sequence.specs.Standing.{IsBytes, Reaches, at_root, into_sequence, into_item, AreNested, Holds, AllHold, AreLevels, IsDue, Unbroken, IsHeading, IsReading, IsStopped, StandsIn, Stands}
+use Rattle.sequence.proofs.Sound.{if_some}
+use Rattle.sequence.proofs.Unbroken.{BreaksNone, unbroken_is}
+use Rattle.sequence.proofs.Ends.{all_hold, nearest_holds}
+use Rattle.sequence.proofs.Fronts.{stop_at, frame_at, top_over, below_over}
+use Rattle.sequence.proofs.Plug.{IsFront, plug, level_is, entry_frame}
+use Rattle.sequence.proofs.Steps.{sequence_of, set_of, no_header}
+
+-- a path from its levels
+
+abbrev pub all_over : ℕ → List Entry → Frame → List Frame
+all_over n path f = top_over n path f ∷ below_over n path f []
+
+left_of_by : (n : ℕ) (left near : Option ℕ) → IsLeft (stop_at n left) (stop_at n near) → IsLeft left near
+left_of_by n None near h = tt
+left_of_by n (Some a) None h = tt
+left_of_by n (Some a) (Some c) h = omega (arith, h)
+
+over_some : (n : ℕ) (a c : Option ℕ) → (if is_some (stop_at n a) then stop_at n a else stop_at n c) ≡ stop_at n (if is_some a then a else c)
+over_some n None c = refl
+over_some n (Some a) c = refl
+
+pub paths_left : (n : ℕ) (near : Option ℕ) (path : List Entry) (f : Frame) → AreNested (stop_at n near) (all_over n path f) → AreLeft near path
+paths_left n near [] f h = tt
+paths_left n near (e ∷ path) f h =
+    (left_of_by n e.left near h.0, paths_left n (if is_some e.left then e.left else near) path f (subst (λ z. AreNested z (all_over n path f)) (over_some n e.left near) h.1))
+
+zero_stops : (n : ℕ) (o : Option ℕ) → o ≡ Some 0 → stops_at (stop_at n o) n ≡ false → ⊥
+zero_stops n None e h = cc
+zero_stops n (Some a) e h = let z : a ≡ 0 = cc in let s : n + a ≡ n = omega (arith, z) in let k : true ≡ false = sym (eq-eqb (n + a) n s) ∙ h in cc
+
+pub paths_inside : (n : ℕ) (path : List Entry) (f : Frame) → stops_at (top_over n path f).stop n ≡ false → IsInnermost path
+paths_inside n [] f h = tt
+paths_inside n (e ∷ path) f h = λ z. zero_stops n e.left z h
+
+all_is : (n : ℕ) (path : List Entry) (r f : Frame) (fs : List Frame) → top_over n path r ≡ f → below_over n path r [] ≡ fs → all_over n path r ≡ f ∷ fs
+all_is n path r f fs t d = λ i. t i ∷ d i
+
+-- a front is open, where its levels are nested and none ends there
+pub open_of : {s : Syntax} {ws : List Want} {values : Values} {n : ℕ} {b : List ℕ} {tail : Tail} {f : Frame} {fs : List Frame} (x : IsFront s ws values n b tail f fs) → AreNested None (f ∷ fs) → stops_at f.stop n ≡ false → Open s b x.elements x.path x.last tail
+open_of {s = s} {n = n} {f = f} {fs = fs} x nested stays = record {
+  nested = x.nested;
+  left = paths_left n None x.path (set_frame s None x.last) (subst (λ z. AreNested None z) (sym (all_is n x.path (set_frame s None x.last) f fs x.top x.below)) nested);
+  innermost = paths_inside n x.path (set_frame s None x.last) (ap (λ z. stops_at z.stop n) x.top ∙ stays);
+}
+
+-- where a header is due or begun
+
+front_sequence : {s : Syntax} {ws : List Want} {values : Values} {f : Frame} {fs : List Frame} {before : List ℕ} (t : List ℕ) (n : ℕ) → Reaches s ws values f fs before → f.in_sequence ≡ true → IsUnfinished f.syntax t → AllHold (f ∷ fs) n → n ≡ length (before ++ t) → IsFront s ws values n (before ++ t) (in_header t) f fs
+front_sequence t n (at_root d e k fits) here tail hold n-is = absurd cc
+front_sequence t n (into_item r it len some set stop-is last-is b-is) here tail hold n-is = absurd cc
+front_sequence {s = s} {ws = ws} {values = values} t n (into_sequence {s1 = s1} {stop = stop} {out = out} {last = last} {fs = fs} {q = q} {h = h} {hb = hb} {inner = inner} {is = is} {ib = ib} {b = b} {k = k} r el sh len some items stop-is k-is b-is) here tail hold n-is =
+    let text : q ++ (hb ++ (ib ++ t)) ≡ b ++ t = sym (ap (λ z. z ++ t) b-is ∙ simp append_assoc) in
+    let n0 : n ≡ length (q ++ (hb ++ (ib ++ t))) = n-is ∙ ap length (sym text) in
+    let n1 : n ≡ length (q ++ hb) + length (ib ++ t) = n0 ∙ omega (arith, length-append q (hb ++ (ib ++ t)), length-append hb (ib ++ t), length-append q hb) in
+    let level = level_is stop (q ++ hb) (ib ++ t) n h.length n1 some stop-is hold.0 in
+    let seq : Entry = sequence_entry inner h.length (length (ib ++ t)) in
+    let front = plug (hb ++ (ib ++ t)) (in_header t) (seq ∷ []) (number h.tag) n r n0 hold.1.0 hold.1.1 (λ es eb set e. in_sequence_of set (subst (λ z. IsElement s1 z h hb) e el) sh level items tail) in
+    let frame = entry_frame true inner stop 0 (length (q ++ hb)) n h.length (length (ib ++ t)) n1 level stop-is in
+    record {
+      elements = front.elements;
+      path = front.path;
+      last = front.last;
+      nested = subst (λ z. Nested s z front.elements front.path front.last (in_header t)) text front.nested;
+      top = front.top ∙ frame;
+      below = front.below ∙ ap (λ z. set_frame s1 out z ∷ fs) (sym k-is);
+      kept = front.kept;
+      fits = front.fits;
+    }
+
+front_elements : {s : Syntax} {ws : List Want} {values : Values} {s1 : Syntax} {stop : Option ℕ} {last : ℕ} {fs : List Frame} {before : List ℕ} (t : List ℕ) (n : ℕ) → Reaches s ws values (set_frame s1 stop last) fs before → IsUnfinished s1 t → Holds stop n → AllHold fs n → n ≡ length (before ++ t) → IsFront s ws values n (before ++ t) (in_header t) (set_frame s1 stop last) fs
+front_elements {s1 = s1} {last = last} t n r tail hold all n-is =
+    plug t (in_header t) [] last n r n-is hold all (λ es eb set e. subst (λ z. Nested s1 (eb ++ t) es [] z (in_header t)) (sym e) (at_elements set (header_tail tail)))
+
+pub front_heading : (s : Syntax) (ws : List Want) (values : Values) (f : Frame) (fs : List Frame) (before t : List ℕ) (n : ℕ) → Reaches s ws values f fs before → IsUnfinished f.syntax t → AllHold (f ∷ fs) n → n ≡ length (before ++ t) → IsFront s ws values n (before ++ t) (in_header t) f fs
+front_heading s ws values f fs before t n r tail hold n-is = by f.in_sequence refl
+  where
+    by : (q : Bool) → f.in_sequence ≡ q → IsFront s ws values n (before ++ t) (in_header t) f fs
+    by true here = front_sequence t n r here tail hold n-is
+    by false here =
+        let is = set_of f here in
+        subst (λ z. IsFront s ws values n (before ++ t) (in_header t) z fs) (sym is) (front_elements t n (subst (λ z. Reaches s ws values z fs before) is r) tail hold.0 hold.1 n-is)
+
+pub front_reading : {s : Syntax} {ws : List Want} {values : Values} {s1 : Syntax} {stop : Option ℕ} {last : ℕ} {fs : List Frame} {before : List ℕ} (h : Header) (hb v : List ℕ) (n : ℕ) → Reaches s ws values (set_frame s1 stop last) fs before → IsElement s1 last h hb → shape s1 h ≡ Value → length v < h.length → Holds stop n → AllHold fs n → n ≡ length (before ++ (hb ++ v))
+    → IsFront s ws values n (before ++ (hb ++ v)) (in_value h v) (set_frame s1 stop last) fs
+front_reading {s1 = s1} {last = last} h hb v n r el sh lt hold all n-is =
+    plug (hb ++ v) (in_value h v) [] last n r n-is hold all (λ es eb set e. subst (λ z. Nested s1 (eb ++ (hb ++ v)) es [] z (in_value h v)) (sym e) (at_elements set (value_tail v (subst (λ z. IsElement s1 z h hb) e el) sh lt)))
+
+-- a header that is not whole is inside the nearest end
+
+passes_less : (o : Option ℕ) (j k : ℕ) → passes o k ≡ false → j ≤ k → passes o j ≡ false
+passes_less None j k e le = refl
+passes_less (Some a) j k e le = let f = ltb-false a k e in ltb_no a j (omega (arith, f, le))
+  where
+    ltb_no : (a j : ℕ) → j ≤ a → nat_lt a j ≡ false
+    ltb_no a j le = grind (arith, nat_tests)
+
+inside_by : (lim : Limits) (spot : Spot) (t : List ℕ) {n : Need} → NeedIs spot.syntax t n → need spot.syntax t ≡ n → has_size n (length t) ≡ false → n ≢ BadVr → BreaksNone lim spot t → passes spot.near (length t + 1) ≡ false
+inside_by lim spot t (few lt) e part good ok = passes_less spot.near (length t + 1) 8 (if_some (passes spot.near 8) _ ok.due_ok).0 (omega (arith, lt))
+inside_by lim spot t (plain_eight ge p) e part good ok = let lt = leb-false 8 (length t) part in passes_less spot.near (length t + 1) 8 (if_some (passes spot.near 8) _ ok.due_ok).0 (omega (arith, lt))
+inside_by lim spot t (no_vr ge p lt) e part good ok = passes_less spot.near (length t + 1) 8 (if_some (passes spot.near 8) _ ok.due_ok).0 (omega (arith, lt))
+inside_by lim spot t (refused ge p c) e part good ok = absurd (good refl)
+inside_by lim spot t (short_eight ge p c h) e part good ok = let lt = leb-false 8 (length t) part in passes_less spot.near (length t + 1) 8 (if_some (passes spot.near 8) _ ok.due_ok).0 (omega (arith, lt))
+inside_by lim spot t (long_twelve ge p c h) e part good ok =
+    let lt = leb-false 12 (length t) part in
+    let n : broken_need spot (Size 12) (tag_at t) ≡ None = ap (λ z. broken_need spot z (tag_at t)) (sym e) ∙ ok.vr_ok ge p in
+    passes_less spot.near (length t + 1) 12 (if_some (passes spot.near 12) _ n).0 (omega (arith, lt))
+
+pub inside : (lim : Limits) (spot : Spot) (t : List ℕ) → IsUnfinished spot.syntax t → broken lim spot t ≡ None → passes spot.near (length t + 1) ≡ false
+unfolding is_whole
+inside lim spot t tail ok = inside_by lim spot t (need_is spot.syntax t) refl tail.part tail.good (unbroken_is lim spot t ok)
+
+pub holds_after : (o : Option ℕ) (p n : ℕ) → Holds o p → passes (less o p) n ≡ false → Holds o (p + n)
+holds_after None p n h e = tt
+holds_after (Some e) p n h g = let f = ltb-false (e - p) n g in omega (arith, f, h)
+
+pub less_all : (fs : List Frame) (m n : ℕ) → AllHold fs n → m ≤ n → AllHold fs m
+less_all [] m n h le = tt
+less_all (f ∷ fs) m n h le = (by f.stop h.0, less_all fs m n h.1 le)
+  where
+    by : (o : Option ℕ) → Holds o n → Holds o m
+    by None h = tt
+    by (Some e) h = omega (arith, h, le)
+
+pub past_stays : (o : Option ℕ) (n : ℕ) → Holds o (n + 1) → stops_at o n ≡ false
+past_stays None n h = refl
+past_stays (Some e) n h = ne_eqb e n (λ same. absurd (omega (arith, h, same)))
+
+-- behind a text a header is due
+pub open_due : (s : Syntax) (lim : Limits) (values : Values) (f : Frame) (fs : List Frame) (b : List ℕ) → IsDue s lim values f fs b → IsFront s lim.wanted values (length b) b (in_header []) f fs
+open_due s lim values f fs b d =
+    let n : length b ≡ length (b ++ []) = ap length (sym (append-nil b)) in
+    subst (λ z. IsFront s lim.wanted values (length b) z (in_header []) f fs) (append-nil b) (front_heading s lim.wanted values f fs b [] (length b) d.reaches (no_header f.syntax) d.levels.hold n)
+
+pub due_open : (s : Syntax) (lim : Limits) (values : Values) (f : Frame) (fs : List Frame) (b : List ℕ) (d : IsDue s lim values f fs b) → Open s b (open_due s lim values f fs b d).elements (open_due s lim values f fs b d).path (open_due s lim values f fs b d).last (in_header [])
+due_open s lim values f fs b d = open_of (open_due s lim values f fs b d) d.levels.nested d.stays

@@ -1,0 +1,20 @@
+-- How a text ends (this product's own profile).
+use Rattle.std.specs.Prelude.{◌≡◌, ℕ, ◌≤◌, List, ◌++◌, length}
+use Rattle.element.specs.declared.syntax.Syntax.{Syntax}
+use Rattle.element.specs.declared.tag.Tag.{Tag}
+use Rattle.sequence.specs.declared.fault.Fault.{Fault}
+use Rattle.sequence.specs.Tree.{Elements, DataSet}
+use Rattle.sequence.specs.Within.{Within}
+use Rattle.sequence.specs.Rules.{Limits}
+use Rattle.sequence.specs.FirstFault.{FirstFault, EndFault}
+
+-- b is a whole data set within the limits
+pub record IsWhole (s : Syntax) (lim : Limits) (b : List ℕ) : Type 0 where
+  pub elements : Elements
+  pub text : DataSet s 0 elements b
+  pub within : Within s lim elements b
+
+-- what is wrong with b: the first rule that it breaks, or that it ends too early
+pub data Fails (s : Syntax) (lim : Limits) (b : List ℕ) : Fault → Type 0 where
+  breaks_rule : {p u : List ℕ} {rule : ℕ} {tag : Tag} → FirstFault s lim b p u rule tag → Fails s lim b (record { number = rule; place = length p; tag = tag })
+  ends_early : {tag : Tag} → EndFault s lim b tag → Fails s lim b (record { number = 20; place = length b; tag = tag })

@@ -1,0 +1,96 @@
+-- What a front of a data set is: its whole elements, and what is open behind them (PS3.5 section 7.5).
+use Rattle.std.specs.Prelude.{◌≡◌, ℕ, ◌-◌, ◌<◌, ◌≤◌, ◌≢◌, is_some, Bool, true, false, List, [], ◌∷◌, ◌++◌, length, Option, Some, None, if◌then◌else◌}
+use Rattle.element.specs.declared.syntax.Syntax.{Syntax}
+use Rattle.element.specs.declared.header.Header.{Header}
+use Rattle.element.specs.declared.size.Need.{Need}
+use Rattle.element.specs.declared.size.Need.TheVariants.{BadVr}
+use Rattle.element.specs.Header.{number, need, is_whole}
+use Rattle.sequence.specs.Shape.{is_undefined, undefined_length, shape}
+use Rattle.sequence.specs.declared.shape.Shape.TheVariants.{Value, Sequence}
+use Rattle.sequence.specs.Tree.{Elements, no_elements, value, sequence, Items, IsElement, IsItem, DataSet, ItemList}
+
+-- the tag of the last element, and `last` where there is none
+abbrev pub last_of : ℕ → Elements → ℕ
+last_of last no_elements = last
+last_of last (value h v es) = last_of (number h.tag) es
+last_of last (sequence h is es) = last_of (number h.tag) es
+
+-- a level that is open: a sequence or an item
+pub record Entry : Type 0 where
+  pub in_sequence : Bool
+  -- the syntax of its items or elements
+  pub syntax : Syntax
+  -- the bytes that a defined length still lacks
+  pub left : Option ℕ
+  -- of an item, the tag of the last element that began in it
+  pub last : ℕ
+
+-- what a length still lacks after so many bytes
+abbrev pub left_of : ℕ → ℕ → Option ℕ
+left_of n came = if is_undefined n then None else Some (n - came)
+
+abbrev pub sequence_entry : Syntax → ℕ → ℕ → Entry
+sequence_entry s n came = record { in_sequence = true; syntax = s; left = left_of n came; last = 0 }
+
+abbrev pub item_entry : Syntax → ℕ → ℕ → ℕ → Entry
+item_entry s n came last = record { in_sequence = false; syntax = s; left = left_of n came; last = last }
+
+-- what stands behind the whole elements and items
+pub data Tail : Type 0 where
+  -- nothing, or the beginning of a header
+  in_header : List ℕ → Tail
+  -- behind the header of a value, what came of it
+  in_value : Header → List ℕ → Tail
+
+-- t is nothing, or the beginning of a header
+pub record IsUnfinished (s : Syntax) (t : List ℕ) : Type 0 where
+  pub part : is_whole s t ≡ false
+  pub good : need s t ≢ BadVr
+
+-- t is this tail, where an element above the tag `last` is due
+pub data IsTail (s : Syntax) (last : ℕ) : Tail → List ℕ → Type 0 where
+  header_tail : {t : List ℕ} → IsUnfinished s t → IsTail s last (in_header t) t
+  value_tail : {h : Header} {hb : List ℕ} (v : List ℕ) → IsElement s last h hb → shape s h ≡ Value → length v < h.length → IsTail s last (in_value h v) (hb ++ v)
+
+-- behind the header of a level that is open, so many bytes came: its length is not 0, and they are not more
+pub record IsOpenLevel (n came : ℕ) : Type 0 where
+  pub some : n ≢ 0
+  pub within : n ≢ undefined_length → came ≤ n
+
+-- b is the whole elements es, and what is open behind them: the path with its innermost entry first, the tag of
+-- the last element that began in b itself, and the tail
+pub data Nested : Syntax → List ℕ → Elements → List Entry → ℕ → Tail → Type 0 where
+  at_elements : {s : Syntax} {es : Elements} {b t : List ℕ} {tail : Tail}
+      → DataSet s 0 es b → IsTail s (last_of 0 es) tail t
+      → Nested s (b ++ t) es [] (last_of 0 es) tail
+  in_sequence_of : {s : Syntax} {es : Elements} {b : List ℕ} {h : Header} {hb : List ℕ} {inner : Syntax} {is : Items} {ib t : List ℕ}
+      → DataSet s 0 es b → IsElement s (last_of 0 es) h hb → shape s h ≡ Sequence inner → IsOpenLevel h.length (length (ib ++ t))
+      → ItemList inner is ib → IsUnfinished inner t
+      → Nested s (b ++ (hb ++ (ib ++ t))) es (sequence_entry inner h.length (length (ib ++ t)) ∷ []) (number h.tag) (in_header t)
+  in_item_of : {s : Syntax} {es : Elements} {b : List ℕ} {h : Header} {hb : List ℕ} {inner : Syntax} {is : Items} {ib : List ℕ} {k : Header} {kb b2 : List ℕ} {es2 : Elements} {path : List Entry} {last : ℕ} {tail : Tail}
+      → DataSet s 0 es b → IsElement s (last_of 0 es) h hb → shape s h ≡ Sequence inner → IsOpenLevel h.length (length (ib ++ (kb ++ b2)))
+      → ItemList inner is ib → IsItem inner k kb → IsOpenLevel k.length (length b2) → Nested inner b2 es2 path last tail
+      → Nested s (b ++ (hb ++ (ib ++ (kb ++ b2)))) es (path ++ (item_entry inner k.length (length b2) last ∷ sequence_entry inner h.length (length (ib ++ (kb ++ b2))) ∷ [])) (number h.tag) tail
+
+-- a defined entry lacks no less than a defined entry inside it
+abbrev pub IsLeft : Option ℕ → Option ℕ → Type 0
+IsLeft None inside = Unit {0}
+IsLeft (Some left) None = Unit {0}
+IsLeft (Some left) (Some n) = n ≤ left
+
+-- the same of a path; `near` is what the nearest defined entry inside lacks
+abbrev pub AreLeft : Option ℕ → List Entry → Type 0
+AreLeft near [] = Unit {0}
+AreLeft near (e ∷ path) = IsLeft e.left near × AreLeft (if is_some e.left then e.left else near) path
+
+-- the innermost entry is not whole
+abbrev pub IsInnermost : List Entry → Type 0
+IsInnermost [] = Unit {0}
+IsInnermost (e ∷ path) = e.left ≢ Some 0
+
+-- b is a front of a data set: its whole elements, the path, the last tag and the tail. A defined entry of the
+-- path lacks at least one byte, or none where an undefined entry stands inside it
+pub record Open (s : Syntax) (b : List ℕ) (es : Elements) (path : List Entry) (last : ℕ) (tail : Tail) : Type 0 where
+  pub nested : Nested s b es path last tail
+  pub left : AreLeft None path
+  pub innermost : IsInnermost path

@@ -1,0 +1,120 @@
+-- Which rules a header, or its beginning, breaks (PS3.5 sections 7.1 and 7.5; the limits and the numbers are this
+-- product's own profile). They are judged in this order; the tag is that of the header.
+use Rattle.std.specs.Prelude.{◌≡◌, ℕ, ◌+◌, ◌%◌, Bool, true, false, not, ◌&&◌, ◌||◌, List, [], ◌∷◌, length, Option, Some, None, nat_eq, nat_le, nat_lt, if◌then◌else◌}
+use Rattle.element.specs.declared.syntax.Syntax.{Syntax}
+use Rattle.element.specs.declared.tag.Tag.{Tag}
+use Rattle.element.specs.declared.header.Header.{Header}
+use Rattle.element.specs.declared.size.Need.{Need}
+use Rattle.element.specs.declared.size.Need.TheVariants.{More, Size, BadVr}
+use Rattle.element.specs.Header.{number, is_marker, is_plain, tag_at, need, is_whole, header_at}
+use Rattle.sequence.specs.declared.wanted.Want.{Want}
+use Rattle.sequence.specs.declared.spot.Spot.{Spot}
+use Rattle.sequence.specs.declared.shape.Shape.{Shape}
+use Rattle.sequence.specs.declared.shape.Shape.TheVariants.{Value, Sequence, NotAllowed}
+use Rattle.sequence.specs.Shape.{is_undefined, shape}
+use Rattle.sequence.specs.Tree.{item_tag, item_end_tag, sequence_end_tag}
+use Rattle.sequence.specs.Wanted.{room_of}
+
+-- what a data set is held to: the wanted tags with their rooms, so many open levels, and so many bytes
+pub record Limits : Type 0 where
+  pub wanted : List Want
+  pub depth : ℕ
+  pub bytes : ℕ
+
+-- a broken rule's number and the tag that it is told with
+abbrev pub Broken : Type 0
+Broken = Option (ℕ × Tag)
+
+abbrev pub no_tag : Tag
+no_tag = record { 0 = 0; 1 = 0 }
+
+abbrev pub same_tag : Tag → Tag → Bool
+same_tag t u = nat_eq t.0 u.0 && nat_eq t.1 u.1
+
+-- whether n is more than there is
+abbrev pub passes : Option ℕ → ℕ → Bool
+passes None n = false
+passes (Some left) n = nat_lt left n
+
+-- as soon as a header is due: none fits before the nearest end of a defined level (17)
+abbrev pub broken_due : Spot → Broken
+broken_due spot = if passes spot.near 8 then Some (17, no_tag) else None
+
+-- at four bytes: an item or a delimitation out of place (15), a group that no data set has (13), a tag that does
+-- not rise (12)
+unfoldable pub broken_tag : Spot → Tag → Broken
+broken_tag spot t =
+    if spot.in_sequence
+    then (if same_tag t item_tag || (same_tag t sequence_end_tag && spot.open_ended) then None else Some (15, t))
+    else (if is_marker t then (if same_tag t item_end_tag && spot.open_ended then None else Some (15, t))
+    else (if nat_eq t.0 0 || nat_eq t.0 2 then Some (13, t)
+    else (if nat_le (number t) spot.last then Some (12, t)
+    else None)))
+
+-- at six bytes, where the header has a VR: no two capital letters (10), or no room for the header (17)
+abbrev pub broken_need : Spot → Need → Tag → Broken
+broken_need spot More t = None
+broken_need spot BadVr t = Some (10, t)
+broken_need spot (Size n) t = if passes spot.near n then Some (17, t) else None
+
+abbrev pub is_value : Shape → Bool
+is_value Value = true
+is_value (Sequence s) = false
+is_value NotAllowed = false
+
+abbrev pub is_sequence : Shape → Bool
+is_sequence (Sequence s) = true
+is_sequence Value = false
+is_sequence NotAllowed = false
+
+abbrev pub is_not_allowed : Shape → Bool
+is_not_allowed NotAllowed = true
+is_not_allowed Value = false
+is_not_allowed (Sequence s) = false
+
+-- a delimitation whose length is not 0
+abbrev pub is_long_mark : Header → Bool
+is_long_mark h = (is_marker h.tag && not (same_tag h.tag item_tag)) && not (nat_eq h.length 0)
+
+-- what a defined length counts
+abbrev pub counted_length : ℕ → ℕ
+counted_length n = if is_undefined n then 0 else n
+
+-- the header of a value of the data set itself that is longer than its room
+abbrev pub is_too_long : Limits → Spot → Header → Bool
+is_too_long lim spot h = ((nat_eq spot.depth 0 && not (is_marker h.tag)) && is_value (shape spot.syntax h)) && passes (room_of lim.wanted (number h.tag)) h.length
+
+-- the header opens a level
+abbrev pub opens : Spot → Header → Bool
+opens spot h = (is_marker h.tag || is_sequence (shape spot.syntax h)) && not (nat_eq h.length 0)
+
+-- when the header is whole: the length of a delimitation (16), an undefined length that is not allowed (14), an odd
+-- length (11), an end past the nearest one (17), past the limit (19), a wanted value longer than its room (21),
+-- a level more than the limit (18)
+unfoldable pub broken_header : Limits → Spot → ℕ → Header → Broken
+broken_header lim spot size h =
+    if is_long_mark h then Some (16, h.tag)
+    else (if not (is_marker h.tag) && is_not_allowed (shape spot.syntax h) then Some (14, h.tag)
+    else (if not (is_undefined h.length) && nat_eq (h.length % 2) 1 then Some (11, h.tag)
+    else (if not (is_undefined h.length) && passes spot.near (size + h.length) then Some (17, h.tag)
+    else (if nat_lt lim.bytes (spot.place + size + counted_length h.length) then Some (19, h.tag)
+    else (if is_too_long lim spot h then Some (21, h.tag)
+    else (if opens spot h && nat_le lim.depth spot.depth then Some (18, h.tag)
+    else None))))))
+
+infixr 20 ◌or_else◌
+abbrev pub ◌or_else◌ : Broken → Broken → Broken
+(Some x) or_else y = Some x
+None or_else y = y
+
+abbrev pub when : Bool → Broken → Broken
+when true x = x
+when false x = None
+
+-- the first rule that is broken where the bytes t of a header came
+unfoldable pub broken : Limits → Spot → List ℕ → Broken
+broken lim spot t =
+    broken_due spot
+    or_else when (nat_le 4 (length t)) (broken_tag spot (tag_at t))
+    or_else when (nat_le 6 (length t) && not (is_plain spot.syntax (tag_at t))) (broken_need spot (need spot.syntax t) (tag_at t))
+    or_else when (is_whole spot.syntax t) (broken_header lim spot (length t) (header_at spot.syntax t))

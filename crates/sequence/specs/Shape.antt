@@ -1,0 +1,44 @@
+-- What follows the header of an element (PS3.5 sections 6.2.2 and 7.5). What an Implicit element of a tag
+-- without an entry in the dictionary holds is this product's own profile.
+use Rattle.std.specs.Prelude.{ℕ, Bool, true, false, ◌&&◌, Option, Some, None, List, get_or, nat_eq, if◌then◌else◌, codes}
+use Rattle.element.specs.declared.syntax.Syntax.{Syntax}
+use Rattle.element.specs.declared.syntax.Syntax.TheVariants.{Implicit, Explicit}
+use Rattle.element.specs.declared.header.Header.{Header}
+use Rattle.dictionary.specs.Tags.{vr_of}
+use Rattle.sequence.specs.declared.shape.Shape.{Shape}
+use Rattle.sequence.specs.declared.shape.Shape.TheVariants.{Value, Sequence, NotAllowed}
+
+-- FFFFFFFFH, undefined length
+abbrev pub undefined_length : ℕ
+undefined_length = 0xffffffff
+
+abbrev pub is_undefined : ℕ → Bool
+is_undefined n = nat_eq n undefined_length
+
+abbrev pub is_vr : List ℕ → List ℕ → Bool
+is_vr letters vr = nat_eq (get_or vr 0 0) (get_or letters 0 0) && nat_eq (get_or vr 1 0) (get_or letters 1 0)
+
+-- in Explicit, by the header's VR
+abbrev pub explicit_shape : List ℕ → Bool → Shape
+explicit_shape vr undefined =
+    if is_vr (codes "SQ") vr then Sequence Explicit
+    else (if undefined then (if is_vr (codes "UN") vr then Sequence Implicit else NotAllowed)
+    else Value)
+
+-- in Implicit, by the dictionary's VR
+abbrev pub implicit_shape : Option (List ℕ) → Bool → Shape
+implicit_shape None undefined = if undefined then Sequence Implicit else Value
+implicit_shape (Some vr) undefined =
+    if is_vr (codes "SQ") vr then Sequence Implicit
+    else (if undefined then NotAllowed
+    else Value)
+
+-- the syntax, the header's VR, the dictionary's VR, and whether the length is undefined
+abbrev pub shape_by : Syntax → Option (List ℕ) → Option (List ℕ) → Bool → Shape
+shape_by Explicit (Some vr) known undefined = explicit_shape vr undefined
+shape_by Explicit None known undefined = NotAllowed
+shape_by Implicit vr known undefined = implicit_shape known undefined
+
+-- the shape of the element with this header
+abbrev pub shape : Syntax → Header → Shape
+shape s h = shape_by s h.vr (vr_of h.tag) (is_undefined h.length)

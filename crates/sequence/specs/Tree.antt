@@ -1,0 +1,80 @@
+-- Which texts spell which data sets (PS3.5 sections 7.1 to 7.5).
+use Rattle.std.specs.Prelude.{◌≡◌, ℕ, ◌%◌, ◌<◌, ◌≢◌, Bool, true, false, List, [], ◌++◌, length}
+use Rattle.element.specs.declared.syntax.Syntax.{Syntax}
+use Rattle.element.specs.declared.tag.Tag.{Tag}
+use Rattle.element.specs.declared.header.Header.{Header}
+use Rattle.element.specs.Numbers.{le}
+use Rattle.element.specs.Header.{number, is_marker, tag_bytes, SpellsHeader}
+use Rattle.sequence.specs.Shape.{undefined_length, shape}
+use Rattle.sequence.specs.declared.shape.Shape.TheVariants.{Value, Sequence}
+
+-- a data set is a list of elements, and a sequence a list of items
+mutual
+  pub data Elements : Type 0 where
+    no_elements : Elements
+    value : Header → List ℕ → Elements → Elements
+    sequence : Header → Items → Elements → Elements
+
+  pub data Items : Type 0 where
+    no_items : Items
+    item : Header → Elements → Items → Items
+
+abbrev pub item_tag : Tag
+item_tag = record { 0 = 0xfffe; 1 = 0xe000 }
+
+abbrev pub item_end_tag : Tag
+item_end_tag = record { 0 = 0xfffe; 1 = 0xe00d }
+
+abbrev pub sequence_end_tag : Tag
+sequence_end_tag = record { 0 = 0xfffe; 1 = 0xe0dd }
+
+-- a delimitation, the header of length 0 with its tag
+abbrev pub delimitation : Tag → List ℕ
+delimitation t = tag_bytes t ++ le 0 4
+
+abbrev pub IsEven : ℕ → Type 0
+IsEven n = n % 2 ≡ 0
+
+-- hb spells the header h of an element above the tag `last`, of a group that a data set may have
+pub record IsElement (s : Syntax) (last : ℕ) (h : Header) (hb : List ℕ) : Type 0 where
+  pub spelled : SpellsHeader s h hb
+  pub rising : last < number h.tag
+  pub no_marker : is_marker h.tag ≡ false
+  pub no_command : h.tag.0 ≢ 0
+  pub no_file : h.tag.0 ≢ 2
+
+-- hb spells the header h of an item
+pub record IsItem (s : Syntax) (h : Header) (hb : List ℕ) : Type 0 where
+  pub spelled : SpellsHeader s h hb
+  pub tagged : h.tag ≡ item_tag
+
+-- v is a value of that length
+pub record IsValue (length-is : ℕ) (v : List ℕ) : Type 0 where
+  pub even : IsEven length-is
+  pub size : length v ≡ length-is
+
+-- c is b with its end: of a defined length b has that length, and else c is b and a delimitation
+pub data Closed (mark : Tag) : ℕ → List ℕ → List ℕ → Type 0 where
+  counted : {b : List ℕ} (n : ℕ) → n ≢ undefined_length → IsEven n → length b ≡ n → Closed mark n b b
+  delimited : {b : List ℕ} → Closed mark undefined_length b (b ++ delimitation mark)
+
+mutual
+  -- b spells these elements, whose tags rise and are above `last`
+  pub data DataSet : Syntax → ℕ → Elements → List ℕ → Type 0 where
+    nothing : {s : Syntax} {last : ℕ} → DataSet s last no_elements []
+    value_then : {s : Syntax} {last : ℕ} {h : Header} {hb v : List ℕ} {es : Elements} {b : List ℕ}
+        → IsElement s last h hb → shape s h ≡ Value → IsValue h.length v
+        → DataSet s (number h.tag) es b
+        → DataSet s last (value h v es) (hb ++ (v ++ b))
+    sequence_then : {s : Syntax} {last : ℕ} {h : Header} {hb : List ℕ} {inner : Syntax} {is : Items} {ib cb : List ℕ} {es : Elements} {b : List ℕ}
+        → IsElement s last h hb → shape s h ≡ Sequence inner → ItemList inner is ib → Closed sequence_end_tag h.length ib cb
+        → DataSet s (number h.tag) es b
+        → DataSet s last (sequence h is es) (hb ++ (cb ++ b))
+
+  -- b spells these items
+  pub data ItemList : Syntax → Items → List ℕ → Type 0 where
+    no_more : {s : Syntax} → ItemList s no_items []
+    item_then : {s : Syntax} {h : Header} {hb : List ℕ} {es : Elements} {eb cb : List ℕ} {is : Items} {b : List ℕ}
+        → IsItem s h hb → DataSet s 0 es eb → Closed item_end_tag h.length eb cb
+        → ItemList s is b
+        → ItemList s (item h es is) (hb ++ (cb ++ b))

@@ -1,0 +1,69 @@
+-- What is kept of a data set: the values of wanted tags among its own elements (this product's own profile).
+use Rattle.std.specs.Prelude.{◌≡◌, ℕ, ◌+◌, ◌*◌, ◌<◌, ◌≤◌, Bool, true, false, ◌&&◌, List, [], ◌∷◌, ◌++◌, length, Option, Some, None, is_some, nat_eq, nat_lt, if◌then◌else◌}
+use Rattle.element.specs.declared.syntax.Syntax.{Syntax}
+use Rattle.element.specs.declared.header.Header.{Header}
+use Rattle.element.specs.Header.{number}
+use Rattle.sequence.specs.declared.wanted.Want.{Want}
+use Rattle.sequence.specs.Tree.{Elements, no_elements, value, sequence}
+use Rattle.sequence.specs.Open.{Entry, Tail, in_header, in_value, Open}
+
+-- the room for the value of a tag, by its number, where the tag is wanted
+abbrev pub room_of : List Want → ℕ → Option ℕ
+room_of [] t = None
+room_of (w ∷ ws) t = if nat_eq (number w.tag) t then Some w.room else room_of ws t
+
+abbrev pub is_wanted : List Want → ℕ → Bool
+is_wanted ws t = is_some (room_of ws t)
+
+-- the wanted tags rise, and are above `last`
+abbrev pub are_rising : ℕ → List Want → Bool
+are_rising last [] = true
+are_rising last (w ∷ ws) = nat_lt last (number w.tag) && are_rising (number w.tag) ws
+
+-- all rooms together
+abbrev pub rooms : List Want → ℕ
+rooms [] = 0
+rooms (w ∷ ws) = w.room + rooms ws
+
+-- values, each behind its tag's number
+abbrev pub Values : Type 0
+Values = List (ℕ × List ℕ)
+
+abbrev pub value_of : Values → ℕ → Option (List ℕ)
+value_of [] t = None
+value_of (one ∷ values) t = if nat_eq one.0 t then Some one.1 else value_of values t
+
+-- their bytes
+abbrev pub bytes_of : Values → ℕ
+bytes_of [] = 0
+bytes_of (one ∷ values) = length one.1 + bytes_of values
+
+-- the values of the wanted tags among these elements
+abbrev pub kept_of : List Want → Elements → Values
+kept_of ws no_elements = []
+kept_of ws (value h v es) = if is_wanted ws (number h.tag) then (number h.tag, v) ∷ kept_of ws es else kept_of ws es
+kept_of ws (sequence h is es) = kept_of ws es
+
+-- the values of the wanted tags among the whole elements of the front b
+pub record Kept (s : Syntax) (ws : List Want) (b : List ℕ) (values : Values) : Type 0 where
+  pub elements : Elements
+  pub path : List Entry
+  pub last : ℕ
+  pub tail : Tail
+  pub front : Open s b elements path last tail
+  pub kept : values ≡ kept_of ws elements
+
+-- what came of a wanted value of the data set itself that is not whole
+abbrev pub begun_bytes : List Want → List Entry → Tail → ℕ
+begun_bytes ws [] (in_value h v) = if is_wanted ws (number h.tag) then length v else 0
+begun_bytes ws [] (in_header t) = 0
+begun_bytes ws (e ∷ path) tail = 0
+
+abbrev pub header_bytes : Tail → ℕ
+header_bytes (in_header t) = length t
+header_bytes (in_value h v) = 0
+
+-- the bytes that a walk holds of a front: its unfinished header, the wanted values with what came of a begun one,
+-- and 16 for each open level
+abbrev pub held_of : List Want → Elements → List Entry → Tail → ℕ
+held_of ws es path tail = header_bytes tail + (bytes_of (kept_of ws es) + begun_bytes ws path tail) + 16 * length path

@@ -1,0 +1,22 @@
+-- A data set that keeps its limits (this product's own profile).
+use Rattle.std.specs.Prelude.{◌≡◌, ℕ, ◌≤◌, List, ◌++◌, length, Some}
+use Rattle.element.specs.declared.syntax.Syntax.{Syntax}
+use Rattle.element.specs.Header.{number}
+use Rattle.sequence.specs.declared.wanted.Want.{Want}
+use Rattle.sequence.specs.Tree.{Elements, no_elements, value, sequence}
+use Rattle.sequence.specs.Open.{Entry, Tail, Open}
+use Rattle.sequence.specs.Wanted.{room_of}
+use Rattle.sequence.specs.Rules.{Limits}
+
+-- no value of a wanted tag is longer than its room
+abbrev pub FitRooms : List Want → Elements → Type 0
+FitRooms ws no_elements = Unit {0}
+FitRooms ws (value h v es) = ((room : ℕ) → room_of ws (number h.tag) ≡ Some room → length v ≤ room) × FitRooms ws es
+FitRooms ws (sequence h is es) = FitRooms ws es
+
+-- b, which spells the elements es, has no more bytes than the limit, no front of it has more open levels, and its
+-- wanted values fit their rooms
+pub record Within (s : Syntax) (lim : Limits) (es : Elements) (b : List ℕ) : Type 0 where
+  pub bytes : length b ≤ lim.bytes
+  pub depth : (p rest : List ℕ) (some : Elements) (path : List Entry) (last : ℕ) (tail : Tail) → b ≡ p ++ rest → Open s p some path last tail → length path ≤ lim.depth
+  pub rooms : FitRooms lim.wanted es

@@ -1,0 +1,267 @@
+//! Which rules a header, or its beginning, breaks.
+ghost use Rattle.std.specs.Prelude.{◌≡◌, ℕ, ◌<◌, ◌≤◌, ◌^◌, ◌+◌, ◌%◌, length, nat_le, nat_lt, nat_eq, ◌&&◌, not};
+ghost use Rattle.element.specs.Header.{is_marker};
+ghost use Rattle.sequence.specs.Shape.{is_undefined, shape};
+ghost use Rattle.element.specs.Header.{tag_at, is_plain, need, is_whole, header_at};
+ghost use Rattle.sequence.specs.Rules as rules;
+ghost use Rattle.sequence.specs.Judging.{limits_by};
+
+use crate::reading::{is_plain, is_whole};
+use crate::shape::{Shape, UNDEFINED, shape_of};
+use crate::spot::{Bounds, Spot};
+use crate::wanted::Wanted;
+use element::{Header, Need, Tag, need, read_header, read_tag};
+
+pub fn same_tag(a: Tag, b: Tag) -> bool
+    ensures { result ≡ rules.same_tag a b }
+{
+    a.0 == b.0 && a.1 == b.1
+}
+
+pub fn passes(near: Option<u64>, count: u64) -> bool
+    ensures { result ≡ rules.passes near count }
+{
+    match near {
+        None => false,
+        Some(left) => left < count,
+    }
+}
+
+pub fn broken_due(spot: &Spot) -> Option<(u8, Tag)>
+    ensures { result ≡ rules.broken_due spot.now }
+{
+    if passes(spot.near, 8) {
+        Some((17, Tag(0, 0)))
+    } else {
+        None
+    }
+}
+
+#[tactic(auto, unfolding(crate::specs::Rules::broken_tag))]
+pub fn broken_tag(spot: &Spot, tag: Tag) -> Option<(u8, Tag)>
+    ensures { result ≡ rules.broken_tag spot.now tag }
+{
+    if spot.in_sequence {
+        if same_tag(tag, Tag::ITEM)
+            || (same_tag(tag, Tag::SEQUENCE_DELIMITATION) && spot.open_ended)
+        {
+            None
+        } else {
+            Some((15, tag))
+        }
+    } else if tag.is_marker() {
+        if same_tag(tag, Tag::ITEM_DELIMITATION) && spot.open_ended {
+            None
+        } else {
+            Some((15, tag))
+        }
+    } else if tag.0 == 0 || tag.0 == 2 {
+        Some((13, tag))
+    } else if tag.number() <= spot.last {
+        Some((12, tag))
+    } else {
+        None
+    }
+}
+
+pub fn broken_need(spot: &Spot, need: Need, tag: Tag) -> Option<(u8, Tag)>
+    ensures { result ≡ rules.broken_need spot.now need tag }
+{
+    match need {
+        Need::More => None,
+        Need::BadVr => Some((10, tag)),
+        Need::Size(size) => {
+            if passes(spot.near, size as u64) {
+                Some((17, tag))
+            } else {
+                None
+            }
+        }
+    }
+}
+
+fn is_not_allowed(shape: Shape) -> bool
+    ensures { result ≡ rules.is_not_allowed shape }
+{
+    matches!(shape, Shape::NotAllowed)
+}
+
+fn is_sequence(shape: Shape) -> bool
+    ensures { result ≡ rules.is_sequence shape }
+{
+    matches!(shape, Shape::Sequence(_))
+}
+
+fn is_value(shape: Shape) -> bool
+    ensures { result ≡ rules.is_value shape }
+{
+    matches!(shape, Shape::Value)
+}
+
+/// Whether it is the header of a wanted value that is longer than its room.
+fn is_too_long(wanted: &Wanted, bounds: &Bounds, spot: &Spot, header: &Header) -> bool
+    ensures { result ≡ rules.is_too_long (limits_by wanted.now.list.items bounds.now) spot.now header.now }
+{
+    spot.depth == 0
+        && !header.tag.is_marker()
+        && is_value(shape_of(spot.syntax, header))
+        && passes(wanted.room(header.tag.number()), header.length as u64)
+}
+
+/// Whether it is the header of a delimitation whose length is not 0.
+fn is_long_mark(header: &Header) -> bool
+    ensures { result ≡ rules.is_long_mark header.now }
+{
+    header.tag.is_marker() && !same_tag(header.tag, Tag::ITEM) && header.length != 0
+}
+
+/// Whether it is the header of an element that may not have undefined length, and has.
+fn is_forbidden(spot: &Spot, header: &Header) -> bool
+    ensures { result ≡ (not (is_marker header.now.tag) && rules.is_not_allowed (shape spot.now.syntax header.now)) }
+{
+    !header.tag.is_marker() && is_not_allowed(shape_of(spot.syntax, header))
+}
+
+/// Whether its length is defined and odd.
+fn is_odd(header: &Header) -> bool
+    ensures { result ≡ (not (is_undefined header.now.length) && nat_eq (header.now.length % 2) 1) }
+{
+    header.length != UNDEFINED && header.length % 2 == 1
+}
+
+/// Whether its length is defined and ends past the nearest end.
+fn is_overrun(spot: &Spot, size: usize, header: &Header) -> bool
+    requires { size ≤ 12 }
+    ensures { result ≡ (not (is_undefined header.now.length) && rules.passes spot.now.near (size + header.now.length)) }
+{
+    header.length != UNDEFINED && passes(spot.near, size as u64 + header.length as u64)
+}
+
+/// What a defined length counts.
+fn counted_length(length: u32) -> u64
+    ensures value { result ≡ rules.counted_length length }
+    ensures small { result < 2 ^ 32 }
+{
+    if length == UNDEFINED {
+        0
+    } else {
+        length as u64
+    }
+}
+
+/// Whether the header, or what its length counts, ends past the limit.
+fn is_beyond(bounds: &Bounds, spot: &Spot, size: usize, header: &Header) -> bool
+    requires place { spot.now.place < 2 ^ 49 }
+    requires size { size ≤ 12 }
+    ensures { result ≡ nat_lt bounds.now.bytes (spot.now.place + size + rules.counted_length header.now.length) }
+{
+    bounds.bytes < spot.place + size as u64 + counted_length(header.length)
+}
+
+/// Whether it opens a level.
+fn opens(spot: &Spot, header: &Header) -> bool
+    ensures { result ≡ rules.opens spot.now header.now }
+{
+    (header.tag.is_marker() || is_sequence(shape_of(spot.syntax, header))) && header.length != 0
+}
+
+/// Whether it opens a level more than the limit.
+fn is_too_deep(bounds: &Bounds, spot: &Spot, header: &Header) -> bool
+    ensures { result ≡ (rules.opens spot.now header.now && nat_le bounds.now.depth spot.now.depth) }
+{
+    opens(spot, header) && bounds.depth <= spot.depth
+}
+
+/// The first rule that the whole header breaks.
+#[tactic(auto, unfolding(crate::specs::Rules::broken_header))]
+pub fn broken_header(
+    wanted: &Wanted,
+    bounds: &Bounds,
+    spot: &Spot,
+    size: usize,
+    header: &Header,
+) -> Option<(u8, Tag)>
+    requires place { spot.now.place < 2 ^ 49 }
+    requires size { size ≤ 12 }
+    ensures { result ≡ rules.broken_header (limits_by wanted.now.list.items bounds.now) spot.now size header.now }
+{
+    let tag = header.tag;
+    if is_long_mark(header) {
+        Some((16, tag))
+    } else if is_forbidden(spot, header) {
+        Some((14, tag))
+    } else if is_odd(header) {
+        Some((11, tag))
+    } else if is_overrun(spot, size, header) {
+        Some((17, tag))
+    } else if is_beyond(bounds, spot, size, header) {
+        Some((19, tag))
+    } else if is_too_long(wanted, bounds, spot, header) {
+        Some((21, tag))
+    } else if is_too_deep(bounds, spot, header) {
+        Some((18, tag))
+    } else {
+        None
+    }
+}
+
+/// The first of two rules that is broken.
+fn first(one: Option<(u8, Tag)>, other: Option<(u8, Tag)>) -> Option<(u8, Tag)>
+    ensures { result ≡ rules.◌or_else◌ one other }
+{
+    match one {
+        Some(rule) => Some(rule),
+        None => other,
+    }
+}
+
+fn at_tag(spot: &Spot, bytes: &[u8]) -> Option<(u8, Tag)>
+    ensures { result ≡ rules.when (nat_le 4 (length bytes.now)) (rules.broken_tag spot.now (tag_at bytes.now)) }
+{
+    if 4 <= bytes.len() {
+        broken_tag(spot, read_tag(bytes))
+    } else {
+        None
+    }
+}
+
+fn at_vr(spot: &Spot, bytes: &[u8]) -> Option<(u8, Tag)>
+    ensures { result ≡ rules.when (nat_le 6 (length bytes.now) && not (is_plain spot.now.syntax (tag_at bytes.now))) (rules.broken_need spot.now (need spot.now.syntax bytes.now) (tag_at bytes.now)) }
+{
+    if 6 <= bytes.len() && !is_plain(spot.syntax, read_tag(bytes)) {
+        broken_need(spot, need(spot.syntax, bytes), read_tag(bytes))
+    } else {
+        None
+    }
+}
+
+fn at_end(wanted: &Wanted, bounds: &Bounds, spot: &Spot, bytes: &[u8]) -> Option<(u8, Tag)>
+    requires place { spot.now.place < 2 ^ 49 }
+    requires size { length bytes.now ≤ 12 }
+    ensures { result ≡ rules.when (is_whole spot.now.syntax bytes.now) (rules.broken_header (limits_by wanted.now.list.items bounds.now) spot.now (length bytes.now) (header_at spot.now.syntax bytes.now)) }
+{
+    if is_whole(spot.syntax, bytes) {
+        broken_header(
+            wanted,
+            bounds,
+            spot,
+            bytes.len(),
+            &read_header(spot.syntax, bytes),
+        )
+    } else {
+        None
+    }
+}
+
+/// The first rule that is broken where these bytes of a header have come.
+#[tactic(auto, unfolding(crate::specs::Rules::broken))]
+pub fn broken(wanted: &Wanted, bounds: &Bounds, spot: &Spot, bytes: &[u8]) -> Option<(u8, Tag)>
+    requires place { spot.now.place < 2 ^ 49 }
+    requires size { length bytes.now ≤ 12 }
+    ensures { result ≡ rules.broken (limits_by wanted.now.list.items bounds.now) spot.now bytes.now }
+{
+    let end = at_end(wanted, bounds, spot, bytes);
+    let vr = first(at_vr(spot, bytes), end);
+    let tag = first(at_tag(spot, bytes), vr);
+    first(broken_due(spot), tag)
+}

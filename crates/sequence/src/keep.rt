@@ -1,0 +1,155 @@
+//! The values that are kept, one behind the other in a fixed room.
+ghost use Rattle.std.specs.Prelude.{◌≡◌, ◌≤◌, ◌<◌, ◌^◌, ◌+◌, ◌-◌, ◌++◌, ◌∷◌, [], IsTrue, IfSome, length, if◌then◌else◌, slice_set, true, option_map};
+ghost use Rattle.arrayvec.specs.ArrayVec.{array_vec_len};
+ghost use Rattle.sequence.specs.Wanted.{rooms, is_wanted, room_of, value_of};
+ghost use Rattle.sequence.specs.Keeping.{stored, counts, absent, are_stored, is_latest, left_at, with_byte, told_values};
+ghost use Rattle.sequence.specs.Wanted.{bytes_of};
+
+use crate::wanted::{Want, Wanted};
+use arrayvec::ArrayVec;
+
+/// The length of a value that did not come.
+const ABSENT: u32 = 0xffff_ffff;
+
+/// The lengths of the values that are told: that of the last one is left out where it is begun.
+fn told_lengths(lengths: &[u32; 16], slot: usize, begun: bool) -> [u32; 16]
+    requires { begun ≡ true → slot < 16 }
+    ensures { result ≡ (if begun then slice_set lengths.now slot absent else lengths.now) }
+{
+    let mut told = *lengths;
+    if begun {
+        told[slot] = ABSENT;
+    }
+    told
+}
+
+/// The value of this tag, among those of these lengths that stand one behind the other.
+#[tactic(auto, using(crate::proofs::Storing::look_absent, crate::proofs::Storing::look_here, crate::proofs::Storing::look_on, crate::proofs::Storing::look_end, crate::proofs::Storing::size_absent, crate::proofs::Storing::size_on))]
+fn find_value<'a>(list: &[Want], lengths: &[u32; 16], bytes: &'a [u8], tag: u32) -> Option<&'a [u8]>
+    requires few { length list.now ≤ 16 }
+    requires fit { counts list.now lengths.now ≤ length bytes.now }
+    ensures { option_map (λ part. part.now) result ≡ value_of (stored list.now lengths.now bytes.now) tag }
+{
+    let mut rest = bytes;
+    let mut at = 0;
+    while at < list.len() {
+        let size = lengths[at];
+        if size != ABSENT {
+            if list[at].tag.number() == tag {
+                return Some(&rest[..size as usize]);
+            }
+            rest = &rest[size as usize..];
+        }
+        at += 1;
+    }
+    None
+}
+
+/// The wanted values that came: their lengths in the order of the wanted tags, and their bytes.
+#[derive(Drop)]
+pub struct Keep<const V: usize> {
+    wanted: Wanted,
+    lengths: [u32; 16],
+    bytes: ArrayVec<u8, V>,
+    /// Which of them came last.
+    slot: usize,
+    /// Its tag as a number.
+    last: u32,
+    ghost greatest: { V ≤ 2 ^ 24 },
+    ghost fit: { rooms wanted.list.items + 12 ≤ V },
+    ghost stored: { IsTrue (are_stored wanted.list.items lengths last) },
+    ghost counted: { counts wanted.list.items lengths ≡ array_vec_len bytes },
+    ghost latest: { IsTrue (is_latest slot wanted.list.items lengths) },
+}
+
+impl<const V: usize> Keep<V> {
+    ghost use Rattle.std.specs.Prelude.{◌≡◌, ◌≤◌, ◌<◌, ◌^◌, ◌+◌, ◌-◌, ◌++◌, ◌∷◌, [], IsTrue, IfSome, IsSome, ◌↔◌, length, if◌then◌else◌, is_some, option_map, true};
+    ghost use Rattle.sequence.specs.Wanted.{is_wanted, room_of, value_of, bytes_of};
+    ghost use Rattle.sequence.specs.Stored.{values_of, wants_of, left_of_keep};
+
+    /// Room for the values of the wanted tags.
+    pub fn new(wanted: Wanted) -> Keep<V>
+        requires greatest { V ≤ 2 ^ 24 }
+        requires fit { rooms (wanted.list.items) + 12 ≤ V }
+        ensures values { values_of result ≡ [] }
+        ensures wants { wants_of result ≡ wanted.list.items }
+        ensures last { result.last ≡ 0 }
+    {
+        Keep {
+            wanted,
+            lengths: [ABSENT; 16],
+            bytes: ArrayVec::new(),
+            slot: 0,
+            last: 0,
+        }
+    }
+
+    /// Begins the value of a tag above those that came, if it is wanted; whether it is.
+    pub fn begin(&mut self, tag: u32) -> bool
+        requires { self.old.last < tag }
+        ensures wanted { result ≡ is_wanted (wants_of self.old) tag }
+        ensures values { values_of self.new ≡ (if is_wanted (wants_of self.old) tag then values_of self.old ++ (tag, []) ∷ [] else values_of self.old) }
+        ensures left { (room : _) → room_of (wants_of self.old) tag ≡ Some room → left_of_keep self.new ≡ room }
+        ensures wants { wants_of self.new ≡ wants_of self.old }
+        ensures last { self.new.last ≤ tag }
+    {
+        match self.wanted.find(tag) {
+            None => false,
+            Some(slot) => {
+                self.lengths[slot] = 0;
+                self.slot = slot;
+                self.last = tag;
+                true
+            }
+        }
+    }
+
+    /// Adds a byte to the value that came last, which has room left.
+    pub fn push(&mut self, byte: u8)
+        requires { 0 < left_of_keep self.old }
+        ensures values { values_of self.new ≡ with_byte (values_of self.old) byte }
+        ensures left { left_of_keep self.new ≡ left_of_keep self.old - 1 }
+        ensures wants { wants_of self.new ≡ wants_of self.old }
+        ensures last { self.new.last ≡ self.old.last }
+    {
+        self.lengths[self.slot] += 1;
+        self.bytes.push(byte);
+    }
+
+    /// Adds a byte to the value that came last, where it is kept.
+    pub fn push_if(&mut self, kept: bool, byte: u8)
+        requires { kept ≡ true → 0 < left_of_keep self.old }
+        ensures values { values_of self.new ≡ (if kept then with_byte (values_of self.old) byte else values_of self.old) }
+        ensures left { kept ≡ true → left_of_keep self.new ≡ left_of_keep self.old - 1 }
+        ensures wants { wants_of self.new ≡ wants_of self.old }
+        ensures last { self.new.last ≡ self.old.last }
+    {
+        if kept {
+            self.push(byte);
+        }
+    }
+
+    /// How many bytes are kept.
+    pub fn len(&self) -> usize
+        ensures value { result ≡ bytes_of (values_of self.now) }
+        ensures small { result ≤ 2 ^ 24 }
+    {
+        self.bytes.len()
+    }
+
+    /// The value of this tag, if it came, leaving out the last one where it is begun.
+    pub fn value(&self, tag: u32, begun: bool) -> Option<&[u8]>
+        requires { begun ≡ true → 0 < left_of_keep self.now }
+        ensures { option_map (λ bytes. bytes.now) result ≡ value_of (told_values begun (values_of self.now)) tag }
+    {
+        let lengths = told_lengths(&self.lengths, self.slot, begun);
+        find_value(self.wanted.as_slice(), &lengths, self.bytes.as_slice(), tag)
+    }
+
+    /// The wanted tags.
+    pub fn wanted(&self) -> &Wanted
+        ensures { result.now ≡ self.now.wanted }
+    {
+        &self.wanted
+    }
+}

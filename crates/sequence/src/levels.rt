@@ -1,0 +1,109 @@
+// The open levels, and what is due in them.
+ghost use Rattle.std.specs.Prelude.{◌≡◌, ℕ, ◌<◌, ◌≤◌, ◌^◌, ◌+◌, ◌-◌, ◌&&◌, not, nat_eq, None, [], length, get_or, IsTrue};
+ghost use Rattle.element.specs.Header.{number};
+ghost use Rattle.arrayvec.specs.ArrayVec.{array_vec_len};
+ghost use Rattle.sequence.specs.Machine.{arrive, due, leave, stops_at, spot_of, less, is_none, begun};
+ghost use Rattle.sequence.specs.declared.level.Frame.{Frame};
+ghost use Rattle.sequence.specs.Frames.{top_of, below_of, frame_of, nearest_from};
+
+use crate::level::{Frame, Level};
+use crate::spot::Spot;
+use arrayvec::ArrayVec;
+use element::Tag;
+
+/// Whether the innermost level ends here.
+pub fn ends_here<const D: usize>(levels: &ArrayVec<Level, D>, place: u64) -> bool
+    requires { place < 2 ^ 64 - 1 }
+    ensures some { IsTrue result → 0 < array_vec_len levels.now }
+    ensures ends { (root : Frame) → root.stop ≡ None → result ≡ stops_at (top_of root levels.now.items).stop place }
+{
+    match levels.as_slice() {
+        [] => false,
+        [.., level] => level.ends_at(place),
+    }
+}
+
+/// Leaves the levels that end here.
+pub fn leave_ended<const D: usize>(levels: &mut ArrayVec<Level, D>, place: u64)
+    requires { place < 2 ^ 64 - 1 }
+    ensures { (root : Frame) → root.stop ≡ None → arrive place (top_of root levels.old.items) (below_of root [] levels.old.items) ≡ due (top_of root levels.new.items) (below_of root [] levels.new.items) place }
+{
+    while ends_here(levels, place) {
+        levels.pop();
+    }
+}
+
+/// The nearest end of a defined level.
+pub fn nearest(levels: &[Level]) -> Option<u64>
+    ensures { result ≡ nearest_from None levels.now }
+{
+    let mut near = None;
+    for level in levels {
+        if let Some(stop) = level.frame().stop {
+            near = Some(stop);
+        }
+    }
+    near
+}
+
+/// What is left of it behind `place` bytes.
+pub fn left_before(near: Option<u64>, place: u64) -> Option<u64>
+    ensures { result ≡ less near place }
+{
+    match near {
+        None => None,
+        Some(stop) => Some(stop.saturating_sub(place)),
+    }
+}
+
+/// The innermost frame.
+pub fn top_frame(root: Frame, levels: &[Level]) -> Frame
+    ensures { result ≡ top_of root levels.now }
+{
+    match levels {
+        [] => root,
+        [.., level] => level.frame(),
+    }
+}
+
+pub fn is_open_ended(top: Frame, levels: &[Level]) -> bool
+    ensures { result ≡ (is_none top.stop && not (nat_eq (length levels.now) 0)) }
+{
+    top.stop.is_none() && !levels.is_empty()
+}
+
+/// Where a header is due behind `place` bytes.
+pub fn spot_at(root: Frame, levels: &[Level], place: u64) -> Spot
+    requires { root.stop ≡ None }
+    ensures { result ≡ spot_of (top_of root levels.now) (below_of root [] levels.now) place }
+{
+    let near = left_before(nearest(levels), place);
+    let top = top_frame(root, levels);
+    let open_ended = is_open_ended(top, levels);
+    Spot {
+        syntax: top.syntax,
+        in_sequence: top.in_sequence,
+        open_ended,
+        near,
+        last: top.last,
+        depth: levels.len(),
+        place,
+    }
+}
+
+/// The element with this tag is the last one of its data set.
+pub fn set_last<const D: usize>(root: &mut Frame, levels: &mut ArrayVec<Level, D>, tag: Tag)
+    ensures top { top_of root.new levels.new.items ≡ begun (top_of root.old levels.old.items) tag }
+    ensures below { below_of root.new [] levels.new.items ≡ below_of root.old [] levels.old.items }
+    ensures stop { root.new.stop ≡ root.old.stop }
+    ensures syntax { root.new.syntax ≡ root.old.syntax }
+    ensures len { array_vec_len levels.new ≡ array_vec_len levels.old }
+    ensures last { array_vec_len levels.old ≡ 0 → root.new.last ≡ number tag }
+    ensures root { 0 < array_vec_len levels.old → root.new ≡ root.old }
+{
+    let _room = levels.len();
+    match levels.pop() {
+        None => root.last = tag.number(),
+        Some(level) => levels.push(level.with_last(tag.number())),
+    }
+}

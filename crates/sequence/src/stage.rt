@@ -1,0 +1,27 @@
+//! What a walk is in the middle of.
+ghost use Rattle.std.specs.Prelude.{◌≡◌};
+ghost use Rattle.sequence.specs.Spare.{stage_by};
+
+use crate::fault::Fault;
+use element::Tag;
+
+/// What a walk is in the middle of.
+#[derive(Clone, Copy, Debug)]
+pub enum Stage {
+    /// A header, of which the kept bytes came.
+    Heading,
+    /// A value, of which so many bytes are left; whether it is kept.
+    Value { tag: Tag, left: u32, kept: bool },
+    /// A refusal.
+    Stopped(Fault),
+}
+
+/// What the walk is in, where a header is due, unless it broke a rule.
+pub fn stage_at(broken: Option<(u8, Tag)>, place: u64) -> Stage
+    ensures { result ≡ stage_by broken place }
+{
+    match broken {
+        None => Stage::Heading,
+        Some((number, tag)) => Stage::Stopped(Fault { number, place, tag }),
+    }
+}

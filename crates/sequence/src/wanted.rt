@@ -1,0 +1,116 @@
+//! The tags whose values are kept.
+ghost use Rattle.std.specs.Prelude.{◌≡◌, ◌≤◌, ◌<◌, get_or, ◌∷◌, [], ◌↔◌, IsTrue, IsSome, IsNone, IfSome, ◌⊎◌, false, length};
+ghost use Rattle.sequence.specs.Wanted as spelling;
+ghost use Rattle.element.specs.Header.{number};
+ghost use Rattle.sequence.specs.Keeping.{place_from};
+
+use arrayvec::ArrayVec;
+use element::Tag;
+
+/// A wanted tag, with the greatest number of bytes of a value that is kept.
+#[derive(Clone, Copy, Debug)]
+pub struct Want {
+    pub tag: Tag,
+    pub room: u32,
+}
+
+impl Default for Want {
+    fn default() -> Want {
+        Want {
+            tag: Tag(0, 0),
+            room: 0,
+        }
+    }
+}
+
+/// Whether the tags rise, and none is (0000,0000).
+fn are_rising(wants: &[Want]) -> bool
+    ensures { result ≡ spelling.are_rising 0 wants.now }
+{
+    let mut last = 0;
+    for want in wants {
+        let number = want.tag.number();
+        if number <= last {
+            return false;
+        }
+        last = number;
+    }
+    true
+}
+
+/// At most 16 wanted tags, rising, with a room each.
+#[derive(Drop)]
+pub struct Wanted {
+    list: ArrayVec<Want, 16>,
+    ghost rising: { IsTrue (spelling.are_rising 0 list.items) },
+    ghost few: { length list.items ≤ 16 },
+}
+
+impl Wanted {
+    ghost use Rattle.sequence.specs.Stored.{wanted_tags};
+
+    /// No tag is wanted.
+    pub fn none() -> Wanted
+        ensures { wanted_tags result ≡ [] }
+    {
+        Wanted {
+            list: ArrayVec::new(),
+        }
+    }
+
+    /// These wanted tags; `None` where they are more than 16 or do not rise.
+    pub fn of(wants: &[Want]) -> Option<Wanted>
+        ensures some { IfSome result (λ wanted. wanted_tags wanted ≡ wants.now) }
+        ensures none { IsNone result → (16 < length wants.now) ⊎ (spelling.are_rising 0 wants.now ≡ false) }
+    {
+        if !are_rising(wants) {
+            return None;
+        }
+        let mut list = ArrayVec::new();
+        match list.try_extend_from_slice(wants) {
+            Ok(()) => Some(Wanted { list }),
+            Err(_) => None,
+        }
+    }
+
+    /// Where the tag with this number stands in the list.
+    pub fn find(&self, number: u32) -> Option<usize>
+        ensures { result ≡ place_from 0 self.now.list.items number }
+    {
+        let list = self.list.as_slice();
+        let mut at = 0;
+        while at < list.len() {
+            if list[at].tag.number() == number {
+                return Some(at);
+            }
+            at += 1;
+        }
+        None
+    }
+
+    /// The room for the value of the tag with this number, if it is wanted.
+    pub fn room(&self, number: u32) -> Option<u64>
+        ensures { result ≡ spelling.room_of self.now.list.items number }
+    {
+        for want in self.list.as_slice() {
+            if want.tag.number() == number {
+                return Some(u64::from(want.room));
+            }
+        }
+        None
+    }
+
+    /// How many tags are wanted.
+    pub fn len(&self) -> usize
+        ensures { result ≡ length self.now.list.items }
+    {
+        self.list.len()
+    }
+
+    /// The wanted tags, rising.
+    pub fn as_slice(&self) -> &[Want]
+        ensures { result.now ≡ self.now.list.items }
+    {
+        self.list.as_slice()
+    }
+}
