@@ -1,3 +1,4 @@
 pub mod AnswerableLemmas
 pub mod TimelineLemmas
 pub mod Tried
+pub mod Shown

@@ -15,3 +15,4 @@ pub mod Stands
 pub mod Laws
 pub mod Recording
 pub mod Tried
+pub mod Shown

@@ -49,7 +49,7 @@ TellsDraft (Some shelf) file = shelf.draft ≡ file
 
 -- Where a draft is due it is there, and is the file's bytes so far; else there is none.
 pub data IsDraft (p : Progress) (message : Begun) (failed : Bool) (told : Option Shelf) : Bool → Type 0 where
-  due : {file : List ℕ} → IsDue p message failed file → TellsDraft told file → IsDraft p message failed told true
+  draft_due : {file : List ℕ} → IsDue p message failed file → TellsDraft told file → IsDraft p message failed told true
   none_due : ((file : List ℕ) → IsDue p message failed file → ⊥) → IsDraft p message failed told false
 
 -- After these inputs, with what came of the entries of their timeline, and with a filing call that failed behind the last

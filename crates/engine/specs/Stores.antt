@@ -71,6 +71,6 @@ pub data Verdict (depth bytes : ℕ) (context : Context) (command : CommandRecor
   unfiled : {values : Values} → IsOfContext context command → HasNoFault context.syntax (limits depth bytes) data_set
       → Kept context.syntax wanted data_set values → IsOfCommand values command → failed ≡ true
       → Verdict depth bytes context command data_set failed 0xa700
-  stored : {values : Values} → IsOfContext context command → HasNoFault context.syntax (limits depth bytes) data_set
+  filed : {values : Values} → IsOfContext context command → HasNoFault context.syntax (limits depth bytes) data_set
       → Kept context.syntax wanted data_set values → IsOfCommand values command → failed ≡ false
       → Verdict depth bytes context command data_set failed 0

@@ -1,5 +1,6 @@
 //! Laws of the definitions, and the associations on which they are tried: each the contract of a
 //! function that does nothing.
+ghost use Rattle.engine.specs.Shown.{TheEchoRuns, TheRequestIsHeld, ItStandsEstablished, VerdictsOnStores};
 ghost use Rattle.engine.specs.Laws.{EntriesAppend};
 ghost use Rattle.engine.specs.Tried.{ARequestAboveTheRoom, BytesThatAreNoPdu, DataAboveTheMaximum, AfterTheEnd, AnotherCalledTitle, RecordedEcho, HeldWhileTheEchoComes, AGoodPdvBeforeABadOne};
 
@@ -46,4 +47,24 @@ pub fn held_while_the_echo_comes()
 /// A PDV is answered although a bad one follows in its PDU.
 pub fn a_good_pdv_before_a_bad_one()
     ensures { AGoodPdvBeforeABadOne }
+{}
+
+/// The recorded echo, as a run.
+pub fn the_echo_runs()
+    ensures { TheEchoRuns }
+{}
+
+/// The bytes that are held behind an answered request.
+pub fn the_request_is_held()
+    ensures { TheRequestIsHeld }
+{}
+
+/// How an association stands behind an answered request.
+pub fn it_stands_established()
+    ensures { ItStandsEstablished }
+{}
+
+/// Statuses of stores.
+pub fn verdicts_on_stores()
+    ensures { VerdictsOnStores }
 {}

@@ -17,3 +17,4 @@ pub mod Standings
 pub mod Finishing
 pub mod Answered
 pub mod Depths
+pub mod Tried

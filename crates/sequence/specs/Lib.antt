@@ -17,3 +17,4 @@ pub mod Spare
 pub mod Made
 pub mod Standing
 pub mod State
+pub mod Tried

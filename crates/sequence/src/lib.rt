@@ -4,6 +4,7 @@
 mod broken;
 mod fault;
 mod keep;
+pub mod laws;
 mod level;
 mod levels;
 mod reading;

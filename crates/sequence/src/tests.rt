@@ -211,3 +211,31 @@ fn one_ct_store(rt: HostRuntime) {
     }
     assert!(rt; one_by_one);
 }
+
+/// A sequence and an item, both of undefined length.
+const PAIR: [u8; 16] = [
+    0x40, 0x00, 0x30, 0xa7, 0xff, 0xff, 0xff, 0xff, 0xfe, 0xff, 0x00, 0xe0, 0xff, 0xff, 0xff, 0xff,
+];
+
+#[test]
+fn nested_past_the_limit(rt: HostRuntime) {
+    let mut w: Walker<140, 64> = Walker::new(Syntax::Implicit, Wanted::none(), 1 << 40);
+    for _ in 0..32 {
+        take(&mut w, &PAIR);
+    }
+    assert_eq!(rt; w.levels(), 64);
+    assert_eq!(rt; w.place(), 512);
+    assert_eq!(rt; w.held(), 1024);
+    for _ in 0..1_000_000 {
+        take(&mut w, &PAIR);
+    }
+    let refused = Fault {
+        number: 18,
+        place: 512,
+        tag: Tag(0x40, 0xa730),
+    };
+    assert_eq!(rt; fault_of(&w), Some(refused));
+    assert_eq!(rt; w.levels(), 64);
+    assert_eq!(rt; w.place(), 520);
+    assert_eq!(rt; w.held(), 1024);
+}

@@ -1,0 +1,5 @@
+use Rattle.engine.proofs.Shown.{the_echo_runs}
+use Rattle.engine.proofs.laws.the_echo_runs.Goals as goal
+
+pub returns : goal.returns
+returns c = the_echo_runs

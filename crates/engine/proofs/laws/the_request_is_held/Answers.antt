@@ -1,0 +1,5 @@
+use Rattle.engine.proofs.Shown.{the_request_is_held}
+use Rattle.engine.proofs.laws.the_request_is_held.Goals as goal
+
+pub returns : goal.returns
+returns c = the_request_is_held

@@ -1,0 +1,5 @@
+use Rattle.engine.proofs.Shown.{verdicts_on_stores}
+use Rattle.engine.proofs.laws.verdicts_on_stores.Goals as goal
+
+pub returns : goal.returns
+returns c = verdicts_on_stores

@@ -1,0 +1,5 @@
+use Rattle.sequence.proofs.Tried.{two_open_levels}
+use Rattle.sequence.proofs.laws.two_open_levels.Goals as goal
+
+pub returns : goal.returns
+returns c = two_open_levels

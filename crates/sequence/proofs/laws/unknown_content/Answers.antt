@@ -1,0 +1,5 @@
+use Rattle.sequence.proofs.Tried.{unknown_content}
+use Rattle.sequence.proofs.laws.unknown_content.Goals as goal
+
+pub returns : goal.returns
+returns c = unknown_content
