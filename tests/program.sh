@@ -64,5 +64,10 @@ try 'an option given twice' 2 '' '.*--out.*' replay empty.bin --out . --out .
 try 'a file that is not there' 3 '' 'dcmbox: the file can.t be opened: .*' replay missing.bin --out .
 try 'a folder in place of a file' 3 '' 'dcmbox: the file can.t be read: .*' replay . --out .
 
+# A recording of 1 GiB, which takes no room on the disk, and 400 MB of memory.
+truncate -s 1G large.bin
+ulimit -v 400000
+try 'too little memory' 3 '' 'dcmbox: .*memory.*' replay large.bin --out .
+
 echo "program: $passed passed, $failed failed"
 [ "$failed" -eq 0 ]
