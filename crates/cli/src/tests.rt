@@ -82,7 +82,7 @@ fn want_of_memory_is_told(rt: HostRuntime) -> Result<(), Fail> {
                 assert_eq!(rt; out.as_slice(), PRINTED);
             }
             Err(_) => {
-                refused += 1;
+                refused = refused.saturating_add(1);
                 assert_eq!(rt; out.len(), 0);
             }
         }
