@@ -1,4 +1,16 @@
+pub mod SendLemmas
 pub mod AnswerableLemmas
 pub mod TimelineLemmas
 pub mod Tried
 pub mod Shown
+pub mod StoryLemmas
+pub mod EndedLemmas
+pub mod FormLemmas
+pub mod EchoLemmas
+pub mod TakeLemmas
+pub mod AdmissionLemmas
+pub mod LoopLemmas
+pub mod EventLemmas
+pub mod MoveLemmas
+pub mod RanLemmas
+pub mod Taken

@@ -1,20 +1,17 @@
 -- The associations of which the whole is shown.
-use Rattle.std.proofs.Common.{◌≡◌, ◌≢◌, ℕ, zero, suc, ◌+◌, ◌<◌, ◌≤◌, ◌^◌, Bool, true, false, List, [], ◌∷◌, ◌++◌, length, map, Option, Some, None, Result, Ok, Err, refl, sym, ap, subst, ◌∙◌, arith, lit<, append-nil, length-append, codes}
+use Rattle.std.proofs.Common.{◌≡◌, ℕ, ◌+◌, ◌^◌, Bool, true, List, [], ◌∷◌, ◌++◌, length, Option, Some, None, Result, Ok, refl, sym, ap, ◌∙◌, arith, lit<, codes}
 use Rattle.element.specs.declared.syntax.Syntax.TheVariants.{Explicit}
 use Rattle.element.specs.Vr.{is_short}
 use Rattle.element.specs.Header.{need, is_whole}
 use Rattle.element.specs.declared.syntax.Syntax.{Syntax}
-use Rattle.element.specs.declared.tag.Tag.{Tag}
 use Rattle.element.specs.declared.size.Need.{Need}
 use Rattle.element.specs.declared.size.Need.TheVariants.{More, BadVr}
 use Rattle.dictionary.specs.declared.class.Class.{Class}
 use Rattle.dictionary.specs.declared.class.Class.TheVariants.{Ct, Mr}
 use Rattle.dictionary.specs.Classes.{class_named}
-use Rattle.sequence.specs.declared.fault.Fault.{Fault}
 use Rattle.sequence.specs.Tree.{no_elements, nothing}
 use Rattle.sequence.specs.Open.{Open, in_header, at_elements, header_tail}
 use Rattle.sequence.specs.Rules.{Limits}
-use Rattle.sequence.specs.Wanted.{Kept}
 use Rattle.sequence.specs.FirstFault.{IsUnbroken}
 use Rattle.sequence.specs.Walk.{Told, Tells, going, refused}
 use Rattle.sequence.specs.Machine.{due, arrive, run}
@@ -25,7 +22,7 @@ use Rattle.dimse.specs.declared.fault.DimseFault.{DimseFault}
 use Rattle.dimse.specs.Command.{CommandRecord, element_bytes, stored, command_of}
 use Rattle.dimse.specs.Reading.{element_at, elements_in, elements_of, set_of, command_in}
 use Rattle.dimse.specs.Reply.{reply_command, fragments, reply_bytes}
-use Rattle.dimse.specs.Messages.{Begun, NoMessage, InCommand, InSet}
+use Rattle.dimse.specs.Messages.{Begun, NoMessage, InSet}
 use Rattle.negotiate.specs.declared.proposals.Context.{Context}
 use Rattle.pdu.specs.Frames.{frames_of, rest_of}
 use Rattle.pdu.specs.Items.{items_of, left_over}
@@ -33,18 +30,16 @@ use Rattle.pdu.specs.Marks.{marks, new_marks, pdv_marks}
 use Rattle.pdu.specs.Pieces.{pieces_of}
 use Rattle.pdu.specs.Refusal.{item_fault, items_fault}
 use Rattle.pdu.specs.Standing.{standing}
-use Rattle.engine.specs.Inputs.{Received, Bytes, Close, stream_of}
-use Rattle.engine.specs.Timeline.{Entry, Happened, entries, entries_of}
-use Rattle.engine.specs.Progress.{Progress, start}
-use Rattle.engine.specs.Come.{message_so_far}
-use Rattle.engine.specs.Run.{Rooms, Run, progress_of}
-use Rattle.engine.specs.Held.{Held, IsHeldOfMessage, no_set, in_command, walked, not_walked, held_before_data}
-use Rattle.engine.specs.Stands.{Seen, Stands, IsDue, IsDraft, draft_due, none_due}
+use Rattle.engine.specs.Timeline.{Entry, entries, entries_of}
+use Rattle.engine.specs.Progress.{Progress}
+use Rattle.engine.specs.Run.{Rooms}
+use Rattle.engine.specs.Held.{IsHeldOfMessage, no_set, in_command, walked, not_walked}
+use Rattle.engine.specs.Stands.{IsDraft, draft_due, none_due}
 use Rattle.part10.specs.Shelf.{Shelf}
-use Rattle.engine.specs.Stores.{wanted, limits, HasNoFault, Verdict, other_class, no_room, faulty, cut, mismatch, unfiled, filed, IsOfContext}
-use Rattle.engine.specs.Recording.{request, accept, reply, released}
-use Rattle.engine.specs.Tried.{rooms, settings, calm, recording}
-use Rattle.engine.specs.Shown.{calmly, echo_inputs, request_inputs, TheEchoRuns, TheRequestIsHeld, ItStandsEstablished, VerdictsOnStores, ct_context, store_of}
+use Rattle.engine.specs.Stores.{limits, Verdict, other_class, no_room, faulty, cut, mismatch, unfiled, filed, IsOfContext}
+use Rattle.engine.specs.Recording.{accept, reply, released}
+use Rattle.engine.specs.Tried.{calm}
+use Rattle.engine.specs.Shown.{echo_inputs, request_inputs, TheEchoRuns, TheRequestIsHeld, ItStandsEstablished, VerdictsOnStores, ct_context, store_of}
 use Rattle.negotiate.specs.Settings.{Settings}
 
 calm_entries : (es : List Entry) → entries_of (calm es) ≡ es
@@ -99,6 +94,7 @@ it_stands_established = (
     verdicts = (tt, (tt, tt));
     state = refl;
     timer = refl;
+    request = refl;
     held = the_request_is_held.0;
     draft = none_due (λ file d. not_in_set d.id d.command d.set d.begun);
   },

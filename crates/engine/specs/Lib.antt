@@ -16,3 +16,9 @@ pub mod Laws
 pub mod Recording
 pub mod Tried
 pub mod Shown
+pub mod Echoes
+pub mod Admission
+pub mod Sends
+pub mod Moves
+pub mod Ran
+pub mod Taken

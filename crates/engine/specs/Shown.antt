@@ -1,6 +1,6 @@
 -- Associations of which the whole is shown: the run, the bytes held, how it stands, and verdicts on stores, each beside
 -- one that is not so.
-use Rattle.std.specs.Prelude.{◌≡◌, ℕ, ◌^◌, Bool, true, false, List, [], ◌∷◌, ◌++◌, Option, Some, None, codes}
+use Rattle.std.specs.Prelude.{◌≡◌, ℕ, ◌^◌, Bool, true, false, List, [], ◌∷◌, ◌++◌, drop, Option, Some, codes}
 use Rattle.acceptor.specs.declared.state.State.{State}
 use Rattle.acceptor.specs.declared.state.State.TheVariants.{Sta1, Sta6}
 use Rattle.element.specs.declared.syntax.Syntax.TheVariants.{Explicit}
@@ -39,7 +39,7 @@ TheRequestIsHeld =
     × ((n : ℕ) → Held rooms settings request_inputs (calmly request_inputs) n → n ≡ 164)
 
 abbrev pub established : Bool → Seen
-established drafting = record { state = Sta6; timer = false; drafting = drafting; held = 164 }
+established drafting = record { state = Sta6; timer = false; drafting = drafting; held = 164; request = drop 6 request }
 
 -- it stands established without a draft, whatever the filing tells; with one it doesn't
 abbrev pub ItStandsEstablished : Type 0

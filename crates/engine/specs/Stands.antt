@@ -26,6 +26,8 @@ pub record Seen : Type 0 where
   pub timer : Bool
   pub drafting : Bool
   pub held : ℕ
+  -- the body of the request that is kept
+  pub request : List ℕ
 
 -- a draft is due: the data of a store whose class is its context's have begun, these bytes of its file have come, and no
 -- filing call failed in it
@@ -59,6 +61,7 @@ pub record Stands (rooms : Rooms) (s : Settings) (inputs : List Received) (story
   pub verdicts : AreVerdicts rooms s start story
   pub state : seen.state ≡ (progress_of rooms s start story).state
   pub timer : seen.timer ≡ timer_runs seen.state
+  pub request : seen.request ≡ (progress_of rooms s start story).request
   pub held : Held rooms s inputs story seen.held
   pub draft : IsDraft (progress_of rooms s start story) (message_so_far (progress_of rooms s start story) (rest_of (stream_of inputs)))
       ((progress_of rooms s start story).filing_failed || failed) told seen.drafting

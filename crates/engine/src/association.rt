@@ -1,17 +1,16 @@
 //! One association of the acceptor.
 ghost use Rattle.std.specs.Prelude.{◌≡◌, false, [], ◌+◌, ◌≤◌, ◌<◌, ◌^◌, IfSome, IsSome, length};
-ghost use Rattle.acceptor.specs.declared.state.State.TheVariants.{Sta1, Sta2, Sta6};
-ghost use Rattle.acceptor.specs.declared.action.Action.TheVariants.{Nothing};
+ghost use Rattle.acceptor.specs.declared.state.State.TheVariants.{Sta1, Sta2, Sta6, Sta13};
 ghost use Rattle.acceptor.specs.Effect.{timer_runs};
 ghost use Rattle.acceptor.specs.Table.{table};
 ghost use Rattle.engine.specs.Answerable.{IsAnswerable};
 
 use crate::admission::{Message, first_message, first_request, refusal};
+use crate::status::echo_status;
 use acceptor::{Event, Sending, State, act};
 use arrayvec::ArrayVec;
-use dictionary::{Class, class_of};
 use dimse::{Command, read_command, write_response};
-use negotiate::{Answer, Config, context, judge, write_answer};
+use negotiate::{Answer, Config, judge, write_answer};
 use part10::Filing;
 use pdu::{Wire, WireFailed, read_pdv_head, read_request, write_abort, write_release};
 
@@ -21,12 +20,6 @@ const INVALID_PARAMETER: u8 = 6;
 
 /// The source of a rejection by the service provider (PS3.8 section 9.3.4).
 const PROVIDER: u8 = 2;
-
-/// The status of a reply to a request that was done (PS3.7 annex C).
-const SUCCESS: u16 = 0x0000;
-
-/// The status of a reply where the class is not that of the presentation context.
-const CLASS_NOT_SUPPORTED: u16 = 0x0122;
 
 /// An association with one peer, from the opening of the transport connection to its end (PS3.8
 /// section 9.2).
@@ -46,7 +39,27 @@ pub struct Association<const A: usize, const C: usize, const V: usize, const D: 
 }
 
 impl<const A: usize, const C: usize, const V: usize, const D: usize> Association<A, C, V, D> {
-    ghost use Rattle.engine.specs.Idle.{state_of, request_of, StaysEnded};
+    ghost use Rattle.std.specs.Prelude.{ℕ, List, Option, Some, None, Ok};
+    ghost use Rattle.pdu.specs.Items.{record_of};
+    ghost use Rattle.pdu.specs.Refusal.{request_fault};
+    ghost use Rattle.pdu.specs.Texts.{release_text};
+    ghost use Rattle.negotiate.specs.Accept.{answer_bytes, accept_text};
+    ghost use Rattle.negotiate.specs.declared.answer.Answer.TheVariants.{Accept};
+    ghost use Rattle.negotiate.specs.Answer.{judged};
+    ghost use Rattle.negotiate.specs.Settings.{settings_of};
+    ghost use Rattle.dimse.specs.Command.{CommandRecord};
+    ghost use Rattle.dimse.specs.Reading.{command_in};
+    ghost use Rattle.dimse.specs.Reply.{reply_bytes};
+    ghost use Rattle.engine.specs.Replies as replies;
+    ghost use Rattle.pdu.specs.Pieces.{joined};
+    ghost use Rattle.engine.specs.Progress.{Progress};
+    ghost use Rattle.part10.specs.Shelf.{Shelf};
+    ghost use Rattle.engine.specs.Inputs.{Received, Bytes, Close, Expiry, UserAbort};
+    ghost use Rattle.engine.specs.Timeline.{Happened};
+    ghost use Rattle.engine.specs.Echoes.{Place, Due, Over, Lead};
+    ghost use Rattle.engine.specs.Moves.{IsAt, IsQuiet, OnSome, Took, Went, StandsIn, Moved, marks_of};
+    ghost use Rattle.engine.specs.Idle.{state_of, request_of, settings_in, seen_of, rooms_of, StaysEnded};
+    ghost use Rattle.engine.specs.Sends.{Sends, state_after, kept_in, sending_at, text_of, Tries, Settles};
 
     /// The transport connection is open: a request is due, and the ARTIM timer runs.
     pub fn open(config: &Config) -> Self
@@ -54,6 +67,8 @@ impl<const A: usize, const C: usize, const V: usize, const D: usize> Association
         requires greatest { A ≤ 2 ^ 24 }
         ensures state { state_of result ≡ Sta2 }
         ensures nothing { request_of result ≡ [] }
+        ensures settings { settings_in result ≡ settings_of config.now }
+        ensures stands { (told : Option Shelf) → StandsIn (rooms_of A C V D) (settings_of config.now) Due [] [] (seen_of result) told }
     {
         let (_, state) = act(State::Sta1, Event::Connected);
         Association {
@@ -87,18 +102,75 @@ impl<const A: usize, const C: usize, const V: usize, const D: usize> Association
 
     /// How many received bytes are held: the body of the accepted request.
     pub fn held(&self) -> usize
-        ensures { result ≡ length (request_of self.now) }
+        ensures value { result ≡ length (request_of self.now) }
+        ensures room { result ≤ A }
     {
         self.body.len()
     }
 
     /// Takes the next bytes of the stream.
     pub fn feed<W: Wire, F: Filing>(&mut self, piece: &[u8], wire: &mut W, filing: &mut F)
+        ensures settings { settings_in self.new ≡ settings_in self.old }
+        ensures moved { (inputs : List Received) (story : List Happened) (told : Option Shelf) (place last : Place) (fs : List (List ℕ))
+            → StandsIn (rooms_of A C V D) (settings_in self.old) place inputs story (seen_of self.old) told → piece.now ≡ joined fs → Lead A C (settings_in self.old) place fs last
+            → Moved (rooms_of A C V D) (settings_in self.old) last inputs story (Bytes piece.now) (seen_of self.new) told (W.sent wire.old) (W.sent wire.new) (W.failures wire.old) (W.failures wire.new) }
         ensures ended { state_of self.old ≡ Sta1 → StaysEnded (state_of self.new) (W.sent wire.old) (W.sent wire.new) (W.failures wire.old) (W.failures wire.new) }
         ensures unfiled { F.told filing.new ≡ F.told filing.old }
         ensures filing_count { F.failures filing.new ≡ F.failures filing.old }
     {
         let _ = filing;
+        self.take_all(piece, wire);
+    }
+
+    /// The peer closed the transport connection.
+    pub fn closed<W: Wire, F: Filing>(&mut self, wire: &mut W, filing: &mut F)
+        ensures settings { settings_in self.new ≡ settings_in self.old }
+        ensures moved { (inputs : List Received) (story : List Happened) (told : Option Shelf) (place : Place) → StandsIn (rooms_of A C V D) (settings_in self.old) place inputs story (seen_of self.old) told
+            → Moved (rooms_of A C V D) (settings_in self.old) place inputs story Close (seen_of self.new) told (W.sent wire.old) (W.sent wire.new) (W.failures wire.old) (W.failures wire.new) }
+        ensures ended { state_of self.old ≡ Sta1 → StaysEnded (state_of self.new) (W.sent wire.old) (W.sent wire.new) (W.failures wire.old) (W.failures wire.new) }
+        ensures unfiled { F.told filing.new ≡ F.told filing.old }
+        ensures filing_count { F.failures filing.new ≡ F.failures filing.old }
+    {
+        let _ = filing;
+        self.happens(Event::Closed, wire);
+    }
+
+    /// The ARTIM timer ran out.
+    pub fn expired<W: Wire, F: Filing>(&mut self, wire: &mut W, filing: &mut F)
+        ensures settings { settings_in self.new ≡ settings_in self.old }
+        ensures moved { (inputs : List Received) (story : List Happened) (told : Option Shelf) (place : Place) → StandsIn (rooms_of A C V D) (settings_in self.old) place inputs story (seen_of self.old) told
+            → Moved (rooms_of A C V D) (settings_in self.old) place inputs story Expiry (seen_of self.new) told (W.sent wire.old) (W.sent wire.new) (W.failures wire.old) (W.failures wire.new) }
+        ensures ended { state_of self.old ≡ Sta1 → StaysEnded (state_of self.new) (W.sent wire.old) (W.sent wire.new) (W.failures wire.old) (W.failures wire.new) }
+        ensures unfiled { F.told filing.new ≡ F.told filing.old }
+        ensures filing_count { F.failures filing.new ≡ F.failures filing.old }
+    {
+        let _ = filing;
+        self.happens(Event::Expired, wire);
+    }
+
+    /// The local user aborts the association.
+    pub fn local_abort<W: Wire, F: Filing>(&mut self, wire: &mut W, filing: &mut F)
+        ensures settings { settings_in self.new ≡ settings_in self.old }
+        ensures moved { (inputs : List Received) (story : List Happened) (told : Option Shelf) (place : Place) → StandsIn (rooms_of A C V D) (settings_in self.old) place inputs story (seen_of self.old) told
+            → Moved (rooms_of A C V D) (settings_in self.old) Over inputs story UserAbort (seen_of self.new) told (W.sent wire.old) (W.sent wire.new) (W.failures wire.old) (W.failures wire.new) }
+        ensures ended { state_of self.old ≡ Sta1 → StaysEnded (state_of self.new) (W.sent wire.old) (W.sent wire.new) (W.failures wire.old) (W.failures wire.new) }
+        ensures unfiled { F.told filing.new ≡ F.told filing.old }
+        ensures filing_count { F.failures filing.new ≡ F.failures filing.old }
+    {
+        let _ = filing;
+        self.happens(Event::UserAborts, wire);
+    }
+
+    /// Takes the PDUs of a piece one after the other; where one is not taken, the association is
+    /// aborted, and the bytes from there on are dropped.
+    fn take_all<W: Wire>(&mut self, piece: &[u8], wire: &mut W)
+        ensures same { self.new.config ≡ self.old.config }
+        ensures went { (p : Progress) (place last : Place) (fs : List (List ℕ)) → IsAt place p → IsQuiet p → self.old.state ≡ p.state → self.old.body.items ≡ p.request
+            → piece.now ≡ joined fs → Lead A C (settings_of self.old.config) place fs last
+            → Went (rooms_of A C V D) (settings_of self.old.config) p last (marks_of fs) self.new.state self.new.body.items
+            (W.sent wire.old) (W.sent wire.new) (W.failures wire.old) (W.failures wire.new) }
+        ensures ended { state_of self.old ≡ Sta1 → StaysEnded (state_of self.new) (W.sent wire.old) (W.sent wire.new) (W.failures wire.old) (W.failures wire.new) }
+    {
         let mut rest = piece;
         while !rest.is_empty() {
             match self.take(rest, wire) {
@@ -111,41 +183,16 @@ impl<const A: usize, const C: usize, const V: usize, const D: usize> Association
         }
     }
 
-    /// The peer closed the transport connection.
-    pub fn closed<W: Wire, F: Filing>(&mut self, wire: &mut W, filing: &mut F)
-        ensures ended { state_of self.old ≡ Sta1 → StaysEnded (state_of self.new) (W.sent wire.old) (W.sent wire.new) (W.failures wire.old) (W.failures wire.new) }
-        ensures unfiled { F.told filing.new ≡ F.told filing.old }
-        ensures filing_count { F.failures filing.new ≡ F.failures filing.old }
-    {
-        let _ = filing;
-        self.happens(Event::Closed, wire);
-    }
-
-    /// The ARTIM timer ran out.
-    pub fn expired<W: Wire, F: Filing>(&mut self, wire: &mut W, filing: &mut F)
-        ensures ended { state_of self.old ≡ Sta1 → StaysEnded (state_of self.new) (W.sent wire.old) (W.sent wire.new) (W.failures wire.old) (W.failures wire.new) }
-        ensures unfiled { F.told filing.new ≡ F.told filing.old }
-        ensures filing_count { F.failures filing.new ≡ F.failures filing.old }
-    {
-        let _ = filing;
-        self.happens(Event::Expired, wire);
-    }
-
-    /// The local user aborts the association.
-    pub fn local_abort<W: Wire, F: Filing>(&mut self, wire: &mut W, filing: &mut F)
-        ensures ended { state_of self.old ≡ Sta1 → StaysEnded (state_of self.new) (W.sent wire.old) (W.sent wire.new) (W.failures wire.old) (W.failures wire.new) }
-        ensures unfiled { F.told filing.new ≡ F.told filing.old }
-        ensures filing_count { F.failures filing.new ≡ F.failures filing.old }
-    {
-        let _ = filing;
-        self.happens(Event::UserAborts, wire);
-    }
-
     /// Takes the PDU at the front of the bytes and says its size, where it is taken; where no PDU is
     /// due any more, all bytes are dropped.
     fn take<W: Wire>(&mut self, bytes: &[u8], wire: &mut W) -> Option<usize>
         requires { 0 < length bytes.now }
-        ensures taken { IfSome result (λ n. (0 < n) × (n ≤ length bytes.now)) }
+        ensures within { IfSome result (λ n. (0 < n) × (n ≤ length bytes.now)) }
+        ensures same { self.new.config ≡ self.old.config }
+        ensures took { (p : Progress) (place last : Place) (fs : List (List ℕ)) → IsAt place p → IsQuiet p → self.old.state ≡ p.state → self.old.body.items ≡ p.request
+            → bytes.now ≡ joined fs → Lead A C (settings_of self.old.config) place fs last
+            → OnSome result (λ n. Took (rooms_of A C V D) (settings_of self.old.config) p fs last n self.new.state self.new.body.items
+            (W.sent wire.old) (W.sent wire.new) (W.failures wire.old) (W.failures wire.new)) }
         ensures ended { state_of self.old ≡ Sta1 → IsSome result × StaysEnded (state_of self.new) (W.sent wire.old) (W.sent wire.new) (W.failures wire.old) (W.failures wire.new) }
     {
         match self.state {
@@ -158,10 +205,7 @@ impl<const A: usize, const C: usize, const V: usize, const D: usize> Association
                 let (message, size) = first_message(&self.config, &self.body, C, bytes)?;
                 match message {
                     Message::Command(id, command) => self.on_command(id, command, wire),
-                    Message::ReleaseRequest => {
-                        self.happens(Event::ReleaseRq, wire);
-                        self.happens(Event::UserReleases, wire);
-                    }
+                    Message::ReleaseRequest => self.on_release(wire),
                 }
                 Some(size)
             }
@@ -173,59 +217,109 @@ impl<const A: usize, const C: usize, const V: usize, const D: usize> Association
     fn on_request<W: Wire>(&mut self, body: &[u8], wire: &mut W)
         requires due { self.old.state ≡ Sta2 }
         requires fits { length body.now + 12 ≤ A }
+        ensures same { self.new.config ≡ self.old.config }
+        ensures tries { request_fault body.now ≡ None → judged (settings_of self.old.config) (record_of body.now) ≡ Accept
+            → Tries (accept_text (settings_of self.old.config) (record_of body.now)) Sta6 body.now
+            self.new.state self.new.body.items (W.sent wire.old) (W.sent wire.new) (W.failures wire.old) (W.failures wire.new) }
     {
-        self.body.clear();
-        self.body.try_extend_from_slice(body).unwrap();
-        let answer = match read_request(&self.body) {
-            Ok(request) => judge(&self.config, &request),
-            Err(_) => {
-                self.happens(Event::Invalid, wire);
-                return;
-            }
-        };
-        match answer {
-            Answer::Accept => {
-                self.happens(Event::Request(true), wire);
-                self.happens(Event::UserAccepts, wire);
-            }
-            Answer::Reject(_, PROVIDER, _) => self.happens(Event::Request(false), wire),
-            Answer::Reject(_, _, _) => {
-                self.happens(Event::Request(true), wire);
-                self.happens(Event::UserRefuses, wire);
-            }
+        self.keep(body);
+        match self.answer_due() {
+            Some(Answer::Accept) => self.on_accepted(wire),
+            Some(Answer::Reject(_, source, _)) => self.on_refused(source, wire),
+            None => self.happens(Event::Invalid, wire),
         }
     }
 
+    /// The service provider, or the local user, refuses the kept request.
+    fn on_refused<W: Wire>(&mut self, source: u8, wire: &mut W)
+        requires { self.old.state ≡ Sta2 }
+        ensures { self.new.config ≡ self.old.config }
+    {
+        if source == PROVIDER {
+            self.happens(Event::Request(false), wire);
+        } else {
+            self.happens(Event::Request(true), wire);
+            self.happens(Event::UserRefuses, wire);
+        }
+    }
+
+    /// Keeps a request's body.
+    fn keep(&mut self, body: &[u8])
+        requires due { self.old.state ≡ Sta2 }
+        requires fits { length body.now + 12 ≤ A }
+        ensures request { self.new.body.items ≡ body.now }
+        ensures state { self.new.state ≡ self.old.state }
+        ensures same { self.new.config ≡ self.old.config }
+    {
+        self.body.clear();
+        self.body.try_extend_from_slice(body).unwrap();
+    }
+
+    /// How the kept request is answered; none where it is no request.
+    fn answer_due(&self) -> Option<Answer>
+        ensures due { request_fault self.now.body.items ≡ None → result ≡ Some (judged (settings_of self.now.config) (record_of self.now.body.items)) }
+        ensures answerable { result ≡ Some Accept → IsAnswerable self.now.body.items }
+    {
+        match read_request(&self.body) {
+            Ok(request) => Some(judge(&self.config, &request)),
+            Err(_) => None,
+        }
+    }
+
+    /// The local user accepts the kept request.
+    fn on_accepted<W: Wire>(&mut self, wire: &mut W)
+        requires due { self.old.state ≡ Sta2 }
+        requires answerable { IsAnswerable self.old.body.items }
+        ensures same { self.new.config ≡ self.old.config }
+        ensures tries { request_fault self.old.body.items ≡ None → judged (settings_of self.old.config) (record_of self.old.body.items) ≡ Accept
+            → Tries (accept_text (settings_of self.old.config) (record_of self.old.body.items)) Sta6 self.old.body.items
+            self.new.state self.new.body.items (W.sent wire.old) (W.sent wire.new) (W.failures wire.old) (W.failures wire.new) }
+    {
+        self.happens(Event::Request(true), wire);
+        self.happens(Event::UserAccepts, wire);
+    }
+
     /// A command is whole: it is answered, or the local user aborts.
-    fn on_command<W: Wire>(&mut self, context_id: u8, command: &[u8], wire: &mut W)
-        requires { IsAnswerable self.old.body.items }
+    fn on_command<W: Wire>(&mut self, id: u8, command: &[u8], wire: &mut W)
+        requires due { self.old.state ≡ Sta6 }
+        requires answerable { IsAnswerable self.old.body.items }
+        ensures same { self.new.config ≡ self.old.config }
+        ensures tries { (asked : CommandRecord) → request_fault self.old.body.items ≡ None → command_in command.now ≡ Ok asked
+            → Tries (reply_bytes asked (replies.echo_status (record_of self.old.body.items) id asked) id (record_of self.old.body.items).maximum) Sta6 self.old.body.items
+            self.new.state self.new.body.items (W.sent wire.old) (W.sent wire.new) (W.failures wire.old) (W.failures wire.new) }
     {
         self.happens(Event::Data, wire);
         match read_command(command) {
             Ok(command) => {
-                let sent = self.reply(context_id, &command, wire);
+                let sent = self.reply(id, &command, wire);
                 self.after(sent);
             }
             Err(_) => self.happens(Event::UserAborts, wire),
         }
     }
 
+    /// A release request is whole, and the local user answers it.
+    fn on_release<W: Wire>(&mut self, wire: &mut W)
+        requires due { self.old.state ≡ Sta6 }
+        ensures same { self.new.config ≡ self.old.config }
+        ensures tries { Tries release_text Sta13 [] self.new.state self.new.body.items (W.sent wire.old) (W.sent wire.new) (W.failures wire.old) (W.failures wire.new) }
+    {
+        self.happens(Event::ReleaseRq, wire);
+        self.happens(Event::UserReleases, wire);
+    }
+
     /// Sends the reply to a command: success where it names Verification and its presentation context
     /// does.
     fn reply<W: Wire>(&self, id: u8, command: &Command, wire: &mut W) -> Result<(), WireFailed>
         requires { IsAnswerable self.now.body.items }
+        ensures { request_fault self.now.body.items ≡ None
+            → Sends (reply_bytes command.now (replies.echo_status (record_of self.now.body.items) id command.now) id (record_of self.now.body.items).maximum) result
+            (W.sent wire.old) (W.sent wire.new) (W.failures wire.old) (W.failures wire.new) }
     {
         let Ok(request) = read_request(&self.body) else {
             return Ok(());
         };
-        let is_verification = class_of(command.class().as_bytes()) == Some(Class::Verification)
-            && context(&self.config, &request, id).is_some_and(|context| context.class
-                == Class::Verification);
-        let status = if is_verification {
-            SUCCESS
-        } else {
-            CLASS_NOT_SUPPORTED
-        };
+        let status = echo_status(&self.config, &request, id, command);
         write_response(command, status, id, request.maximum(), wire)
     }
 
@@ -233,21 +327,40 @@ impl<const A: usize, const C: usize, const V: usize, const D: usize> Association
     fn happens<W: Wire>(&mut self, event: Event, wire: &mut W)
         requires { (table self.old.state event).1 ≡ Sta6 → IsAnswerable self.old.body.items }
         ensures answerable { IsAnswerable self.old.body.items → IsAnswerable self.new.body.items }
-        ensures ended { table self.old.state event ≡ (Nothing, Sta1) → StaysEnded (state_of self.new) (W.sent wire.old) (W.sent wire.new) (W.failures wire.old) (W.failures wire.new) }
+        ensures same { self.new.config ≡ self.old.config }
+        ensures settles { sending_at self.old.state event ≡ Sending.Nothing → Settles (table self.old.state event).1 (kept_in (table self.old.state event).1 self.old.body.items)
+            self.new.state self.new.body.items (W.sent wire.old) (W.sent wire.new) (W.failures wire.old) (W.failures wire.new) }
+        ensures tries { (sending_at self.old.state event ≡ Sending.Answer → request_fault self.old.body.items ≡ None)
+            → Tries (text_of (settings_of self.old.config) self.old.body.items (sending_at self.old.state event)) (table self.old.state event).1 (kept_in (table self.old.state event).1 self.old.body.items)
+            self.new.state self.new.body.items (W.sent wire.old) (W.sent wire.new) (W.failures wire.old) (W.failures wire.new) }
     {
         let (action, next) = act(self.state, event);
         self.state = next;
-        let sent = match action.sends(next, INVALID_PARAMETER) {
+        let sent = self.send(action.sends(next, INVALID_PARAMETER), wire);
+        self.after(sent);
+    }
+
+    /// Sends what an action asks for.
+    fn send<W: Wire>(&self, sending: Sending, wire: &mut W) -> Result<(), WireFailed>
+        ensures nothing { sending ≡ Sending.Nothing → result ≡ Ok tt }
+        ensures same { sending ≡ Sending.Nothing → W.sent wire.new ≡ W.sent wire.old }
+        ensures same_count { sending ≡ Sending.Nothing → W.failures wire.new ≡ W.failures wire.old }
+        ensures sends { (sending ≡ Sending.Answer → request_fault self.now.body.items ≡ None)
+            → Sends (text_of (settings_of self.now.config) self.now.body.items sending) result (W.sent wire.old) (W.sent wire.new) (W.failures wire.old) (W.failures wire.new) }
+    {
+        match sending {
             Sending::Nothing => Ok(()),
             Sending::Answer => self.answer(wire),
             Sending::ReleaseResponse => write_release(wire),
             Sending::Abort(source, reason) => write_abort(source, reason, wire),
-        };
-        self.after(sent);
+        }
     }
 
     /// Sends the answer to the request.
-    fn answer<W: Wire>(&self, wire: &mut W) -> Result<(), WireFailed> {
+    fn answer<W: Wire>(&self, wire: &mut W) -> Result<(), WireFailed>
+        ensures { request_fault self.now.body.items ≡ None
+            → Sends (answer_bytes (settings_of self.now.config) (record_of self.now.body.items)) result (W.sent wire.old) (W.sent wire.new) (W.failures wire.old) (W.failures wire.new) }
+    {
         match read_request(&self.body) {
             Ok(request) => write_answer(&self.config, &request, wire),
             Err(_) => Ok(()),
@@ -258,7 +371,9 @@ impl<const A: usize, const C: usize, const V: usize, const D: usize> Association
     /// request is given up where the association is left.
     fn after(&mut self, sent: Result<(), WireFailed>)
         ensures answerable { IsAnswerable self.old.body.items → IsAnswerable self.new.body.items }
-        ensures ended { self.old.state ≡ Sta1 → self.new.state ≡ Sta1 }
+        ensures same { self.new.config ≡ self.old.config }
+        ensures state { self.new.state ≡ state_after sent self.old.state }
+        ensures request { self.new.body.items ≡ kept_in self.new.state self.old.body.items }
     {
         if sent.is_err() {
             self.state = State::Sta1;

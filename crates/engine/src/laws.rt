@@ -2,6 +2,7 @@
 //! function that does nothing.
 ghost use Rattle.engine.specs.Shown.{TheEchoRuns, TheRequestIsHeld, ItStandsEstablished, VerdictsOnStores};
 ghost use Rattle.engine.specs.Laws.{EntriesAppend};
+ghost use Rattle.engine.specs.Taken.{TheEchoIsTaken, AnEchoInEightsIsTaken, AnotherTitleIsNotTaken};
 ghost use Rattle.engine.specs.Tried.{ARequestAboveTheRoom, BytesThatAreNoPdu, DataAboveTheMaximum, AfterTheEnd, AnotherCalledTitle, RecordedEcho, HeldWhileTheEchoComes, AGoodPdvBeforeABadOne};
 
 /// The timeline with more inputs is the old one with their entries appended.
@@ -67,4 +68,19 @@ pub fn it_stands_established()
 /// Statuses of stores.
 pub fn verdicts_on_stores()
     ensures { VerdictsOnStores }
+{}
+
+/// The recorded echo is a stream of echoes, in one piece and in several.
+pub fn the_echo_is_taken()
+    ensures { TheEchoIsTaken }
+{}
+
+/// So is one of a peer that takes eight bytes at a time.
+pub fn an_echo_in_eights_is_taken()
+    ensures { AnEchoInEightsIsTaken }
+{}
+
+/// A request to another title begins no stream of echoes.
+pub fn another_title_is_not_taken()
+    ensures { AnotherTitleIsNotTaken }
 {}

@@ -8,6 +8,7 @@ mod list_source;
 mod report;
 mod running;
 mod source;
+mod status;
 
 pub use association::Association;
 pub use list_source::{Given, ListSource};

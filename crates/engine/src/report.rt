@@ -1,5 +1,6 @@
 //! How a run ended.
 ghost use Rattle.std.specs.Prelude.{◌≡◌};
+ghost use Rattle.engine.specs.Ran.{standing_of};
 
 use acceptor::State;
 use std::fmt;
@@ -22,8 +23,11 @@ pub struct Report {
     pub held: usize,
 }
 
-impl From<State> for Standing {
-    fn from(state: State) -> Standing {
+impl Standing {
+    /// How an association stands in this state.
+    pub fn of(state: State) -> Standing
+        ensures { result ≡ standing_of state }
+    {
         match state {
             State::Sta1 => Standing::Ended,
             State::Sta13 => Standing::Closing,

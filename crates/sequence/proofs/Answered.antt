@@ -1,5 +1,5 @@
 -- A step answers what is to be told.
-use Rattle.std.proofs.Common.{◌≡◌, ℕ, zero, suc, ◌+◌, ◌-◌, ◌<◌, ◌≤◌, ◌≢◌, ◌⊎◌, Bool, true, false, not, List, [], ◌∷◌, ◌++◌, length, take, get_or, Option, Some, None, refl, sym, ap, subst, ◌∙◌, inl, inr, arith, append-nil, append_assoc, length-append, if◌then◌else◌}
+use Rattle.std.proofs.Common.{◌≡◌, ℕ, ◌+◌, ◌-◌, ◌<◌, Bool, true, false, not, List, [], ◌∷◌, ◌++◌, length, Option, Some, None, refl, sym, ap, subst, ◌∙◌, arith, append_assoc, if◌then◌else◌}
 use Rattle.element.specs.declared.syntax.Syntax.{Syntax}
 use Rattle.element.specs.declared.tag.Tag.{Tag}
 use Rattle.element.specs.declared.header.Header.{Header}
@@ -10,29 +10,29 @@ use Rattle.sequence.specs.declared.fault.Fault.{Fault}
 use Rattle.sequence.specs.declared.stage.Stage.{Stage}
 use Rattle.sequence.specs.declared.stage.Stage.TheVariants as stages
 use Rattle.sequence.specs.declared.step.Step.{Step}
-use Rattle.sequence.specs.declared.step.Step.TheVariants.{More, Element, Run, Opened, Closed, Refused}
+use Rattle.sequence.specs.declared.step.Step.TheVariants.{Element, Opened, Closed, Refused}
 use Rattle.sequence.specs.declared.walker.Walker.{Walker}
 use Rattle.sequence.specs.Tree.{item_tag}
-use Rattle.sequence.specs.Open.{in_header, in_value}
 use Rattle.sequence.specs.Wanted.{Values}
 use Rattle.sequence.specs.Rules.{Limits, Broken, broken, same_tag}
 use Rattle.sequence.specs.FirstFault.{spot_behind, IsUnbroken}
-use Rattle.sequence.specs.Answering.{EndsHeader, EndsRun, EndsPart, Answers, refuses, nothing_taken, goes_on, element, opened, closed, runs, IsRun}
+use Rattle.sequence.specs.Answering.{EndsHeader, EndsRun, EndsPart, Answers, refuses, goes_on, element, opened, closed, runs, IsRun}
 use Rattle.sequence.specs.Machine.{State, at, Mode, Heading, Reading, Stopped, headed_by, headed, spot_of, next, next_by, run, start}
 use Rattle.sequence.specs.Frames.{top_of, below_of}
 use Rattle.sequence.specs.Keeping.{keeps}
-use Rattle.sequence.specs.Made.{made_headed, made_by, made, made_told, header_told, value_told}
-use Rattle.sequence.specs.State.{mode_of, state_of, limits_of, syntax_of, StandsAt}
-use Rattle.sequence.specs.Standing.{IsBytes, IsHeading, IsReading, IsStopped, Stands}
+use Rattle.sequence.specs.Made.{made_headed, made_by, made, header_told, value_told}
+use Rattle.sequence.specs.State.{mode_of, state_of, limits_of, syntax_of}
+use Rattle.sequence.specs.Standing.{IsHeading, IsReading, IsStopped, Stands}
 use Rattle.sequence.proofs.Runs.{HasStopped}
 use Rattle.sequence.proofs.Parts.{whole_spells}
 use Rattle.sequence.proofs.Steps.{more_bytes}
 use Rattle.sequence.proofs.Telling.{open_due, due_open}
+use Rattle.sequence.proofs.Holding.{Walks}
 use Rattle.sequence.proofs.Tales.{stands, goes_unbroken, stop_first, spot_is, heading_front, reading_front}
 
 -- of a walker, by its stage
 
-module _ {V D : ℕ} (w : Walker V D) (c : List ℕ) (h : StandsAt w c) where
+module _ {V D : ℕ} (w : Walker V D) (c : List ℕ) (h : Walks w c) where
   pub stopped_answers : (taken : List ℕ) (fault : Fault) → w.stage ≡ stages.Stopped fault → Answers (syntax_of w) (limits_of w) c taken (Refused fault)
   stopped_answers taken fault e =
       let lim = limits_of w in
@@ -125,7 +125,7 @@ told_by_tag s lim c taken hd true true m-is i-is ok ends = opened ok ends m-is i
 told_by_tag s lim c taken hd true false m-is i-is ok ends = closed ok ends m-is i-is
 
 -- a step that took a byte of a header
-module _ {V D : ℕ} (old new : Walker V D) (b : List ℕ) (byte : ℕ) (h : StandsAt old b) (k : StandsAt new (b ++ byte ∷ [])) where
+module _ {V D : ℕ} (old new : Walker V D) (b : List ℕ) (byte : ℕ) (h : Walks old b) (k : Walks new (b ++ byte ∷ [])) where
   pub header_answers : (stage : Stage) (hd : Option Header) → new.stage ≡ stage → old.stage ≡ stages.Heading → byte < 256 → syntax_of new ≡ syntax_of old → limits_of new ≡ limits_of old → state_of new ≡ next (limits_of old) (state_of old) byte → hd ≡ made (limits_of old) (state_of old) byte
       → Answers (syntax_of new) (limits_of new) (b ++ byte ∷ []) (byte ∷ []) (header_told stage hd)
   header_answers (stages.Stopped fault) hd e o lt s-is l-is st m = stopped_answers new (b ++ byte ∷ []) k (byte ∷ []) fault e

@@ -1,18 +1,17 @@
 -- No front of a text that the walk went over has more open levels than the limit.
-use Rattle.std.proofs.Common.{◌≡◌, ℕ, suc, ◌+◌, ◌-◌, ◌<◌, ◌≤◌, ◌≢◌, ◌⊎◌, Bool, true, false, List, [], ◌∷◌, ◌++◌, length, Option, Some, None, refl, sym, ap, subst, ◌∙◌, inl, inr, arith, append_assoc, append-nil, length-append, if◌then◌else◌}
+use Rattle.std.proofs.Common.{◌≡◌, ℕ, ◌+◌, ◌-◌, ◌≤◌, ◌≢◌, ◌⊎◌, Bool, true, false, List, [], ◌∷◌, ◌++◌, length, Some, None, refl, sym, ap, subst, ◌∙◌, inl, inr, arith, append_assoc, append-nil, length-append}
 use Rattle.element.specs.declared.syntax.Syntax.{Syntax}
-use Rattle.element.specs.declared.header.Header.{Header}
 use Rattle.sequence.specs.declared.level.Frame.{Frame}
-use Rattle.sequence.specs.Shape.{is_undefined, undefined_length}
+use Rattle.sequence.specs.Shape.{is_undefined}
 use Rattle.sequence.specs.Tree.{Elements}
 use Rattle.sequence.specs.Open.{Entry, Tail, in_header, header_tail, left_of, sequence_entry, item_entry, IsOpenLevel, IsInnermost, Nested, at_elements, in_sequence_of, in_item_of, Open}
 use Rattle.sequence.specs.Wanted.{Values}
 use Rattle.sequence.specs.Rules.{Limits, Broken, broken_due}
-use Rattle.sequence.specs.Machine.{set_frame, State, at, Mode, Heading, Reading, Stopped, spot_of, arrive, due, due_by, run, start}
+use Rattle.sequence.specs.Machine.{set_frame, State, Mode, Heading, Reading, Stopped, spot_of, arrive, due, due_by, run, start}
 use Rattle.sequence.specs.Keeping.{keeps}
-use Rattle.sequence.specs.Standing.{IsBytes, StandsIn, Stands}
+use Rattle.sequence.specs.Standing.{IsBytes, StandsIn}
 use Rattle.sequence.proofs.Runs.{HasStopped}
-use Rattle.sequence.proofs.Steps.{no_header}
+use Rattle.sequence.proofs.Arriving.{no_header}
 use Rattle.sequence.proofs.Fronts.{top_over, below_over, nested_run}
 use Rattle.sequence.proofs.Refusals.{depth_over, arrive_over}
 use Rattle.sequence.proofs.Tales.{stands, stays_stopped, front_bytes}

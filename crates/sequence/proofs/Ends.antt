@@ -1,20 +1,20 @@
 -- Levels end in each other, and keep their limits.
-use Rattle.std.proofs.Common.{◌≡◌, ℕ, suc, ◌+◌, ◌-◌, ◌<◌, ◌≤◌, ◌≢◌, Bool, true, false, not, ◌&&◌, ◌||◌, List, [], ◌∷◌, ◌++◌, length, Option, Some, None, is_some, nat_eq, nat_le, nat_lt, refl, sym, ap, subst, ◌∙◌, arith, ltb-false, leb-false, ne_eqb, eq-eqb, eqb-true, length-append, if◌then◌else◌}
+use Rattle.std.proofs.Common.{◌≡◌, ℕ, suc, ◌+◌, ◌-◌, ◌≤◌, ◌≢◌, Bool, true, false, not, List, [], ◌∷◌, length, Option, Some, None, is_some, refl, sym, ap, subst, ◌∙◌, arith, ltb-false, ne_eqb, eq-eqb, if◌then◌else◌}
 use Rattle.element.specs.declared.syntax.Syntax.{Syntax}
 use Rattle.element.specs.declared.header.Header.{Header}
 use Rattle.element.specs.declared.size.Need.{Need}
 use Rattle.element.specs.declared.size.Need.TheVariants.{Size}
-use Rattle.element.specs.Header.{is_marker, is_plain, tag_at, need, is_whole, header_at, SpellsHeader}
+use Rattle.element.specs.Header.{is_plain, tag_at, need, SpellsHeader}
 use Rattle.element.proofs.Headers.{NeedIs, few, plain_eight, no_vr, refused, short_eight, long_twelve, need_is, need_spelled, spelled_long}
 use Rattle.sequence.specs.declared.level.Frame.{Frame}
 use Rattle.sequence.specs.declared.spot.Spot.{Spot}
 use Rattle.sequence.specs.Shape.{is_undefined, undefined_length}
 use Rattle.sequence.specs.Open.{IsLeft}
-use Rattle.sequence.specs.Rules.{Limits, Broken, broken_due, broken_need, broken_header, broken, passes, opens, counted_length}
+use Rattle.sequence.specs.Rules.{Limits, broken_need, broken_header, passes, counted_length}
 use Rattle.sequence.specs.Machine.{spot_of, nearer, nearest, less, stop_of}
 use Rattle.sequence.specs.Standing.{AreNested, Holds, AllHold, AreLevels}
 use Rattle.sequence.proofs.Sound.{is_sound, if_some, and_false}
-use Rattle.sequence.proofs.Unbroken.{BreaksNone, unbroken_is}
+use Rattle.sequence.proofs.Unbroken.{BreaksNone}
 
 weaken_by : (o near : Option ℕ) (fs : List Frame) → (AreNested near fs → AreNested None fs) → IsLeft o near × AreNested (if is_some o then o else near) fs → IsLeft o None × AreNested (if is_some o then o else None) fs
 weaken_by None near fs go h = (tt, go h.1)
@@ -104,7 +104,7 @@ taken lim f fs begin p h t l sp ok header-ok p-is =
       far = omega (arith, short, p-is);
     }
 
-level_by : (u : Bool) (n p : ℕ) (fs : List Frame) → is_undefined n ≡ u → (n ≢ undefined_length → Holds (nearest fs) (p + n)) → AreNested None fs → IsLeft (if u then None else Some (p + n)) None × AreNested (if is_some (if u then None else Some (p + n)) then (if u then None else Some (p + n)) else None) fs
+pub level_by : (u : Bool) (n p : ℕ) (fs : List Frame) → is_undefined n ≡ u → (n ≢ undefined_length → Holds (nearest fs) (p + n)) → AreNested None fs → IsLeft (if u then None else Some (p + n)) None × AreNested (if is_some (if u then None else Some (p + n)) then (if u then None else Some (p + n)) else None) fs
 level_by true n p fs e ends h = (tt, h)
 level_by false n p fs e ends h = (tt, narrow (p + n) fs (ends (λ same. absurd (let k : true ≡ false = sym (eq-eqb n undefined_length same) ∙ e in cc))) h)
 

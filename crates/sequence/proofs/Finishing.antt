@@ -1,32 +1,30 @@
 -- How a text ends.
-use Rattle.std.proofs.Common.{◌≡◌, ℕ, zero, suc, ◌+◌, ◌-◌, ◌<◌, ◌≤◌, ◌≢◌, ◌⊎◌, Bool, true, false, List, [], ◌∷◌, ◌++◌, length, Option, Some, None, refl, sym, ap, subst, ◌∙◌, inl, inr, arith, append-nil, nat_eq, ◌&&◌, eqb-true, if◌then◌else◌}
+use Rattle.std.proofs.Common.{◌≡◌, ℕ, ◌-◌, ◌≤◌, ◌⊎◌, Bool, true, false, List, [], ◌∷◌, length, None, refl, sym, ap, subst, ◌∙◌, inl, inr, arith, append-nil, nat_eq, ◌&&◌, eqb-true}
 use Rattle.std.proofs.lemmas.List.{nil_from_length}
 use Rattle.element.specs.declared.syntax.Syntax.{Syntax}
 use Rattle.element.specs.declared.tag.Tag.{Tag}
 use Rattle.sequence.specs.declared.level.Frame.{Frame}
 use Rattle.sequence.specs.declared.level.Level.{Level}
 use Rattle.sequence.specs.declared.fault.Fault.{Fault}
-use Rattle.sequence.specs.declared.stage.Stage.{Stage}
 use Rattle.sequence.specs.declared.stage.Stage.TheVariants as stages
 use Rattle.sequence.specs.declared.walker.Walker.{Walker}
-use Rattle.sequence.specs.declared.wanted.Want.{Want}
 use Rattle.sequence.specs.Tree.{Elements, DataSet}
 use Rattle.sequence.specs.Open.{in_header, in_value, last_of}
-use Rattle.sequence.specs.Wanted.{Values, kept_of}
-use Rattle.sequence.specs.Within.{FitRooms}
+use Rattle.sequence.specs.Wanted.{Values}
 use Rattle.sequence.specs.Rules.{Limits}
-use Rattle.sequence.specs.FirstFault.{FirstFault, EndFault, tag_of_tail}
+use Rattle.sequence.specs.FirstFault.{EndFault, tag_of_tail}
 use Rattle.sequence.specs.Ending.{IsWhole, Fails, breaks_rule, ends_early}
-use Rattle.sequence.specs.Machine.{set_frame, State, at, Mode, Heading, Reading, Stopped, arrive, due, run, start}
+use Rattle.sequence.specs.Machine.{set_frame, State, at, Heading, Reading, Stopped, arrive, due, run, start}
 use Rattle.sequence.specs.Frames.{top_of, below_of}
 use Rattle.sequence.specs.Keeping.{keeps}
-use Rattle.sequence.specs.State.{mode_of, state_of, limits_of, syntax_of, StandsAt}
-use Rattle.sequence.specs.Standing.{IsBytes, Reaches, at_root, IsHeading, IsReading, IsStopped, StandsIn, Stands}
+use Rattle.sequence.specs.State.{mode_of, limits_of, syntax_of}
+use Rattle.sequence.specs.Standing.{IsBytes, Reaches, at_root, IsHeading, IsReading, IsStopped, Stands}
 use Rattle.sequence.proofs.Runs.{HasStopped, elements_run}
 use Rattle.sequence.proofs.Depths.{never_deeper}
 use Rattle.sequence.proofs.Tops.{below_length}
 use Rattle.sequence.proofs.Sound.{and_true}
-use Rattle.sequence.proofs.Tales.{stands, goes_unbroken, stop_first, OpenEnd, heading_front, reading_front}
+use Rattle.sequence.proofs.Holding.{Walks}
+use Rattle.sequence.proofs.Tales.{stands, goes_unbroken, stop_first, heading_front, reading_front}
 
 -- the machine stands at the beginning of an element of the data set itself
 root_due : (s : Syntax) (q last : ℕ) → arrive q (set_frame s None last) [] ≡ at (set_frame s None last) [] q (Heading q [])
@@ -97,7 +95,7 @@ heading_whole s lim values f begin b bytes going-on h =
 
 -- of a walker
 
-module _ {V D : ℕ} (w : Walker V D) (b : List ℕ) (h : StandsAt w b) where
+module _ {V D : ℕ} (w : Walker V D) (b : List ℕ) (h : Walks w b) where
   pub stopped_fails : (fault : Fault) → w.stage ≡ stages.Stopped fault → Fails (syntax_of w) (limits_of w) b fault
   stopped_fails fault e =
       let lim = limits_of w in

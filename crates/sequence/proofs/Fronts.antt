@@ -1,27 +1,20 @@
 -- The machine goes over a front of a data set, or stops: so a front has one path and one last tag.
-use Rattle.std.proofs.Common.{◌≡◌, ℕ, suc, ◌+◌, ◌-◌, ◌<◌, ◌≤◌, ◌≢◌, ◌⊎◌, Bool, true, false, List, [], ◌∷◌, ◌++◌, length, Option, Some, None, nat_eq, refl, sym, ap, subst, ◌∙◌, inl, inr, arith, append_assoc, append-nil, length-append, ne_eqb, eq-eqb, if◌then◌else◌}
+use Rattle.std.proofs.Common.{◌≡◌, ℕ, ◌+◌, ◌-◌, ◌≤◌, ◌≢◌, Bool, true, false, List, [], ◌∷◌, ◌++◌, length, Option, Some, nat_eq, refl, sym, ap, subst, ◌∙◌, arith, append-nil, length-append, ne_eqb, eq-eqb}
 use Rattle.element.specs.declared.syntax.Syntax.{Syntax}
-use Rattle.element.specs.declared.tag.Tag.{Tag}
 use Rattle.element.specs.declared.header.Header.{Header}
 use Rattle.sequence.specs.declared.level.Frame.{Frame}
 use Rattle.sequence.specs.Rules.{Limits}
-use Rattle.sequence.specs.declared.shape.Shape.TheVariants.{Value, Sequence}
+use Rattle.sequence.specs.declared.shape.Shape.TheVariants.{Sequence}
 use Rattle.element.specs.Header.{number}
 use Rattle.sequence.specs.Shape.{is_undefined, undefined_length, shape}
 use Rattle.sequence.specs.Tree.{Elements, Items, IsElement, IsItem, DataSet, ItemList}
-use Rattle.sequence.specs.Open.{last_of, Entry, Tail, in_header, in_value, IsTail, header_tail, value_tail, left_of, sequence_entry, item_entry, IsOpenLevel, Nested, at_elements, in_sequence_of, in_item_of}
-use Rattle.sequence.specs.Machine.{set_frame, sequence_frame, State, arrive, stop_of, begin_level, take_header, run}
+use Rattle.sequence.specs.Open.{last_of, Entry, Tail, in_header, IsTail, header_tail, value_tail, left_of, sequence_entry, item_entry, IsOpenLevel, Nested, at_elements, in_sequence_of, in_item_of}
+use Rattle.sequence.specs.Machine.{set_frame, sequence_frame, State, arrive, stop_of, begin_level, run}
+pub use Rattle.sequence.specs.Holding.{stop_at, frame_at}
 use Rattle.element.proofs.Headers.{spelled_long}
-use Rattle.sequence.proofs.Runs.{Goes, goes_then, Holds, IsOpen, open_from_holds, holds_less, header_run, elements_run, items_run, taken_sequence, taken_item}
+use Rattle.sequence.proofs.Runs.{Goes, goes_then, Holds, open_from_holds, holds_less, header_run, elements_run, items_run, taken_sequence, taken_item}
 
 -- the levels of a path, at a place
-abbrev pub stop_at : ℕ → Option ℕ → Option ℕ
-stop_at q None = None
-stop_at q (Some left) = Some (q + left)
-
-abbrev pub frame_at : ℕ → Entry → Frame
-frame_at q e = record { in_sequence = e.in_sequence; syntax = e.syntax; stop = stop_at q e.left; last = e.last }
-
 abbrev pub top_over : ℕ → List Entry → Frame → Frame
 top_over q [] f = f
 top_over q (e ∷ path) f = frame_at q e

@@ -7,6 +7,8 @@ pub mod Unbroken
 pub mod Walks
 pub mod Nesting
 pub mod Ends
+pub mod Arriving
+pub mod Taking
 pub mod Steps
 pub mod Fronts
 pub mod Plug
@@ -18,3 +20,12 @@ pub mod Finishing
 pub mod Answered
 pub mod Depths
 pub mod Tried
+pub mod Staying
+pub mod Readings
+pub mod Once
+pub mod Lefts
+pub mod Tellings
+pub mod Holding
+pub mod Unstopped
+pub mod Places
+pub mod Whole

@@ -1,24 +1,21 @@
 -- The levels that a text leads to, and what more text does to them.
-use Rattle.std.proofs.Common.{◌≡◌, ℕ, suc, ◌+◌, ◌-◌, ◌%◌, ◌<◌, ◌≤◌, ◌≢◌, ◌⊎◌, Bool, true, false, List, [], ◌∷◌, ◌++◌, length, Option, Some, None, nat_eq, nat_le, nat_lt, refl, sym, ap, subst, ◌∙◌, inl, inr, arith, append_assoc, append-nil, length-append, eqb-true, false-eqb, eq-eqb, ne_eqb, if◌then◌else◌}
+use Rattle.std.proofs.Common.{◌≡◌, ℕ, ◌+◌, ◌≢◌, ◌⊎◌, Bool, true, false, List, [], ◌∷◌, ◌++◌, length, Option, Some, None, refl, sym, ap, subst, ◌∙◌, inl, inr, arith, append_assoc, append-nil, length-append, eqb-true, eq-eqb, if◌then◌else◌}
 use Rattle.element.specs.declared.syntax.Syntax.{Syntax}
 use Rattle.element.specs.declared.tag.Tag.{Tag}
 use Rattle.element.specs.declared.header.Header.{Header}
 use Rattle.sequence.specs.declared.level.Frame.{Frame}
-use Rattle.sequence.specs.declared.spot.Spot.{Spot}
 use Rattle.sequence.specs.Rules.{Limits}
-use Rattle.element.specs.Header.{number, SpellsHeader}
-use Rattle.sequence.specs.Shape.{is_undefined, undefined_length, shape}
-use Rattle.sequence.specs.declared.shape.Shape.{Shape}
-use Rattle.sequence.specs.declared.shape.Shape.TheVariants.{Value, Sequence}
-use Rattle.sequence.specs.Tree.{item_tag, item_end_tag, sequence_end_tag, delimitation, Elements, no_elements, value, sequence, Items, no_items, item, IsEven, IsElement, IsItem, IsValue, Closed, counted, delimited, DataSet, nothing, value_then, sequence_then, ItemList, no_more, item_then}
+use Rattle.element.specs.Header.{number}
+use Rattle.sequence.specs.Shape.{is_undefined, undefined_length}
+use Rattle.sequence.specs.Tree.{item_end_tag, sequence_end_tag, delimitation, Elements, no_elements, value, sequence, Items, no_items, item, Closed, counted, delimited, DataSet, nothing, value_then, sequence_then, ItemList, no_more, item_then}
 use Rattle.sequence.specs.Open.{last_of}
 use Rattle.sequence.specs.Wanted.{Values, is_wanted, kept_of}
 use Rattle.sequence.specs.Within.{FitRooms}
 use Rattle.sequence.specs.Rules.{Limits}
-use Rattle.sequence.specs.Keeping.{wanted_at, with_value}
+use Rattle.sequence.specs.Keeping.{with_value}
 use Rattle.sequence.specs.declared.wanted.Want.{Want}
 use Rattle.sequence.specs.Standing.{IsLength, IsFit, Reaches, at_root, into_sequence, into_item}
-use Rattle.sequence.specs.Machine.{set_frame, sequence_frame, stop_of, arrive, due, stops_at, State}
+use Rattle.sequence.specs.Machine.{set_frame, sequence_frame, stop_of}
 
 -- one list after another
 

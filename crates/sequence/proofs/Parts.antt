@@ -1,14 +1,13 @@
 -- Headers that are not whole, and the byte that makes them whole.
-use Rattle.std.proofs.Common.{◌≡◌, ℕ, ◌+◌, ◌<◌, ◌≤◌, ◌≢◌, Bool, true, false, ◌&&◌, List, [], ◌∷◌, ◌++◌, length, get_or, refl, sym, ap, subst, ◌∙◌, arith, leb-true, leb-false, length-append}
+use Rattle.std.proofs.Common.{◌≡◌, ℕ, ◌<◌, ◌≤◌, ◌≢◌, true, false, ◌&&◌, List, [], ◌∷◌, ◌++◌, length, refl, sym, ap, subst, ◌∙◌, arith, leb-true, leb-false, length-append}
 use Rattle.element.specs.declared.syntax.Syntax.{Syntax}
 use Rattle.element.specs.declared.tag.Tag.{Tag}
 use Rattle.element.specs.declared.header.Header.{Header}
 use Rattle.element.specs.declared.size.Need.{Need}
 use Rattle.element.specs.declared.size.Need.TheVariants.{More, Size, BadVr}
 use Rattle.std.proofs.lemmas.Bool.Decides.{nat_tests}
-use Rattle.element.specs.Numbers.{le}
 use Rattle.element.specs.Vr.{is_capital}
-use Rattle.element.specs.Header.{need, is_marker, tag_bytes, header_at, SpellsHeader, plain, short, long, is_whole, has_size}
+use Rattle.element.specs.Header.{need, is_marker, header_at, SpellsHeader, plain, short, long, is_whole, has_size}
 use Rattle.element.proofs.Headers.{NeedIs, few, plain_eight, no_vr, refused, short_eight, long_twelve, need_is, is_need, need_on, plain_on, vr_on, exact_spells, more_short, size_eight}
 use Rattle.sequence.specs.Tree.{delimitation}
 use Rattle.sequence.specs.Open.{IsUnfinished}

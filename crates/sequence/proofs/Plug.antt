@@ -1,13 +1,12 @@
 -- The levels that a text leads to are the path of a front.
-use Rattle.std.proofs.Common.{◌≡◌, ℕ, suc, ◌+◌, ◌-◌, ◌<◌, ◌≤◌, ◌≢◌, Bool, true, false, List, [], ◌∷◌, ◌++◌, length, Option, Some, None, refl, sym, ap, subst, ◌∙◌, arith, append_assoc, append-nil, length-append, ne_eqb, eq-eqb, if◌then◌else◌}
+use Rattle.std.proofs.Common.{◌≡◌, ℕ, ◌+◌, ◌≤◌, ◌≢◌, Bool, true, false, List, [], ◌∷◌, ◌++◌, length, Option, Some, None, refl, sym, ap, subst, ◌∙◌, arith, append_assoc, length-append, ne_eqb}
 use Rattle.element.specs.declared.syntax.Syntax.{Syntax}
-use Rattle.element.specs.declared.header.Header.{Header}
 use Rattle.sequence.specs.declared.level.Frame.{Frame}
 use Rattle.element.specs.Header.{number}
 use Rattle.sequence.specs.Shape.{is_undefined, undefined_length}
 use Rattle.sequence.specs.Tree.{Elements, IsElement, DataSet}
 use Rattle.sequence.specs.declared.wanted.Want.{Want}
-use Rattle.sequence.specs.Open.{last_of, left_of, Entry, Tail, sequence_entry, item_entry, IsOpenLevel, Nested, at_elements, in_sequence_of, in_item_of}
+use Rattle.sequence.specs.Open.{last_of, left_of, Entry, Tail, sequence_entry, item_entry, IsOpenLevel, Nested, in_item_of}
 use Rattle.sequence.specs.Wanted.{Values, kept_of}
 use Rattle.sequence.specs.Within.{FitRooms}
 use Rattle.sequence.specs.Machine.{set_frame, sequence_frame, stop_of}

@@ -1,21 +1,20 @@
 -- A front that breaks a rule stops the machine.
-use Rattle.std.proofs.Common.{◌≡◌, ℕ, suc, ◌+◌, ◌-◌, ◌<◌, ◌≤◌, ◌≢◌, ◌⊎◌, Bool, true, false, not, ◌&&◌, List, [], ◌∷◌, ◌++◌, length, Option, Some, None, is_some, is_none, nat_eq, refl, sym, ap, subst, ◌∙◌, inl, inr, arith, append_assoc, append-nil, length-append, ne_eqb, eqb-true, if◌then◌else◌}
-use Rattle.std.proofs.lemmas.Bool.Decides.{nat_tests}
+use Rattle.std.proofs.Common.{◌≡◌, ℕ, suc, ◌+◌, ◌-◌, ◌<◌, ◌≢◌, ◌⊎◌, Bool, true, false, ◌&&◌, List, [], ◌∷◌, ◌++◌, length, Option, Some, None, is_some, is_none, refl, sym, ap, subst, ◌∙◌, inl, inr, arith, append_assoc, append-nil, ne_eqb, if◌then◌else◌}
 use Rattle.element.specs.declared.syntax.Syntax.{Syntax}
 use Rattle.element.specs.declared.tag.Tag.{Tag}
 use Rattle.sequence.specs.declared.level.Frame.{Frame}
 use Rattle.sequence.specs.Rules.{Limits}
 use Rattle.sequence.specs.declared.spot.Spot.{Spot}
-use Rattle.sequence.specs.Open.{Entry, Open, IsInnermost}
+use Rattle.sequence.specs.Open.{Entry, IsInnermost}
 use Rattle.sequence.specs.Rules.{Broken, broken_due, broken}
 use Rattle.element.specs.Header.{is_whole}
 use Rattle.sequence.specs.FirstFault.{near_of, spot_behind, Breaks}
 use Rattle.sequence.specs.Machine as machine
 use Rattle.sequence.specs.Machine.{set_frame, State, Mode, Heading, Reading, Stopped, at, nearer, nearest, less, is_empty, spot_of, stops_at, arrive, due, due_by, headed_by, headed, run, start}
-use Rattle.sequence.proofs.Runs.{HasStopped, Goes, goes_then, run_append, run_stopped}
+use Rattle.sequence.proofs.Runs.{HasStopped, Goes, run_append, run_stopped}
 use Rattle.element.specs.Header.{need}
-use Rattle.sequence.proofs.Steps.{none_none}
-use Rattle.sequence.proofs.Fronts.{stop_at, frame_at, top_over, below_over, nested_run}
+use Rattle.sequence.proofs.Arriving.{none_none}
+use Rattle.sequence.proofs.Fronts.{stop_at, top_over, below_over, nested_run}
 
 less_stop : (o : Option ℕ) (q : ℕ) → less (stop_at q o) q ≡ o
 less_stop None q = refl

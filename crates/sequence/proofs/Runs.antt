@@ -1,22 +1,20 @@
 -- The machine goes over what is spelled, or stops.
-use Rattle.std.proofs.Common.{◌≡◌, ℕ, suc, ◌+◌, ◌-◌, ◌<◌, ◌≤◌, ◌⊎◌, Bool, true, false, List, [], ◌∷◌, ◌++◌, length, Option, Some, None, nat_eq, nat_le, nat_lt, refl, sym, ap, subst, ◌∙◌, inl, inr, arith, append_assoc, append-nil, length-append, eqb-true, false-eqb, eq-eqb, le-leb, ne_eqb, ◌≢◌, lit<}
+use Rattle.std.proofs.Common.{◌≡◌, ℕ, suc, ◌+◌, ◌-◌, ◌<◌, ◌≤◌, ◌⊎◌, Bool, true, false, List, [], ◌∷◌, ◌++◌, length, Option, Some, None, nat_eq, nat_le, refl, sym, ap, subst, ◌∙◌, inl, inr, arith, append_assoc, length-append, eqb-true, false-eqb, eq-eqb, le-leb, ne_eqb, ◌≢◌, lit<}
 use Rattle.std.proofs.lemmas.Bool.Decides.{nat_tests}
 use Rattle.element.specs.declared.syntax.Syntax.{Syntax}
 use Rattle.element.specs.declared.syntax.Syntax.TheVariants.{Implicit, Explicit}
 use Rattle.element.specs.declared.tag.Tag.{Tag}
 use Rattle.element.specs.declared.header.Header.{Header}
 use Rattle.sequence.specs.declared.level.Frame.{Frame}
-use Rattle.sequence.specs.declared.spot.Spot.{Spot}
 use Rattle.sequence.specs.Rules.{Limits}
 use Rattle.element.specs.Header.{number, is_marker, is_plain, header_at, IsTag, SpellsHeader, plain}
 use Rattle.sequence.specs.Shape.{is_undefined, undefined_length, shape}
-use Rattle.sequence.specs.declared.shape.Shape.{Shape}
-use Rattle.sequence.specs.declared.shape.Shape.TheVariants.{Value, Sequence, NotAllowed}
-use Rattle.sequence.specs.Tree.{item_tag, item_end_tag, sequence_end_tag, delimitation, Elements, no_elements, value, sequence, Items, no_items, item, IsElement, IsItem, IsValue, Closed, counted, delimited, DataSet, nothing, value_then, sequence_then, ItemList, no_more, item_then}
+use Rattle.sequence.specs.declared.shape.Shape.TheVariants.{Value, Sequence}
+use Rattle.sequence.specs.Tree.{item_tag, item_end_tag, sequence_end_tag, delimitation, Elements, Items, IsElement, IsItem, IsValue, Closed, counted, delimited, DataSet, nothing, value_then, sequence_then, ItemList, no_more, item_then}
 use Rattle.sequence.specs.Open.{last_of}
-use Rattle.sequence.specs.Rules.{Broken, broken_due, broken, same_tag}
+use Rattle.sequence.specs.Rules.{Broken, broken_due, broken}
 use Rattle.element.specs.Header.{is_whole}
-use Rattle.sequence.specs.Machine.{set_frame, sequence_frame, Mode, Heading, Reading, Stopped, State, at, spot_of, due_by, due, arrive, stop_of, begin_value, begin_level, leave, begun, stops_at, take_element, take_header, headed_by, headed, read, next, run}
+use Rattle.sequence.specs.Machine.{set_frame, sequence_frame, Mode, Heading, Reading, Stopped, State, at, spot_of, due_by, due, arrive, stop_of, begin_value, begin_level, leave, stops_at, take_header, headed_by, headed, read, next, run}
 use Rattle.element.proofs.Headers.{whole_spelled, read_spelled, front_spelled, spelled_long}
 
 abbrev pub HasStopped : Mode → Type 0
@@ -129,7 +127,7 @@ reading_run lim f fs t p q n (x ∷ y ∷ v) e lt q-is =
     let le : nat_le n 1 ≡ false = grind (arith, nat_tests) in
     rw le (reading_run lim f fs t (p + 1) q (n - 1) (y ∷ v) (omega arith) (omega arith) (omega arith))
 
-value_on : (lim : Limits) (f : Frame) (fs : List Frame) (t : Tag) (p q n : ℕ) (v : List ℕ) (zero : Bool) → nat_eq n 0 ≡ zero → length v ≡ n → q ≡ p + n → run lim (begin_value p f fs t n) v ≡ arrive q f fs
+pub value_on : (lim : Limits) (f : Frame) (fs : List Frame) (t : Tag) (p q n : ℕ) (v : List ℕ) (zero : Bool) → nat_eq n 0 ≡ zero → length v ≡ n → q ≡ p + n → run lim (begin_value p f fs t n) v ≡ arrive q f fs
 unfolding begin_value run
 value_on lim f fs t p q n [] true z e q-is = let q-same : p ≡ q = omega (arith, eqb-true n 0 z) in rw (z, q-same) refl
 value_on lim f fs t p q n (x ∷ v) true z e q-is = absurd (omega (arith, eqb-true n 0 z))

@@ -1,17 +1,13 @@
 -- What a header that breaks no rule is.
-use Rattle.std.proofs.Common.{◌≡◌, ℕ, suc, ◌+◌, ◌-◌, ◌%◌, ◌<◌, ◌≤◌, ◌≢◌, ◌⊎◌, Bool, true, false, not, ◌&&◌, ◌||◌, List, [], ◌∷◌, ◌++◌, length, Option, Some, None, nat_eq, nat_le, nat_lt, refl, sym, ap, subst, ◌∙◌, inl, inr, arith, eqb-true, false-eqb, eq-eqb, ne_eqb, leb-false, if◌then◌else◌, mod-lt}
-use Rattle.std.proofs.lemmas.Bool.Decides.{nat_tests}
-use Rattle.element.specs.declared.syntax.Syntax.{Syntax}
+use Rattle.std.proofs.Common.{◌≡◌, ℕ, ◌+◌, ◌%◌, ◌<◌, ◌≢◌, ◌⊎◌, Bool, true, false, not, ◌&&◌, ◌||◌, Option, Some, None, nat_eq, nat_le, nat_lt, refl, sym, ap, inl, inr, arith, eqb-true, false-eqb, ne_eqb, leb-false, if◌then◌else◌}
 use Rattle.element.specs.declared.tag.Tag.{Tag}
 use Rattle.element.specs.declared.header.Header.{Header}
-use Rattle.sequence.specs.declared.level.Frame.{Frame}
 use Rattle.sequence.specs.declared.spot.Spot.{Spot}
 use Rattle.sequence.specs.Rules.{Limits}
-use Rattle.element.specs.Header.{number, is_marker, SpellsHeader}
+use Rattle.element.specs.Header.{number, is_marker}
 use Rattle.sequence.specs.Shape.{is_undefined, undefined_length, shape}
-use Rattle.sequence.specs.declared.shape.Shape.{Shape}
-use Rattle.sequence.specs.Tree.{item_tag, item_end_tag, sequence_end_tag, IsEven, IsElement, IsItem}
-use Rattle.sequence.specs.Rules.{Broken, broken_tag, broken_header, same_tag, is_not_allowed, is_long_mark, is_too_long, opens, counted_length, passes}
+use Rattle.sequence.specs.Tree.{item_tag, item_end_tag, sequence_end_tag}
+use Rattle.sequence.specs.Rules.{broken_tag, broken_header, same_tag, is_not_allowed, is_long_mark, is_too_long, opens, counted_length, passes}
 use Rattle.sequence.specs.Standing.{IsLength}
 
 pub if_some : {A : Type 0} {y : Option A} (b : Bool) (x : A) → (if b then Some x else y) ≡ None → (b ≡ false) × (y ≡ None)

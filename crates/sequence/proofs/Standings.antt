@@ -1,28 +1,28 @@
 -- A walker stands at the bytes that it took.
-use Rattle.std.proofs.Common.{◌≡◌, ℕ, zero, suc, ◌+◌, ◌-◌, ◌*◌, ◌<◌, ◌≤◌, Bool, true, false, List, [], ◌∷◌, ◌++◌, length, take, get_or, Option, Some, None, refl, sym, ap, subst, ◌∙◌, arith, lit<, append-nil, if◌then◌else◌}
+use Rattle.std.proofs.Common.{◌≡◌, ℕ, ◌+◌, ◌-◌, ◌*◌, ◌<◌, ◌≤◌, List, [], ◌∷◌, ◌++◌, length, take, get_or, Some, None, refl, sym, ap, subst, ◌∙◌, arith, lit<, append-nil, if◌then◌else◌}
 use Rattle.element.specs.declared.syntax.Syntax.{Syntax}
-use Rattle.element.specs.declared.tag.Tag.{Tag}
 use Rattle.element.specs.Header.{number}
 use Rattle.sequence.specs.declared.level.Frame.{Frame}
 use Rattle.sequence.specs.declared.level.Level.{Level}
 use Rattle.sequence.specs.declared.stage.Stage.{Stage}
 use Rattle.sequence.specs.declared.stage.Stage.TheVariants as stages
 use Rattle.sequence.specs.declared.walker.Walker.{Walker}
-use Rattle.sequence.specs.Wanted.{Values, is_wanted, bytes_of}
+use Rattle.sequence.specs.Wanted.{Values, bytes_of}
 use Rattle.sequence.specs.Rules.{Limits}
 use Rattle.sequence.specs.Walk.{Told, Tells}
-use Rattle.sequence.specs.Machine.{set_frame, State, at, Mode, Heading, Reading, Stopped, next, run, start}
+use Rattle.sequence.specs.Machine.{set_frame, State, at, Heading, next, run, start}
 use Rattle.sequence.specs.Frames.{top_of, below_of}
-use Rattle.sequence.specs.Keeping.{keep, keeps, but_last, wanted_at, whole_by, told_values}
+use Rattle.sequence.specs.Keeping.{keep, keeps, but_last, wanted_at, told_values}
 use Rattle.sequence.specs.Spare.{head_room, is_kept, is_wanted_in}
-use Rattle.sequence.specs.Stored.{wants_of, values_of}
-use Rattle.sequence.specs.State.{mode_of, top, below, state_of, kept_values, IsSameWalk, limits_of, syntax_of, fault_by, told_by, StandsAt}
+use Rattle.sequence.specs.Stored.{values_of}
+use Rattle.sequence.specs.State.{mode_of, state_of, kept_values, IsSameWalk, limits_of, syntax_of, fault_by, StandsAt}
 use Rattle.sequence.specs.Standing.{IsBytes}
 use Rattle.sequence.proofs.Runs.{run_append}
 use Rattle.sequence.proofs.Tops.{below_length}
 use Rattle.sequence.proofs.Walks.{wanted_is}
 use Rattle.sequence.proofs.Steps.{more_bytes}
 use Rattle.sequence.proofs.Tales.{told_in, tells}
+use Rattle.sequence.proofs.Holding.{holds_going, holds_refused, walks}
 
 abbrev told_of : Stage → List Level → ℕ → List ℕ → Values → Told
 told_of stage levels place header values = record {
@@ -56,8 +56,8 @@ walker_stands w b bytes state values = record {
       ∙ ap (λ z. told_in (limits_of w) (run (limits_of w) (start (syntax_of w)) b) z) values))
       (tells (syntax_of w) (limits_of w) b bytes);
   bytes = bytes;
-  state = state;
-  values = values;
+  going = holds_going w b (record { bytes = bytes; state = state; values = values });
+  refused = holds_refused w b (record { bytes = bytes; state = state; values = values });
 }
 
 pub no_bytes : IsBytes []
@@ -85,13 +85,14 @@ same_limits {D = D} old new same = λ i. record { wanted = same.wanted i; depth 
 
 byte_stands : {V D : ℕ} (old new : Walker V D) (b : List ℕ) (x : ℕ) → StandsAt old b → state_of new ≡ next (limits_of old) (state_of old) x → kept_values new ≡ keep (limits_of old) (state_of old) (kept_values old) x → IsSameWalk old new → x < 256 → StandsAt new (b ++ x ∷ [])
 byte_stands old new b x h state values same lt =
+    let m = walks old b h in
     let lim = same_limits old new same in
     let now : state_of new ≡ run (limits_of old) (start (syntax_of old)) (b ++ x ∷ []) =
-    state ∙ ap (λ z. next (limits_of old) z x) h.state ∙ sym (one_more (limits_of old) (run (limits_of old) (start (syntax_of old)) b) x) ∙ sym (run_append (limits_of old) (start (syntax_of old)) b (x ∷ [])) in
+    state ∙ ap (λ z. next (limits_of old) z x) m.state ∙ sym (one_more (limits_of old) (run (limits_of old) (start (syntax_of old)) b) x) ∙ sym (run_append (limits_of old) (start (syntax_of old)) b (x ∷ [])) in
     let kept : kept_values new ≡ keeps (limits_of old) (start (syntax_of old)) [] (b ++ x ∷ []) =
-    values ∙ ap (λ z. keep (limits_of old) z (kept_values old) x) h.state ∙ ap (λ z. keep (limits_of old) (run (limits_of old) (start (syntax_of old)) b) z x) h.values
+    values ∙ ap (λ z. keep (limits_of old) z (kept_values old) x) m.state ∙ ap (λ z. keep (limits_of old) (run (limits_of old) (start (syntax_of old)) b) z x) m.values
     ∙ sym (one_kept (limits_of old) (run (limits_of old) (start (syntax_of old)) b) (keeps (limits_of old) (start (syntax_of old)) [] b) x) ∙ sym (keeps_append (limits_of old) (start (syntax_of old)) [] b (x ∷ [])) in
-    walker_stands new (b ++ x ∷ []) (more_bytes b x h.bytes lt)
+    walker_stands new (b ++ x ∷ []) (more_bytes b x m.bytes lt)
     (now ∙ ap (λ z. run z (start (syntax_of old)) (b ++ x ∷ [])) (sym lim) ∙ ap (λ z. run (limits_of new) (start z) (b ++ x ∷ [])) (sym same.syntax))
     (kept ∙ ap (λ z. keeps z (start (syntax_of old)) [] (b ++ x ∷ [])) (sym lim) ∙ ap (λ z. keeps (limits_of new) (start z) [] (b ++ x ∷ [])) (sym same.syntax))
 

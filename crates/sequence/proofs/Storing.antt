@@ -1,9 +1,9 @@
 -- Values that are stored one behind the other.
-use Rattle.std.proofs.Common.{◌≡◌, ℕ, zero, suc, ◌+◌, ◌-◌, ◌^◌, ◌<◌, ◌≤◌, ◌≢◌, Bool, true, false, ◌&&◌, ◌||◌, List, [], ◌∷◌, ◌++◌, length, take, drop, get_or, slice_set, replicate, Option, Some, None, nat_eq, nat_le, nat_lt, refl, sym, ap, subst, ◌∙◌, arith, eqb-true, false-eqb, eq-eqb, ne_eqb, leb-true, ltb-true, le-leb, length-append, if◌then◌else◌}
+use Rattle.std.proofs.Common.{◌≡◌, ℕ, zero, suc, ◌+◌, ◌-◌, ◌<◌, ◌≤◌, ◌≢◌, Bool, true, false, ◌&&◌, ◌||◌, List, [], ◌∷◌, ◌++◌, length, take, drop, get_or, slice_set, replicate, Some, None, nat_eq, nat_le, nat_lt, refl, sym, ap, subst, ◌∙◌, arith, eqb-true, false-eqb, eq-eqb, ne_eqb, leb-true, ltb-true, le-leb, length-append, if◌then◌else◌}
 use Rattle.std.proofs.lemmas.List.{take-append-le, drop-append-le, length-drop, length-take-le, take_all}
 use Rattle.sequence.specs.declared.wanted.Want.{Want}
 use Rattle.element.specs.Header.{number}
-use Rattle.sequence.specs.Wanted.{Values, value_of, bytes_of, rooms, room_of, is_wanted, are_rising}
+use Rattle.sequence.specs.Wanted.{Values, value_of, bytes_of, rooms, room_of, are_rising}
 use Rattle.sequence.specs.Keeping.{with_byte, absent, is_absent, stored, counts, are_stored, all_absent, is_latest, left_at, place_from, but_last, told_values}
 
 both : (a b : Bool) → (a && b) ≡ true → (a ≡ true) × (b ≡ true)

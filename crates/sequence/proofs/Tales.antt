@@ -1,5 +1,5 @@
 -- What is told after any bytes.
-use Rattle.std.proofs.Common.{◌≡◌, ℕ, zero, suc, ◌+◌, ◌-◌, ◌*◌, ◌<◌, ◌≤◌, ◌≢◌, ◌⊎◌, Bool, true, false, not, ◌&&◌, List, [], ◌∷◌, ◌++◌, length, get_or, Option, Some, None, is_some, nat_eq, nat_le, refl, sym, ap, subst, ◌∙◌, inl, inr, arith, lit<, append_assoc, append-nil, length-append, if◌then◌else◌}
+use Rattle.std.proofs.Common.{◌≡◌, ℕ, zero, suc, ◌+◌, ◌*◌, ◌≤◌, ◌⊎◌, Bool, true, false, List, [], ◌∷◌, ◌++◌, length, Option, Some, None, refl, sym, ap, subst, ◌∙◌, inl, inr, arith, lit<, append_assoc, append-nil, length-append, if◌then◌else◌}
 use Rattle.element.specs.declared.syntax.Syntax.{Syntax}
 use Rattle.element.specs.declared.tag.Tag.{Tag}
 use Rattle.element.specs.declared.header.Header.{Header}
@@ -11,15 +11,16 @@ use Rattle.sequence.specs.declared.wanted.Want.{Want}
 use Rattle.sequence.specs.Tree.{Elements, nothing}
 use Rattle.sequence.specs.Open.{Entry, Tail, in_header, in_value, Open}
 use Rattle.sequence.specs.Wanted.{Values, is_wanted, kept_of, bytes_of, begun_bytes, held_of}
-use Rattle.sequence.specs.Rules.{Limits, Broken, broken}
+use Rattle.sequence.specs.Rules.{Limits, broken}
 use Rattle.sequence.specs.FirstFault.{spot_behind, Breaks, IsUnbroken, FirstFault}
 use Rattle.sequence.specs.Walk.{Told, Tells, going, refused}
-use Rattle.sequence.specs.Machine.{set_frame, spot_of, stops_at, arrive, due, State, at, Mode, Heading, Reading, Stopped, next, run, start}
+use Rattle.sequence.specs.Machine.{set_frame, spot_of, arrive, due, State, at, Mode, Heading, Reading, Stopped, next, run, start}
 use Rattle.sequence.specs.Keeping.{keep, keeps, with_value, wanted_at, but_last, whole_by}
-use Rattle.sequence.specs.Standing.{IsBytes, at_root, AllHold, AreLevels, IsDue, IsHeading, IsReading, IsStopped, StandsIn, Stands}
+use Rattle.sequence.specs.Standing.{IsBytes, at_root, AllHold, IsHeading, IsReading, IsStopped, StandsIn, Stands}
 use Rattle.sequence.proofs.Runs.{HasStopped, run_append, run_stopped}
-use Rattle.sequence.proofs.Steps.{arrive_stands, next_stands}
-use Rattle.sequence.proofs.Fronts.{top_over, below_over}
+use Rattle.sequence.proofs.Arriving.{arrive_stands}
+use Rattle.sequence.proofs.Steps.{next_stands}
+use Rattle.sequence.proofs.Fronts.{top_over}
 use Rattle.sequence.proofs.Plug.{IsFront}
 use Rattle.sequence.proofs.Refusals.{StopsAt, breaks_stop, spot_over, depth_over}
 use Rattle.sequence.proofs.Telling.{open_of, front_heading, front_reading, inside, holds_after, less_all, past_stays, open_due, due_open}
@@ -54,7 +55,7 @@ stopped_on lim st more h = run_stopped lim st.top st.below st.place st.mode more
 pub stays_stopped : (s : Syntax) (lim : Limits) (a c : List ℕ) → HasStopped (run lim (start s) a).mode → run lim (start s) (a ++ c) ≡ run lim (start s) a
 stays_stopped s lim a c h = run_append lim (start s) a c ∙ stopped_on lim (run lim (start s) a) c h
 
-stops_stopped : (n : ℕ) (m : Mode) → StopsAt n m → HasStopped m
+pub stops_stopped : (n : ℕ) (m : Mode) → StopsAt n m → HasStopped m
 stops_stopped n (Stopped rule p t) h = tt
 stops_stopped n (Heading begin t) h = absurd h
 stops_stopped n (Reading t k) h = absurd h
@@ -145,7 +146,7 @@ told_in lim st values = record {
   kept = whole_by lim st.below st.mode values;
 }
 
-levels_is : {s : Syntax} {ws : List Want} {values : Values} {n : ℕ} {b : List ℕ} {tail : Tail} {f : Frame} {fs : List Frame} (x : IsFront s ws values n b tail f fs) → length x.path ≡ length fs
+pub levels_is : {s : Syntax} {ws : List Want} {values : Values} {n : ℕ} {b : List ℕ} {tail : Tail} {f : Frame} {fs : List Frame} (x : IsFront s ws values n b tail f fs) → length x.path ≡ length fs
 levels_is {s = s} {n = n} {fs = fs} x = sym (depth_over n x.path (set_frame s None x.last)) ∙ ap length x.below
 
 no_value : (ws : List Want) (path : List Entry) (t : List ℕ) → begun_bytes ws path (in_header t) ≡ 0
@@ -161,8 +162,13 @@ pub record OpenEnd (s : Syntax) (lim : Limits) (values : Values) (b : List ℕ) 
   pub kept : values ≡ kept_of lim.wanted elements
   pub levels : length path ≡ length fs
 
-pub heading_front : (s : Syntax) (lim : Limits) (values : Values) (f : Frame) (fs : List Frame) (begin : ℕ) (t b : List ℕ) → IsHeading s lim values f fs begin t b → OpenEnd s lim values b (in_header t) fs
-heading_front s lim values f fs begin t b h =
+-- what is open at the end of the text, with its levels
+pub record FrontAt (s : Syntax) (ws : List Want) (values : Values) (b : List ℕ) (tail : Tail) (f : Frame) (fs : List Frame) : Type 0 where
+  pub front : IsFront s ws values (length b) b tail f fs
+  pub is_open : Open s b front.elements front.path front.last tail
+
+pub heading_at : (s : Syntax) (lim : Limits) (values : Values) (f : Frame) (fs : List Frame) (begin : ℕ) (t b : List ℕ) → IsHeading s lim values f fs begin t b → FrontAt s lim.wanted values b (in_header t) f fs
+heading_at s lim values f fs begin t b h =
     let near = nearest_holds (length h.before) (f ∷ fs) h.due.levels.hold in
     let spot : spot_of f fs begin ≡ spot_of f fs (length h.before) = ap (λ z. spot_of f fs z) h.place in
     let unbroken = subst (λ z. broken lim z t ≡ None) spot (h.unbroken t [] (sym (append-nil t))) in
@@ -172,7 +178,13 @@ heading_front s lim values f fs begin t b h =
     let one : length b + 1 ≡ length h.before + (length t + 1) = omega (arith, n, length-append h.before t) in
     let past2 = subst (AllHold (f ∷ fs)) (sym one) past in
     let x = subst (λ z. IsFront s lim.wanted values (length b) z (in_header t) f fs) (sym h.text) (front_heading s lim.wanted values f fs h.before t (length b) h.due.reaches h.tail (less_all (f ∷ fs) (length b) (length b + 1) past2 (omega arith)) n) in
-    record { elements = x.elements; path = x.path; last = x.last; front = open_of x h.due.levels.nested (past_stays f.stop (length b) past2.0); kept = x.kept; levels = levels_is x }
+    record { front = x; is_open = open_of x h.due.levels.nested (past_stays f.stop (length b) past2.0) }
+
+pub heading_front : (s : Syntax) (lim : Limits) (values : Values) (f : Frame) (fs : List Frame) (begin : ℕ) (t b : List ℕ) → IsHeading s lim values f fs begin t b → OpenEnd s lim values b (in_header t) fs
+heading_front s lim values f fs begin t b h =
+    let y = heading_at s lim values f fs begin t b h in
+    let x = y.front in
+    record { elements = x.elements; path = x.path; last = x.last; front = y.is_open; kept = x.kept; levels = levels_is x }
 
 heading_tells : (s : Syntax) (lim : Limits) (values : Values) (f : Frame) (fs : List Frame) (p begin : ℕ) (t b : List ℕ) → IsUnbroken s lim b → (p ≡ length b) × IsHeading s lim values f fs begin t b → Tells s lim b (told_in lim (at f fs p (Heading begin t)) values)
 heading_tells s lim values f fs p begin t b ok both =
@@ -206,13 +218,19 @@ value_whole lim fs t v whole = by (wanted_at lim fs t)
     by true = cut whole (t, v)
     by false = refl
 
-pub reading_front : (s : Syntax) (lim : Limits) (values : Values) (f : Frame) (fs : List Frame) (t : Tag) (n : ℕ) (b : List ℕ) (r : IsReading s lim values f fs t n b) → OpenEnd s lim r.whole b (in_value r.h r.v) fs
-reading_front s lim values f fs t n b r =
+pub reading_at : (s : Syntax) (lim : Limits) (values : Values) (f : Frame) (fs : List Frame) (t : Tag) (n : ℕ) (b : List ℕ) (r : IsReading s lim values f fs t n b) → FrontAt s lim.wanted r.whole b (in_value r.h r.v) (set_frame f.syntax f.stop r.last) fs
+reading_at s lim values f fs t n b r =
     let place : length b ≡ length (r.before ++ (r.hb ++ r.v)) = ap length r.text in
     let past = less_all (f ∷ fs) (length b + 1) (length b + n) r.levels.hold (omega (arith, r.more)) in
     let here = less_all (f ∷ fs) (length b) (length b + 1) past (omega arith) in
     let x = subst (λ z. IsFront s lim.wanted r.whole (length b) z (in_value r.h r.v) (set_frame f.syntax f.stop r.last) fs) (sym r.text) (front_reading r.h r.hb r.v (length b) r.reaches r.element r.shaped (omega (arith, r.size, r.more)) here.0 here.1 place) in
-    record { elements = x.elements; path = x.path; last = x.last; front = open_of x r.levels.nested (past_stays f.stop (length b) past.0); kept = x.kept; levels = levels_is x }
+    record { front = x; is_open = open_of x r.levels.nested (past_stays f.stop (length b) past.0) }
+
+pub reading_front : (s : Syntax) (lim : Limits) (values : Values) (f : Frame) (fs : List Frame) (t : Tag) (n : ℕ) (b : List ℕ) (r : IsReading s lim values f fs t n b) → OpenEnd s lim r.whole b (in_value r.h r.v) fs
+reading_front s lim values f fs t n b r =
+    let y = reading_at s lim values f fs t n b r in
+    let x = y.front in
+    record { elements = x.elements; path = x.path; last = x.last; front = y.is_open; kept = x.kept; levels = levels_is x }
 
 reading_tells : (s : Syntax) (lim : Limits) (values : Values) (f : Frame) (fs : List Frame) (p : ℕ) (t : Tag) (n : ℕ) (b : List ℕ) → IsUnbroken s lim b → (p ≡ length b) × IsReading s lim values f fs t n b → Tells s lim b (told_in lim (at f fs p (Reading t n)) values)
 reading_tells s lim values f fs p t n b ok both =

@@ -1,31 +1,29 @@
 -- What is told of the text at which the machine stands.
-use Rattle.std.proofs.Common.{◌≡◌, ℕ, zero, suc, ◌+◌, ◌-◌, ◌*◌, ◌<◌, ◌≤◌, ◌≢◌, ◌⊎◌, Bool, true, false, not, ◌&&◌, List, [], ◌∷◌, ◌++◌, length, get_or, Option, Some, None, is_some, nat_eq, nat_le, nat_lt, refl, sym, ap, subst, ◌∙◌, inl, inr, arith, lit<, append_assoc, append-nil, length-append, ltb-false, leb-true, leb-false, ne_eqb, eqb-true, eq-eqb, if◌then◌else◌}
+use Rattle.std.proofs.Common.{◌≡◌, ℕ, ◌+◌, ◌-◌, ◌<◌, ◌≤◌, ◌≢◌, Bool, true, false, List, [], ◌∷◌, ◌++◌, length, Option, Some, None, is_some, nat_lt, refl, sym, ap, subst, ◌∙◌, arith, append_assoc, append-nil, length-append, ltb-false, leb-false, ne_eqb, eq-eqb, if◌then◌else◌}
 use Rattle.std.proofs.lemmas.Bool.Decides.{nat_tests}
 use Rattle.element.specs.declared.syntax.Syntax.{Syntax}
-use Rattle.element.specs.declared.tag.Tag.{Tag}
 use Rattle.element.specs.declared.header.Header.{Header}
 use Rattle.element.specs.declared.size.Need.{Need}
-use Rattle.element.specs.declared.size.Need.TheVariants.{More, Size, BadVr}
-use Rattle.element.specs.Header.{number, is_plain, tag_at, need, is_whole, has_size}
+use Rattle.element.specs.declared.size.Need.TheVariants.{Size, BadVr}
+use Rattle.element.specs.Header.{number, tag_at, need, is_whole, has_size}
 use Rattle.element.proofs.Headers.{NeedIs, few, plain_eight, no_vr, refused, short_eight, long_twelve, need_is}
 use Rattle.sequence.specs.declared.level.Frame.{Frame}
 use Rattle.sequence.specs.declared.spot.Spot.{Spot}
 use Rattle.sequence.specs.declared.wanted.Want.{Want}
 use Rattle.sequence.specs.declared.shape.Shape.TheVariants.{Value}
 use Rattle.sequence.specs.Shape.{shape}
-use Rattle.sequence.specs.Tree.{Elements, IsElement, DataSet}
-use Rattle.sequence.specs.Open.{Entry, Tail, in_header, in_value, IsTail, header_tail, value_tail, IsUnfinished, IsLeft, AreLeft, IsInnermost, Nested, at_elements, in_sequence_of, Open, sequence_entry, last_of}
-use Rattle.sequence.specs.Wanted.{Values, kept_of}
-use Rattle.sequence.specs.Rules.{Limits, Broken, broken, passes, broken_need}
-use Rattle.sequence.specs.Machine.{set_frame, sequence_frame, stop_of, stops_at, spot_of, nearest, nearer, less, State, Mode, Heading, Reading, Stopped, next, run, start}
-use Rattle.sequence.specs.Keeping.{keep, keeps}
-use Rattle.sequence.specs.Standing.{IsBytes, Reaches, at_root, into_sequence, into_item, AreNested, Holds, AllHold, AreLevels, IsDue, Unbroken, IsHeading, IsReading, IsStopped, StandsIn, Stands}
+use Rattle.sequence.specs.Tree.{IsElement}
+use Rattle.sequence.specs.Open.{Entry, Tail, in_header, in_value, header_tail, value_tail, IsUnfinished, IsLeft, AreLeft, IsInnermost, Nested, at_elements, in_sequence_of, Open, sequence_entry}
+use Rattle.sequence.specs.Wanted.{Values}
+use Rattle.sequence.specs.Rules.{Limits, broken, passes, broken_need}
+use Rattle.sequence.specs.Machine.{set_frame, stops_at, less}
+use Rattle.sequence.specs.Standing.{Reaches, at_root, into_sequence, into_item, AreNested, Holds, AllHold, IsDue}
 use Rattle.sequence.proofs.Sound.{if_some}
 use Rattle.sequence.proofs.Unbroken.{BreaksNone, unbroken_is}
-use Rattle.sequence.proofs.Ends.{all_hold, nearest_holds}
-use Rattle.sequence.proofs.Fronts.{stop_at, frame_at, top_over, below_over}
+use Rattle.sequence.proofs.Fronts.{stop_at, top_over, below_over}
 use Rattle.sequence.proofs.Plug.{IsFront, plug, level_is, entry_frame}
-use Rattle.sequence.proofs.Steps.{sequence_of, set_of, no_header}
+use Rattle.sequence.proofs.Taking.{set_of}
+use Rattle.sequence.proofs.Arriving.{no_header}
 
 -- a path from its levels
 
@@ -54,7 +52,7 @@ pub paths_inside : (n : ℕ) (path : List Entry) (f : Frame) → stops_at (top_o
 paths_inside n [] f h = tt
 paths_inside n (e ∷ path) f h = λ z. zero_stops n e.left z h
 
-all_is : (n : ℕ) (path : List Entry) (r f : Frame) (fs : List Frame) → top_over n path r ≡ f → below_over n path r [] ≡ fs → all_over n path r ≡ f ∷ fs
+pub all_is : (n : ℕ) (path : List Entry) (r f : Frame) (fs : List Frame) → top_over n path r ≡ f → below_over n path r [] ≡ fs → all_over n path r ≡ f ∷ fs
 all_is n path r f fs t d = λ i. t i ∷ d i
 
 -- a front is open, where its levels are nested and none ends there
@@ -109,7 +107,7 @@ front_reading {s1 = s1} {last = last} h hb v n r el sh lt hold all n-is =
 
 -- a header that is not whole is inside the nearest end
 
-passes_less : (o : Option ℕ) (j k : ℕ) → passes o k ≡ false → j ≤ k → passes o j ≡ false
+pub passes_less : (o : Option ℕ) (j k : ℕ) → passes o k ≡ false → j ≤ k → passes o j ≡ false
 passes_less None j k e le = refl
 passes_less (Some a) j k e le = let f = ltb-false a k e in ltb_no a j (omega (arith, f, le))
   where

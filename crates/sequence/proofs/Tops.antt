@@ -1,8 +1,8 @@
 -- The innermost level, and what a push and a pop do.
-use Rattle.std.proofs.Common.{◌≡◌, ℕ, zero, suc, ◌+◌, ◌-◌, ◌<◌, ◌≤◌, Bool, true, false, List, [], ◌∷◌, ◌++◌, length, get_or, drop, nat_eq, Option, Some, None, refl, sym, ap, subst, ◌∙◌, arith, not, ◌&&◌, ne_eqb, ◌≢◌, IsSome, ◌↔◌, length-append, append-nil, option_to_list, if◌then◌else◌}
+use Rattle.std.proofs.Common.{◌≡◌, ℕ, suc, ◌+◌, ◌-◌, ◌<◌, Bool, true, false, List, [], ◌∷◌, ◌++◌, length, get_or, drop, nat_eq, Option, Some, None, refl, sym, ap, ◌∙◌, arith, not, ◌&&◌, ne_eqb, ◌≢◌, IsSome, ◌↔◌, length-append, append-nil, option_to_list}
 use Rattle.sequence.specs.declared.level.Frame.{Frame}
 use Rattle.sequence.specs.declared.level.Level.{Level}
-use Rattle.sequence.specs.Machine.{State, stops_at, arrive, due, nearer, nearest, is_empty, is_none, less, spot_of, begun, begin_level, begin_value, leave, at, Reading}
+use Rattle.sequence.specs.Machine.{stops_at, arrive, due, nearer, nearest, is_empty, is_none, less, spot_of, begun, begin_level, begin_value, leave, at, Reading}
 use Rattle.element.specs.declared.tag.Tag.{Tag}
 use Rattle.element.specs.Header.{number}
 use Rattle.sequence.specs.declared.spot.Spot.{Spot}

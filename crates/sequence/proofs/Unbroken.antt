@@ -1,14 +1,9 @@
 -- What it says that a header breaks no rule.
-use Rattle.std.proofs.Common.{◌≡◌, ℕ, ◌+◌, ◌<◌, ◌≤◌, ◌≢◌, Bool, true, false, not, ◌&&◌, List, [], ◌∷◌, ◌++◌, length, Option, Some, None, nat_eq, nat_le, refl, sym, ap, subst, ◌∙◌, arith, le-leb, length-append}
-use Rattle.element.specs.declared.tag.Tag.{Tag}
-use Rattle.element.specs.declared.header.Header.{Header}
-use Rattle.element.specs.declared.size.Need.{Need}
-use Rattle.element.specs.declared.size.Need.TheVariants.{More, Size, BadVr}
-use Rattle.element.specs.declared.syntax.Syntax.{Syntax}
-use Rattle.element.specs.Header.{number, is_marker, is_plain, tag_at, need, header_at, is_whole}
+use Rattle.std.proofs.Common.{◌≡◌, ℕ, ◌≤◌, ◌≢◌, Bool, true, false, not, ◌&&◌, List, length, Some, None, nat_le, refl, sym, ap, ◌∙◌, le-leb}
+use Rattle.element.specs.declared.size.Need.TheVariants.{BadVr}
+use Rattle.element.specs.Header.{is_plain, tag_at, need, header_at, is_whole}
 use Rattle.element.proofs.Headers.{refused_long}
 use Rattle.sequence.specs.declared.spot.Spot.{Spot}
-use Rattle.sequence.specs.Shape.{shape}
 use Rattle.sequence.specs.Open.{IsUnfinished}
 use Rattle.sequence.specs.Rules.{Limits, Broken, broken_due, broken_tag, broken_need, broken_header, broken, ◌or_else◌, when}
 use Rattle.sequence.proofs.Sound.{and_not}

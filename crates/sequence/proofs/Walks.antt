@@ -1,10 +1,10 @@
 -- The walker's state after its calls.
-use Rattle.std.proofs.Common.{◌≡◌, ℕ, zero, suc, ◌+◌, ◌-◌, ◌<◌, ◌≤◌, Bool, true, false, not, ◌&&◌, ◌||◌, List, [], ◌∷◌, ◌++◌, length, Option, Some, None, refl, sym, ap, subst, ◌∙◌, inl, inr, ◌⊎◌, arith, take, get_or, nat_le, nat_lt, nat_eq, eq-eqb, ne_eqb, ◌≢◌, le-leb, ltb-false, length-append, if◌then◌else◌}
+use Rattle.std.proofs.Common.{◌≡◌, ℕ, ◌+◌, ◌-◌, ◌<◌, ◌≤◌, Bool, true, false, not, ◌&&◌, List, [], ◌∷◌, ◌++◌, length, Some, None, refl, sym, ap, ◌∙◌, inl, inr, ◌⊎◌, arith, nat_le, nat_lt, nat_eq, eq-eqb, le-leb, ltb-false, length-append, if◌then◌else◌}
 use Rattle.std.proofs.lemmas.Bool.Decides.{nat_tests}
 use Rattle.element.specs.declared.syntax.Syntax.{Syntax}
 use Rattle.element.specs.declared.tag.Tag.{Tag}
 use Rattle.element.specs.declared.header.Header.{Header}
-use Rattle.element.specs.Header.{number, is_marker, header_at, is_whole, tag_at}
+use Rattle.element.specs.Header.{number, is_marker, header_at, is_whole}
 use Rattle.element.proofs.Headers.{tag_read, whole_eight}
 use Rattle.sequence.specs.declared.level.Frame.{Frame}
 use Rattle.sequence.specs.declared.level.Level.{Level}
@@ -18,9 +18,9 @@ use Rattle.sequence.specs.Shape.{shape}
 use Rattle.sequence.specs.Tree.{item_tag, sequence_end_tag}
 use Rattle.sequence.specs.Wanted.{Values}
 use Rattle.sequence.specs.Rules.{Limits, Broken, broken_due, broken_tag, broken, same_tag, counted_length, is_value, passes}
-use Rattle.sequence.specs.Machine.{Mode, State, at, arrive, due, due_by, spot_of, Heading, stop_of, set_frame, sequence_frame, begin_level, begin_value, leave, begun, take_element, take_header, headed, headed_by, read, next, next_by, Reading, Stopped}
+use Rattle.sequence.specs.Machine.{at, arrive, due, due_by, spot_of, Heading, stop_of, set_frame, sequence_frame, begin_level, begin_value, leave, begun, take_element, take_header, headed, headed_by, read, next_by, Reading, Stopped}
 use Rattle.sequence.specs.Frames.{top_of, below_of}
-use Rattle.sequence.specs.Keeping.{keep_shaped, keep_header, keep_headed, keep_by, keep_read, wanted_at, with_byte, with_value}
+use Rattle.sequence.specs.Keeping.{keep_shaped, keep_header, keep_headed, keep_by, wanted_at, with_byte, with_value}
 use Rattle.sequence.specs.Made.{made_headed, made_by}
 use Rattle.sequence.specs.Spare.{stage_by}
 use Rattle.sequence.specs.State.{mode_of, has_room, fits_wanted}

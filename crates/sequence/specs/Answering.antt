@@ -1,5 +1,5 @@
 -- What a step tells of the bytes that it took (this product's own profile).
-use Rattle.std.specs.Prelude.{◌≡◌, ℕ, ◌+◌, ◌<◌, ◌≤◌, Bool, true, false, List, [], ◌++◌, length}
+use Rattle.std.specs.Prelude.{◌≡◌, ℕ, ◌+◌, ◌<◌, ◌≤◌, true, false, List, [], ◌++◌, length}
 use Rattle.element.specs.declared.syntax.Syntax.{Syntax}
 use Rattle.element.specs.declared.tag.Tag.{Tag}
 use Rattle.element.specs.declared.header.Header.{Header}
@@ -7,7 +7,7 @@ use Rattle.element.specs.Header.{is_marker, SpellsHeader}
 use Rattle.sequence.specs.declared.step.Step.{Step}
 use Rattle.sequence.specs.declared.step.Step.TheVariants.{More, Element, Run, Opened, Closed, Refused}
 use Rattle.sequence.specs.Tree.{Elements}
-use Rattle.sequence.specs.Open.{Entry, Tail, in_header, in_value, Open}
+use Rattle.sequence.specs.Open.{Entry, in_header, in_value, Open}
 use Rattle.sequence.specs.Rules.{Limits, same_tag}
 use Rattle.sequence.specs.Tree.{item_tag}
 use Rattle.sequence.specs.FirstFault.{spot_behind, IsUnbroken, FirstFault}

@@ -1,5 +1,5 @@
 -- The limits of a walk, from its parts.
-use Rattle.std.specs.Prelude.{ℕ, List}
+use Rattle.std.specs.Prelude.{List}
 use Rattle.sequence.specs.declared.wanted.Want.{Want}
 use Rattle.sequence.specs.declared.spot.Bounds.{Bounds}
 use Rattle.sequence.specs.Rules.{Limits}

@@ -16,5 +16,8 @@ pub mod Stored
 pub mod Spare
 pub mod Made
 pub mod Standing
+pub mod Holding
+pub mod Taken
 pub mod State
 pub mod Tried
+pub mod Laws

@@ -1,5 +1,5 @@
 -- The header that one more byte makes whole.
-use Rattle.std.specs.Prelude.{◌≡◌, ℕ, Bool, List, [], ◌∷◌, ◌++◌, Option, Some, None, not, if◌then◌else◌}
+use Rattle.std.specs.Prelude.{◌≡◌, ℕ, List, [], ◌∷◌, ◌++◌, Option, Some, None, not, if◌then◌else◌}
 use Rattle.element.specs.declared.header.Header.{Header}
 use Rattle.element.specs.Header.{is_marker, is_whole, header_at}
 use Rattle.sequence.specs.declared.level.Frame.{Frame}
@@ -7,7 +7,7 @@ use Rattle.sequence.specs.Rules.{Limits, Broken, broken, same_tag}
 use Rattle.sequence.specs.declared.stage.Stage.{Stage}
 use Rattle.sequence.specs.declared.stage.Stage.TheVariants as stages
 use Rattle.sequence.specs.declared.step.Step.{Step}
-use Rattle.sequence.specs.declared.step.Step.TheVariants.{More, Element, Run, Opened, Closed, Refused}
+use Rattle.sequence.specs.declared.step.Step.TheVariants.{More, Element, Opened, Closed, Refused}
 use Rattle.sequence.specs.Tree.{item_tag}
 use Rattle.sequence.specs.Answering.{IsRun}
 use Rattle.sequence.specs.Machine.{Mode, Heading, Reading, Stopped, State, spot_of}

@@ -1,6 +1,6 @@
 -- What follows the header of an element (PS3.5 sections 6.2.2 and 7.5). What an Implicit element of a tag
 -- without an entry in the dictionary holds is this product's own profile.
-use Rattle.std.specs.Prelude.{ℕ, Bool, true, false, ◌&&◌, Option, Some, None, List, get_or, nat_eq, if◌then◌else◌, codes}
+use Rattle.std.specs.Prelude.{ℕ, Bool, ◌&&◌, Option, Some, None, List, get_or, nat_eq, if◌then◌else◌, codes}
 use Rattle.element.specs.declared.syntax.Syntax.{Syntax}
 use Rattle.element.specs.declared.syntax.Syntax.TheVariants.{Implicit, Explicit}
 use Rattle.element.specs.declared.header.Header.{Header}

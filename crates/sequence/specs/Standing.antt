@@ -1,8 +1,9 @@
 -- The text at which the machine stands.
-use Rattle.std.specs.Prelude.{◌≡◌, ℕ, ◌+◌, ◌<◌, ◌≤◌, ◌≢◌, Bool, true, false, is_some, if◌then◌else◌, List, [], ◌∷◌, ◌++◌, length, get_or, Option, Some, None}
+use Rattle.std.specs.Prelude.{◌≡◌, ℕ, ◌+◌, ◌<◌, ◌≤◌, ◌≢◌, false, is_some, if◌then◌else◌, List, [], ◌∷◌, ◌++◌, length, Option, Some, None}
 use Rattle.element.specs.declared.syntax.Syntax.{Syntax}
 use Rattle.element.specs.declared.tag.Tag.{Tag}
 use Rattle.element.specs.declared.header.Header.{Header}
+pub use Rattle.element.specs.Numbers.{IsBytes}
 use Rattle.element.specs.Header.{number}
 use Rattle.sequence.specs.declared.level.Frame.{Frame}
 use Rattle.sequence.specs.declared.spot.Spot.{Spot}
@@ -16,10 +17,6 @@ use Rattle.sequence.specs.Within.{FitRooms}
 use Rattle.sequence.specs.Rules.{Limits, broken}
 use Rattle.sequence.specs.Machine.{set_frame, sequence_frame, stop_of, stops_at, spot_of, Mode, Heading, Reading, Stopped, State}
 use Rattle.sequence.specs.Keeping.{with_value}
-
--- bytes
-abbrev pub IsBytes : List ℕ → Type 0
-IsBytes b = (i : ℕ) → get_or b i 0 < 256
 
 -- a length that is defined is even
 abbrev pub IsLength : ℕ → Type 0

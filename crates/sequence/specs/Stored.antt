@@ -1,5 +1,5 @@
 -- What a room for values holds.
-use Rattle.std.specs.Prelude.{ℕ, List, Option, Some, None, option_map}
+use Rattle.std.specs.Prelude.{ℕ, List}
 use Rattle.sequence.specs.declared.keep.Keep.{Keep}
 use Rattle.sequence.specs.declared.wanted.Want.{Want}
 use Rattle.sequence.specs.declared.wanted.Wanted.{Wanted}

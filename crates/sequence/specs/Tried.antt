@@ -1,8 +1,7 @@
 -- Texts on which the definitions of data sets are tried (PS3.5 section 7.5), each beside one that comes out otherwise.
-use Rattle.std.specs.Prelude.{ℕ, ◌^◌, List, [], ◌∷◌, take, Option, Some, None}
+use Rattle.std.specs.Prelude.{ℕ, ◌^◌, List, [], ◌∷◌, take, Some, None}
 use Rattle.element.specs.declared.syntax.Syntax.TheVariants.{Implicit, Explicit}
 use Rattle.element.specs.declared.tag.Tag.{Tag}
-use Rattle.sequence.specs.declared.fault.Fault.{Fault}
 use Rattle.sequence.specs.Rules.{Limits, no_tag}
 use Rattle.sequence.specs.Walk.{Told, Tells}
 

@@ -1,4 +1,7 @@
-//! The texts on which the definitions are tried: each the contract of a function that does nothing.
+//! What follows from the definitions, and the texts on which they are tried: each the contract of a function that does
+//! nothing.
+ghost use Rattle.sequence.specs.Ending.{WholeBreaksNoRule, WholeHasNoFault};
+ghost use Rattle.sequence.specs.Laws.{FaultStays, RefusalStays, OneTree, OnePath, EndsAreNested, WholeHasOpenInside, OneFault, OneTelling, SomeTelling};
 ghost use Rattle.sequence.specs.Tried.{TwoOpenLevels, FourLevels, PastItsItem, TooDeep, UnknownContent};
 
 /// A sequence and an item of undefined length, and three bytes of a header.
@@ -24,4 +27,59 @@ pub fn deeper_than_the_limit()
 /// Unknown content of undefined length has items in Implicit; pixel data may not have it.
 pub fn unknown_content()
     ensures { UnknownContent }
+{}
+
+/// The first fault of a text is that of every text that goes on from it.
+pub fn a_fault_stays()
+    ensures { FaultStays }
+{}
+
+/// What is told after a refusal is told for good.
+pub fn a_refusal_stays()
+    ensures { RefusalStays }
+{}
+
+/// A text spells one data set at most.
+pub fn one_tree()
+    ensures { OneTree }
+{}
+
+/// A text has one list of whole elements, one path, one last tag and one tail at most.
+pub fn one_path()
+    ensures { OnePath }
+{}
+
+/// A level of defined length lacks no less than any such level inside it.
+pub fn ends_are_nested()
+    ensures { EndsAreNested }
+{}
+
+/// A level of defined length that lacks nothing is open only for a level of undefined length inside it.
+pub fn a_whole_level_has_an_open_one_inside()
+    ensures { WholeHasOpenInside }
+{}
+
+/// A text has one first fault at most.
+pub fn one_fault()
+    ensures { OneFault }
+{}
+
+/// One thing at most is to be told after a text.
+pub fn one_telling()
+    ensures { OneTelling }
+{}
+
+/// Something is to be told after every text of bytes.
+pub fn some_telling()
+    ensures { SomeTelling }
+{}
+
+/// A whole data set within its limits breaks no rule.
+pub fn whole_breaks_no_rule()
+    ensures { WholeBreaksNoRule }
+{}
+
+/// No text is both a whole data set within its limits and faulty.
+pub fn whole_has_no_fault()
+    ensures { WholeHasNoFault }
 {}

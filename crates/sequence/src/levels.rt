@@ -1,15 +1,16 @@
 // The open levels, and what is due in them.
-ghost use Rattle.std.specs.Prelude.{◌≡◌, ℕ, ◌<◌, ◌≤◌, ◌^◌, ◌+◌, ◌-◌, ◌&&◌, not, nat_eq, None, [], length, get_or, IsTrue};
+ghost use Rattle.std.specs.Prelude.{◌≡◌, ℕ, ◌<◌, ◌≤◌, ◌^◌, ◌+◌, ◌-◌, ◌&&◌, not, nat_eq, None, [], length, get_or, IsTrue, IfSome};
 ghost use Rattle.element.specs.Header.{number};
 ghost use Rattle.arrayvec.specs.ArrayVec.{array_vec_len};
-ghost use Rattle.sequence.specs.Machine.{arrive, due, leave, stops_at, spot_of, less, is_none, begun};
+ghost use Rattle.sequence.specs.Machine.{arrive, due, leave, stops_at, spot_of, less, is_none, begun, stop_of, set_frame, sequence_frame};
 ghost use Rattle.sequence.specs.declared.level.Frame.{Frame};
 ghost use Rattle.sequence.specs.Frames.{top_of, below_of, frame_of, nearest_from};
 
 use crate::level::{Frame, Level};
+use crate::shape::UNDEFINED;
 use crate::spot::Spot;
 use arrayvec::ArrayVec;
-use element::Tag;
+use element::{Syntax, Tag};
 
 /// Whether the innermost level ends here.
 pub fn ends_here<const D: usize>(levels: &ArrayVec<Level, D>, place: u64) -> bool
@@ -105,5 +106,46 @@ pub fn set_last<const D: usize>(root: &mut Frame, levels: &mut ArrayVec<Level, D
     match levels.pop() {
         None => root.last = tag.number(),
         Some(level) => levels.push(level.with_last(tag.number())),
+    }
+}
+
+/// Where a level ends behind its header.
+fn stop_at(place: u64, length: u32) -> Option<u64>
+    requires { place < 2 ^ 49 }
+    ensures stop { result ≡ stop_of place length }
+    ensures small { IfSome result (λ end. end < 2 ^ 64 - 1) }
+{
+    if length == UNDEFINED {
+        None
+    } else {
+        Some(place + length as u64)
+    }
+}
+
+/// The level that an item opens behind its header.
+pub fn item_frame(syntax: Syntax, place: u64, length: u32) -> Frame
+    requires { place < 2 ^ 49 }
+    ensures frame { result ≡ set_frame syntax (stop_of place length) 0 }
+    ensures small { IfSome result.stop (λ end. end < 2 ^ 64 - 1) }
+{
+    Frame {
+        in_sequence: false,
+        syntax,
+        stop: stop_at(place, length),
+        last: 0,
+    }
+}
+
+/// The level that a sequence opens behind its header.
+pub fn sequence_frame(syntax: Syntax, place: u64, length: u32) -> Frame
+    requires { place < 2 ^ 49 }
+    ensures frame { result ≡ sequence_frame syntax (stop_of place length) }
+    ensures small { IfSome result.stop (λ end. end < 2 ^ 64 - 1) }
+{
+    Frame {
+        in_sequence: true,
+        syntax,
+        stop: stop_at(place, length),
+        last: 0,
     }
 }

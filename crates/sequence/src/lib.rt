@@ -1,6 +1,7 @@
 //! Walks a data set in pieces, in fixed memory (PS3.5 chapter 7).
 #![tactic(auto)]
 
+mod answering;
 mod broken;
 mod fault;
 mod keep;

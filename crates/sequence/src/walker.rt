@@ -1,21 +1,20 @@
 //! The walker.
 ghost use Rattle.std.specs.Prelude.{◌≡◌, ℕ, ◌<◌, ◌≤◌, ◌^◌, ◌+◌, ◌-◌, ◌&&◌, ◌++◌, ◌∷◌, [], None, Some, length, IsTrue, IfSome, nat_eq, true, if◌then◌else◌};
 ghost use Rattle.arrayvec.specs.ArrayVec.{array_vec_len};
-ghost use Rattle.sequence.specs.Machine.{stop_of, set_frame, sequence_frame};
 ghost use Rattle.sequence.specs.Spare.{owed, spare, head_room, due_of, due_kept, is_kept, is_wanted_in};
 ghost use Rattle.sequence.specs.Stored.{wants_of, values_of, left_of_keep};
 ghost use Rattle.sequence.specs.Wanted.{is_wanted, room_of};
 ghost use Rattle.sequence.specs.Open.{in_header};
 ghost use Rattle.sequence.specs.FirstFault.{tag_of_tail};
-ghost use Rattle.sequence.specs.Made.{header_told, made_told, value_told};
 
+use crate::answering::{header_step, value_step};
 use crate::broken::{broken, broken_due, same_tag};
 use crate::fault::Fault;
 use crate::keep::Keep;
 use crate::level::{Frame, Level};
-use crate::levels::{leave_ended, set_last, spot_at, top_frame};
+use crate::levels::{item_frame, leave_ended, sequence_frame, set_last, spot_at, top_frame};
 use crate::reading::is_whole;
-use crate::shape::{Shape, UNDEFINED, shape_of};
+use crate::shape::{Shape, shape_of};
 use crate::spot::Bounds;
 use crate::stage::{Stage, stage_at};
 use crate::step::Step;
@@ -23,44 +22,7 @@ use crate::wanted::Wanted;
 use arrayvec::ArrayVec;
 use element::{Header, Syntax, Tag, read_header, read_tag};
 
-/// Where a level ends behind its header.
-fn stop_at(place: u64, length: u32) -> Option<u64>
-    requires { place < 2 ^ 49 }
-    ensures stop { result ≡ stop_of place length }
-    ensures small { IfSome result (λ end. end < 2 ^ 64 - 1) }
-{
-    if length == UNDEFINED {
-        None
-    } else {
-        Some(place + length as u64)
-    }
-}
-
-fn item_frame(syntax: Syntax, place: u64, length: u32) -> Frame
-    requires { place < 2 ^ 49 }
-    ensures frame { result ≡ set_frame syntax (stop_of place length) 0 }
-    ensures small { IfSome result.stop (λ end. end < 2 ^ 64 - 1) }
-{
-    Frame {
-        in_sequence: false,
-        syntax,
-        stop: stop_at(place, length),
-        last: 0,
-    }
-}
-
-fn sequence_frame(syntax: Syntax, place: u64, length: u32) -> Frame
-    requires { place < 2 ^ 49 }
-    ensures frame { result ≡ sequence_frame syntax (stop_of place length) }
-    ensures small { IfSome result.stop (λ end. end < 2 ^ 64 - 1) }
-{
-    Frame {
-        in_sequence: true,
-        syntax,
-        stop: stop_at(place, length),
-        last: 0,
-    }
-}
+mod told;
 
 /// Makes room for a wanted value of the data set itself; whether it is kept.
 fn begin_kept<const V: usize, const D: usize>(
@@ -91,56 +53,6 @@ fn begun_tag(header: &[u8]) -> Tag
         read_tag(header)
     } else {
         Tag(0, 0)
-    }
-}
-
-/// Whether a kept value is begun.
-fn is_kept(stage: Stage) -> bool
-    ensures { result ≡ is_kept stage }
-{
-    match stage {
-        Stage::Value { kept, .. } => kept,
-        Stage::Heading => false,
-        Stage::Stopped(_) => false,
-    }
-}
-
-/// What a step tells that took a byte of a header.
-fn header_step<'p>(stage: Stage, made: Option<Header>) -> Step<'p>
-    ensures { result ≡ header_told stage made }
-{
-    match stage {
-        Stage::Stopped(fault) => Step::Refused(fault),
-        Stage::Heading => made_step(made),
-        Stage::Value { .. } => made_step(made),
-    }
-}
-
-fn made_step<'p>(made: Option<Header>) -> Step<'p>
-    ensures { result ≡ made_told made }
-{
-    match made {
-        None => Step::More,
-        Some(header) => {
-            if !header.tag.is_marker() {
-                Step::Element(header)
-            } else if same_tag(header.tag, Tag::ITEM) {
-                Step::Opened(header)
-            } else {
-                Step::Closed(header)
-            }
-        }
-    }
-}
-
-/// What a step tells that took a byte of a value.
-fn value_step<'p>(stage: Stage, run: &'p [u8]) -> Step<'p>
-    ensures { value_told stage run.now result }
-{
-    match stage {
-        Stage::Stopped(fault) => Step::Refused(fault),
-        Stage::Heading => Step::Run(run),
-        Stage::Value { .. } => Step::Run(run),
     }
 }
 
@@ -177,7 +89,8 @@ impl<const V: usize, const D: usize> Walker<V, D> {
     ghost use Rattle.sequence.specs.Wanted.{room_of, rooms, value_of};
     ghost use Rattle.sequence.specs.Stored.{wanted_tags};
     ghost use Rattle.sequence.specs.declared.fault.Fault.{Fault};
-    ghost use Rattle.sequence.specs.State.{state_of, kept_values, top, below, IsSameWalk, has_room, fits_wanted, limits_of, syntax_of, fault_of, told_by, StandsAt};
+    ghost use Rattle.sequence.specs.State.{state_of, kept_values, top, below, IsSameWalk, has_room, fits_wanted};
+    ghost use Rattle.sequence.specs.Taken.{limits_of, syntax_of, fault_of, StandsAt};
     ghost use Rattle.sequence.specs.Made.{made};
     ghost use Rattle.sequence.specs.Ending.{IsWhole, Fails};
     ghost use Rattle.sequence.specs.Answering.{Answers};
@@ -418,9 +331,10 @@ impl<const V: usize, const D: usize> Walker<V, D> {
         self.header.is_empty() && self.levels.is_empty()
     }
 
-    /// Whether the bytes so far are a whole data set; the refusal, if there is one, and else 20.
+    /// Whether the bytes so far are a whole data set within the limits; the refusal, if there is one, and else 20.
     pub fn finish(&self) -> Result<(), Fault>
         ensures whole { IsOk result → (b : List ℕ) → StandsAt self.now b → IsWhole (syntax_of self.now) (limits_of self.now) b }
+        ensures exactly { (b : List ℕ) → StandsAt self.now b → IsWhole (syntax_of self.now) (limits_of self.now) b → IsOk result }
         ensures fails { IfErr result (λ fault. (b : List ℕ) → StandsAt self.now b → Fails (syntax_of self.now) (limits_of self.now) b fault) }
     {
         match self.stage {
@@ -442,33 +356,5 @@ impl<const V: usize, const D: usize> Walker<V, D> {
                 }
             }
         }
-    }
-
-    /// How many levels are open: a sequence and an item count one each.
-    pub fn levels(&self) -> usize
-        ensures { result ≡ (told_by self.now).levels }
-    {
-        self.levels.len()
-    }
-
-    /// How many bytes came; after a refusal, how many came up to it.
-    pub fn place(&self) -> u64
-        ensures { result ≡ (told_by self.now).place }
-    {
-        self.place
-    }
-
-    /// How many bytes are held: of an unfinished header, of kept values, and 16 for each open level.
-    pub fn held(&self) -> usize
-        ensures { result ≡ (told_by self.now).held }
-    {
-        self.header.len() + self.kept.len() + 16 * self.levels.len()
-    }
-
-    /// The value of this wanted tag of the data set itself, if it came whole.
-    pub fn kept(&self, tag: Tag) -> Option<&[u8]>
-        ensures { option_map (λ bytes. bytes.now) result ≡ value_of (told_by self.now).kept (number tag) }
-    {
-        self.kept.value(tag.number(), is_kept(self.stage))
     }
 }

@@ -77,7 +77,7 @@ impl Wanted {
     pub fn find(&self, number: u32) -> Option<usize>
         ensures { result ≡ place_from 0 self.now.list.items number }
     {
-        let list = self.list.as_slice();
+        let list = self.as_slice();
         let mut at = 0;
         while at < list.len() {
             if list[at].tag.number() == number {
@@ -92,7 +92,7 @@ impl Wanted {
     pub fn room(&self, number: u32) -> Option<u64>
         ensures { result ≡ spelling.room_of self.now.list.items number }
     {
-        for want in self.list.as_slice() {
+        for want in self.as_slice() {
             if want.tag.number() == number {
                 return Some(u64::from(want.room));
             }

@@ -1,5 +1,4 @@
-use Rattle.std.proofs.Common.{rules, ◌≡◌, ◌≤◌, ◌<◌, ◌+◌, ◌++◌, ◌∷◌, [], length, ◌∙◌, sym, ap, refl, is_some, Some, None, if◌then◌else◌, arith}
-use Rattle.sequence.specs.Wanted.{is_wanted, room_of}
+use Rattle.std.proofs.Common.{rules, ◌≡◌, length, ◌∙◌, sym, ap, refl, is_some, arith}
 use Rattle.sequence.proofs.Storing.{begun_at, not_found}
 use Rattle.sequence.proofs.keep.Keep.begin.Goals as goal
 

@@ -1,4 +1,4 @@
-use Rattle.std.proofs.Common.{◌≡◌, ◌∙◌, sym, arith, length}
+use Rattle.std.proofs.Common.{arith}
 use Rattle.sequence.proofs.Storing.{stored_bytes}
 use Rattle.sequence.proofs.keep.Keep.len.Goals as goal
 

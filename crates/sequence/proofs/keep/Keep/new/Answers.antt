@@ -1,4 +1,4 @@
-use Rattle.std.proofs.Common.{◌≡◌, ℕ, ◌+◌, ◌∷◌, [], ◌≤◌, ◌∙◌, ap, refl, sym, arith, rules, length, replicate}
+use Rattle.std.proofs.Common.{◌∙◌, ap, sym, length}
 use Rattle.sequence.proofs.Storing.{absent_stored, all_new}
 use Rattle.sequence.proofs.keep.Keep.new.Goals as goal
 

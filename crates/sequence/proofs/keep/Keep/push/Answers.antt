@@ -1,7 +1,6 @@
-use Rattle.std.proofs.Common.{◌≡◌, ℕ, ◌+◌, ◌-◌, ◌<◌, ◌≤◌, ◌∙◌, ap, subst, sym, arith, rules, length, get_or, slice_set}
+use Rattle.std.proofs.Common.{◌+◌, ◌∙◌, ap, arith, rules, get_or, slice_set}
 use Rattle.sequence.proofs.Storing.{pushed, push_facts, fit_left}
-use Rattle.sequence.specs.Wanted.{rooms}
-use Rattle.sequence.specs.Keeping.{stored, absent}
+use Rattle.sequence.specs.Keeping.{stored}
 use Rattle.sequence.proofs.keep.Keep.push.Goals as goal
 
 pub offset_bounds-self-self : goal.offset_bounds-self-self

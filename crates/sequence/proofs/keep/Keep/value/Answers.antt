@@ -1,4 +1,4 @@
-use Rattle.std.proofs.Common.{◌≡◌, ◌≤◌, ◌<◌, ◌∙◌, ap, sym, arith, length, slice_set, if◌then◌else◌}
+use Rattle.std.proofs.Common.{◌≡◌, ◌∙◌, ap, arith, length, slice_set, if◌then◌else◌}
 use Rattle.sequence.specs.Wanted.{value_of}
 use Rattle.sequence.specs.Keeping.{stored, counts, absent}
 use Rattle.sequence.proofs.Storing.{push_facts, told_counts, told_stored}

@@ -1,6 +1,6 @@
-use Rattle.std.proofs.Common.{◌≡◌, ℕ, ◌+◌, ◌-◌, ◌≤◌, ◌<◌, ◌∙◌, ◌++◌, ◌∷◌, [], length, Option, None, Some, Bool, true, false, ap, sym, refl, subst, arith, rules, length-append}
-use Rattle.element.specs.Header.{number, is_marker, header_at, is_whole}
-use Rattle.sequence.specs.Rules.{Limits, broken, counted_length}
+use Rattle.std.proofs.Common.{◌≡◌, ◌+◌, ◌-◌, ◌≤◌, ◌∙◌, [], length, None, Some, true, false, ap, sym, arith, rules}
+use Rattle.element.specs.Header.{is_marker, header_at, is_whole}
+use Rattle.sequence.specs.Rules.{broken, counted_length}
 use Rattle.sequence.specs.Machine.{spot_of}
 use Rattle.sequence.specs.Frames.{top_of, below_of}
 use Rattle.sequence.specs.Judging.{limits_by}

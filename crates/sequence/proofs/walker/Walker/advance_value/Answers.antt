@@ -1,4 +1,4 @@
-use Rattle.std.proofs.Common.{◌∙◌, ap, sym, rules}
+use Rattle.std.proofs.Common.{◌∙◌}
 use Rattle.sequence.specs.State.{top, below, limits_of, kept_values}
 use Rattle.sequence.proofs.Walks.{value_ends, value_goes_on, value_kept}
 use Rattle.sequence.proofs.walker.Walker.advance_value.Goals as goal

@@ -1,4 +1,4 @@
-use Rattle.std.proofs.Common.{◌≡◌, ◌∙◌, sym, ap, arith, rules, length}
+use Rattle.std.proofs.Common.{◌∙◌}
 use Rattle.element.specs.Header.{number}
 use Rattle.sequence.specs.State.{top, below, limits_of, kept_values}
 use Rattle.sequence.proofs.Tops.{value_empty, value_begun}

@@ -1,4 +1,4 @@
-use Rattle.std.proofs.Common.{◌∙◌, ap, sym, []}
+use Rattle.std.proofs.Common.{◌∙◌, ap, sym}
 use Rattle.sequence.specs.Frames.{top_of}
 use Rattle.sequence.specs.State.{top, below, limits_of, kept_values}
 use Rattle.sequence.proofs.Walks.{item_header, mark_header, value_header, sequence_header, no_header, keep_marker, keep_value, keep_sequence, keep_none}

@@ -1,0 +1,70 @@
+-- One turn after another, and the report.
+use Rattle.std.proofs.Common.{◌∙◌, refl, arith, sym, ap}
+use Rattle.negotiate.specs.Settings.{settings_of}
+use Rattle.engine.specs.declared.source.Input.TheVariants.{Piece, Closed, Expired, LocalAbort}
+use Rattle.engine.specs.Idle.{rooms_of}
+use Rattle.engine.specs.Ran.{standing_of}
+use Rattle.engine.proofs.RanLemmas.{running_start, running_more, by_piece, by_close, by_expiry, by_abort, follows_all, answered_by}
+use Rattle.engine.proofs.running.run.Goals as goal
+use Rattle.engine.proofs.running.run.Goals.{in-Piece, in-Closed, in-Expired, in-LocalAbort, else-loop-turn-test, then-loop-turn-test+in-Sta1}
+
+pub loop-turn-init : goal.loop-turn-init
+loop-turn-init g c = record {
+  told = refl;
+  count = refl;
+  settings = c.open-association.ensures.settings;
+  running = running_start (rooms_of g.row.A g.row.C g.row.V g.row.D) (settings_of c.args.config.now) _ _ _ _ _ (c.open-association.ensures.stands _);
+}
+
+pub loop-turn-preserved : goal.loop-turn-preserved
+loop-turn-preserved g c =
+    let rooms = rooms_of g.row.A g.row.C g.row.V g.row.D in
+    let s = settings_of c.args.config.now in
+    let i = c.loop-turn.invariant in
+    let r = i.running in
+    elim c.match-next.branch [
+      | in-Piece w ↦ rw (w.association-is, w.wire-is, w.filing-is) (record {
+        told = w.feed.ensures.unfiled ∙ i.told;
+        count = w.feed.ensures.filing_count ∙ i.count;
+        settings = w.feed.ensures.settings ∙ i.settings;
+        running = running_more rooms s _ _ _ _ _ _ _ _ _ _ _ _ _ _ Piece r (w.in-Piece.ensures {u = tt})
+            (by_piece rooms _ _ _ _ _ _ _ s _ r.taken _ i.settings (rw w.piece.ensures at w.feed.ensures.moved));
+      })
+      | in-Closed w ↦ rw (w.association-is, w.wire-is, w.filing-is) (record {
+        told = w.closed.ensures.unfiled ∙ i.told;
+        count = w.closed.ensures.filing_count ∙ i.count;
+        settings = w.closed.ensures.settings ∙ i.settings;
+        running = running_more rooms s _ _ _ _ _ _ _ _ _ _ _ _ _ _ Closed r (w.in-Closed.ensures {u = tt}) (by_close rooms _ _ _ _ _ _ _ s _ r.taken i.settings w.closed.ensures.moved);
+      })
+      | in-Expired w ↦ rw (w.association-is, w.wire-is, w.filing-is) (record {
+        told = w.expired.ensures.unfiled ∙ i.told;
+        count = w.expired.ensures.filing_count ∙ i.count;
+        settings = w.expired.ensures.settings ∙ i.settings;
+        running = running_more rooms s _ _ _ _ _ _ _ _ _ _ _ _ _ _ Expired r (w.in-Expired.ensures {u = tt}) (by_expiry rooms _ _ _ _ _ _ _ s _ r.taken i.settings w.expired.ensures.moved);
+      })
+      | in-LocalAbort w ↦ rw (w.association-is, w.wire-is, w.filing-is) (record {
+        told = w.local_abort.ensures.unfiled ∙ i.told;
+        count = w.local_abort.ensures.filing_count ∙ i.count;
+        settings = w.local_abort.ensures.settings ∙ i.settings;
+        running = running_more rooms s _ _ _ _ _ _ _ _ _ _ _ _ _ _ LocalAbort r (w.in-LocalAbort.ensures {u = tt}) (by_abort rooms _ _ _ _ _ _ _ s _ r.taken i.settings w.local_abort.ensures.moved);
+      })
+    ]
+
+pub returns-clause-ran : goal.returns-clause-ran
+returns-clause-ran g c =
+    let rooms = rooms_of g.row.A g.row.C g.row.V g.row.D in
+    let s = settings_of c.args.config.now in
+    let r = c.loop-turn.invariant.running in
+    record {
+      taken = r.taken;
+      most_turns = omega (arith, r.number, c.loop-turn.auto);
+      all_turns = λ lt. elim c.loop-turn-test.branch [
+        | else-loop-turn-test w ↦ absurd (omega (arith, r.number, w.loop-turn-test.false))
+        | then-loop-turn-test+in-Sta1 w ↦ c.of.ensures ∙ ap standing_of (c.state-2.ensures ∙ sym w.state.ensures ∙ w.in-Sta1.is)
+      ];
+      told = λ all e. follows_all _ _ r.taken all r.follows e;
+      answered = answered_by rooms s _ r.taken _ _ _ _ _ _ _ r.stood (c.of.ensures ∙ ap standing_of c.state-2.ensures) c.held.ensures.value;
+    }
+
+pub returns-clause-room : goal.returns-clause-room
+returns-clause-room g c = omega (arith, c.held.ensures.room)

@@ -1,0 +1,210 @@
+-- What a walker tells and holds determines the machine's state, and the other way round.
+use Rattle.std.proofs.Common.{◌≡◌, ℕ, ◌+◌, ◌-◌, List, [], ◌∷◌, ◌++◌, length, Option, Some, None, refl, sym, ap, subst, ◌∙◌, arith, length-append}
+use Rattle.element.specs.declared.syntax.Syntax.{Syntax}
+use Rattle.element.specs.declared.tag.Tag.{Tag}
+use Rattle.element.specs.declared.header.Header.{Header}
+use Rattle.element.specs.Numbers.{IsBytes}
+use Rattle.element.specs.Header.{number}
+use Rattle.sequence.specs.declared.level.Frame.{Frame}
+use Rattle.sequence.specs.declared.fault.Fault.{Fault}
+use Rattle.sequence.specs.declared.wanted.Want.{Want}
+use Rattle.sequence.specs.declared.stage.Stage.{Stage}
+use Rattle.sequence.specs.declared.stage.Stage.TheVariants as stages
+use Rattle.sequence.specs.declared.walker.Walker.{Walker}
+use Rattle.sequence.specs.Tree.{Elements}
+use Rattle.sequence.specs.Open.{Entry, Tail, in_header, in_value, Open}
+use Rattle.sequence.specs.Wanted.{Values, kept_of}
+use Rattle.sequence.specs.Rules.{Limits}
+use Rattle.sequence.specs.FirstFault.{IsUnbroken, FirstFault}
+use Rattle.sequence.specs.Walk.{Told, Tells, going, refused}
+use Rattle.sequence.specs.Machine.{set_frame, State, at, Mode, Heading, Reading, Stopped, run, start}
+use Rattle.sequence.specs.Keeping.{keeps, with_value}
+use Rattle.sequence.specs.Stored.{wants_of, values_of}
+use Rattle.sequence.specs.Holding.{frame_at, levels_at, with_begun, values_at, IsIn}
+use Rattle.sequence.specs.State.{mode_of, top, below, state_of, kept_values, limits_of, syntax_of, fault_by, fault_of, told_by, HoldsFront, StandsAt}
+use Rattle.sequence.specs.Standing.{IsStopped, StandsIn, Stands}
+use Rattle.sequence.proofs.Runs.{HasStopped}
+use Rattle.sequence.proofs.Plug.{IsFront}
+use Rattle.sequence.proofs.Telling.{all_over, all_is, open_due, due_open}
+use Rattle.sequence.proofs.Tales.{stands, goes_unbroken, stop_first, heading_at, reading_at, levels_is}
+use Rattle.sequence.proofs.Once.{one_path}
+use Rattle.sequence.proofs.Tellings.{one_fault}
+
+-- the levels of a path
+
+levels_over : (n : ℕ) (path : List Entry) (s : Syntax) (last : ℕ) → all_over n path (set_frame s None last) ≡ levels_at n path s last
+levels_over n [] s last = refl
+levels_over n (e ∷ path) s last = ap (λ z. frame_at n e ∷ z) (levels_over n path s last)
+
+front_levels : {s : Syntax} {ws : List Want} {values : Values} {n : ℕ} {b : List ℕ} {tail : Tail} {f : Frame} {fs : List Frame} (x : IsFront s ws values n b tail f fs) → f ∷ fs ≡ levels_at n x.path s x.last
+front_levels {s = s} {n = n} {f = f} {fs = fs} x = sym (all_is n x.path (set_frame s None x.last) f fs x.top x.below) ∙ levels_over n x.path s x.last
+
+value_at : (lim : Limits) (fs : List Frame) (path : List Entry) (h : Header) (v : List ℕ) (es : Elements) → length path ≡ length fs → with_value lim fs (number h.tag) v (kept_of lim.wanted es) ≡ values_at lim.wanted es path (in_value h v)
+value_at lim [] (e ∷ path) h v es same = absurd (omega arith)
+value_at lim (f ∷ fs) [] h v es same = absurd (omega arith)
+value_at lim [] [] h v es same = refl
+value_at lim (f ∷ fs) (e ∷ path) h v es same = refl
+
+-- a text at which the machine stopped breaks a rule, and no other does
+
+fault_breaks : {s : Syntax} {lim : Limits} {b p u : List ℕ} {rule : ℕ} {tag : Tag} → FirstFault s lim b p u rule tag → IsUnbroken s lim b → ⊥
+fault_breaks {p = p} {u = u} {rule = rule} {tag = tag} f ok = ok p u f.rest rule tag f.text f.breaks
+
+record IsTold (told : Told) (fault-is : Option Fault) (place-is : ℕ) : Type 0 where
+  fault : told.fault ≡ fault-is
+  place : told.place ≡ place-is
+
+tells_going : (s : Syntax) (lim : Limits) (b : List ℕ) (told : Told) → IsUnbroken s lim b → Tells s lim b told → IsTold told None (length b)
+tells_going s lim b told ok (going fine o) = record { fault = refl; place = refl }
+tells_going s lim b told ok (refused f o) = absurd (fault_breaks f ok)
+
+tells_refused : (s : Syntax) (lim : Limits) (b p u : List ℕ) (rule : ℕ) (tag : Tag) (told : Told) → FirstFault s lim b p u rule tag → Tells s lim b told → IsTold told (Some (record { number = rule; place = length p; tag = tag })) (length (p ++ u))
+tells_refused s lim b p u rule tag told f (going ok o) = absurd (fault_breaks f ok)
+tells_refused s lim b p u rule tag told f (refused {p = p2} {u = u2} {rule = rule2} {tag = tag2} g o) =
+    let k = one_fault s lim b p2 p u2 u rule2 rule tag2 tag g f in
+    record { fault = λ i. Some (record { number = k.2 i; place = length (k.0 i); tag = k.3 i }); place = λ i. length (k.0 i ++ k.1 i) }
+
+-- a walker whose fields are the machine's at the bytes b
+pub record Walks {V D : ℕ} (w : Walker V D) (b : List ℕ) : Type 0 where
+  pub bytes : IsBytes b
+  pub state : state_of w ≡ run (limits_of w) (start (syntax_of w)) b
+  pub values : values_of w.kept ≡ keeps (limits_of w) (start (syntax_of w)) [] b
+
+-- from the machine
+
+abbrev Held : {V D : ℕ} → Walker V D → List ℕ → Elements → List Entry → ℕ → Tail → Type 0
+Held w b es path last tail = HoldsFront w (length b) es path last tail × IsIn w.stage w.header.items tail
+
+module _ {V D : ℕ} (w : Walker V D) (b : List ℕ) (h : Walks w b) where
+  run_is : (stage : Stage) → w.stage ≡ stage → run (limits_of w) (start (syntax_of w)) b ≡ at (top w) (below w) w.place (mode_of stage w.place w.header.items)
+  run_is stage e = sym h.state ∙ ap (λ z. at (top w) (below w) w.place (mode_of z w.place w.header.items)) e
+
+  stands_in : (stage : Stage) → w.stage ≡ stage → StandsIn (syntax_of w) (limits_of w) (keeps (limits_of w) (start (syntax_of w)) [] b) (top w) (below w) w.place (mode_of stage w.place w.header.items) b
+  stands_in stage e = subst (λ (z : State). Stands (syntax_of w) (limits_of w) z (keeps (limits_of w) (start (syntax_of w)) [] b) b) (run_is stage e) (stands (syntax_of w) (limits_of w) b h.bytes)
+
+  not_stopped : (stage : Stage) → w.stage ≡ stage → (HasStopped (mode_of stage w.place w.header.items) → ⊥) → IsUnbroken (syntax_of w) (limits_of w) b
+  not_stopped stage e on = goes_unbroken (syntax_of w) (limits_of w) b (λ k. on (subst (λ (z : State). HasStopped z.mode) (run_is stage e) k))
+
+  going_by : (stage : Stage) (es : Elements) (path : List Entry) (last : ℕ) (tail : Tail) → w.stage ≡ stage → fault_by stage ≡ None → Open (syntax_of w) b es path last tail → Held w b es path last tail
+  going_by (stages.Stopped fault) es path last tail e none o = absurd cc
+  going_by stages.Heading es path last tail e none o =
+      let k = (stands_in stages.Heading e).1 in
+      let y = heading_at (syntax_of w) (limits_of w) (keeps (limits_of w) (start (syntax_of w)) [] b) (top w) (below w) _ w.header.items b k in
+      let q = one_path (syntax_of w) b y.front.elements es y.front.path path y.front.last last (in_header w.header.items) tail y.is_open o in (
+        record {
+          levels = front_levels y.front ∙ (λ i. with_begun (q.3 i) (levels_at (length b) (q.1 i) (syntax_of w) (q.2 i)));
+          values = h.values ∙ y.front.kept ∙ (λ i. values_at (wants_of w.kept) (q.0 i) (q.1 i) (q.3 i));
+        },
+        subst (λ z. IsIn z w.header.items tail) (sym e) (sym q.3),
+      )
+  going_by (stages.Value t n kept) es path last tail e none o =
+      let r = (stands_in (stages.Value t n kept) e).1 in
+      let y = reading_at (syntax_of w) (limits_of w) (keeps (limits_of w) (start (syntax_of w)) [] b) (top w) (below w) t n b r in
+      let q = one_path (syntax_of w) b y.front.elements es y.front.path path y.front.last last (in_value r.h r.v) tail y.is_open o in
+      let levels : top w ∷ below w ≡ with_begun (in_value r.h r.v) (levels_at (length b) y.front.path (syntax_of w) y.front.last) = ap (λ z. z ∷ below w) r.top ∙ ap (with_begun (in_value r.h r.v)) (front_levels y.front) in
+      let values : kept_values w ≡ values_at (wants_of w.kept) y.front.elements y.front.path (in_value r.h r.v) =
+      h.values ∙ r.kept ∙ ap (λ z. with_value (limits_of w) (below w) (number r.h.tag) r.v z) y.front.kept ∙ value_at (limits_of w) (below w) y.front.path r.h r.v y.front.elements (levels_is y.front) in
+      let inside : IsIn (stages.Value t n kept) w.header.items (in_value r.h r.v) = (r.tagged, r.size) in (
+        record {
+          levels = levels ∙ (λ i. with_begun (q.3 i) (levels_at (length b) (q.1 i) (syntax_of w) (q.2 i)));
+          values = values ∙ (λ i. values_at (wants_of w.kept) (q.0 i) (q.1 i) (q.3 i));
+        },
+        subst (λ z. IsIn z w.header.items tail) (sym e) (subst (λ z. IsIn (stages.Value t n kept) w.header.items z) q.3 inside),
+      )
+
+  pub holds_going : (es : Elements) (path : List Entry) (last : ℕ) (tail : Tail) → fault_of w ≡ None → Open (syntax_of w) b es path last tail → HoldsFront w (length b) es path last tail × IsIn w.stage w.header.items tail
+  holds_going es path last tail none o = going_by w.stage es path last tail refl none o
+
+  refused_by : (stage : Stage) (p u : List ℕ) (rule : ℕ) (tag : Tag) (es : Elements) (path : List Entry) (last : ℕ) → w.stage ≡ stage → FirstFault (syntax_of w) (limits_of w) b p u rule tag → Open (syntax_of w) p es path last (in_header []) → HoldsFront w (length p) es path last (in_header [])
+  refused_by stages.Heading p u rule tag es path last e f o = absurd (fault_breaks f (not_stopped stages.Heading e (λ k. k)))
+  refused_by (stages.Value t n kept) p u rule tag es path last e f o = absurd (fault_breaks f (not_stopped (stages.Value t n kept) e (λ k. k)))
+  refused_by (stages.Stopped fault) p u rule tag es path last e f o =
+      let k : IsStopped (syntax_of w) (limits_of w) (keeps (limits_of w) (start (syntax_of w)) [] b) (top w) (below w) w.place fault.number fault.place fault.tag b = stands_in (stages.Stopped fault) e in
+      let first = stop_first (syntax_of w) (limits_of w) (keeps (limits_of w) (start (syntax_of w)) [] b) (top w) (below w) w.place fault.number fault.place fault.tag b h.bytes (run_is (stages.Stopped fault) e) k in
+      let same = one_fault (syntax_of w) (limits_of w) b k.before p k.u u fault.number rule fault.tag tag first f in
+      let x = open_due (syntax_of w) (limits_of w) (keeps (limits_of w) (start (syntax_of w)) [] b) (top w) (below w) k.before k.due in
+      let due = due_open (syntax_of w) (limits_of w) (keeps (limits_of w) (start (syntax_of w)) [] b) (top w) (below w) k.before k.due in
+      let q = one_path (syntax_of w) p x.elements es x.path path x.last last (in_header []) (in_header []) (subst (λ z. Open (syntax_of w) z x.elements x.path x.last (in_header [])) same.0 due) o in
+      record {
+        levels = front_levels x ∙ (λ i. levels_at (length (same.0 i)) (q.1 i) (syntax_of w) (q.2 i));
+        values = h.values ∙ x.kept ∙ (λ i. kept_of (wants_of w.kept) (q.0 i));
+      }
+
+  pub holds_refused : (p u : List ℕ) (rule : ℕ) (tag : Tag) (es : Elements) (path : List Entry) (last : ℕ) → FirstFault (syntax_of w) (limits_of w) b p u rule tag → Open (syntax_of w) p es path last (in_header []) → HoldsFront w (length p) es path last (in_header [])
+  holds_refused p u rule tag es path last f o = refused_by w.stage p u rule tag es path last refl f o
+
+-- back to the machine
+
+record SameLevels (f g : Frame) (fs gs : List Frame) : Type 0 where
+  first : f ≡ g
+  rest : fs ≡ gs
+
+same_levels : (f g : Frame) (fs gs : List Frame) → f ∷ fs ≡ g ∷ gs → SameLevels f g fs gs
+same_levels f g fs gs e = record { first = cc; rest = cc }
+
+mode_heading : (stage : Stage) (place : ℕ) (header before t b : List ℕ) → IsIn stage header (in_header t) → place ≡ length b → b ≡ before ++ t → mode_of stage place header ≡ Heading (length before) t
+mode_heading (stages.Value tag n kept) place header before t b h p e = absurd h
+mode_heading (stages.Stopped fault) place header before t b h p e = absurd h
+mode_heading stages.Heading place header before t b h p e =
+    let same : t ≡ header = cc in
+    let begin : place - length header ≡ length before = omega (arith, p, ap length e, length-append before t, ap length same) in
+    λ i. Heading (begin i) (sym same i)
+
+mode_reading : (stage : Stage) (place : ℕ) (header v : List ℕ) (h : Header) (t : Tag) (n : ℕ) → IsIn stage header (in_value h v) → t ≡ h.tag → length v + n ≡ h.length → mode_of stage place header ≡ Reading t n
+mode_reading stages.Heading place header v h t n k e size = absurd cc
+mode_reading (stages.Stopped fault) place header v h t n k e size = absurd k
+mode_reading (stages.Value tag left kept) place header v h t n k e size =
+    let tags : tag ≡ t = k.0 ∙ sym e in
+    let lefts : left ≡ n = omega (arith, k.1, size) in
+    λ i. Reading (tags i) (lefts i)
+
+mode_stopped : (stage : Stage) (place : ℕ) (header : List ℕ) (fault : Fault) → fault_by stage ≡ Some fault → mode_of stage place header ≡ Stopped fault.number fault.place fault.tag
+mode_stopped stages.Heading place header fault e = absurd cc
+mode_stopped (stages.Value tag n kept) place header fault e = absurd cc
+mode_stopped (stages.Stopped other) place header fault e = let same : other ≡ fault = cc in λ i. Stopped (same i).number (same i).place (same i).tag
+
+record IsState {V D : ℕ} (w : Walker V D) (st : State) (values : Values) : Type 0 where
+  state : state_of w ≡ st
+  kept : kept_values w ≡ values
+
+module _ {V D : ℕ} (w : Walker V D) (b : List ℕ) (h : StandsAt w b) where
+  state_by : (f : Frame) (fs : List Frame) (p : ℕ) (m : Mode) → run (limits_of w) (start (syntax_of w)) b ≡ at f fs p m → StandsIn (syntax_of w) (limits_of w) (keeps (limits_of w) (start (syntax_of w)) [] b) f fs p m b → IsState w (at f fs p m) (keeps (limits_of w) (start (syntax_of w)) [] b)
+  state_by f fs p (Heading begin t) e k =
+      let ok = goes_unbroken (syntax_of w) (limits_of w) b (λ z. subst (λ (st : State). HasStopped st.mode) e z) in
+      let told = tells_going (syntax_of w) (limits_of w) b (told_by w) ok h.tells in
+      let y = heading_at (syntax_of w) (limits_of w) (keeps (limits_of w) (start (syntax_of w)) [] b) f fs begin t b k.1 in
+      let g = h.going y.front.elements y.front.path y.front.last (in_header t) told.fault y.is_open in
+      let levels = same_levels (top w) f (below w) fs (g.0.levels ∙ sym (front_levels y.front)) in
+      let mode = mode_heading w.stage w.place w.header.items k.1.before t b g.1 told.place k.1.text ∙ ap (λ z. Heading z t) (sym k.1.place) in
+      let place : w.place ≡ p = told.place ∙ sym k.0 in
+      record { state = λ i. at (levels.first i) (levels.rest i) (place i) (mode i); kept = g.0.values ∙ sym y.front.kept }
+  state_by f fs p (Reading t n) e k =
+      let r = k.1 in
+      let ok = goes_unbroken (syntax_of w) (limits_of w) b (λ z. subst (λ (st : State). HasStopped st.mode) e z) in
+      let told = tells_going (syntax_of w) (limits_of w) b (told_by w) ok h.tells in
+      let y = reading_at (syntax_of w) (limits_of w) (keeps (limits_of w) (start (syntax_of w)) [] b) f fs t n b k.1 in
+      let g = h.going y.front.elements y.front.path y.front.last (in_value r.h r.v) told.fault y.is_open in
+      let levels = same_levels (top w) f (below w) fs (g.0.levels ∙ ap (with_begun (in_value r.h r.v)) (sym (front_levels y.front)) ∙ ap (λ z. z ∷ fs) (sym r.top)) in
+      let mode = mode_reading w.stage w.place w.header.items r.v r.h t n g.1 r.tagged r.size in
+      let place : w.place ≡ p = told.place ∙ sym k.0 in
+      record {
+        state = λ i. at (levels.first i) (levels.rest i) (place i) (mode i);
+        kept = g.0.values ∙ sym (r.kept ∙ ap (λ z. with_value (limits_of w) fs (number r.h.tag) r.v z) y.front.kept ∙ value_at (limits_of w) fs y.front.path r.h r.v y.front.elements (levels_is y.front));
+      }
+  state_by f fs p (Stopped rule place t) e k =
+      let values = keeps (limits_of w) (start (syntax_of w)) [] b in
+      let first = stop_first (syntax_of w) (limits_of w) (keeps (limits_of w) (start (syntax_of w)) [] b) f fs p rule place t b h.bytes e k in
+      let told = tells_refused (syntax_of w) (limits_of w) b k.before k.u rule t (told_by w) first h.tells in
+      let x = open_due (syntax_of w) (limits_of w) (keeps (limits_of w) (start (syntax_of w)) [] b) f fs k.before k.due in
+      let due = due_open (syntax_of w) (limits_of w) (keeps (limits_of w) (start (syntax_of w)) [] b) f fs k.before k.due in
+      let g = h.refused k.before k.u rule t x.elements x.path x.last first due in
+      let levels = same_levels (top w) f (below w) fs (g.levels ∙ sym (front_levels x)) in
+      let mode = mode_stopped w.stage w.place w.header.items (record { number = rule; place = length k.before; tag = t }) told.fault ∙ ap (λ z. Stopped rule z t) (sym k.place-is) in
+      let place-is : w.place ≡ p = told.place ∙ sym k.came in
+      record { state = λ i. at (levels.first i) (levels.rest i) (place-is i) (mode i); kept = g.values ∙ sym x.kept }
+
+  pub walks : Walks w b
+  walks =
+      let st = run (limits_of w) (start (syntax_of w)) b in
+      let k = state_by st.top st.below st.place st.mode refl (stands (syntax_of w) (limits_of w) b h.bytes) in
+      record { bytes = h.bytes; state = k.state; values = k.kept }

@@ -1,0 +1,5 @@
+use Rattle.sequence.proofs.Lefts.{whole_open}
+use Rattle.sequence.proofs.laws.a_whole_level_has_an_open_one_inside.Goals as goal
+
+pub returns : goal.returns
+returns c = whole_open

@@ -1,0 +1,5 @@
+use Rattle.sequence.proofs.Lefts.{ends_nested}
+use Rattle.sequence.proofs.laws.ends_are_nested.Goals as goal
+
+pub returns : goal.returns
+returns c = ends_nested

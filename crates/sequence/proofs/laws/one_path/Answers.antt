@@ -1,0 +1,5 @@
+use Rattle.sequence.proofs.Once.{one_path}
+use Rattle.sequence.proofs.laws.one_path.Goals as goal
+
+pub returns : goal.returns
+returns c = one_path

@@ -1,0 +1,5 @@
+use Rattle.sequence.proofs.Tellings.{one_telling}
+use Rattle.sequence.proofs.laws.one_telling.Goals as goal
+
+pub returns : goal.returns
+returns c = one_telling

@@ -1,0 +1,5 @@
+use Rattle.sequence.proofs.Once.{one_tree}
+use Rattle.sequence.proofs.laws.one_tree.Goals as goal
+
+pub returns : goal.returns
+returns c = one_tree

@@ -1,0 +1,5 @@
+use Rattle.sequence.proofs.Tellings.{some_telling}
+use Rattle.sequence.proofs.laws.some_telling.Goals as goal
+
+pub returns : goal.returns
+returns c = some_telling

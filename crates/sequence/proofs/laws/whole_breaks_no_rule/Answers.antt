@@ -1,0 +1,5 @@
+use Rattle.sequence.proofs.Whole.{whole_breaks_no_rule}
+use Rattle.sequence.proofs.laws.whole_breaks_no_rule.Goals as goal
+
+pub returns : goal.returns
+returns c = whole_breaks_no_rule
