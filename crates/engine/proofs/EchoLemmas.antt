@@ -23,7 +23,7 @@ use Rattle.dimse.specs.Command.{CommandRecord}
 use Rattle.dimse.specs.Reading.{command_in}
 use Rattle.dimse.specs.Messages.{Message, NoMessage, Brought, Goes, Ends, Refuses, brought, message_by}
 use Rattle.dimse.specs.Reply.{reply_bytes}
-use Rattle.engine.specs.Timeline.{At}
+use Rattle.engine.specs.Timeline.{At, Outcome}
 use Rattle.engine.specs.Progress.{Progress, Given, nothing, done, refusing}
 use Rattle.engine.specs.Heads.{HeadEvent, NoEvent, AtOnce, TooLong}
 use Rattle.engine.specs.Requests.{answered, keeping}
@@ -41,14 +41,14 @@ due b = record { state = Sta2; request = []; refused = b; message = NoMessage; f
 abbrev pub keeps : List ℕ → Bool → Progress
 keeps request b = record { state = Sta6; request = request; refused = b; message = NoMessage; filing_failed = false }
 
-abbrev leaves : Progress
+abbrev pub leaves : Progress
 leaves = record { state = Sta13; request = []; refused = false; message = NoMessage; filing_failed = false }
 
 either : (b : Bool) (q : Progress) → (if b then nothing q else nothing q) ≡ nothing q
 either true q = refl
 either false q = refl
 
-context_there : (found : Option Context) → is_some found ≡ true → (c : Context) × (found ≡ Some c)
+pub context_there : (found : Option Context) → is_some found ≡ true → (c : Context) × (found ≡ Some c)
 context_there (Some c) e = (c, refl)
 context_there None e = absurd cc
 
@@ -84,21 +84,21 @@ pdv_by : (p : Progress) (c : Context) (found : Option Context) (x : Option Dimse
     → ◌≡◌ {A = Given} (elim found [ None ↦ invalid p | Some accepted ↦ unless_refused x p ]) (nothing p)
 pdv_by p c found x e f = rw (e, f) refl
 
-ends_by : (p : Progress) (b : Brought) (m : Message) → b ≡ Ends m
-    → ◌≡◌ {A = Given} (elim b [ Goes begun ↦ nothing (going_on begun false p) | Ends n ↦ replied p 0 n (command_in n.command) | Refuses fault ↦ user_aborts p ]) (replied p 0 m (command_in m.command))
-ends_by p b m e = rw e refl
+ends_by : (p : Progress) (failed : Bool) (v : ℕ) (b : Brought) (m : Message) → b ≡ Ends m
+    → ◌≡◌ {A = Given} (elim b [ Goes begun ↦ nothing (going_on begun failed p) | Ends n ↦ replied p v n (command_in n.command) | Refuses fault ↦ user_aborts p ]) (replied p v m (command_in m.command))
+ends_by p failed v b m e = rw e refl
 
 module _ (rooms : Rooms) (s : Settings) where
   -- ---- a request
 
-  request_head : (b : Bool) (n : ℕ) → n ≤ rooms.request - 12 → 68 ≤ n → at_entry rooms s (due b) (came None) (At (Head 1 n)) ≡ nothing (due false)
+  pub request_head : (b : Bool) (n : ℕ) → n ≤ rooms.request - 12 → 68 ≤ n → at_entry rooms s (due b) (came None) (At (Head 1 n)) ≡ nothing (due false)
   request_head b n most least = ap (brought_by (due false)) (no_fault _ _ TooLong (AtOnce event.Invalid 6) (le-ltb (rooms.request - 12) n most) (le-ltb n 68 least))
 
-  request_end : (body : List ℕ) → request_fault body ≡ None → judged s (record_of body) ≡ Accept → (k : Option ℕ)
+  pub request_end : (body : List ℕ) → request_fault body ≡ None → judged s (record_of body) ≡ Accept → (k : Option ℕ)
       → at_entry rooms s (due false) (came k) (At (End 1 body)) ≡ whole (keeps body false) (accept_text s (record_of body))
   request_end body faultless accept k = answered_by s body (request_fault body) (judged s (record_of body)) faultless accept
 
-  long_request : (body : List ℕ) → request_fault body ≡ None → 68 ≤ length body
+  pub long_request : (body : List ℕ) → request_fault body ≡ None → 68 ≤ length body
   long_request body e = elim (cases_lt (length body) 68) [
     | inl lt ↦ absurd (short_request body lt e)
     | inr le ↦ le
@@ -120,7 +120,7 @@ module _ (rooms : Rooms) (s : Settings) where
 
   -- ---- a release request
 
-  release_head : (request : List ℕ) (b : Bool) (n : ℕ) → n ≡ 4 → at_entry rooms s (keeps request b) (came None) (At (Head 5 n)) ≡ nothing (keeps request false)
+  pub release_head : (request : List ℕ) (b : Bool) (n : ℕ) → n ≡ 4 → at_entry rooms s (keeps request b) (came None) (At (Head 5 n)) ≡ nothing (keeps request false)
   release_head request b n e = ap (λ (i : ℕ). at_entry rooms s (keeps request b) (came None) (At (Head 5 i))) e
 
   pub release_went : (request : List ℕ) (b : Bool) (f : List ℕ) (st : State) (rq : List ℕ) (so sn : Option (List ℕ)) (co cn : ℕ) → IsRelease f
@@ -137,10 +137,10 @@ module _ (rooms : Rooms) (s : Settings) where
 
   -- ---- an echo
 
-  echo_head : (request : List ℕ) (b : Bool) (n : ℕ) → n ≤ s.max_pdu → 6 ≤ n → at_entry rooms s (keeps request b) (came None) (At (Head 4 n)) ≡ nothing (keeps request false)
+  pub echo_head : (request : List ℕ) (b : Bool) (n : ℕ) → n ≤ s.max_pdu → 6 ≤ n → at_entry rooms s (keeps request b) (came None) (At (Head 4 n)) ≡ nothing (keeps request false)
   echo_head request b n most least = ap (brought_by (keeps request false)) (no_data _ _ (AtOnce event.Invalid 6) (le-ltb s.max_pdu n most) (le-ltb n 6 least))
 
-  echo_pdv_head : (request : List ℕ) (n id : ℕ) (c : Context) → context_of (record_of request) id ≡ Some c → n - 2 ≤ rooms.command
+  pub echo_pdv_head : (request : List ℕ) (n id : ℕ) (c : Context) → context_of (record_of request) id ≡ Some c → n - 2 ≤ rooms.command
       → at_entry rooms s (keeps request false) (came None) (At (PdvHead n id 3)) ≡ nothing (keeps request false)
   echo_pdv_head request n id c accepted fits = pdv_by (keeps request false) c (context_of (record_of request) id) _ accepted (room_by _ (le-leb (n - 2) rooms.command fits))
 
@@ -151,14 +151,14 @@ module _ (rooms : Rooms) (s : Settings) where
     echo_ends : brought NoMessage (record { context = id; control = 3; fragment = command }) ≡ Ends (record { context = id; command = command; set = [] })
     echo_ends = rw (spelled, alone) refl
 
-    echo_pdv : (k : Option ℕ) → at_entry rooms s (keeps request false) (came k) (At (Pdv id 3 command)) ≡ whole (keeps request false) reply
-    echo_pdv k =
-        ends_by (keeps request false) _ _ echo_ends
-        ∙ ap (replied (keeps request false) 0 (record { context = id; command = command; set = [] })) spelled
+    pub echo_pdv : (o : Outcome) → at_entry rooms s (keeps request false) o (At (Pdv id 3 command)) ≡ whole (keeps request false) reply
+    echo_pdv o =
+        ends_by (keeps request false) o.filing o.status _ _ echo_ends
+        ∙ ap (replied (keeps request false) o.status (record { context = id; command = command; set = [] })) spelled
         ∙ ap (λ (n : ℕ). record {
           next = keeps request false;
-          sent = reply_bytes asked (if nat_eq n 0x0030 then echo_status (record_of request) id asked else 0) id (record_of request).maximum;
-          files = if nat_eq n 0x0001 && nat_eq 0 0 then file_in (record_of request) (context_of (record_of request) id) asked [] else [];
+          sent = reply_bytes asked (if nat_eq n 0x0030 then echo_status (record_of request) id asked else o.status) id (record_of request).maximum;
+          files = if nat_eq n 0x0001 && nat_eq o.status 0 then file_in (record_of request) (context_of (record_of request) id) asked [] else [];
         }) echo
 
     no_store : (given : CommandRecord) → command_in command ≡ Ok given → given.field ≡ 0x0001 → ⊥
@@ -190,5 +190,5 @@ module _ (rooms : Rooms) (s : Settings) where
       (echo_pdv_head request (pdv_size body - 4) id found.0 found.1 (omega (arith, fragment_length f e.one_pdv, e.fits))) tt
       (then_calm rooms s (keeps request false) (Established request) (At (End 4 body)) (At (Pdv id 3 (drop 12 f)) ∷ []) st rq so sn co cn (λ q. either q.refused q) (λ q. tt)
       (tried rooms s (keeps request false) (keeps request false) (Established request) (At (Pdv id 3 (drop 12 f))) _ st rq so sn co cn
-      (echo_pdv request id (drop 12 f) e.asked e.spelled e.alone e.echo) (echo_verdict request id (drop 12 f) e.asked e.spelled e.alone e.echo)
+      (λ k. echo_pdv request id (drop 12 f) e.asked e.spelled e.alone e.echo (came k)) (echo_verdict request id (drop 12 f) e.asked e.spelled e.alone e.echo)
       (record { message = refl; unfailed = refl; none_kept = λ x. cc }) (there (refl, refl, faultless)) t))))

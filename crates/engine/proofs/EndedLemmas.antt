@@ -12,7 +12,7 @@ use Rattle.pdu.specs.Texts.{reject_text}
 use Rattle.pdu.proofs.SentLemmas.{known_nothing}
 use Rattle.negotiate.specs.Settings.{Settings}
 use Rattle.dimse.specs.Messages.{Begun, NoMessage}
-use Rattle.engine.specs.Timeline.{Entry, At, Happened, entries_of}
+use Rattle.engine.specs.Timeline.{Entry, At, Happened, entries_of, Outcome}
 use Rattle.engine.specs.Progress.{Progress, Given, nothing, done, refusing}
 use Rattle.engine.specs.Heads as heads
 use Rattle.engine.specs.Heads.{HeadEvent, NoEvent, AtOnce, TooLong, head_event, event_of, is_known, is_short, is_abort}
@@ -69,15 +69,17 @@ module _ (rooms : Rooms) (s : Settings) where
   end_given false false true body = refl
   end_given false false false body = refl
 
-  ended_one : (b : Bool) (m : Mark) → (c : Bool) × (at_entry rooms s (gone b) (came None) (At m) ≡ nothing (gone c))
-  ended_one b (Head kind n) = still (idle_head (not (is_known kind)) (is_short kind && not (nat_eq n 4)) (nat_eq kind 1) (nat_eq kind 4) (heads.at_request (rooms.request - 12) n) (heads.at_data s.max_pdu n) _
-      (idle_place _ (event_of kind) (ap (λ step. step.0) (idle_event (nat_eq kind 1) (nat_eq kind 2) (nat_eq kind 3) (nat_eq kind 4) (nat_eq kind 5) (nat_eq kind 6) (nat_eq kind 7)))))
-  ended_one true m = (true, refl)
-  ended_one false (PdvHead n context control) = (false, refl)
-  ended_one false (Pdv context control fragment) = (false, refl)
-  ended_one false BadPdv = (false, refl)
-  ended_one false Leftover = (false, refl)
-  ended_one false (End kind body) = (false, end_given (nat_eq kind 7) (nat_eq kind 1) (nat_eq kind 5) body)
+  pub ended_one : (b : Bool) (m : Mark) → (c : Bool) × ((o : Outcome) → at_entry rooms s (gone b) o (At m) ≡ nothing (gone c))
+  ended_one b (Head kind n) =
+      let h = still (idle_head (not (is_known kind)) (is_short kind && not (nat_eq n 4)) (nat_eq kind 1) (nat_eq kind 4) (heads.at_request (rooms.request - 12) n) (heads.at_data s.max_pdu n) _
+      (idle_place _ (event_of kind) (ap (λ step. step.0) (idle_event (nat_eq kind 1) (nat_eq kind 2) (nat_eq kind 3) (nat_eq kind 4) (nat_eq kind 5) (nat_eq kind 6) (nat_eq kind 7))))) in
+      (h.0, λ o. h.1)
+  ended_one true m = (true, λ o. refl)
+  ended_one false (PdvHead n context control) = (false, λ o. refl)
+  ended_one false (Pdv context control fragment) = (false, λ o. refl)
+  ended_one false BadPdv = (false, λ o. refl)
+  ended_one false Leftover = (false, λ o. refl)
+  ended_one false (End kind body) = (false, λ o. end_given (nat_eq kind 7) (nat_eq kind 1) (nat_eq kind 5) body)
 
   no_verdict : (b : Bool) (m : Mark) → IsVerdict rooms s (gone b) (came None) (message_at (gone b) (At m))
   no_verdict b (Head kind n) = tt
@@ -108,10 +110,10 @@ module _ (rooms : Rooms) (s : Settings) where
       let r = stays one.0 ms in
       record {
         refused = r.refused;
-        next = rw (one.1, progress_of) r.next;
-        sent = rw one.1 r.sent;
-        files = rw one.1 r.files;
-        verdicts = (no_verdict b m, rw one.1 r.verdicts);
+        next = rw (one.1 (came None), progress_of) r.next;
+        sent = rw (one.1 (came None)) r.sent;
+        files = rw (one.1 (came None)) r.files;
+        verdicts = (no_verdict b m, rw (one.1 (came None)) r.verdicts);
         failures = omega (arith, r.failures);
         told = ap (λ (es : List Entry). At m ∷ es) r.told;
       }

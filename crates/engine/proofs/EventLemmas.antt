@@ -41,12 +41,12 @@ no_answer_aborted Sta6 e = cc
 no_answer_aborted Sta8 e = cc
 no_answer_aborted Sta13 e = cc
 
-left_quiet : (st : State) (p : Progress) → IsQuiet (left st p)
+pub left_quiet : (st : State) (p : Progress) → IsQuiet (left st p)
 left_quiet st p = record { message = refl; unfailed = refl; none_kept = λ e. refl }
 
 module _ (rooms : Rooms) (s : Settings) where
   -- the entry leads there, and sends what the table says
-  record Goes (place : Place) (p : Progress) (e : Entry) (ev : Event) : Type 0 where
+  pub record Goes (place : Place) (p : Progress) (e : Entry) (ev : Event) : Type 0 where
     pub q : Progress
     pub is : (k : Option ℕ) → at_entry rooms s p (came k) e ≡ whole q (text_of s p.request (sending_at p.state ev))
     pub verdict : (k : Option ℕ) → IsVerdict rooms s p (came k) (message_at p e)
@@ -60,10 +60,10 @@ module _ (rooms : Rooms) (s : Settings) where
   ends place p e ev is v to = record { q = left Sta1 p; is = is; verdict = v; quiet = left_quiet Sta1 p; at = ended refl; state = rw to refl; request = rw to refl }
 
   module _ (place : Place) (rq : List ℕ) (b : Bool) (m : Begun) (f : Bool) where
-    abbrev in_state : State → Progress
+    abbrev pub in_state : State → Progress
     in_state st = record { state = st; request = rq; refused = b; message = m; filing_failed = f }
 
-    close_by : (st : State) → IsQuiet (in_state st) → IsAt place (in_state st) → Goes place (in_state st) Shut Closed
+    pub close_by : (st : State) → IsQuiet (in_state st) → IsAt place (in_state st) → Goes place (in_state st) Shut Closed
     close_by Sta1 quiet at = ends place (in_state Sta1) Shut Closed (λ k. refl) (λ k. tt) refl
     close_by Sta2 quiet at = ends place (in_state Sta2) Shut Closed (λ k. refl) (λ k. tt) refl
     close_by Sta3 quiet at = record { q = in_state Sta3; is = λ k. refl; verdict = λ k. tt; quiet = quiet; at = at; state = refl; request = refl }
@@ -71,7 +71,7 @@ module _ (rooms : Rooms) (s : Settings) where
     close_by Sta8 quiet at = record { q = in_state Sta8; is = λ k. refl; verdict = λ k. tt; quiet = quiet; at = at; state = refl; request = refl }
     close_by Sta13 quiet at = ends place (in_state Sta13) Shut Closed (λ k. refl) (λ k. tt) refl
 
-    expire_by : (st : State) → IsQuiet (in_state st) → IsAt place (in_state st) → Goes place (in_state st) TimedOut Expired
+    pub expire_by : (st : State) → IsQuiet (in_state st) → IsAt place (in_state st) → Goes place (in_state st) TimedOut Expired
     expire_by Sta1 quiet at = ends place (in_state Sta1) TimedOut Expired (λ k. refl) (λ k. tt) refl
     expire_by Sta2 quiet at = ends place (in_state Sta2) TimedOut Expired (λ k. refl) (λ k. tt) refl
     expire_by Sta3 quiet at = record { q = in_state Sta3; is = λ k. refl; verdict = λ k. tt; quiet = quiet; at = at; state = refl; request = refl }
@@ -79,7 +79,7 @@ module _ (rooms : Rooms) (s : Settings) where
     expire_by Sta8 quiet at = record { q = in_state Sta8; is = λ k. refl; verdict = λ k. tt; quiet = quiet; at = at; state = refl; request = refl }
     expire_by Sta13 quiet at = ends place (in_state Sta13) TimedOut Expired (λ k. refl) (λ k. tt) refl
 
-    abort_by : (st : State) → IsQuiet (in_state st) → Goes Over (in_state st) Aborted UserAborts
+    pub abort_by : (st : State) → IsQuiet (in_state st) → Goes Over (in_state st) Aborted UserAborts
     abort_by Sta1 quiet = ends Over (in_state Sta1) Aborted UserAborts (λ k. refl) (λ k. tt) refl
     abort_by Sta2 quiet = record { q = in_state Sta2; is = λ k. refl; verdict = λ k. tt; quiet = quiet; at = there tt; state = refl; request = refl }
     abort_by Sta3 quiet = record { q = in_state Sta3; is = λ k. refl; verdict = λ k. tt; quiet = quiet; at = there tt; state = refl; request = refl }

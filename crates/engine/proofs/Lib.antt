@@ -14,3 +14,5 @@ pub mod EventLemmas
 pub mod MoveLemmas
 pub mod RanLemmas
 pub mod Taken
+pub mod PlaceLemmas
+pub mod InputLemmas

@@ -19,16 +19,16 @@ use Rattle.engine.specs.Progress.{Progress, start, is_established}
 use Rattle.engine.specs.Come.{begun_in, begun_pdv, with_pdv, message_so_far}
 use Rattle.engine.specs.Held.{Held, IsHeldOfMessage, no_set, unfinished, of_request, of_command, held_before_data}
 use Rattle.engine.specs.Run.{Rooms, progress_of}
-use Rattle.engine.specs.Stands.{Seen, IsDraft, none_due}
+use Rattle.engine.specs.Stands.{Stands, Seen, IsDraft, none_due}
 use Rattle.engine.specs.Echoes.{Place, Due, Established, Over, Lead, no_more, request, echo, release, Arrive, nothing, piece, close, expiry, abort}
-use Rattle.engine.specs.Moves.{IsQuiet, there, Went, StandsIn, Moved, marks_of}
+use Rattle.engine.specs.Moves.{IsQuiet, Went, Moved, marks_of}
 use Rattle.engine.proofs.LoopLemmas.{joined_then}
 use Rattle.engine.proofs.StoryLemmas.{entries_then, progress_then, verdicts_then}
 use Rattle.engine.proofs.TimelineLemmas.{entries_append}
 
 -- ---- the stream is whole PDUs
 
-all_then : (fs gs : List (List ℕ)) → AllByRecursion IsFrame fs → AllByRecursion IsFrame gs → AllByRecursion IsFrame (fs ++ gs)
+pub all_then : (fs gs : List (List ℕ)) → AllByRecursion IsFrame fs → AllByRecursion IsFrame gs → AllByRecursion IsFrame (fs ++ gs)
 all_then [] gs a b = b
 all_then (f ∷ fs) gs a b = (a.0, all_then fs gs a.1 b)
 
@@ -38,21 +38,21 @@ pub record IsWhole (stream : List ℕ) : Type 0 where
   pub cut : stream ≡ joined fs
   pub each : AllByRecursion IsFrame fs
 
-whole_splits : (stream : List ℕ) (w : IsWhole stream) → Splits stream w.fs []
+pub whole_splits : (stream : List ℕ) (w : IsWhole stream) → Splits stream w.fs []
 whole_splits stream w = record { whole = w.cut ∙ sym (append-nil (joined w.fs)); each = w.each; partial = λ h. absurd (omega (arith, h)) }
 
 pub whole_rest : (stream : List ℕ) → IsWhole stream → rest_of stream ≡ []
 whole_rest stream w = rest_at stream w.fs [] (whole_splits stream w)
 
 module _ (A C : ℕ) (s : Settings) where
-  lead_whole : (a b : Place) (fs : List (List ℕ)) → Lead A C s a fs b → AllByRecursion IsFrame fs
+  pub lead_whole : (a b : Place) (fs : List (List ℕ)) → Lead A C s a fs b → AllByRecursion IsFrame fs
   lead_whole a b [] no_more = tt
   lead_whole Due b (f ∷ fs) (request r l) = (r.frame, lead_whole (Established (drop 6 f)) b fs l)
   lead_whole (Established asked) b (f ∷ fs) (echo x l) = (x.frame, lead_whole (Established asked) b fs l)
   lead_whole (Established asked) b (f ∷ fs) (release x l) = (x.frame, lead_whole Over b fs l)
   lead_whole Over b (f ∷ fs) l = elim l [ ]
 
-  arrive_whole : {a b : Place} {inputs : List Received} → Arrive A C s a inputs b → IsWhole (stream_of inputs)
+  pub arrive_whole : {a b : Place} {inputs : List Received} → Arrive A C s a inputs b → IsWhole (stream_of inputs)
   arrive_whole nothing = record { fs = []; cut = refl; each = tt }
   arrive_whole (piece {p = p} {q = q} {fs = fs} {inputs = inputs} e l rest) =
       let later = arrive_whole rest in
@@ -74,7 +74,7 @@ module _ (A C : ℕ) (s : Settings) where
   one_more (abort rest) last = abort (one_more rest last)
 
 -- the marks of whole PDUs behind whole PDUs
-new_whole : (stream bytes : List ℕ) (fs : List (List ℕ)) → IsWhole stream → bytes ≡ joined fs → AllByRecursion IsFrame fs → new_marks stream bytes ≡ flat_map whole_marks fs
+pub new_whole : (stream bytes : List ℕ) (fs : List (List ℕ)) → IsWhole stream → bytes ≡ joined fs → AllByRecursion IsFrame fs → new_marks stream bytes ≡ flat_map whole_marks fs
 new_whole stream bytes fs w e all =
     new_later stream bytes w.fs [] (whole_splits stream w) ∙ marks_at bytes fs [] (whole_splits bytes (record { fs = fs; cut = e; each = all })) ∙ append-nil (flat_map whole_marks fs)
 
@@ -137,29 +137,24 @@ module _ (rooms : Rooms) (s : Settings) where
       none_due (λ file d. not_in_set d.id d.command d.set (sym none ∙ d.begun))
 
   pub moved_by : (place last : Place) (inputs : List Received) (story : List Happened) (input : Received) (brought : List Entry) (seen : Seen) (told : Option Shelf) (st : State) (rq : List ℕ) (so sn : Option (List ℕ)) (co cn : ℕ)
-      → StandsIn rooms s place inputs story seen told → Arrive rooms.request rooms.command s place (input ∷ []) last → entries (stream_of inputs) (input ∷ []) ≡ brought
-      → Went rooms s (progress_of rooms s start story) last brought st rq so sn co cn → Moved rooms s last inputs story input (shows st rq) told so sn co cn
-  moved_by place last inputs story input brought seen told st rq so sn co cn h step brings w =
+      → Stands rooms s inputs story false seen told → Arrive rooms.request rooms.command s Due inputs place → Arrive rooms.request rooms.command s place (input ∷ []) last → entries (stream_of inputs) (input ∷ []) ≡ brought
+      → Went rooms s (progress_of rooms s start story) last brought st rq so sn co cn → Moved rooms s inputs story input (shows st rq) told so sn co cn
+  moved_by place last inputs story input brought seen told st rq so sn co cn h came step brings w =
       let d = w.did in
-      let arrives = one_more rooms.request rooms.command s h.arrive step in
+      let arrives = one_more rooms.request rooms.command s came step in
       let none = whole_rest (stream_of (inputs ++ input ∷ [])) (arrive_whole rooms.request rooms.command s arrives) in
       let then-is = progress_then rooms s start story d.story in
       let quiet : IsQuiet (progress_of rooms s start (story ++ d.story)) = rw then-is d.quiet in
       record {
         more = d.story;
         stands = record {
-          stands = record {
-            entries_told = entries_then story d.story ∙ rw (h.stands.entries_told, d.told) (sym (entries_append inputs (input ∷ []) ∙ ap (λ (es : List Entry). entries [] inputs ++ es) brings));
-            verdicts = verdicts_then rooms s start story d.story h.stands.verdicts d.verdicts;
-            state = d.state ∙ sym (ap (λ (q : Progress). q.state) then-is);
-            timer = refl;
-            request = d.request ∙ sym (ap (λ (q : Progress). q.request) then-is);
-            held = quiet_held (inputs ++ input ∷ []) (story ++ d.story) rq none quiet (d.request ∙ sym (ap (λ (q : Progress). q.request) then-is));
-            draft = quiet_draft (rest_of (stream_of (inputs ++ input ∷ []))) (progress_of rooms s start (story ++ d.story)) _ told none quiet;
-          };
-          arrive = arrives;
-          at = rw then-is w.at;
-          quiet = quiet;
+          entries_told = entries_then story d.story ∙ rw (h.entries_told, d.told) (sym (entries_append inputs (input ∷ []) ∙ ap (λ (es : List Entry). entries [] inputs ++ es) brings));
+          verdicts = verdicts_then rooms s start story d.story h.verdicts d.verdicts;
+          state = d.state ∙ sym (ap (λ (q : Progress). q.state) then-is);
+          timer = refl;
+          request = d.request ∙ sym (ap (λ (q : Progress). q.request) then-is);
+          held = quiet_held (inputs ++ input ∷ []) (story ++ d.story) rq none quiet (d.request ∙ sym (ap (λ (q : Progress). q.request) then-is));
+          draft = quiet_draft (rest_of (stream_of (inputs ++ input ∷ []))) (progress_of rooms s start (story ++ d.story)) _ told none quiet;
         };
         files = d.files;
         sent = d.sent;
@@ -174,25 +169,20 @@ module _ (rooms : Rooms) (s : Settings) where
       ∙ ap (λ (ms : List Mark). map At ms) (new_whole (stream_of inputs) bytes fs (arrive_whole rooms.request rooms.command s a) e (lead_whole rooms.request rooms.command s place last fs l))
 
   -- at the beginning
-  pub begins : (told : Option Shelf) → StandsIn rooms s Due [] [] (shows Sta2 []) told
+  begins : (told : Option Shelf) → Stands rooms s [] [] false (shows Sta2 []) told
   begins told =
       let none : rest_of [] ≡ [] = whole_rest [] (record { fs = []; cut = refl; each = tt }) in
       let quiet : IsQuiet start = record { message = refl; unfailed = refl; none_kept = λ e. refl } in
       record {
-        stands = record {
-          entries_told = refl;
-          verdicts = tt;
-          state = refl;
-          timer = refl;
-          request = refl;
-          held = quiet_held [] [] [] none quiet refl;
-          draft = quiet_draft (rest_of []) start _ told none quiet;
-        };
-        arrive = nothing;
-        at = there refl;
-        quiet = quiet;
+        entries_told = refl;
+        verdicts = tt;
+        state = refl;
+        timer = refl;
+        request = refl;
+        held = quiet_held [] [] [] none quiet refl;
+        draft = quiet_draft (rest_of []) start _ told none quiet;
       }
 
-  pub begins_at : (st : State) (rq : List ℕ) (told : Option Shelf) → st ≡ Sta2 → rq ≡ [] → StandsIn rooms s Due [] [] (shows st rq) told
+  pub begins_at : (st : State) (rq : List ℕ) (told : Option Shelf) → st ≡ Sta2 → rq ≡ [] → Stands rooms s [] [] false (shows st rq) told
   begins_at st rq told e f =
-      subst (λ (x : State). StandsIn rooms s Due [] [] (shows x rq) told) (sym e) (subst (λ (r : List ℕ). StandsIn rooms s Due [] [] (shows Sta2 r) told) (sym f) (begins told))
+      subst (λ (x : State). Stands rooms s [] [] false (shows x rq) told) (sym e) (subst (λ (r : List ℕ). Stands rooms s [] [] false (shows Sta2 r) told) (sym f) (begins told))

@@ -32,10 +32,10 @@ made : (st to : State) (rq kept : List ℕ) (b : _) (m : Begun) (f : _) → st �
     → ◌≡◌ {A = Progress} (record { state = st; request = rq; refused = b; message = m; filing_failed = f }) (record { state = to; request = kept; refused = b; message = NoMessage; filing_failed = false })
 made st to rq kept b m f e1 e2 e3 e4 = rw (e1, e2, e3, e4) refl
 
-due_is : (p : Progress) → p.state ≡ Sta2 → IsQuiet p → p ≡ due p.refused
+pub due_is : (p : Progress) → p.state ≡ Sta2 → IsQuiet p → p ≡ due p.refused
 due_is p e q = made p.state Sta2 p.request [] p.refused p.message p.filing_failed e (q.none_kept (rw e refl)) q.message q.unfailed
 
-keeps_is : (p : Progress) → p.state ≡ Sta6 → IsQuiet p → p ≡ keeps p.request p.refused
+pub keeps_is : (p : Progress) → p.state ≡ Sta6 → IsQuiet p → p ≡ keeps p.request p.refused
 keeps_is p e q = made p.state Sta6 p.request p.request p.refused p.message p.filing_failed e refl q.message q.unfailed
 
 -- ---- the next PDU

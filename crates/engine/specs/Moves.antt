@@ -15,7 +15,7 @@ use Rattle.engine.specs.Timeline.{Entry, At, Happened, entries_of}
 use Rattle.engine.specs.Progress.{Progress, start, is_established}
 use Rattle.engine.specs.Run.{Rooms, AreVerdicts, progress_of, sent_of, files_of, wire_failures}
 use Rattle.engine.specs.Stands.{Seen, Stands}
-use Rattle.engine.specs.Echoes.{Place, Due, Established, Over, Lead, Arrive}
+use Rattle.engine.specs.Echoes.{Place, Due, Established, Over, Lead}
 
 -- between two messages; a request is kept in an established association alone
 pub record IsQuiet (p : Progress) : Type 0 where
@@ -74,17 +74,10 @@ pub record Takes (rooms : Rooms) (s : Settings) (p : Progress) (fs : List (List 
   pub lead : Lead rooms.request rooms.command s place left last
   pub went : Went rooms s p place (marks_of taken) state_new request_new sent_old sent_new count_old count_new
 
--- An association stands so, at this place of a stream of echoes.
-pub record StandsIn (rooms : Rooms) (s : Settings) (place : Place) (inputs : List Received) (story : List Happened) (seen : Seen) (told : Option Shelf) : Type 0 where
-  pub stands : Stands rooms s inputs story false seen told
-  pub arrive : Arrive rooms.request rooms.command s Due inputs place
-  pub at : IsAt place (progress_of rooms s start story)
-  pub quiet : IsQuiet (progress_of rooms s start story)
-
 -- One more input came.
-pub record Moved (rooms : Rooms) (s : Settings) (place : Place) (inputs : List Received) (story : List Happened) (input : Received) (seen_new : Seen) (told : Option Shelf) (sent_old sent_new : Option (List ℕ)) (count_old count_new : ℕ) : Type 0 where
+pub record Moved (rooms : Rooms) (s : Settings) (inputs : List Received) (story : List Happened) (input : Received) (seen_new : Seen) (told : Option Shelf) (sent_old sent_new : Option (List ℕ)) (count_old count_new : ℕ) : Type 0 where
   pub more : List Happened
-  pub stands : StandsIn rooms s place (inputs ++ input ∷ []) (story ++ more) seen_new told
+  pub stands : Stands rooms s (inputs ++ input ∷ []) (story ++ more) false seen_new told
   pub files : files_of rooms s (progress_of rooms s start story) more ≡ []
   pub sent : sent_new ≡ append_known sent_old (sent_of rooms s (progress_of rooms s start story) more)
   pub count : count_new ≡ count_old + wire_failures more

@@ -1,5 +1,5 @@
 -- A run: which inputs were taken, and what came of them.
-use Rattle.std.specs.Prelude.{◌≡◌, ℕ, zero, suc, ◌+◌, ◌<◌, ◌≤◌, List, [], length, Option, Some, None}
+use Rattle.std.specs.Prelude.{◌≡◌, false, ℕ, zero, suc, ◌+◌, ◌<◌, ◌≤◌, List, [], length, Option, Some, None}
 use Rattle.std.specs.Io.KnownBytes.{append_known}
 use Rattle.acceptor.specs.declared.state.State.{State}
 use Rattle.acceptor.specs.declared.state.State.TheVariants.{Sta1, Sta13}
@@ -13,9 +13,8 @@ use Rattle.engine.specs.Timeline.{Happened}
 use Rattle.engine.specs.Progress.{start}
 use Rattle.engine.specs.Run.{Rooms, Run, sent_of, files_of, wire_failures}
 use Rattle.engine.specs.Held.{Held}
-use Rattle.engine.specs.Stands.{Seen}
-use Rattle.engine.specs.Echoes.{Place, Due, Arrive, AreEchoes}
-use Rattle.engine.specs.Moves.{StandsIn}
+use Rattle.engine.specs.Stands.{Seen, Stands}
+use Rattle.engine.specs.Echoes.{AreEchoes}
 
 -- what is left after n inputs
 abbrev pub inputs_after : ℕ → List Received → List Received
@@ -27,10 +26,10 @@ abbrev pub Follows : Option (List Received) → Option (List Received) → List 
 Follows None now taken = now ≡ None
 Follows (Some all) now taken = (taken ≡ first_inputs (length taken) all) × (now ≡ Some (inputs_after (length taken) all))
 
--- after these inputs, which lead to this place, the association stands so, and this was sent
-pub record Stood (rooms : Rooms) (s : Settings) (place : Place) (taken : List Received) (seen : Seen) (told : Option Shelf) (sent_old sent_new : Option (List ℕ)) (count_old count_new : ℕ) : Type 0 where
+-- after these inputs the association stands so, and this was sent
+pub record Stood (rooms : Rooms) (s : Settings) (taken : List Received) (seen : Seen) (told : Option Shelf) (sent_old sent_new : Option (List ℕ)) (count_old count_new : ℕ) : Type 0 where
   pub story : List Happened
-  pub stands : StandsIn rooms s place taken story seen told
+  pub stands : Stands rooms s taken story false seen told
   pub files : files_of rooms s start story ≡ []
   pub sent : sent_new ≡ append_known sent_old (sent_of rooms s start story)
   pub count : count_new ≡ count_old + wire_failures story
@@ -40,7 +39,7 @@ pub record Running (rooms : Rooms) (s : Settings) (turns : ℕ) (source_old sour
   pub taken : List Received
   pub number : length taken ≡ turns
   pub follows : Follows source_old source_now taken
-  pub stood : (place : Place) → Arrive rooms.request rooms.command s Due taken place → Stood rooms s place taken seen told sent_old sent_new count_old count_new
+  pub stood : AreEchoes rooms.request rooms.command s taken → Stood rooms s taken seen told sent_old sent_new count_old count_new
 
 -- ---- the end of a run
 

@@ -39,7 +39,7 @@ pub struct Association<const A: usize, const C: usize, const V: usize, const D: 
 }
 
 impl<const A: usize, const C: usize, const V: usize, const D: usize> Association<A, C, V, D> {
-    ghost use Rattle.std.specs.Prelude.{ℕ, List, Option, Some, None, Ok};
+    ghost use Rattle.std.specs.Prelude.{ℕ, List, ◌∷◌, ◌++◌, Option, Some, None, Ok};
     ghost use Rattle.pdu.specs.Items.{record_of};
     ghost use Rattle.pdu.specs.Refusal.{request_fault};
     ghost use Rattle.pdu.specs.Texts.{release_text};
@@ -56,8 +56,9 @@ impl<const A: usize, const C: usize, const V: usize, const D: usize> Association
     ghost use Rattle.part10.specs.Shelf.{Shelf};
     ghost use Rattle.engine.specs.Inputs.{Received, Bytes, Close, Expiry, UserAbort};
     ghost use Rattle.engine.specs.Timeline.{Happened};
-    ghost use Rattle.engine.specs.Echoes.{Place, Due, Over, Lead};
-    ghost use Rattle.engine.specs.Moves.{IsAt, IsQuiet, OnSome, Took, Went, StandsIn, Moved, marks_of};
+    ghost use Rattle.engine.specs.Stands.{Stands};
+    ghost use Rattle.engine.specs.Echoes.{Place, Lead, AreEchoes};
+    ghost use Rattle.engine.specs.Moves.{IsAt, IsQuiet, OnSome, Took, Went, Moved, marks_of};
     ghost use Rattle.engine.specs.Idle.{state_of, request_of, settings_in, seen_of, rooms_of, StaysEnded};
     ghost use Rattle.engine.specs.Sends.{Sends, state_after, kept_in, sending_at, text_of, Tries, Settles};
 
@@ -68,7 +69,7 @@ impl<const A: usize, const C: usize, const V: usize, const D: usize> Association
         ensures state { state_of result ≡ Sta2 }
         ensures nothing { request_of result ≡ [] }
         ensures settings { settings_in result ≡ settings_of config.now }
-        ensures stands { (told : Option Shelf) → StandsIn (rooms_of A C V D) (settings_of config.now) Due [] [] (seen_of result) told }
+        ensures stands { (told : Option Shelf) → Stands (rooms_of A C V D) (settings_of config.now) [] [] false (seen_of result) told }
     {
         let (_, state) = act(State::Sta1, Event::Connected);
         Association {
@@ -111,9 +112,9 @@ impl<const A: usize, const C: usize, const V: usize, const D: usize> Association
     /// Takes the next bytes of the stream.
     pub fn feed<W: Wire, F: Filing>(&mut self, piece: &[u8], wire: &mut W, filing: &mut F)
         ensures settings { settings_in self.new ≡ settings_in self.old }
-        ensures moved { (inputs : List Received) (story : List Happened) (told : Option Shelf) (place last : Place) (fs : List (List ℕ))
-            → StandsIn (rooms_of A C V D) (settings_in self.old) place inputs story (seen_of self.old) told → piece.now ≡ joined fs → Lead A C (settings_in self.old) place fs last
-            → Moved (rooms_of A C V D) (settings_in self.old) last inputs story (Bytes piece.now) (seen_of self.new) told (W.sent wire.old) (W.sent wire.new) (W.failures wire.old) (W.failures wire.new) }
+        ensures moved { (inputs : List Received) (story : List Happened) (told : Option Shelf)
+            → Stands (rooms_of A C V D) (settings_in self.old) inputs story false (seen_of self.old) told → AreEchoes A C (settings_in self.old) (inputs ++ Bytes piece.now ∷ [])
+            → Moved (rooms_of A C V D) (settings_in self.old) inputs story (Bytes piece.now) (seen_of self.new) told (W.sent wire.old) (W.sent wire.new) (W.failures wire.old) (W.failures wire.new) }
         ensures ended { state_of self.old ≡ Sta1 → StaysEnded (state_of self.new) (W.sent wire.old) (W.sent wire.new) (W.failures wire.old) (W.failures wire.new) }
         ensures unfiled { F.told filing.new ≡ F.told filing.old }
         ensures filing_count { F.failures filing.new ≡ F.failures filing.old }
@@ -125,8 +126,9 @@ impl<const A: usize, const C: usize, const V: usize, const D: usize> Association
     /// The peer closed the transport connection.
     pub fn closed<W: Wire, F: Filing>(&mut self, wire: &mut W, filing: &mut F)
         ensures settings { settings_in self.new ≡ settings_in self.old }
-        ensures moved { (inputs : List Received) (story : List Happened) (told : Option Shelf) (place : Place) → StandsIn (rooms_of A C V D) (settings_in self.old) place inputs story (seen_of self.old) told
-            → Moved (rooms_of A C V D) (settings_in self.old) place inputs story Close (seen_of self.new) told (W.sent wire.old) (W.sent wire.new) (W.failures wire.old) (W.failures wire.new) }
+        ensures moved { (inputs : List Received) (story : List Happened) (told : Option Shelf)
+            → Stands (rooms_of A C V D) (settings_in self.old) inputs story false (seen_of self.old) told → AreEchoes A C (settings_in self.old) (inputs ++ Close ∷ [])
+            → Moved (rooms_of A C V D) (settings_in self.old) inputs story Close (seen_of self.new) told (W.sent wire.old) (W.sent wire.new) (W.failures wire.old) (W.failures wire.new) }
         ensures ended { state_of self.old ≡ Sta1 → StaysEnded (state_of self.new) (W.sent wire.old) (W.sent wire.new) (W.failures wire.old) (W.failures wire.new) }
         ensures unfiled { F.told filing.new ≡ F.told filing.old }
         ensures filing_count { F.failures filing.new ≡ F.failures filing.old }
@@ -138,8 +140,9 @@ impl<const A: usize, const C: usize, const V: usize, const D: usize> Association
     /// The ARTIM timer ran out.
     pub fn expired<W: Wire, F: Filing>(&mut self, wire: &mut W, filing: &mut F)
         ensures settings { settings_in self.new ≡ settings_in self.old }
-        ensures moved { (inputs : List Received) (story : List Happened) (told : Option Shelf) (place : Place) → StandsIn (rooms_of A C V D) (settings_in self.old) place inputs story (seen_of self.old) told
-            → Moved (rooms_of A C V D) (settings_in self.old) place inputs story Expiry (seen_of self.new) told (W.sent wire.old) (W.sent wire.new) (W.failures wire.old) (W.failures wire.new) }
+        ensures moved { (inputs : List Received) (story : List Happened) (told : Option Shelf)
+            → Stands (rooms_of A C V D) (settings_in self.old) inputs story false (seen_of self.old) told → AreEchoes A C (settings_in self.old) (inputs ++ Expiry ∷ [])
+            → Moved (rooms_of A C V D) (settings_in self.old) inputs story Expiry (seen_of self.new) told (W.sent wire.old) (W.sent wire.new) (W.failures wire.old) (W.failures wire.new) }
         ensures ended { state_of self.old ≡ Sta1 → StaysEnded (state_of self.new) (W.sent wire.old) (W.sent wire.new) (W.failures wire.old) (W.failures wire.new) }
         ensures unfiled { F.told filing.new ≡ F.told filing.old }
         ensures filing_count { F.failures filing.new ≡ F.failures filing.old }
@@ -151,8 +154,9 @@ impl<const A: usize, const C: usize, const V: usize, const D: usize> Association
     /// The local user aborts the association.
     pub fn local_abort<W: Wire, F: Filing>(&mut self, wire: &mut W, filing: &mut F)
         ensures settings { settings_in self.new ≡ settings_in self.old }
-        ensures moved { (inputs : List Received) (story : List Happened) (told : Option Shelf) (place : Place) → StandsIn (rooms_of A C V D) (settings_in self.old) place inputs story (seen_of self.old) told
-            → Moved (rooms_of A C V D) (settings_in self.old) Over inputs story UserAbort (seen_of self.new) told (W.sent wire.old) (W.sent wire.new) (W.failures wire.old) (W.failures wire.new) }
+        ensures moved { (inputs : List Received) (story : List Happened) (told : Option Shelf)
+            → Stands (rooms_of A C V D) (settings_in self.old) inputs story false (seen_of self.old) told → AreEchoes A C (settings_in self.old) (inputs ++ UserAbort ∷ [])
+            → Moved (rooms_of A C V D) (settings_in self.old) inputs story UserAbort (seen_of self.new) told (W.sent wire.old) (W.sent wire.new) (W.failures wire.old) (W.failures wire.new) }
         ensures ended { state_of self.old ≡ Sta1 → StaysEnded (state_of self.new) (W.sent wire.old) (W.sent wire.new) (W.failures wire.old) (W.failures wire.new) }
         ensures unfiled { F.told filing.new ≡ F.told filing.old }
         ensures filing_count { F.failures filing.new ≡ F.failures filing.old }

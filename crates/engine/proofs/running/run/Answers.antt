@@ -4,7 +4,7 @@ use Rattle.negotiate.specs.Settings.{settings_of}
 use Rattle.engine.specs.declared.source.Input.TheVariants.{Piece, Closed, Expired, LocalAbort}
 use Rattle.engine.specs.Idle.{rooms_of}
 use Rattle.engine.specs.Ran.{standing_of}
-use Rattle.engine.proofs.RanLemmas.{running_start, running_more, by_piece, by_close, by_expiry, by_abort, follows_all, answered_by}
+use Rattle.engine.proofs.RanLemmas.{running_start, running_more, follows_all, answered_by}
 use Rattle.engine.proofs.running.run.Goals as goal
 use Rattle.engine.proofs.running.run.Goals.{in-Piece, in-Closed, in-Expired, in-LocalAbort, else-loop-turn-test, then-loop-turn-test+in-Sta1}
 
@@ -27,26 +27,25 @@ loop-turn-preserved g c =
         told = w.feed.ensures.unfiled ∙ i.told;
         count = w.feed.ensures.filing_count ∙ i.count;
         settings = w.feed.ensures.settings ∙ i.settings;
-        running = running_more rooms s _ _ _ _ _ _ _ _ _ _ _ _ _ _ Piece r (w.in-Piece.ensures {u = tt})
-            (by_piece rooms _ _ _ _ _ _ _ s _ r.taken _ i.settings (rw w.piece.ensures at w.feed.ensures.moved));
+        running = running_more rooms s _ _ _ _ _ _ _ _ _ _ _ _ _ _ Piece _ i.settings r (w.in-Piece.ensures {u = tt}) (rw w.piece.ensures at w.feed.ensures.moved);
       })
       | in-Closed w ↦ rw (w.association-is, w.wire-is, w.filing-is) (record {
         told = w.closed.ensures.unfiled ∙ i.told;
         count = w.closed.ensures.filing_count ∙ i.count;
         settings = w.closed.ensures.settings ∙ i.settings;
-        running = running_more rooms s _ _ _ _ _ _ _ _ _ _ _ _ _ _ Closed r (w.in-Closed.ensures {u = tt}) (by_close rooms _ _ _ _ _ _ _ s _ r.taken i.settings w.closed.ensures.moved);
+        running = running_more rooms s _ _ _ _ _ _ _ _ _ _ _ _ _ _ Closed _ i.settings r (w.in-Closed.ensures {u = tt}) w.closed.ensures.moved;
       })
       | in-Expired w ↦ rw (w.association-is, w.wire-is, w.filing-is) (record {
         told = w.expired.ensures.unfiled ∙ i.told;
         count = w.expired.ensures.filing_count ∙ i.count;
         settings = w.expired.ensures.settings ∙ i.settings;
-        running = running_more rooms s _ _ _ _ _ _ _ _ _ _ _ _ _ _ Expired r (w.in-Expired.ensures {u = tt}) (by_expiry rooms _ _ _ _ _ _ _ s _ r.taken i.settings w.expired.ensures.moved);
+        running = running_more rooms s _ _ _ _ _ _ _ _ _ _ _ _ _ _ Expired _ i.settings r (w.in-Expired.ensures {u = tt}) w.expired.ensures.moved;
       })
       | in-LocalAbort w ↦ rw (w.association-is, w.wire-is, w.filing-is) (record {
         told = w.local_abort.ensures.unfiled ∙ i.told;
         count = w.local_abort.ensures.filing_count ∙ i.count;
         settings = w.local_abort.ensures.settings ∙ i.settings;
-        running = running_more rooms s _ _ _ _ _ _ _ _ _ _ _ _ _ _ LocalAbort r (w.in-LocalAbort.ensures {u = tt}) (by_abort rooms _ _ _ _ _ _ _ s _ r.taken i.settings w.local_abort.ensures.moved);
+        running = running_more rooms s _ _ _ _ _ _ _ _ _ _ _ _ _ _ LocalAbort _ i.settings r (w.in-LocalAbort.ensures {u = tt}) w.local_abort.ensures.moved;
       })
     ]
 
