@@ -1,10 +1,12 @@
 -- The streams of echoes on which the definition is tried.
-use Rattle.std.proofs.Common.{◌≡◌, [], ◌∷◌, drop, None, refl, arith, codes, false}
+use Rattle.std.proofs.Common.{◌≡◌, [], ◌∷◌, drop, None, refl, arith, codes, false, is_some, true, List, ℕ}
 use Rattle.dictionary.specs.Classes.{class_named}
 use Rattle.dictionary.specs.Syntaxes.{syntax_named}
 use Rattle.dimse.specs.Command.{element_bytes, stored, command_of}
 use Rattle.dimse.specs.Reading.{element_at, elements_in, elements_of, set_of, command_in}
 use Rattle.element.specs.Vr.{is_short}
+use Rattle.negotiate.specs.Contexts.{context_of}
+use Rattle.pdu.specs.Items.{record_of}
 use Rattle.negotiate.specs.declared.answer.Answer.{Answer}
 use Rattle.negotiate.specs.declared.answer.Answer.TheVariants.{Accept, Reject}
 use Rattle.pdu.specs.Items.{items_of, left_over}
@@ -29,16 +31,17 @@ is_request = record { frame = record { headed = omega arith; filled = refl }; ty
 is_request_of_eights : IsRequest 65536 settings request_of_eights
 is_request_of_eights = record { frame = record { headed = omega arith; filled = refl }; type = refl; fits = omega arith; asks = asks_in_eights }
 
-is_echo : IsEcho 1024 settings (drop 6 recorded.request) recorded.echo
-unfolding pieces_of items_of class_named syntax_named is_short element_bytes stored command_of element_at elements_in elements_of set_of command_in
-is_echo = record {
+-- the recorded echo, in the association of any request with an accepted context of id 1
+is_echo : (asked : List ℕ) → is_some (context_of (record_of asked) 1) ≡ true → IsEcho 1024 settings asked recorded.echo
+unfolding class_named is_short element_bytes stored command_of element_at elements_in elements_of set_of command_in
+is_echo asked accepted = record {
   frame = record { headed = omega arith; filled = refl };
   type = refl;
   announced = omega arith;
   one_pdv = record { headed = omega arith; filled = refl };
   control = refl;
   fits = omega arith;
-  context = refl;
+  context = accepted;
   asked = record { class = codes "1.2.840.10008.1.1"; field = 0x0030; message = 1; with_data = false; instance = None };
   spelled = refl;
   echo = refl;
@@ -46,41 +49,32 @@ is_echo = record {
   class = refl;
 }
 
-is_echo_in_eights : IsEcho 1024 settings (drop 6 request_of_eights) recorded.echo
-unfolding pieces_of items_of class_named syntax_named is_short element_bytes stored command_of element_at elements_in elements_of set_of command_in
-is_echo_in_eights = record {
-  frame = record { headed = omega arith; filled = refl };
-  type = refl;
-  announced = omega arith;
-  one_pdv = record { headed = omega arith; filled = refl };
-  control = refl;
-  fits = omega arith;
-  context = refl;
-  asked = record { class = codes "1.2.840.10008.1.1"; field = 0x0030; message = 1; with_data = false; instance = None };
-  spelled = refl;
-  echo = refl;
-  alone = refl;
-  class = refl;
-}
+accepted : is_some (context_of (record_of (drop 6 recorded.request)) 1) ≡ true
+unfolding pieces_of items_of class_named syntax_named
+accepted = refl
+
+accepted_in_eights : is_some (context_of (record_of (drop 6 request_of_eights)) 1) ≡ true
+unfolding pieces_of items_of class_named syntax_named
+accepted_in_eights = refl
 
 is_release : IsRelease recorded.release
 is_release = record { frame = record { headed = omega arith; filled = refl }; type = refl; size = refl }
 
 pub the_echo_is_taken : TheEchoIsTaken
 the_echo_is_taken = (
-  record { place = Over; arrive = piece {fs = recorded.request ∷ recorded.echo ∷ recorded.release ∷ []} refl (request is_request (echo is_echo (release is_release no_more))) (close nothing) },
+  record { place = Over; arrive = piece {fs = recorded.request ∷ recorded.echo ∷ recorded.release ∷ []} refl (request is_request (echo (is_echo _ accepted) (release is_release no_more))) (close nothing) },
   record {
     place = Over;
     arrive = piece {fs = recorded.request ∷ []} refl (request is_request no_more)
         (piece {fs = []} refl no_more
-        (piece {fs = recorded.echo ∷ recorded.echo ∷ []} refl (echo is_echo (echo is_echo no_more))
+        (piece {fs = recorded.echo ∷ recorded.echo ∷ []} refl (echo (is_echo _ accepted) (echo (is_echo _ accepted) no_more))
         (piece {fs = recorded.release ∷ []} refl (release is_release no_more) (close nothing))));
   },
 )
 
 pub an_echo_in_eights_is_taken : AnEchoInEightsIsTaken
 an_echo_in_eights_is_taken =
-    record { place = Over; arrive = piece {fs = request_of_eights ∷ recorded.echo ∷ recorded.release ∷ []} refl (request is_request_of_eights (echo is_echo_in_eights (release is_release no_more))) (close nothing) }
+    record { place = Over; arrive = piece {fs = request_of_eights ∷ recorded.echo ∷ recorded.release ∷ []} refl (request is_request_of_eights (echo (is_echo _ accepted_in_eights) (release is_release no_more))) (close nothing) }
 
 pub another_title_is_not_taken : AnotherTitleIsNotTaken
 unfolding pieces_of items_of left_over item_fault items_fault

@@ -12,7 +12,7 @@ use arrayvec::ArrayVec;
 use dimse::{Command, read_command, write_response};
 use negotiate::{Answer, Config, judge, write_answer};
 use part10::Filing;
-use pdu::{Wire, WireFailed, read_pdv_head, read_request, write_abort, write_release};
+use pdu::{Wire, WireFailed, read_request, write_abort, write_release};
 
 /// The reason of a service provider's abort that is neither an unknown type nor a known one out of
 /// place (PS3.8 section 9.3.8: invalid PDU parameter value).

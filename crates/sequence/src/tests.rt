@@ -23,12 +23,20 @@ fn take(walker: &mut Walker<140, 64>, piece: &[u8]) {
     }
 }
 
-fn walk_two(syntax: Syntax, bytes: &[u8]) -> Walker<140, 2> {
+/// A walker of two levels that took these bytes in two pieces.
+fn walk_two(syntax: Syntax, bytes: &[u8], cut: usize) -> Walker<140, 2>
+    requires { cut ≤ length bytes.now }
+{
     let mut walker = Walker::new(syntax, Wanted::none(), 1 << 40);
-    for i in 0..bytes.len() {
-        let _ = walker.step(&bytes[i..]);
-    }
+    take_two(&mut walker, &bytes[..cut]);
+    take_two(&mut walker, &bytes[cut..]);
     walker
+}
+
+fn take_two(walker: &mut Walker<140, 2>, piece: &[u8]) {
+    for i in 0..piece.len() {
+        let _ = walker.step(&piece[i..]);
+    }
 }
 
 fn fault_of(walker: &Walker<140, 64>) -> Option<Fault> {
@@ -133,34 +141,40 @@ fn a_header_past_its_item(rt: HostRuntime) {
         );
         assert_eq!(rt; w.place(), 26);
     }
-    let w = walk(Syntax::Implicit, &LEVEL_PAST_ITS_ITEM, 0);
-    assert_eq!(rt;
-        fault_of(&w),
-        Some(Fault {
-            number: 17,
-            place: 24,
-            tag: Tag(0, 0)
-        })
-    );
-    assert_eq!(rt; w.held(), 48);
+    for cut in 0..25 {
+        let w = walk(Syntax::Implicit, &LEVEL_PAST_ITS_ITEM, cut);
+        assert_eq!(rt;
+            fault_of(&w),
+            Some(Fault {
+                number: 17,
+                place: 24,
+                tag: Tag(0, 0)
+            })
+        );
+        assert_eq!(rt; w.held(), 48);
+    }
 }
 
 #[test]
 fn deeper_than_the_limit(rt: HostRuntime) {
-    let mut w = walk_two(Syntax::Implicit, &TOO_DEEP);
     let refused = Fault {
         number: 18,
         place: 16,
         tag: Tag(0x40, 0xa730),
     };
-    let (taken, step) = w.step(&TOO_DEEP);
-    assert_eq!(rt; taken, 0);
-    assert!(rt; matches!(step, Step::Refused(fault) if fault == refused));
-    assert_eq!(rt; w.levels(), 2);
-    assert_eq!(rt; w.place(), 24);
-    let w = walk_two(Syntax::Implicit, &DEEP_ENOUGH);
-    assert_eq!(rt; w.levels(), 2);
-    assert_eq!(rt; w.place(), 24);
+    for cut in 0..TOO_DEEP.len() + 1 {
+        let mut w = walk_two(Syntax::Implicit, &TOO_DEEP, cut);
+        let (taken, step) = w.step(&TOO_DEEP);
+        assert_eq!(rt; taken, 0);
+        assert!(rt; matches!(step, Step::Refused(fault) if fault == refused));
+        assert_eq!(rt; w.levels(), 2);
+        assert_eq!(rt; w.place(), 24);
+    }
+    for cut in 0..DEEP_ENOUGH.len() + 1 {
+        let w = walk_two(Syntax::Implicit, &DEEP_ENOUGH, cut);
+        assert_eq!(rt; w.levels(), 2);
+        assert_eq!(rt; w.place(), 24);
+    }
 }
 
 #[test]
@@ -170,15 +184,17 @@ fn unknown_content(rt: HostRuntime) {
         assert_eq!(rt; fault_of(&w), None);
         assert_eq!(rt; w.place(), 38);
     }
-    let w = walk(Syntax::Explicit, &NOT_ALLOWED, 0);
-    assert_eq!(rt;
-        fault_of(&w),
-        Some(Fault {
-            number: 14,
-            place: 0,
-            tag: Tag(0x7fe0, 0x10)
-        })
-    );
+    for cut in 0..NOT_ALLOWED.len() + 1 {
+        let w = walk(Syntax::Explicit, &NOT_ALLOWED, cut);
+        assert_eq!(rt;
+            fault_of(&w),
+            Some(Fault {
+                number: 14,
+                place: 0,
+                tag: Tag(0x7fe0, 0x10)
+            })
+        );
+    }
 }
 
 #[test]
@@ -210,6 +226,34 @@ fn one_ct_store(rt: HostRuntime) {
         assert_eq!(rt; w.kept(Tag(0x0008, 0x0018)), Some(&b"1.2.3\0"[..]));
     }
     assert!(rt; one_by_one);
+}
+
+#[test]
+fn one_ct_store_in_two_pieces(rt: HostRuntime) {
+    let wants = [
+        Want {
+            tag: Tag(0x0008, 0x0016),
+            room: 64,
+        },
+        Want {
+            tag: Tag(0x0008, 0x0018),
+            room: 64,
+        },
+    ];
+    let mut walked = 0u32;
+    for cut in 0..49 {
+        if let Some(wanted) = Wanted::of(&wants) {
+            let mut w: Walker<140, 64> = Walker::new(Syntax::Explicit, wanted, 1 << 40);
+            take(&mut w, &ONE_CT_STORE[..cut]);
+            take(&mut w, &ONE_CT_STORE[cut..]);
+            assert_eq!(rt; w.held(), 32);
+            assert_eq!(rt; w.place(), 48);
+            assert_eq!(rt; fault_of(&w), None);
+            assert_eq!(rt; w.kept(Tag(0x0008, 0x0018)), Some(&b"1.2.3\0"[..]));
+            walked = walked.saturating_add(1);
+        }
+    }
+    assert_eq!(rt; walked, 49);
 }
 
 /// A sequence and an item, both of undefined length.
