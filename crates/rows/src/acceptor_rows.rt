@@ -1,0 +1,1 @@
+//! The worked rows of `acceptor`, by its public calls alone.

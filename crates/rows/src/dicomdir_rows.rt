@@ -1,0 +1,1 @@
+//! The worked rows of `dicomdir`, by its public calls alone.

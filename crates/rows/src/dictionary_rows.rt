@@ -1,0 +1,1 @@
+//! The worked rows of `dictionary`, by its public calls alone.

@@ -1,0 +1,1 @@
+//! The worked rows of `dimse`, by its public calls alone.

@@ -1,0 +1,1 @@
+//! The worked rows of `element`, by its public calls alone.

@@ -1,0 +1,1 @@
+//! The worked rows of `engine`, by its public calls alone.

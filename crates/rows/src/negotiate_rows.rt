@@ -1,0 +1,1 @@
+//! The worked rows of `negotiate`, by its public calls alone.

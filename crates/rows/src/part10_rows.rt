@@ -1,0 +1,1 @@
+//! The worked rows of `part10`, by its public calls alone.

@@ -1,0 +1,1 @@
+//! The worked rows of `pdu`, by its public calls alone.

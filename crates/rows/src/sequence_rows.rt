@@ -1,0 +1,1 @@
+//! The worked rows of `sequence`, by its public calls alone.
