@@ -9,7 +9,7 @@ use Rattle.acceptor.specs.declared.effect.Sending.TheVariants.{Nothing, Answer, 
 use Rattle.acceptor.specs.declared.effect.Timer.{Timer}
 use Rattle.acceptor.specs.declared.effect.Timer.TheVariants.{Starts, Stops, GoesOn}
 
--- what the action sends where it leads to this state; the reason is that of a service provider's abort
+-- what the action sends when this is the next state; the reason is that of a service provider's abort
 abbrev pub sending : Action → State → ℕ → Sending
 sending Ae6 Sta13 reason = Answer
 sending Ae7 next reason = Answer
@@ -20,14 +20,14 @@ sending Aa7 next reason = Abort 2 reason
 sending Aa8 next reason = Abort 2 reason
 sending action next reason = Nothing
 
--- the bytes that are sent, of the answer, of an A-RELEASE-RP, and of an A-ABORT with its source and reason
+-- the bytes that are sent, given those of the answer, of an A-RELEASE-RP, and of an A-ABORT with its source and reason
 abbrev pub bytes_sent : (answer release : List ℕ) → (abort : ℕ → ℕ → List ℕ) → Sending → List ℕ
 bytes_sent answer release abort Nothing = []
 bytes_sent answer release abort Answer = answer
 bytes_sent answer release abort ReleaseResponse = release
 bytes_sent answer release abort (Abort source reason) = abort source reason
 
--- what the action does to the timer where it leads to this state
+-- what the action does to the timer when this is the next state
 abbrev pub timer : Action → State → Timer
 timer Ae5 next = Starts
 timer Ae6 Sta13 = Starts

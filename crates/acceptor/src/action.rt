@@ -5,21 +5,21 @@ ghost use Rattle.acceptor.specs.Effect as spelling;
 use crate::effect::{Sending, Timer};
 use crate::state::State;
 
-/// What is done at an event, named as PS3.8 Tables 9-6 to 9-9 name it.
+/// An action, named as in PS3.8 Tables 9-6 to 9-9.
 #[derive(Clone, Copy, Debug, PartialEq, Eq)]
 pub enum Action {
-    /// No action: the event doesn't belong to the state (this product's own profile).
+    /// No action: the event cannot occur in the state (this product's own profile).
     Nothing,
-    /// AE-5: the transport connection is answered, and the ARTIM timer starts.
+    /// AE-5: the transport connection is accepted and the ARTIM timer starts.
     Ae5,
-    /// AE-6: where the request is acceptable the timer stops and the local user is asked; else an
-    /// A-ASSOCIATE-RJ is sent and the timer starts.
+    /// AE-6: if the request is acceptable, the timer stops and the local user decides on it; if not,
+    /// an A-ASSOCIATE-RJ is sent and the timer starts.
     Ae6,
     /// AE-7: an A-ASSOCIATE-AC is sent.
     Ae7,
     /// AE-8: an A-ASSOCIATE-RJ is sent and the timer starts.
     Ae8,
-    /// AR-2: the local user is told of the release.
+    /// AR-2: the local user gets an A-RELEASE indication.
     Ar2,
     /// AR-4: an A-RELEASE-RP is sent and the timer starts.
     Ar4,
@@ -29,26 +29,26 @@ pub enum Action {
     Aa1,
     /// AA-2: the timer stops and the transport connection is closed.
     Aa2,
-    /// AA-3: the local user is told of the peer's abort, and the transport connection is closed.
+    /// AA-3: the local user gets an A-ABORT indication and the transport connection is closed.
     Aa3,
-    /// AA-4: the local user is told that the transport connection is gone.
+    /// AA-4: the local user gets an A-P-ABORT indication.
     Aa4,
     /// AA-5: the timer stops.
     Aa5,
     /// AA-6: the PDU is ignored.
     Aa6,
-    /// AA-7: an A-ABORT of the service provider is sent; the timer goes on.
+    /// AA-7: an A-ABORT of the service provider is sent; the timer keeps running.
     Aa7,
-    /// AA-8: an A-ABORT of the service provider is sent, the local user is told, and the timer
-    /// starts.
+    /// AA-8: an A-ABORT of the service provider is sent, the local user gets an A-P-ABORT
+    /// indication, and the timer starts.
     Aa8,
-    /// DT-2: the data goes to the local user.
+    /// DT-2: the local user gets a P-DATA indication.
     Dt2,
 }
 
 impl Action {
-    /// What this action sends where it leads to the state `next`. `reason` is the reason of an
-    /// A-ABORT of the service provider (PS3.8 section 9.3.8); the other actions don't use it.
+    /// Returns what this action sends when the next state is `next`. `reason` is the reason of an
+    /// A-ABORT of the service provider (PS3.8 section 9.3.8); the other actions ignore it.
     pub fn sends(self, next: State, reason: u8) -> Sending
         ensures { result ≡ spelling.sending self next reason }
     {
@@ -62,7 +62,7 @@ impl Action {
         }
     }
 
-    /// What this action does to the ARTIM timer where it leads to the state `next`.
+    /// Returns what this action does to the ARTIM timer when the next state is `next`.
     pub fn timer(self, next: State) -> Timer
         ensures { result ≡ spelling.timer self next }
     {

@@ -1,8 +1,8 @@
-//! What actions do.
+//! The effects of actions.
 ghost use Rattle.std.specs.Prelude.{◌≡◌};
 ghost use Rattle.acceptor.specs.Effect as spelling;
 
-/// What an action sends (PS3.8 section 9.2). The layouts are those of PS3.8 section 9.3.
+/// What an action sends (PS3.8 section 9.2); PS3.8 section 9.3 has the layouts.
 #[derive(Clone, Copy, Debug, PartialEq, Eq)]
 pub enum Sending {
     /// No bytes.
@@ -11,23 +11,23 @@ pub enum Sending {
     Answer,
     /// An A-RELEASE-RP.
     ReleaseResponse,
-    /// An A-ABORT of this source and this reason (PS3.8 section 9.3.8).
+    /// An A-ABORT with this source and this reason (PS3.8 section 9.3.8).
     Abort(u8, u8),
 }
 
 /// What an action does to the ARTIM timer (PS3.8 section 9.2).
 #[derive(Clone, Copy, Debug, PartialEq, Eq)]
 pub enum Timer {
-    /// It starts, or starts anew.
+    /// It starts, or restarts if it is running.
     Starts,
-    /// It stops, where it runs.
+    /// It stops if it is running.
     Stops,
-    /// It runs on where it runs.
+    /// It stays as it is, running or stopped.
     GoesOn,
 }
 
 impl Timer {
-    /// Whether the timer runs afterwards, where `running` says whether it ran before.
+    /// Returns whether the timer runs afterwards, given whether it was `running` before.
     pub fn after(self, running: bool) -> bool
         ensures { result ≡ spelling.runs_after self running }
     {

@@ -1,33 +1,33 @@
 //! Events.
 
-/// What happens to an association, by the rows of PS3.8 Table 9-10 that an acceptor meets.
+/// An event of an association: the rows of PS3.8 Table 9-10 that an acceptor can meet.
 #[derive(Clone, Copy, Debug, PartialEq, Eq)]
 pub enum Event {
-    /// A transport connection was opened (transport connection indication).
+    /// Transport connection indication.
     Connected,
-    /// An A-ASSOCIATE-RQ PDU came whole; whether the service provider finds it acceptable.
+    /// An A-ASSOCIATE-RQ PDU was received; whether it is acceptable to the service provider.
     Request(bool),
-    /// An A-ASSOCIATE-AC PDU came.
+    /// An A-ASSOCIATE-AC PDU was received.
     Ac,
-    /// An A-ASSOCIATE-RJ PDU came.
+    /// An A-ASSOCIATE-RJ PDU was received.
     Rj,
-    /// A P-DATA-TF PDU came.
+    /// A P-DATA-TF PDU was received.
     Data,
-    /// An A-RELEASE-RQ PDU came.
+    /// An A-RELEASE-RQ PDU was received.
     ReleaseRq,
-    /// An A-RELEASE-RP PDU came.
+    /// An A-RELEASE-RP PDU was received.
     ReleaseRp,
-    /// An A-ABORT PDU came.
+    /// An A-ABORT PDU was received.
     Abort,
-    /// An unrecognized or invalid PDU came.
+    /// An unrecognized or invalid PDU was received.
     Invalid,
-    /// The transport connection was closed (transport connection closed indication).
+    /// Transport connection closed indication.
     Closed,
     /// The ARTIM timer expired.
     Expired,
     /// The local user accepts the association (A-ASSOCIATE response primitive, accept).
     UserAccepts,
-    /// The local user refuses the association (A-ASSOCIATE response primitive, reject).
+    /// The local user rejects the association (A-ASSOCIATE response primitive, reject).
     UserRefuses,
     /// The local user agrees to the release (A-RELEASE response primitive).
     UserReleases,

@@ -1,5 +1,5 @@
 //! The acceptor of an association: the part of the upper layer's state machine that a receiver
-//! needs (PS3.8 section 9.2). It knows no bytes: it answers which action an event asks for, what
+//! needs (PS3.8 section 9.2). It handles no bytes: it returns which action an event calls for, what
 //! that action sends and what it does to the ARTIM timer.
 #![tactic(auto)]
 
@@ -14,6 +14,3 @@ pub use effect::{Sending, Timer};
 pub use event::Event;
 pub use state::State;
 pub use table::act;
-
-#[cfg(test)]
-mod tests;

@@ -7,9 +7,9 @@ use crate::action::Action;
 use crate::event::Event;
 use crate::state::State;
 
-/// The action that the event asks for in this state, and the next state: the acceptor's part of
-/// PS3.8 Table 9-10. Every other pair asks for no action and keeps the state. The ARTIM timer then
-/// runs exactly where the next state has it run.
+/// Returns the action and the next state for an event in this state: the acceptor's part of PS3.8
+/// Table 9-10. Every other pair has no action and keeps the state. Each action leaves the ARTIM timer
+/// running exactly when it runs in the next state.
 pub fn act(state: State, event: Event) -> (Action, State)
     ensures table { result ≡ table state event }
     ensures timer { runs_after (timer result.0 result.1) (timer_runs state) ≡ timer_runs result.1 }

@@ -38,7 +38,3 @@ class_named text = find (is_named text) all_classes
 -- the class that a value or a field of a PDU names: trailing zero bytes and spaces are dropped first
 abbrev pub class_of : List ℕ → Option Class
 class_of bytes = class_named (without_trailing is_padding bytes)
-
--- the class of a file of directory records
-abbrev pub media_storage_directory : List ℕ
-media_storage_directory = codes "1.2.840.10008.1.3.10"

@@ -1,4 +1,4 @@
 pub mod Classes
 pub mod Syntaxes
 pub mod Tags
-pub mod Entries
+pub mod machine

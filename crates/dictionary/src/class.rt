@@ -5,7 +5,7 @@ ghost use Rattle.dictionary.specs.Classes as table;
 
 use element::unpadded;
 
-/// The service classes that are known: Verification, and the storage classes that are taken (PS3.4
+/// A service class that the receiver supports: Verification, or one of eleven storage classes (PS3.4
 /// sections A.4 and B.5, PS3.6 annex A).
 #[derive(Clone, Copy, Debug, PartialEq, Eq)]
 pub enum Class {
@@ -35,9 +35,6 @@ pub enum Class {
     Pet,
 }
 
-/// The class that a file of directory records names in its header (PS3.6 annex A).
-pub const MEDIA_STORAGE_DIRECTORY: &[u8] = b"1.2.840.10008.1.3.10";
-
 impl Class {
     const ALL: [Class; 12] = [
         Class::Verification,
@@ -54,7 +51,7 @@ impl Class {
         Class::Pet,
     ];
 
-    /// The text of its unique identifier.
+    /// Returns the text of its unique identifier.
     pub fn uid(self) -> &'static [u8]
         ensures { result.now ≡ table.class_uid self }
     {
@@ -74,7 +71,7 @@ impl Class {
         }
     }
 
-    /// Whether its instances are stored.
+    /// Returns whether it is a storage class.
     pub fn is_storage(self) -> bool
         ensures { result ≡ table.is_storage self }
     {
@@ -88,8 +85,8 @@ fn first_named(classes: &[Class], text: &[u8]) -> Option<Class>
     classes.iter().copied().find(|class| class.uid() == text)
 }
 
-/// The class that the bytes of a unique identifier name, without the spaces and zero bytes at their
-/// end; `None` where it is not known.
+/// Returns the class whose unique identifier the bytes are, after the spaces and zero bytes at their
+/// end are dropped, or `None` if it is not known.
 pub fn class_of(bytes: &[u8]) -> Option<Class>
     ensures { result ≡ table.class_of bytes.now }
 {

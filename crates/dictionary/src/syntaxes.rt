@@ -8,7 +8,7 @@ use element::{Syntax, unpadded};
 /// The DICOM application context (PS3.7 annex A).
 pub const APPLICATION_CONTEXT: &[u8] = b"1.2.840.10008.3.1.1.1";
 
-/// The text of a transfer syntax's unique identifier (PS3.5 annex A).
+/// Returns the text of a transfer syntax's unique identifier (PS3.5 annex A).
 pub fn syntax_uid(syntax: Syntax) -> &'static [u8]
     ensures { result.now ≡ table.syntax_uid syntax }
 {
@@ -27,8 +27,8 @@ fn first_named(syntaxes: &[Syntax], text: &[u8]) -> Option<Syntax>
         .find(|syntax| syntax_uid(*syntax) == text)
 }
 
-/// The transfer syntax that the bytes of a unique identifier name, without the spaces and zero bytes
-/// at their end; `None` where it is none of the two that are taken.
+/// Returns the transfer syntax whose unique identifier the bytes are, after the spaces and zero bytes
+/// at their end are dropped, or `None` if it is none of the two that the receiver supports.
 #[tactic(auto, unfolding(crate::specs::Syntaxes::syntax_named))]
 pub fn syntax_of(bytes: &[u8]) -> Option<Syntax>
     ensures { result ≡ table.syntax_of bytes.now }

@@ -1,28 +1,28 @@
-//! The registry of data elements (PS3.6 section 6), as far as this product speaks of it: a match by
+//! The part of the registry of data elements (PS3.6 section 6) that this product knows: a match by
 //! group, then by element number, so that a look-up takes a few comparisons.
 ghost use Rattle.std.specs.Prelude.{◌≡◌, Some};
 ghost use Rattle.std.specs.Option.{option_map};
 ghost use Rattle.dictionary.specs.Tags as table;
-ghost use Rattle.dictionary.specs.Entries.{entry_value, said_of};
+ghost use Rattle.dictionary.specs.machine.Attributes.{attribute_value, registered};
 
 use element::{Tag, Vr};
 
-/// What the registry says of a tag.
+/// What the registry has for a tag.
 #[derive(Clone, Copy)]
-struct Entry {
+struct Attribute {
     vr: Vr,
-    name: &'static str,
+    keyword: &'static str,
 }
 
-fn found(vr: Vr, name: &'static str) -> Option<Entry>
-    ensures { entry_value result ≡ Some (vr, name.now) }
+fn found(vr: Vr, keyword: &'static str) -> Option<Attribute>
+    ensures { attribute_value result ≡ Some (vr, keyword.now) }
 {
-    Some(Entry { vr, name })
+    Some(Attribute { vr, keyword })
 }
 
 #[tactic(auto, unfolding(crate::specs::Tags::row_of))]
-fn identifying_entry(element: u16) -> Option<Entry>
-    ensures { entry_value result ≡ said_of 0x0008 element }
+fn identifying_attribute(element: u16) -> Option<Attribute>
+    ensures { attribute_value result ≡ registered 0x0008 element }
 {
     match element {
         0x0005 => found(Vr::CS, "SpecificCharacterSet"),
@@ -57,8 +57,8 @@ fn identifying_entry(element: u16) -> Option<Entry>
 }
 
 #[tactic(auto, unfolding(crate::specs::Tags::row_of))]
-fn patient_entry(element: u16) -> Option<Entry>
-    ensures { entry_value result ≡ said_of 0x0010 element }
+fn patient_attribute(element: u16) -> Option<Attribute>
+    ensures { attribute_value result ≡ registered 0x0010 element }
 {
     match element {
         0x0010 => found(Vr::PN, "PatientName"),
@@ -71,8 +71,8 @@ fn patient_entry(element: u16) -> Option<Entry>
 }
 
 #[tactic(auto, unfolding(crate::specs::Tags::row_of))]
-fn acquisition_entry(element: u16) -> Option<Entry>
-    ensures { entry_value result ≡ said_of 0x0018 element }
+fn acquisition_attribute(element: u16) -> Option<Attribute>
+    ensures { attribute_value result ≡ registered 0x0018 element }
 {
     match element {
         0x0050 => found(Vr::DS, "SliceThickness"),
@@ -82,8 +82,8 @@ fn acquisition_entry(element: u16) -> Option<Entry>
 }
 
 #[tactic(auto, unfolding(crate::specs::Tags::row_of))]
-fn relationship_entry(element: u16) -> Option<Entry>
-    ensures { entry_value result ≡ said_of 0x0020 element }
+fn relationship_attribute(element: u16) -> Option<Attribute>
+    ensures { attribute_value result ≡ registered 0x0020 element }
 {
     match element {
         0x000d => found(Vr::UI, "StudyInstanceUID"),
@@ -99,8 +99,8 @@ fn relationship_entry(element: u16) -> Option<Entry>
 }
 
 #[tactic(auto, unfolding(crate::specs::Tags::row_of))]
-fn image_entry(element: u16) -> Option<Entry>
-    ensures { entry_value result ≡ said_of 0x0028 element }
+fn image_attribute(element: u16) -> Option<Attribute>
+    ensures { attribute_value result ≡ registered 0x0028 element }
 {
     match element {
         0x0002 => found(Vr::US, "SamplesPerPixel"),
@@ -122,8 +122,8 @@ fn image_entry(element: u16) -> Option<Entry>
 }
 
 #[tactic(auto, unfolding(crate::specs::Tags::row_of))]
-fn procedure_entry(element: u16) -> Option<Entry>
-    ensures { entry_value result ≡ said_of 0x0040 element }
+fn procedure_attribute(element: u16) -> Option<Attribute>
+    ensures { attribute_value result ≡ registered 0x0040 element }
 {
     match element {
         0x0275 => found(Vr::SQ, "RequestAttributesSequence"),
@@ -133,8 +133,8 @@ fn procedure_entry(element: u16) -> Option<Entry>
 }
 
 #[tactic(auto, unfolding(crate::specs::Tags::row_of))]
-fn pixel_entry(element: u16) -> Option<Entry>
-    ensures { entry_value result ≡ said_of 0x7fe0 element }
+fn pixel_attribute(element: u16) -> Option<Attribute>
+    ensures { attribute_value result ≡ registered 0x7fe0 element }
 {
     match element {
         0x0010 => found(Vr::OW, "PixelData"),
@@ -143,8 +143,8 @@ fn pixel_entry(element: u16) -> Option<Entry>
 }
 
 #[tactic(auto, unfolding(crate::specs::Tags::row_of))]
-fn signature_entry(element: u16) -> Option<Entry>
-    ensures { entry_value result ≡ said_of 0xfffa element }
+fn signature_attribute(element: u16) -> Option<Attribute>
+    ensures { attribute_value result ≡ registered 0xfffa element }
 {
     match element {
         0xfffa => found(Vr::SQ, "DigitalSignaturesSequence"),
@@ -153,8 +153,8 @@ fn signature_entry(element: u16) -> Option<Entry>
 }
 
 #[tactic(auto, unfolding(crate::specs::Tags::row_of))]
-fn padding_entry(element: u16) -> Option<Entry>
-    ensures { entry_value result ≡ said_of 0xfffc element }
+fn padding_attribute(element: u16) -> Option<Attribute>
+    ensures { attribute_value result ≡ registered 0xfffc element }
 {
     match element {
         0xfffc => found(Vr::OB, "DataSetTrailingPadding"),
@@ -163,39 +163,39 @@ fn padding_entry(element: u16) -> Option<Entry>
 }
 
 #[tactic(auto, unfolding(crate::specs::Tags::row_of))]
-fn entry_of(tag: Tag) -> Option<Entry>
-    ensures { entry_value result ≡ said_of tag.0 tag.1 }
+fn attribute_of(tag: Tag) -> Option<Attribute>
+    ensures { attribute_value result ≡ registered tag.0 tag.1 }
 {
     match tag.0 {
-        0x0008 => identifying_entry(tag.1),
-        0x0010 => patient_entry(tag.1),
-        0x0018 => acquisition_entry(tag.1),
-        0x0020 => relationship_entry(tag.1),
-        0x0028 => image_entry(tag.1),
-        0x0040 => procedure_entry(tag.1),
-        0x7fe0 => pixel_entry(tag.1),
-        0xfffa => signature_entry(tag.1),
-        0xfffc => padding_entry(tag.1),
+        0x0008 => identifying_attribute(tag.1),
+        0x0010 => patient_attribute(tag.1),
+        0x0018 => acquisition_attribute(tag.1),
+        0x0020 => relationship_attribute(tag.1),
+        0x0028 => image_attribute(tag.1),
+        0x0040 => procedure_attribute(tag.1),
+        0x7fe0 => pixel_attribute(tag.1),
+        0xfffa => signature_attribute(tag.1),
+        0xfffc => padding_attribute(tag.1),
         _ => None,
     }
 }
 
-/// The VR of a tag; `None` where the tag is not known. PixelData has OW.
+/// Returns the VR of a tag, or `None` if the registry does not have it. PixelData has OW.
 pub fn vr_of(tag: Tag) -> Option<Vr>
     ensures { result ≡ table.vr_of tag }
 {
-    match entry_of(tag) {
-        Some(entry) => Some(entry.vr),
+    match attribute_of(tag) {
+        Some(attribute) => Some(attribute.vr),
         None => None,
     }
 }
 
-/// The keyword of a tag; `None` where the tag is not known.
+/// Returns the keyword of a tag, or `None` if the registry does not have it.
 pub fn name_of(tag: Tag) -> Option<&'static str>
     ensures { option_map (λ name. name.now) result ≡ table.name_of tag }
 {
-    match entry_of(tag) {
-        Some(entry) => Some(entry.name),
+    match attribute_of(tag) {
+        Some(attribute) => Some(attribute.keyword),
         None => None,
     }
 }

@@ -1,7 +1,7 @@
 -- What is dropped at the ends of a text.
 use Rattle.std.proofs.Common.{◌≡◌, ℕ, ◌+◌, ◌<◌, Bool, true, false, List, [], ◌∷◌, ◌++◌, length, get_or, take, drop, refl, sym, ap, ◌∙◌, add-one, drop-cons}
 use Rattle.std.proofs.lemmas.List.{take_more}
-use Rattle.element.specs.Padding.{is_empty, onto, without_trailing, without_leading}
+use Rattle.element.specs.Padding.{is_empty, kept_before, without_trailing, without_leading}
 
 is_empty_end : (xs : List ℕ) (x : ℕ) → is_empty (xs ++ x ∷ []) ≡ false
 is_empty_end [] x = refl
@@ -9,7 +9,7 @@ is_empty_end (y ∷ ys) x = refl
 
 last_dropped : (p : ℕ → Bool) (xs : List ℕ) (x : ℕ) → p x ≡ true → without_trailing p (xs ++ x ∷ []) ≡ without_trailing p xs
 last_dropped p [] x e = rw e refl
-last_dropped p (y ∷ ys) x e = ap (onto p y) (last_dropped p ys x e)
+last_dropped p (y ∷ ys) x e = ap (kept_before p y) (last_dropped p ys x e)
 
 last_kept : (p : ℕ → Bool) (xs : List ℕ) (x : ℕ) → p x ≡ false → without_trailing p (xs ++ x ∷ []) ≡ xs ++ x ∷ []
 last_kept p [] x e = rw e refl

@@ -17,6 +17,16 @@ number t = t.0 * 65536 + t.1
 abbrev pub is_marker : Tag → Bool
 is_marker t = nat_eq t.0 0xfffe
 
+-- Item, Item Delimitation and Sequence Delimitation (PS3.5 section 7.5)
+abbrev pub item_tag : Tag
+item_tag = record { 0 = 0xfffe; 1 = 0xe000 }
+
+abbrev pub item_end_tag : Tag
+item_end_tag = record { 0 = 0xfffe; 1 = 0xe00d }
+
+abbrev pub sequence_end_tag : Tag
+sequence_end_tag = record { 0 = 0xfffe; 1 = 0xe0dd }
+
 -- whether a header with this tag has no VR
 abbrev pub is_plain : Syntax → Tag → Bool
 is_plain Implicit t = true

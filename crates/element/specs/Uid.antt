@@ -1,7 +1,7 @@
 -- Unique identifiers (PS3.5 section 9).
 use Rattle.std.specs.Prelude.{ℕ, Bool, ◌&&◌, ◌||◌, List, length, Option, Some, None, nat_eq, nat_le, if◌then◌else◌}
 use Rattle.std.specs.List.{list_all}
-use Rattle.element.specs.Padding.{is_padding, without_trailing}
+use Rattle.element.specs.Padding.{is_padding, padded, without_trailing}
 
 -- a digit or a dot
 abbrev pub is_uid_character : ℕ → Bool
@@ -17,3 +17,7 @@ if_uid text = if is_uid text then Some text else None
 -- the identifier that a value or a field of a PDU holds: trailing zero bytes and spaces are dropped first
 abbrev pub uid_of : List ℕ → Option (List ℕ)
 uid_of bytes = if_uid (without_trailing is_padding bytes)
+
+-- an identifier as the value of an element of VR UI (PS3.5 section 9.1)
+abbrev pub even_uid : List ℕ → List ℕ
+even_uid uid = padded 0 uid

@@ -4,8 +4,8 @@ ghost use Rattle.std.specs.Borrow.{ftrue};
 
 use std::marker::{Model, PhantomData};
 
-/// How often something happened, as a whole number without a greatest value that contracts alone
-/// see: the program never reads it.
+/// How often something happened, as a whole number without a greatest value. Only contracts see it:
+/// the program cannot read it.
 #[derive(Drop)]
 pub struct Count {
     marker: PhantomData<u8>,
@@ -17,7 +17,7 @@ impl Model for Count {
 }
 
 impl Count {
-    /// Nothing happened yet.
+    /// Creates a count of zero.
     pub fn new() -> Count
         ensures { result.total ≡ 0 }
     {
@@ -26,7 +26,7 @@ impl Count {
         }
     }
 
-    /// It happened once more.
+    /// Adds one.
     pub fn add_one(&mut self)
         ensures { self.new.total ≡ self.old.total + 1 }
     {}

@@ -5,8 +5,8 @@ use crate::{Tag, Vr};
 #[derive(Clone, Copy, Debug, PartialEq, Eq)]
 pub struct Header {
     pub tag: Tag,
-    /// `None` in Implicit and for group FFFE.
+    /// The VR; `None` in Implicit VR Little Endian and for group FFFE.
     pub vr: Option<Vr>,
-    /// The bytes of the value that follows; FFFFFFFFH is undefined.
+    /// The length of the value that follows, in bytes; FFFFFFFFH is undefined length.
     pub length: u32,
 }

@@ -1,4 +1,4 @@
-//! What VRs ask of their values.
+//! The kinds of values that VRs have.
 ghost use Rattle.std.specs.Prelude.{◌≡◌, nat_eq};
 ghost use Rattle.std.specs.List.{list_any};
 ghost use Rattle.std.specs.Cmp.Lexicographic.{pointwise};
@@ -6,7 +6,7 @@ ghost use Rattle.element.specs.Kinds as rules;
 
 use crate::Vr;
 
-/// What the values of a VR are made of (PS3.5 section 6.2).
+/// The kind of the values of a VR (PS3.5 section 6.2).
 #[derive(Clone, Copy)]
 pub(crate) enum Kind {
     /// Words of two bytes.
@@ -23,7 +23,7 @@ pub(crate) enum Kind {
     Integer,
     Decimal,
     Identifier,
-    /// Nothing is asked.
+    /// No rule applies.
     Free,
 }
 
@@ -33,7 +33,7 @@ fn is_one_of(vr: Vr, names: &[Vr]) -> bool
     names.iter().any(|name| vr == *name)
 }
 
-/// What the values of a VR are made of.
+/// Returns the kind of the values of a VR.
 pub(crate) fn kind_of(vr: Vr) -> Kind
     ensures { result ≡ rules.kind_of vr }
 {

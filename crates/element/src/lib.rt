@@ -5,14 +5,13 @@
 pub mod count;
 mod header;
 mod kinds;
+pub mod laws;
 mod padding;
 mod parts;
 mod reading;
 mod size;
 mod syntax;
 mod tag;
-#[cfg(test)]
-mod tests;
 mod title;
 mod uid;
 mod values;

@@ -1,4 +1,4 @@
-//! Padding round values.
+//! Padding of values.
 ghost use Rattle.std.specs.Prelude.{◌≡◌};
 ghost use Rattle.element.specs.Padding as spelling;
 ghost use Rattle.element.specs.Title.{title_text};
@@ -9,7 +9,7 @@ fn is_padding(byte: u8) -> bool
     byte == b' ' || byte == 0
 }
 
-/// The bytes without the spaces and zero bytes at their end (PS3.5 section 6.2).
+/// Returns the bytes without the spaces and zero bytes at their end (PS3.5 section 6.2).
 #[tactic(auto, using(crate::proofs::Trimming::trailing_dropped, crate::proofs::Trimming::trailing_kept))]
 pub fn unpadded(bytes: &[u8]) -> &[u8]
     ensures { result.now ≡ spelling.without_trailing spelling.is_padding bytes.now }
@@ -43,7 +43,7 @@ fn without_leading_spaces(bytes: &[u8]) -> &[u8]
     &bytes[start..]
 }
 
-/// The bytes without the spaces at both ends.
+/// Returns the bytes without the spaces at both ends.
 pub(crate) fn trimmed(bytes: &[u8]) -> &[u8]
     ensures { result.now ≡ title_text bytes.now }
 {

@@ -5,14 +5,14 @@ ghost use Rattle.element.specs.Values as rules;
 
 use crate::kinds::Kind;
 
-/// What is tested of a part.
+/// A rule that a part is tested by.
 #[derive(Clone, Copy)]
 pub(crate) enum Rule {
-    /// It has so many bytes.
+    /// It has the fixed size of its kind.
     Size,
-    /// It has no more bytes than so many.
+    /// It is no longer than its kind allows.
     Longest,
-    /// It has no other characters.
+    /// It has only characters of its kind.
     Characters,
     /// Its components are those of a unique identifier.
     Form,
@@ -129,7 +129,7 @@ fn has_form(kind: Kind, part: &[u8]) -> bool
     }
 }
 
-/// Whether a part is good by one rule; an empty one is.
+/// Returns whether a part obeys a rule; an empty one does.
 pub(crate) fn obeys(rule: Rule, kind: Kind, part: &[u8]) -> bool
     ensures { result ≡ rules.obeys rule kind part.now }
 {

@@ -18,7 +18,7 @@ pub(crate) fn is_plain(syntax: Syntax, tag: Tag) -> bool
     }
 }
 
-/// The tag at the front of the bytes.
+/// Reads the tag at the front of the bytes.
 pub fn read_tag(bytes: &[u8]) -> Tag
     requires { 4 ≤ length bytes.now }
     ensures { result ≡ spelling.tag_at bytes.now }
@@ -29,7 +29,7 @@ pub fn read_tag(bytes: &[u8]) -> Tag
     )
 }
 
-/// How many bytes the header takes that begins so.
+/// Returns the size of the header that begins with these bytes, as far as they show it.
 #[tactic(auto, unfolding(crate::specs::Header::need))]
 pub fn need(syntax: Syntax, bytes: &[u8]) -> Need
     ensures { result ≡ spelling.need syntax bytes.now }
@@ -83,8 +83,8 @@ fn front_header(syntax: Syntax, bytes: &[u8]) -> Header
     }
 }
 
-/// The header that stands at the front of the bytes (PS3.5 sections 7.1.2, 7.1.3 and 7.5): `need`
-/// has said how many bytes it takes, and they are all there. Reserved bytes are not tested.
+/// Reads the header at the front of the bytes (PS3.5 sections 7.1.2, 7.1.3 and 7.5). `need` has to
+/// return its size, and that many bytes have to be there. Reserved bytes are not tested.
 #[tactic(auto, using(crate::proofs::Headers::front_spells, crate::proofs::Headers::spelled_need, crate::proofs::Headers::spelled_header))]
 pub fn read_header(syntax: Syntax, bytes: &[u8]) -> Header
     requires { IsTrue (spelling.is_whole syntax bytes.now) }

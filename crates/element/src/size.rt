@@ -1,12 +1,12 @@
-//! How far a header goes.
+//! The size of a header.
 
-/// How many bytes a header takes.
+/// The size of a header.
 #[derive(Clone, Copy, Debug, PartialEq, Eq)]
 pub enum Need {
-    /// The bytes do not say it yet.
+    /// The bytes are too few to tell.
     More,
     /// 8 or 12 bytes.
     Size(usize),
-    /// Bytes 4 and 5 are no two capital letters: fault 10.
+    /// Bytes 4 and 5 are not two capital letters: fault 10.
     BadVr,
 }

@@ -1,7 +1,7 @@
-//! The transfer syntaxes that are taken.
+//! The transfer syntaxes.
 
-/// How the elements of a data set are laid out (PS3.5 sections A.1 and A.2). Both are little
-/// endian.
+/// A transfer syntax: how the elements of a data set are laid out (PS3.5 sections A.1 and A.2). Both
+/// are little endian.
 #[derive(Clone, Copy, Debug, PartialEq, Eq)]
 pub enum Syntax {
     /// Implicit VR Little Endian: a header has no VR.

@@ -17,14 +17,14 @@ impl Tag {
     /// Sequence Delimitation.
     pub const SEQUENCE_DELIMITATION: Tag = Tag(0xfffe, 0xe0dd);
 
-    /// The tag as one number, the group in its upper 16 bits: numbers are in the order of tags.
+    /// Returns the tag as one number, the group in its upper 16 bits: numbers have the order of tags.
     pub fn number(self) -> u32
         ensures { result ≡ spelling.number self }
     {
         u32::from(self.0) * 65536 + u32::from(self.1)
     }
 
-    /// Whether the tag is of group FFFE, whose headers have no VR in either syntax.
+    /// Returns whether the tag is of group FFFE, whose headers have no VR in either syntax.
     pub fn is_marker(self) -> bool
         ensures { result ≡ spelling.is_marker self }
     {

@@ -11,8 +11,8 @@ ghost use Rattle.element.specs.Title as spelling;
 
 use crate::padding::trimmed;
 
-/// An application entity title: 16 bytes, padded by spaces (PS3.8 section 9.3.2). Two titles are
-/// equal where they are so without the spaces at both ends.
+/// An application entity title: 16 bytes, padded by spaces (PS3.8 section 9.3.2). Equality ignores
+/// leading and trailing spaces.
 #[derive(Clone, Copy, Debug)]
 pub struct AeTitle(pub [u8; 16]);
 
@@ -41,8 +41,8 @@ fn is_title(text: &[u8]) -> bool
 }
 
 impl AeTitle {
-    /// The title that a text writes, padded by spaces: 1 to 16 characters from 20H to 7EH without
-    /// backslash, not all spaces (PS3.5 section 6.2, VR AE). `None` for any other text.
+    /// Returns the title with this text, padded by spaces, or `None` if the text is not 1 to 16
+    /// characters from 20H to 7EH without backslash, not all spaces (PS3.5 section 6.2, VR AE).
     pub fn of_text(text: &str) -> Option<AeTitle>
         ensures { title_bytes result ≡ title_of_text text.now }
     {
@@ -55,7 +55,7 @@ impl AeTitle {
         Some(AeTitle(title))
     }
 
-    /// What of the title counts: its bytes without the spaces at both ends.
+    /// Returns the bytes without leading and trailing spaces.
     pub fn trimmed(&self) -> &[u8]
         ensures { result.now ≡ title_text self.now.0 }
     {
@@ -80,7 +80,7 @@ impl Eq for AeTitle {
 impl Default for AeTitle {
     ghost is_default = { λ t. t.0 ≡ replicate 16 32 };
 
-    /// All spaces.
+    /// Returns a title of spaces.
     fn default() -> AeTitle {
         AeTitle([b' '; 16])
     }

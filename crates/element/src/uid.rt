@@ -9,7 +9,6 @@ ghost use Rattle.element.specs.Uid as spelling;
 
 use crate::unpadded;
 use arrayvec::ArrayVec;
-use std::alloc::AllocError;
 use std::marker::Model;
 
 /// A unique identifier: 1 to 64 digits and dots (PS3.5 section 9).
@@ -48,8 +47,8 @@ fn is_uid(text: &[u8]) -> bool
 }
 
 impl Uid {
-    /// The unique identifier that a value or a field of a PDU holds: zero bytes and spaces at its
-    /// end are dropped first. `None` where what is left is not 1 to 64 digits and dots.
+    /// Reads a unique identifier from a value or from a field of a PDU: drops the zero bytes and
+    /// spaces at its end, and returns `None` if the rest is not 1 to 64 digits and dots.
     pub fn read(bytes: &[u8]) -> Option<Uid>
         ensures { result ≡ uid_of bytes.now }
     {
@@ -62,14 +61,14 @@ impl Uid {
         Some(Uid { text })
     }
 
-    /// Its digits and dots.
+    /// Returns its digits and dots.
     pub fn as_bytes(&self) -> &[u8]
         ensures { result.now ≡ self.now }
     {
         self.text.as_slice()
     }
 
-    /// How many digits and dots it has.
+    /// Returns the number of its digits and dots.
     pub fn len(&self) -> usize
         ensures count { result ≡ length self.now }
         ensures known { spelling.is_uid self.now ≡ true }
@@ -77,7 +76,7 @@ impl Uid {
         self.text.len()
     }
 
-    /// The same identifier once more. It takes no memory.
+    /// Returns a copy of the identifier. Unlike `Clone` it allocates nothing and cannot fail.
     pub fn copied(&self) -> Uid
         ensures { result ≡ self.now }
     {
@@ -85,14 +84,6 @@ impl Uid {
         let mut text = ArrayVec::new();
         let _ = text.try_extend_from_slice(own.as_slice());
         Uid { text }
-    }
-}
-
-impl Clone for Uid {
-    ghost is_clone = { λ a b. b ≡ a };
-
-    fn clone(&self) -> Result<Uid, AllocError> {
-        Ok(self.copied())
     }
 }
 

@@ -7,13 +7,15 @@ use crate::Vr;
 use crate::kinds::{Kind, kind_of};
 use crate::padding::trimmed;
 use crate::parts::{Rule, obeys};
+use std::fmt;
 
-/// Why a value is not good.
+/// Why a value breaks the rules of its VR.
 #[derive(Clone, Copy, Debug, PartialEq, Eq)]
 pub enum ValueFault {
     /// 1: a part has a character that its VR does not allow.
     BadCharacter,
-    /// 2: the value is not whole words, or a date or an age has another length than it must have.
+    /// 2: the length is no multiple of the size of a number, or a date or an age has another length
+    /// than its fixed one.
     WrongSize,
     /// 3: a part is longer than its VR allows.
     TooLongValue,
@@ -22,7 +24,7 @@ pub enum ValueFault {
 }
 
 impl ValueFault {
-    /// Its number, from 1 to 4.
+    /// Returns its number, from 1 to 4.
     pub fn number(self) -> u8
         ensures { result ≡ rules.fault_number self }
     {
@@ -34,7 +36,7 @@ impl ValueFault {
         }
     }
 
-    /// Its name, as it is printed.
+    /// Returns its name, as it is printed.
     pub fn name(self) -> &'static str
         ensures { result.now ≡ rules.fault_name self }
     {
@@ -44,6 +46,12 @@ impl ValueFault {
             ValueFault::TooLongValue => "TooLongValue",
             ValueFault::BadUid => "BadUid",
         }
+    }
+}
+
+impl fmt::Display for ValueFault {
+    fn fmt<W: fmt::Write>(&self, f: &mut fmt::Formatter<W>) -> fmt::Result {
+        f.write_str(self.name())
     }
 }
 
@@ -103,11 +111,11 @@ fn is_whole_words(kind: Kind, value: &[u8]) -> bool
     }
 }
 
-/// Whether a value is what its VR asks for (PS3.5 section 6.2), rule by rule over the whole value: the
-/// size of each part, then the greatest size, then the characters, then the form of a unique
-/// identifier. Text values are split at backslash, and spaces at both ends of a part do not count; of
-/// a unique identifier one zero byte at the end of the value does not. An empty part is good. A VR of
-/// another kind is always good.
+/// Checks a value against its VR (PS3.5 section 6.2), rule by rule over the whole value: the size of
+/// each part, then its greatest size, then its characters, then the form of a unique identifier. Text
+/// values are split at backslash, and spaces at both ends of a part are ignored; in a unique
+/// identifier one zero byte at the end of the value is. An empty part passes, and so does every value
+/// of a VR that has no rule.
 #[tactic(auto, unfolding(crate::specs::Values::value_fault))]
 pub fn check_value(vr: Vr, value: &[u8]) -> Result<(), ValueFault>
     ensures { MatchResult result (λ _. rules.value_fault vr value.now ≡ None) (λ fault. rules.value_fault vr value.now ≡ Some fault) }

@@ -65,9 +65,6 @@ impl Vr {
     /// Decimal String.
     pub const DS: Vr = Vr(*b"DS");
 
-    /// Date Time.
-    pub const DT: Vr = Vr(*b"DT");
-
     /// Floating Point Double.
     pub const FD: Vr = Vr(*b"FD");
 
@@ -79,9 +76,6 @@ impl Vr {
 
     /// Long String.
     pub const LO: Vr = Vr(*b"LO");
-
-    /// Long Text.
-    pub const LT: Vr = Vr(*b"LT");
 
     /// Other Byte.
     pub const OB: Vr = Vr(*b"OB");
@@ -116,17 +110,11 @@ impl Vr {
     /// Signed Short.
     pub const SS: Vr = Vr(*b"SS");
 
-    /// Short Text.
-    pub const ST: Vr = Vr(*b"ST");
-
     /// Signed 64-bit Very Long.
     pub const SV: Vr = Vr(*b"SV");
 
     /// Time.
     pub const TM: Vr = Vr(*b"TM");
-
-    /// Unlimited Characters.
-    pub const UC: Vr = Vr(*b"UC");
 
     /// Unique Identifier.
     pub const UI: Vr = Vr(*b"UI");
@@ -134,22 +122,13 @@ impl Vr {
     /// Unsigned Long.
     pub const UL: Vr = Vr(*b"UL");
 
-    /// Unknown.
-    pub const UN: Vr = Vr(*b"UN");
-
-    /// Universal Resource Identifier.
-    pub const UR: Vr = Vr(*b"UR");
-
     /// Unsigned Short.
     pub const US: Vr = Vr(*b"US");
-
-    /// Unlimited Text.
-    pub const UT: Vr = Vr(*b"UT");
 
     /// Unsigned 64-bit Very Long.
     pub const UV: Vr = Vr(*b"UV");
 
-    /// The VR that two bytes spell; `None` where they are no two capital letters.
+    /// Returns the VR that two bytes spell, or `None` if they are not two capital letters.
     pub fn read(letters: [u8; 2]) -> Option<Vr>
         ensures { result ≡ spelling.vr_of letters }
     {
@@ -160,7 +139,7 @@ impl Vr {
         }
     }
 
-    /// Its two letters.
+    /// Returns its two letters.
     pub fn letters(self) -> [u8; 2]
         ensures same { result ≡ self }
         ensures capital { spelling.IsVr self }
@@ -169,8 +148,8 @@ impl Vr {
         letters
     }
 
-    /// Whether a header in Explicit has two reserved bytes and a length of four bytes (PS3.5 section
-    /// 7.1.2).
+    /// Returns whether a header in Explicit VR Little Endian has two reserved bytes and a length of
+    /// four bytes (PS3.5 section 7.1.2).
     pub fn is_long(self) -> bool
         ensures { result ≡ spelling.is_long self }
     {

@@ -9,8 +9,8 @@ use crate::reading::is_plain;
 use crate::{Header, Syntax, Tag, Vr};
 use byteorder::{ByteOrder, LittleEndian};
 
-/// Whether a header can be written in this syntax: its VR is there exactly in Explicit outside group
-/// FFFE, and a short VR has a length up to 65535.
+/// Returns whether a header can be written in this syntax: it has a VR exactly in Explicit outside
+/// group FFFE, and with a short VR a length of at most 65535.
 pub fn header_fits(syntax: Syntax, header: &Header) -> bool
     ensures { result ≡ spelling.header_fits syntax header.now }
 {
@@ -83,9 +83,8 @@ fn write_rest(header: &Header, room: &mut [u8]) -> usize
     }
 }
 
-/// Writes a header to the front of the room, and answers how many bytes it took, 8 or 12; reserved
-/// bytes are zero, and the bytes behind the header stay as they were (PS3.5 sections 7.1.2, 7.1.3
-/// and 7.5).
+/// Writes a header to the front of the room and returns its size, 8 or 12. Reserved bytes are zero,
+/// and the bytes after the header keep their values (PS3.5 sections 7.1.2, 7.1.3 and 7.5).
 pub fn write_header(syntax: Syntax, header: &Header, room: &mut [u8; 12]) -> usize
     requires { IsTrue (spelling.header_fits syntax header.now) }
     ensures size { result ≡ length (spelling.header_bytes header.now) }
