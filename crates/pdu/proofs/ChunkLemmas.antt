@@ -1,85 +1,48 @@
 -- What one more chunk of a stream marks, by where the stream stands: in the head of a PDU, in its body, and inside
 -- P-DATA-TF in the head or in the fragment of a presentation data value.
-use Rattle.std.proofs.Common.{◌≡◌, ℕ, zero, suc, ◌-◌, ◌<◌, ◌≤◌, Bool, true, false, nat_eq, if◌then◌else◌, List, [], ◌∷◌, ◌++◌, length, drop, refl, sym, ap, ◌∙◌, append_assoc, arith}
-use Rattle.std.proofs.lemmas.Bool.{lt-ltb, le-ltb}
+use Rattle.std.proofs.Common.{◌≡◌, ℕ, ◌-◌, ◌<◌, ◌≤◌, Bool, true, false, nat_eq, if◌then◌else◌, List, [], ◌∷◌, ◌++◌, length, drop, refl, sym, ap, subst, ◌∙◌, append_assoc, arith, inl, inr}
+use Rattle.std.proofs.lemmas.Bool.{cases_Bool, lt-ltb, le-ltb}
 use Rattle.std.proofs.lemmas.List.{length-append, drop_all}
+use Rattle.std.proofs.Math.Seq.{drop-append_seam}
 use Rattle.pdu.specs.Frames.{IsFrame, IsRest, rest_of}
-use Rattle.pdu.specs.Marks.{Mark, Head, BadPdv, Leftover, End, Headless, Bad, Begun, Whole, pdv_size, front, head_mark, pdv_mark, is_leftover, pdv_marks_in, pdv_marks, frame_kind, frame_length, inner_marks, begun_marks, new_marks}
-use Rattle.pdu.specs.Standing.{Standing, Dropped, Within, standing_in, standing, new_pdv_marks}
-use Rattle.pdu.proofs.PdvLemmas.{pdv_grows, after, marks_headless, marks_bad, marks_begun, marks_whole}
-use Rattle.pdu.proofs.StandingLemmas.{marks_fuel, standing_fuel, standing_after, at_front}
+use Rattle.pdu.specs.Marks.{Mark, Head, End, pdv_size, head_mark, pdv_mark, is_leftover, pdv_marks, frame_kind, frame_length, inner_marks, unfinished_marks, new_marks}
+use Rattle.pdu.specs.Pdvs.{DataSpot, Dropped, Within, IsGoodHead, Marked, too_short, whole_and_leftover, whole_and_more, new_pdv_marks}
+use Rattle.pdu.specs.Parts.{leftover_marks}
+use Rattle.pdu.proofs.LaterLemmas.{pdv_grows}
 use Rattle.pdu.proofs.FrameLemmas.{same_frame, chunk_within, chunk_ends}
 
--- ---- the marks of one value, and where it leaves the frame
+-- ---- just a whole value
 
-pub record One (room : ℕ) (bytes : List ℕ) (ms : List Mark) (s : Standing) : Type 0 where
-  pub marks : pdv_marks room bytes ≡ ms
-  pub stands : standing room bytes ≡ s
+abbrev pub leftover_at : ℕ → DataSpot
+leftover_at room = if is_leftover room then Dropped else Within room []
 
-more_fuel : (room : ℕ) (bytes : List ℕ) → (pdv_marks room bytes ≡ pdv_marks_in (suc (length bytes)) room bytes) × (standing room bytes ≡ standing_in (suc (length bytes)) room bytes)
-unfolding pdv_marks standing
-more_fuel room bytes = (
-  marks_fuel (length bytes) (suc (length bytes)) room bytes (omega arith) (omega arith),
-  standing_fuel (length bytes) (suc (length bytes)) room bytes (omega arith) (omega arith),
-)
+pub just_whole : (room : ℕ) (bytes : List ℕ) → IsGoodHead room bytes → pdv_size bytes ≡ length bytes
+    → Marked room bytes (head_mark bytes ∷ pdv_mark bytes ∷ leftover_marks (room - length bytes)) (leftover_at (room - length bytes))
+just_whole room bytes g e =
+    let enough : pdv_size bytes ≤ length bytes = omega arith in
+    let left : room - pdv_size bytes ≡ room - length bytes = ap (λ (n : ℕ). room - n) e in
+    elim (cases_Bool (is_leftover (room - length bytes))) [
+      | inl t ↦ rw t (whole_and_leftover g enough (ap is_leftover left ∙ t))
+      | inr t ↦
+          let nothing : drop (pdv_size bytes) bytes ≡ [] = drop_all (pdv_size bytes) bytes (omega arith) in
+          let short : Marked (room - length bytes) [] [] (Within (room - length bytes) []) = too_short (omega arith) in
+          let later : Marked (room - pdv_size bytes) (drop (pdv_size bytes) bytes) [] (Within (room - length bytes) []) =
+          subst (λ (r : ℕ). Marked r (drop (pdv_size bytes) bytes) [] (Within (room - length bytes) [])) (sym left)
+          (subst (λ (b : List ℕ). Marked (room - length bytes) b [] (Within (room - length bytes) [])) (sym nothing) short) in
+          rw t (whole_and_more g enough (ap is_leftover left ∙ t) later)
+    ]
 
-pub one_headless : (room : ℕ) (bytes : List ℕ) → front room bytes ≡ Headless → One room bytes [] (Within room bytes)
-one_headless room bytes f =
-    let m = more_fuel room bytes in
-    record { marks = m.0 ∙ marks_headless (length bytes) room bytes f; stands = m.1 ∙ at_front Headless (length bytes) room bytes f }
-
-pub one_bad : (room : ℕ) (bytes : List ℕ) → front room bytes ≡ Bad → One room bytes (BadPdv ∷ []) Dropped
-one_bad room bytes f =
-    let m = more_fuel room bytes in
-    record { marks = m.0 ∙ marks_bad (length bytes) room bytes f; stands = m.1 ∙ at_front Bad (length bytes) room bytes f }
-
-pub one_begun : (room : ℕ) (bytes : List ℕ) → front room bytes ≡ Begun → One room bytes (head_mark bytes ∷ []) (Within room bytes)
-one_begun room bytes f =
-    let m = more_fuel room bytes in
-    record { marks = m.0 ∙ marks_begun (length bytes) room bytes f; stands = m.1 ∙ at_front Begun (length bytes) room bytes f }
-
--- the marks and the standing where just a whole value came
-abbrev pub end_marks : ℕ → List Mark
-end_marks room = if is_leftover room then Leftover ∷ [] else []
-
-abbrev pub end_standing : ℕ → Standing
-end_standing room = if is_leftover room then Dropped else Within room []
-
-none_in : (k room : ℕ) → pdv_marks_in k room [] ≡ []
-none_in zero room = refl
-none_in (suc k) room = refl
-
-none_stands : (k room : ℕ) → standing_in k room [] ≡ Within room []
-none_stands zero room = refl
-none_stands (suc k) room = refl
-
-pub one_whole : (room : ℕ) (bytes : List ℕ) → front room bytes ≡ Whole → pdv_size bytes ≡ length bytes
-    → One room bytes (head_mark bytes ∷ pdv_mark bytes ∷ end_marks (room - length bytes)) (end_standing (room - length bytes))
-one_whole room bytes f e =
-    let m = more_fuel room bytes in
-    let k = length bytes in
-    let n = pdv_size bytes in
-    let nothing : drop n bytes ≡ [] = drop_all n bytes (omega arith) in
-    let ms : after k (room - n) (drop n bytes) ≡ end_marks (room - k) =
-    ap (after k (room - n)) nothing ∙ ap (λ (ms : List Mark). if is_leftover (room - n) then Leftover ∷ [] else ms) (none_in k (room - n)) ∙ ap (λ (i : ℕ). end_marks (room - i)) e in
-    let st : standing_after k (room - n) (drop n bytes) ≡ end_standing (room - k) =
-    ap (standing_after k (room - n)) nothing ∙ ap (λ (s : Standing). if is_leftover (room - n) then Dropped else s) (none_stands k (room - n)) ∙ ap (λ (i : ℕ). end_standing (room - i)) e in
-    record {
-      marks = m.0 ∙ marks_whole k room bytes f ∙ ap (λ (later : List Mark). head_mark bytes ∷ pdv_mark bytes ∷ later) ms;
-      stands = m.1 ∙ at_front Whole k room bytes f ∙ st;
-    }
-
--- the marks that a chunk adds to a begun value
+-- the marks that a chunk adds to an unfinished value
 pub new_is_drop : (room : ℕ) (bytes piece : List ℕ) (old new : List Mark) → pdv_marks room bytes ≡ old → pdv_marks room (bytes ++ piece) ≡ new → new_pdv_marks room bytes piece ≡ drop (length old) new
 unfolding new_pdv_marks
 new_is_drop room bytes piece old new e f = rw (e, f) refl
 
 -- ---- in the head of a PDU
 
-begun_short : (r : List ℕ) → length r < 6 → begun_marks r ≡ []
+begun_short : (r : List ℕ) → length r < 6 → unfinished_marks r ≡ []
 begun_short r lt = rw (lt-ltb (length r) 6 lt) refl
 
-begun_long : (r : List ℕ) → 6 ≤ length r → begun_marks r ≡ Head (frame_kind r) (frame_length r) ∷ inner_marks r
+begun_long : (r : List ℕ) → 6 ≤ length r → unfinished_marks r ≡ Head (frame_kind r) (frame_length r) ∷ inner_marks r
 begun_long r le = rw (le-ltb (length r) 6 le) refl
 
 pub head_within : (r c : List ℕ) → length (r ++ c) < 6 → (new_marks r c ≡ []) × (rest_of (r ++ c) ≡ r ++ c)
@@ -152,12 +115,8 @@ data_within r c le kind p q =
     let h = chunk_within r c p q in
     (h.0 ∙ rw (begun_long r le, begun_long (r ++ c) long, data_inner r kind, data_inner (r ++ c) kind_too, s.n, s.body) refl, h.1)
 
-drop_front : (xs ys : List Mark) → drop (length xs) (xs ++ ys) ≡ ys
-drop_front [] ys = refl
-drop_front (x ∷ xs) ys = drop_front xs ys
-
 drop_between : (xs ys zs : List Mark) → drop (length xs) ((xs ++ ys) ++ zs) ≡ drop (length xs) (xs ++ ys) ++ zs
-drop_between xs ys zs = simp append_assoc (drop_front xs (ys ++ zs) ∙ ap (λ (ms : List Mark). ms ++ zs) (sym (drop_front xs ys)))
+drop_between xs ys zs = simp append_assoc (drop-append_seam xs (ys ++ zs) ∙ ap (λ (ms : List Mark). ms ++ zs) (sym (drop-append_seam xs ys)))
 
 pub data_ends : (r c : List ℕ) → 6 ≤ length r → nat_eq (frame_kind r) 4 ≡ true → IsRest r → IsFrame (r ++ c)
     → (new_marks r c ≡ new_pdv_marks (frame_length r) (drop 6 r) c ++ End (frame_kind r) (drop 6 r ++ c) ∷ []) × (rest_of (r ++ c) ≡ [])

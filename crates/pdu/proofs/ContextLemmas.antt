@@ -1,12 +1,13 @@
 -- Which items spell which proposals.
-use Rattle.std.proofs.Common.{◌≡◌, ℕ, ◌≤◌, ◌%◌, true, false, not, nat_eq, nat_le, List, [], ◌∷◌, length, map, drop, get_or, None, refl, sym, ap, subst, ◌∙◌, arith, inl, inr}
+use Rattle.std.proofs.Common.{◌≡◌, ℕ, ◌≤◌, ◌<◌, ◌%◌, true, false, not, eqb, nat_eq, nat_le, List, [], ◌∷◌, length, map, drop, get_or, None, refl, sym, ap, subst, ◌∙◌, arith, inl, inr}
 use Rattle.std.proofs.lemmas.Bool.{cases_Bool, eqb-true, eqb-false, ne_eqb, eq-eqb, and_from, and_parts, le-leb, leb-true, not-true, not_from_false}
 use Rattle.std.proofs.lemmas.List.{length-map, length-drop}
-use Rattle.std.specs.List.{AllByRecursion}
-use Rattle.pdu.specs.Record.{Proposal}
+use Rattle.std.specs.List.{AllByRecursion, IsDistinct}
+use Rattle.element.specs.Numbers.{IsBytes}
+use Rattle.pdu.specs.Record.{Proposal, ids}
 use Rattle.pdu.specs.Pieces.{joined}
 use Rattle.pdu.specs.Items.{items_of, left_over, is_kind, of_kind, first_or_none, identifier, syntaxes, parts, proposal_of, proposals}
-use Rattle.pdu.specs.Request.{ContextText, ContextTexts, IsNew, AreDistinct}
+use Rattle.pdu.specs.Request.{ContextText, ContextTexts, IsContextId}
 use Rattle.pdu.specs.Refusal.{id_of, context_part_fault}
 use Rattle.pdu.proofs.PartLemmas.{context_fine, fine_context, whole_is, empty_is, whole_joined, items_joined, one_from, one_length, one_first}
 use Rattle.pdu.proofs.FitLemmas.{IsOther, Distinct, of_yes, of_no}
@@ -129,18 +130,28 @@ proposals_are (i ∷ is) all =
           rw e (proposals_are is there)
     ]
 
-new_from : (i : List ℕ) (is : List (List ℕ)) → AllByRecursion (IsOther i) is → IsNew (id_of i) (map proposal_of is)
-new_from i [] all = tt
-new_from i (j ∷ is) all = (all.0, new_from i is all.1)
+-- ---- their IDs
 
-pub distinct_from : (is : List (List ℕ)) → Distinct is → AreDistinct (map proposal_of is)
+new_from : (i : List ℕ) (is : List (List ℕ)) → AllByRecursion (IsOther i) is → AllByRecursion (λ n. eqb (id_of i) n ≡ false) (ids (map proposal_of is))
+new_from i [] all = tt
+new_from i (j ∷ is) all = (ne_eqb (id_of i) (id_of j) (λ e. all.0 (sym e)), new_from i is all.1)
+
+pub distinct_from : (is : List (List ℕ)) → Distinct is → IsDistinct eqb (ids (map proposal_of is))
+unfolding IsDistinct
 distinct_from [] d = tt
 distinct_from (i ∷ is) d = (new_from i is d.0, distinct_from is d.1)
 
-others_from : (i : List ℕ) (is : List (List ℕ)) → IsNew (id_of i) (map proposal_of is) → AllByRecursion (IsOther i) is
+others_from : (i : List ℕ) (is : List (List ℕ)) → AllByRecursion (λ n. eqb (id_of i) n ≡ false) (ids (map proposal_of is)) → AllByRecursion (IsOther i) is
 others_from i [] all = tt
-others_from i (j ∷ is) all = (all.0, others_from i is all.1)
+others_from i (j ∷ is) all = (λ e. eqb-false (id_of i) (id_of j) all.0 (sym e), others_from i is all.1)
 
-pub distinct_back : (is : List (List ℕ)) → AreDistinct (map proposal_of is) → Distinct is
+pub distinct_back : (is : List (List ℕ)) → IsDistinct eqb (ids (map proposal_of is)) → Distinct is
+unfolding IsDistinct
 distinct_back [] d = tt
 distinct_back (i ∷ is) d = (others_from i is d.0, distinct_back is d.1)
+
+pub ids_odd : (ps : List Proposal) (is : List (List ℕ)) → AllByRecursion IsBytes is → ContextTexts ps is → AllByRecursion IsContextId (ids ps)
+ids_odd [] [] all t = tt
+ids_odd [] (i ∷ is) all t = absurd t
+ids_odd (p ∷ ps) [] all t = absurd t
+ids_odd (p ∷ ps) (i ∷ is) all t = ((t.0.odd, subst (λ n. n < 256) (spelled p i t.0).id (all.0 4)), ids_odd ps is all.1 t.1)

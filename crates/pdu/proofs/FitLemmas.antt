@@ -2,10 +2,11 @@
 use Rattle.std.proofs.Common.{◌⊎◌, ◌≡◌, ℕ, zero, suc, ◌+◌, ◌≤◌, Bool, true, false, ◌&&◌, nat_eq, List, [], ◌∷◌, length, Option, Some, None, refl, sym, ap, subst, ◌∙◌, arith, inl, inr, if◌then◌else◌}
 use Rattle.std.proofs.lemmas.Bool.{cases_Bool, eqb-true, eqb-false, ne_eqb, or_parts, or_from, and_right, and_from, and_parts, true≢false}
 use Rattle.std.specs.List.{AllByRecursion, list_any}
+use Rattle.std.specs.Option.{option_or}
 use Rattle.pdu.specs.declared.fault.PduFault.{PduFault}
 use Rattle.pdu.specs.declared.fault.PduFault.TheVariants.{BadItem, DoubleContext, Missing}
 use Rattle.pdu.specs.Items.{is_kind, of_kind, kind, content}
-use Rattle.pdu.specs.Refusal.{application_fault, information_part_fault, information_fault, or_else, id_of, context_part_fault, context_fault, has_id, item_fault, has_all, end_fault, judged}
+use Rattle.pdu.specs.Refusal.{application_fault, information_part_fault, information_fault, id_of, context_part_fault, context_fault, has_id, item_fault, has_all, end_fault, list_fault}
 
 abbrev pub IsFresh : List (List ℕ) → List ℕ → Type 0
 IsFresh before i = list_any (has_id (id_of i)) before ≡ false
@@ -94,7 +95,7 @@ if_none : (b : Bool) (f : PduFault) → (if b then Some f else None) ≡ None �
 if_none true f e = absurd cc
 if_none false f e = refl
 
-or_none : (a b : Option PduFault) → or_else a b ≡ None → (a ≡ None) × (b ≡ None)
+or_none : (a b : Option PduFault) → option_or a b ≡ None → (a ≡ None) × (b ≡ None)
 or_none None b e = (refl, e)
 or_none (Some f) b e = absurd cc
 
@@ -172,7 +173,7 @@ fit_next before i is f =
           let distinct = subst Distinct a2 f.distinct in
           let part : context_part_fault i ≡ None = proposed.0 in
           let here : list_any (has_id (id_of i)) before ≡ false = fresh.0 in (
-            fault_context before i w ∙ ap (λ (o : Option PduFault). or_else o (if list_any (has_id (id_of i)) before then Some DoubleContext else None)) part ∙ rw here refl,
+            fault_context before i w ∙ ap (λ (o : Option PduFault). option_or o (if list_any (has_id (id_of i)) before then Some DoubleContext else None)) part ∙ rw here refl,
             record {
               application = omega (arith, f.application, ap length a1, ap length b1);
               information = omega (arith, f.information, ap length a3, ap length b3);
@@ -190,7 +191,7 @@ fit_next before i is f =
           let first : list_any (is_kind 0x50) before ≡ false = any_none 0x50 before (omega (arith, f.information, ap length a3)) in
           let informed = subst (AllByRecursion (λ j. information_part_fault (content j) ≡ None)) a3 f.informed in
           let part : information_part_fault (content i) ≡ None = informed.0 in (
-            fault_information before i w ∙ ap (λ (o : Option PduFault). or_else o (if list_any (is_kind 0x50) before then Some BadItem else None)) part ∙ rw first refl,
+            fault_information before i w ∙ ap (λ (o : Option PduFault). option_or o (if list_any (is_kind 0x50) before then Some BadItem else None)) part ∙ rw first refl,
             record {
               application = omega (arith, f.application, ap length a1, ap length b1);
               information = omega (arith, f.information, ap length a3, ap length b3);
@@ -218,15 +219,15 @@ fit_next before i is f =
           )
     ]
 
-pub fit_judged : (before items : List (List ℕ)) → Fit before items → judged before items [] ≡ None
-fit_judged before [] f =
+pub fit_faultless : (before items : List (List ℕ)) → Fit before items → list_fault before items [] ≡ None
+fit_faultless before [] f =
     let all : has_all before ≡ true = and_from (list_any (is_kind 0x10) before) (list_any (is_kind 0x20) before && list_any (is_kind 0x50) before)
     (any_some 0x10 before (omega (arith, f.application)))
     (and_from (list_any (is_kind 0x20) before) (list_any (is_kind 0x50) before) (any_some 0x20 before (omega (arith, f.some))) (any_some 0x50 before (omega (arith, f.information)))) in
     rw all refl
-fit_judged before (i ∷ is) f =
+fit_faultless before (i ∷ is) f =
     let h = fit_next before i is f in
-    ap (λ (o : Option PduFault). or_else o (judged (i ∷ before) is [])) h.0 ∙ fit_judged (i ∷ before) is h.1
+    ap (λ (o : Option PduFault). option_or o (list_fault (i ∷ before) is [])) h.0 ∙ fit_faultless (i ∷ before) is h.1
 
 -- ---- and back
 
@@ -331,9 +332,9 @@ end_fits before [] none o =
     ]
 end_fits before (x ∷ rest) none o = absurd cc
 
-pub judged_fits : (before items : List (List ℕ)) (rest : List ℕ) → judged before items rest ≡ None → Once before → (rest ≡ []) × Fit before items
-judged_fits before [] rest none o = end_fits before rest none o
-judged_fits before (i ∷ is) rest none o =
-    let h = or_none (item_fault before i) (judged (i ∷ before) is rest) none in
-    let more = judged_fits (i ∷ before) is rest h.1 (once_next before i h.0 o) in
+pub faultless_fits : (before items : List (List ℕ)) (rest : List ℕ) → list_fault before items rest ≡ None → Once before → (rest ≡ []) × Fit before items
+faultless_fits before [] rest none o = end_fits before rest none o
+faultless_fits before (i ∷ is) rest none o =
+    let h = or_none (item_fault before i) (list_fault (i ∷ before) is rest) none in
+    let more = faultless_fits (i ∷ before) is rest h.1 (once_next before i h.0 o) in
     (more.0, fit_back before i is h.0 more.1)

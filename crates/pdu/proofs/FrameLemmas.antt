@@ -3,12 +3,13 @@ use Rattle.std.proofs.Common.{◌≡◌, ℕ, ◌≤◌, nat_eq, List, [], ◌�
 use Rattle.std.proofs.lemmas.Bool.{cases_lt, cases_Bool, lt-ltb, le-ltb}
 use Rattle.std.proofs.lemmas.List.{length-append, append-nil}
 use Rattle.std.proofs.lemmas.List.Concat.{flat_map-append}
+use Rattle.std.proofs.Math.Seq.{drop-append_seam}
 use Rattle.std.specs.List.{flat_map}
 use Rattle.pdu.specs.Pieces.{joined, pieces_of}
 use Rattle.pdu.specs.Frames.{frame, IsFrame, IsRest, Splits, frames_of, rest_of}
-use Rattle.pdu.specs.Marks.{Mark, Head, End, frame_kind, frame_length, inner_marks, whole_marks, begun_marks, marks, new_marks, marks_by}
+use Rattle.pdu.specs.Marks.{Mark, Head, End, frame_kind, frame_length, inner_marks, whole_marks, unfinished_marks, marks, new_marks, marks_by}
 use Rattle.pdu.proofs.PieceLemmas.{Reads, pieces_unique, pieces_split, splits_more, splits_alone, splits_one, rest_begins}
-use Rattle.pdu.proofs.PdvLemmas.{Grows, pdv_grows}
+use Rattle.pdu.proofs.LaterLemmas.{Grows, pdv_grows, drop_past}
 
 pub record SameFrame (f more : List ℕ) : Type 0 where
   pub kind : frame_kind (f ++ more) ≡ frame_kind f
@@ -44,7 +45,7 @@ pub rest_at : (s : List ℕ) (fs : List (List ℕ)) (r : List ℕ) → Splits s 
 unfolding rest_of
 rest_at s fs r h = ap (λ (p : List (List ℕ) × List ℕ). p.1) (frames_unique s fs r h)
 
-pub marks_at : (s : List ℕ) (fs : List (List ℕ)) (r : List ℕ) → Splits s fs r → marks s ≡ flat_map whole_marks fs ++ begun_marks r
+pub marks_at : (s : List ℕ) (fs : List (List ℕ)) (r : List ℕ) → Splits s fs r → marks s ≡ flat_map whole_marks fs ++ unfinished_marks r
 unfolding marks
 marks_at s fs r h = rw (frames_at s fs r h, rest_at s fs r h) refl
 
@@ -61,13 +62,9 @@ rest_later s p fs r h =
     let g = frames_split (r ++ p) in
     rest_at (s ++ p) (fs ++ frames_of (r ++ p)) (rest_of (r ++ p)) (splits_more frame s p fs (frames_of (r ++ p)) r (rest_of (r ++ p)) h g)
 
-drop_past : (xs ys zs : List Mark) → drop (length (xs ++ ys)) (xs ++ zs) ≡ drop (length ys) zs
-drop_past [] ys zs = refl
-drop_past (x ∷ xs) ys zs = drop_past xs ys zs
-
-pub new_later : (s p : List ℕ) (fs : List (List ℕ)) (r : List ℕ) → Splits s fs r → new_marks s p ≡ drop (length (begun_marks r)) (marks (r ++ p))
+pub new_later : (s p : List ℕ) (fs : List (List ℕ)) (r : List ℕ) → Splits s fs r → new_marks s p ≡ drop (length (unfinished_marks r)) (marks (r ++ p))
 unfolding new_marks
-new_later s p fs r h = rw (marks_at s fs r h, marks_later s p fs r h) (drop_past (flat_map whole_marks fs) (begun_marks r) (marks (r ++ p)))
+new_later s p fs r h = rw (marks_at s fs r h, marks_later s p fs r h) (drop_past (flat_map whole_marks fs) (unfinished_marks r) (marks (r ++ p)))
 
 -- ---- a begun frame keeps its marks
 
@@ -81,46 +78,42 @@ inner_grows f more h =
       | inr t ↦ ([], rw (s.kind, t) refl)
     ]
 
-begun_grows : (r more : List ℕ) → Grows (begun_marks r) (begun_marks (r ++ more))
+begun_grows : (r more : List ℕ) → Grows (unfinished_marks r) (unfinished_marks (r ++ more))
 begun_grows r more =
     elim (cases_lt (length r) 6) [
-      | inl lt ↦ (begun_marks (r ++ more), rw (lt-ltb (length r) 6 lt) refl)
+      | inl lt ↦ (unfinished_marks (r ++ more), rw (lt-ltb (length r) 6 lt) refl)
       | inr le ↦
           let s = same_frame r more le in
           let g = inner_grows r more le in
           let long : 6 ≤ length (r ++ more) = omega (arith, length-append r more) in
-          let now : begun_marks (r ++ more) ≡ Head (frame_kind (r ++ more)) (frame_length (r ++ more)) ∷ inner_marks (r ++ more) = rw (le-ltb (length (r ++ more)) 6 long) refl in
-          let before : begun_marks r ≡ Head (frame_kind r) (frame_length r) ∷ inner_marks r = rw (le-ltb (length r) 6 le) refl in
+          let now : unfinished_marks (r ++ more) ≡ Head (frame_kind (r ++ more)) (frame_length (r ++ more)) ∷ inner_marks (r ++ more) = rw (le-ltb (length (r ++ more)) 6 long) refl in
+          let before : unfinished_marks r ≡ Head (frame_kind r) (frame_length r) ∷ inner_marks r = rw (le-ltb (length r) 6 le) refl in
           let heads : Head (frame_kind (r ++ more)) (frame_length (r ++ more)) ≡ Head (frame_kind r) (frame_length r) = rw (s.kind, s.n) refl in
           (g.0, now ∙ ap (λ (m : Mark). m ∷ inner_marks (r ++ more)) heads ∙ ap (λ (ms : List Mark). Head (frame_kind r) (frame_length r) ∷ ms) g.1 ∙ ap (λ (ms : List Mark). ms ++ g.0) (sym before))
     ]
 
 -- the marks of a whole frame are those of it as a begun one, and its end
-whole_is : (f : List ℕ) → IsFrame f → whole_marks f ≡ begun_marks f ++ End (frame_kind f) (drop 6 f) ∷ []
+whole_is : (f : List ℕ) → IsFrame f → whole_marks f ≡ unfinished_marks f ++ End (frame_kind f) (drop 6 f) ∷ []
 whole_is f w = let le : 6 ≤ length f = w.headed in rw (le-ltb (length f) 6 le) refl
 
-pub begun_first : (r p : List ℕ) → IsRest r → Grows (begun_marks r) (marks (r ++ p))
+pub begun_first : (r p : List ℕ) → IsRest r → Grows (unfinished_marks r) (marks (r ++ p))
 begun_first r p partial =
     let h = frames_split (r ++ p) in
     go (frames_of (r ++ p)) (rest_of (r ++ p)) h
   where
-    go : (fs : List (List ℕ)) (t : List ℕ) → Splits (r ++ p) fs t → Grows (begun_marks r) (marks (r ++ p))
+    go : (fs : List (List ℕ)) (t : List ℕ) → Splits (r ++ p) fs t → Grows (unfinished_marks r) (marks (r ++ p))
     go [] t h =
         let g = begun_grows r p in
-        (g.0, marks_at (r ++ p) [] t h ∙ ap begun_marks (sym h.whole) ∙ g.1)
+        (g.0, marks_at (r ++ p) [] t h ∙ ap unfinished_marks (sym h.whole) ∙ g.1)
     go (f ∷ fs) t h =
         let q = rest_begins frame frame_reads r p f (joined fs ++ t) partial h.each.0 (h.whole ∙ simp append_assoc) in
         let g = begun_grows r q.0 in
-        let rest = (End (frame_kind f) (drop 6 f) ∷ []) ++ (flat_map whole_marks fs ++ begun_marks t) in (
+        let rest = (End (frame_kind f) (drop 6 f) ∷ []) ++ (flat_map whole_marks fs ++ unfinished_marks t) in (
           g.0 ++ rest,
           marks_at (r ++ p) (f ∷ fs) t h
-              ∙ ap (λ (ms : List Mark). (ms ++ flat_map whole_marks fs) ++ begun_marks t) (whole_is f h.each.0 ∙ ap (λ (ms : List Mark). ms ++ End (frame_kind f) (drop 6 f) ∷ []) (ap begun_marks q.1 ∙ g.1))
+              ∙ ap (λ (ms : List Mark). (ms ++ flat_map whole_marks fs) ++ unfinished_marks t) (whole_is f h.each.0 ∙ ap (λ (ms : List Mark). ms ++ End (frame_kind f) (drop 6 f) ∷ []) (ap unfinished_marks q.1 ∙ g.1))
               ∙ simp append_assoc,
         )
-
-drop_front : (xs ys : List Mark) → drop (length xs) (xs ++ ys) ≡ ys
-drop_front [] ys = refl
-drop_front (x ∷ xs) ys = drop_front xs ys
 
 -- marks never change, and a piece adds its own
 pub marks_grow : (s p : List ℕ) → marks (s ++ p) ≡ marks s ++ new_marks s p
@@ -129,12 +122,12 @@ marks_grow s p =
     let fs = frames_of s in
     let r = rest_of s in
     let g = begun_first r p h.partial in
-    let new : new_marks s p ≡ g.0 = new_later s p fs r h ∙ ap (drop (length (begun_marks r))) g.1 ∙ drop_front (begun_marks r) g.0 in
+    let new : new_marks s p ≡ g.0 = new_later s p fs r h ∙ ap (drop (length (unfinished_marks r))) g.1 ∙ drop-append_seam (unfinished_marks r) g.0 in
     marks_later s p fs r h ∙ ap (λ (ms : List Mark). flat_map whole_marks fs ++ ms) g.1 ∙ rw (marks_at s fs r h, new) (simp append_assoc)
 
 pub new_is : (s p : List ℕ) (ms : List Mark) → marks (s ++ p) ≡ marks s ++ ms → new_marks s p ≡ ms
 unfolding new_marks
-new_is s p ms e = rw e (drop_front (marks s) ms)
+new_is s p ms e = rw e (drop-append_seam (marks s) ms)
 
 -- the marks of two pieces are those of the first, and then those of the second
 pub new_then : (s p q : List ℕ) → new_marks s (p ++ q) ≡ new_marks s p ++ new_marks (s ++ p) q
@@ -162,17 +155,17 @@ rest_rest s p = rest_later s p (frames_of s) (rest_of s) (frames_split s)
 -- ---- one more chunk
 
 -- a chunk after which the frame is still not whole
-pub chunk_within : (r c : List ℕ) → IsRest r → IsRest (r ++ c) → (new_marks r c ≡ drop (length (begun_marks r)) (begun_marks (r ++ c))) × (rest_of (r ++ c) ≡ r ++ c)
+pub chunk_within : (r c : List ℕ) → IsRest r → IsRest (r ++ c) → (new_marks r c ≡ drop (length (unfinished_marks r)) (unfinished_marks (r ++ c))) × (rest_of (r ++ c) ≡ r ++ c)
 chunk_within r c p q = (
-  new_later r c [] r (splits_alone frame r p) ∙ ap (drop (length (begun_marks r))) (marks_at (r ++ c) [] (r ++ c) (splits_alone frame (r ++ c) q)),
+  new_later r c [] r (splits_alone frame r p) ∙ ap (drop (length (unfinished_marks r))) (marks_at (r ++ c) [] (r ++ c) (splits_alone frame (r ++ c) q)),
   rest_alone (r ++ c) q,
 )
 
 -- a chunk that makes the frame whole
-pub chunk_ends : (r c : List ℕ) → IsRest r → IsFrame (r ++ c) → (new_marks r c ≡ drop (length (begun_marks r)) (whole_marks (r ++ c))) × (rest_of (r ++ c) ≡ [])
+pub chunk_ends : (r c : List ℕ) → IsRest r → IsFrame (r ++ c) → (new_marks r c ≡ drop (length (unfinished_marks r)) (whole_marks (r ++ c))) × (rest_of (r ++ c) ≡ [])
 chunk_ends r c p w =
     let one = splits_one frame frame_reads (r ++ c) w in (
-      new_later r c [] r (splits_alone frame r p) ∙ ap (drop (length (begun_marks r))) (marks_at (r ++ c) ((r ++ c) ∷ []) [] one ∙ simp append-nil),
+      new_later r c [] r (splits_alone frame r p) ∙ ap (drop (length (unfinished_marks r))) (marks_at (r ++ c) ((r ++ c) ∷ []) [] one ∙ simp append-nil),
       rest_at (r ++ c) ((r ++ c) ∷ []) [] one,
     )
 

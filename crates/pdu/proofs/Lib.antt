@@ -5,10 +5,12 @@ pub mod TextLemmas
 pub mod FitLemmas
 pub mod PartLemmas
 pub mod ContextLemmas
+pub mod IdLemmas
 pub mod RequestLemmas
 pub mod PdvLemmas
 pub mod FrameLemmas
-pub mod Tried
-pub mod StandingLemmas
+pub mod ExampleLemmas
+pub mod LaterLemmas
 pub mod ChunkLemmas
+pub mod BegunLemmas
 pub mod ValueLemmas

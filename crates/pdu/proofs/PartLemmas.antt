@@ -76,7 +76,7 @@ maximum_is n (m ∷ k ∷ ms) t = absurd t
 
 record InformationFine (text : List ℕ) : Type 0 where
   pub whole : is_whole text ≡ true
-  pub told : is_maximum (of_kind 0x51 (items_of text)) ≡ true
+  pub maximum : is_maximum (of_kind 0x51 (items_of text)) ≡ true
 
 information_fine : (text : List ℕ) → information_part_fault text ≡ None → InformationFine text
 information_fine text e =
@@ -84,7 +84,7 @@ information_fine text e =
       | inr w ↦ let bad : Some BadLength ≡ None = rw w at e in absurd cc
       | inl w ↦ elim (cases_Bool (is_maximum (of_kind 0x51 (items_of text)))) [
         | inr m ↦ let bad : Some BadItem ≡ None = rw (w, m) at e in absurd cc
-        | inl m ↦ record { whole = w; told = m }
+        | inl m ↦ record { whole = w; maximum = m }
       ]
     ]
 
@@ -92,7 +92,7 @@ pub information_text : (i : List ℕ) → information_part_fault (content i) ≡
 information_text i e =
     let f = information_fine (content i) e in
     let w = whole_is (content i) (empty_is (left_over (content i)) f.whole) in
-    record { parts = items_of (content i); whole = w.whole; each = w.each; told = maximum_text (of_kind 0x51 (items_of (content i))) f.told }
+    record { parts = items_of (content i); whole = w.whole; each = w.each; maximum_is = maximum_text (of_kind 0x51 (items_of (content i))) f.maximum }
 
 parts_are : (text : List ℕ) (fs : List (List ℕ)) → text ≡ joined fs → AllByRecursion (IsWhole item) fs → items_of text ≡ fs
 parts_are text fs e all = ap items_of e ∙ items_joined fs all
@@ -100,11 +100,11 @@ parts_are text fs e all = ap items_of e ∙ items_joined fs all
 pub information_fits : (n : ℕ) (i : List ℕ) → InformationText n i → information_part_fault (content i) ≡ None
 information_fits n i t =
     let w = whole_joined (content i) t.parts t.whole t.each in
-    let m : is_maximum (of_kind 0x51 (items_of (content i))) ≡ true = ap (λ (fs : List (List ℕ)). is_maximum (of_kind 0x51 fs)) (parts_are (content i) t.parts t.whole t.each) ∙ maximum_fits n (of_kind 0x51 t.parts) t.told in
+    let m : is_maximum (of_kind 0x51 (items_of (content i))) ≡ true = ap (λ (fs : List (List ℕ)). is_maximum (of_kind 0x51 fs)) (parts_are (content i) t.parts t.whole t.each) ∙ maximum_fits n (of_kind 0x51 t.parts) t.maximum_is in
     rw (w, m) refl
 
 pub information_is : (n : ℕ) (i : List ℕ) → InformationText n i → n ≡ four_or_none (content (first_or_none (of_kind 0x51 (items_of (content i)))))
-information_is n i t = maximum_is n (of_kind 0x51 t.parts) t.told ∙ ap (λ (fs : List (List ℕ)). four_or_none (content (first_or_none (of_kind 0x51 fs)))) (sym (parts_are (content i) t.parts t.whole t.each))
+information_is n i t = maximum_is n (of_kind 0x51 t.parts) t.maximum_is ∙ ap (λ (fs : List (List ℕ)). four_or_none (content (first_or_none (of_kind 0x51 fs)))) (sym (parts_are (content i) t.parts t.whole t.each))
 
 -- ---- a proposed context
 

@@ -1,13 +1,9 @@
--- The marks of presentation data values only ever get appended when bytes come.
-use Rattle.std.proofs.Common.{◌⊎◌, ◌≡◌, ℕ, zero, suc, ◌-◌, ◌<◌, ◌≤◌, if◌then◌else◌, List, [], ◌∷◌, ◌++◌, length, take, drop, get_or, refl, sym, ap, ◌∙◌, arith, inl, inr}
+-- The marks inside a P-DATA frame: the relation and the function are one.
+use Rattle.std.proofs.Common.{◌≡◌, ℕ, zero, suc, ◌-◌, ◌<◌, ◌≤◌, true, false, List, [], ◌∷◌, ◌++◌, length, take, drop, get_or, refl, sym, ap, subst, ◌∙◌, arith, inl, inr}
 use Rattle.std.proofs.lemmas.Bool.{cases_lt, cases_Bool, lt-ltb, le-ltb}
-use Rattle.std.proofs.lemmas.List.{length-append, length-drop, drop-append-le, take-append-le}
+use Rattle.std.proofs.lemmas.List.{length-append, length-drop, take-append-le}
 use Rattle.byteorder.specs.Endian.{big_number}
-use Rattle.pdu.specs.Marks.{Mark, Pdv, BadPdv, Leftover, Front, Headless, Bad, Begun, Whole, pdv_size, front, head_mark, pdv_mark, front_marks, is_leftover, pdv_marks_in, pdv_marks}
-
--- ns is ms and more
-abbrev pub Grows : List Mark → List Mark → Type 0
-Grows ms ns = (more : List Mark) × (ns ≡ ms ++ more)
+use Rattle.pdu.specs.Pdvs.{Mark, Pdv, Leftover, DataSpot, Dropped, pdv_size, IsGoodHead, IsBadHead, head_mark, pdv_mark, is_leftover, Marked, too_short, bad, unfinished, whole_and_leftover, whole_and_more, Pdvs, Front, Headless, Bad, Partial, Whole, front, with_front, or_leftover, pdvs_in, pdv_marks, data_spot}
 
 -- ---- what a head says
 
@@ -26,65 +22,6 @@ same_head (a ∷ b ∷ c ∷ d ∷ []) more h = absurd (omega arith)
 same_head (a ∷ b ∷ c ∷ d ∷ e ∷ []) more h = absurd (omega arith)
 same_head (a ∷ b ∷ c ∷ d ∷ e ∷ f ∷ bytes) more h = record { number = refl; context = refl; control = refl; body = refl }
 
--- ---- which front
-
-pub data Is (room : ℕ) (bytes : List ℕ) : Type 0 where
-  headless : length bytes < 6 → front room bytes ≡ Headless → Is room bytes
-  bad : 6 ≤ length bytes → (big_number 4 bytes < 2) ⊎ (room < pdv_size bytes) → front room bytes ≡ Bad → Is room bytes
-  begun : 6 ≤ length bytes → 2 ≤ big_number 4 bytes → pdv_size bytes ≤ room → length bytes < pdv_size bytes → front room bytes ≡ Begun → Is room bytes
-  whole : 6 ≤ length bytes → 2 ≤ big_number 4 bytes → pdv_size bytes ≤ room → pdv_size bytes ≤ length bytes → front room bytes ≡ Whole → Is room bytes
-
-pub front_is : (room : ℕ) (bytes : List ℕ) → Is room bytes
-front_is room bytes =
-    elim (cases_lt (length bytes) 6) [
-      | inl a ↦ headless a (rw (lt-ltb (length bytes) 6 a) refl)
-      | inr a ↦ elim (cases_lt (big_number 4 bytes) 2) [
-        | inl b ↦ bad a (inl b) (rw (le-ltb (length bytes) 6 a, lt-ltb (big_number 4 bytes) 2 b) refl)
-        | inr b ↦ elim (cases_lt room (pdv_size bytes)) [
-          | inl c ↦ bad a (inr c) (rw (le-ltb (length bytes) 6 a, le-ltb (big_number 4 bytes) 2 b, lt-ltb room (pdv_size bytes) c) refl)
-          | inr c ↦ elim (cases_lt (length bytes) (pdv_size bytes)) [
-            | inl d ↦ begun a b c d (rw (le-ltb (length bytes) 6 a, le-ltb (big_number 4 bytes) 2 b, le-ltb room (pdv_size bytes) c, lt-ltb (length bytes) (pdv_size bytes) d) refl)
-            | inr d ↦ whole a b c d (rw (le-ltb (length bytes) 6 a, le-ltb (big_number 4 bytes) 2 b, le-ltb room (pdv_size bytes) c, le-ltb (length bytes) (pdv_size bytes) d) refl)
-          ]
-        ]
-      ]
-    ]
-
-pub front_bad : (room : ℕ) (bytes : List ℕ) → 6 ≤ length bytes → (big_number 4 bytes < 2) ⊎ (room < pdv_size bytes) → front room bytes ≡ Bad
-front_bad room bytes a why =
-    elim (front_is room bytes) [
-      | headless h e ↦ absurd (omega arith)
-      | bad h w e ↦ e
-      | begun h b c d e ↦ elim why [ inl x ↦ absurd (omega arith) | inr x ↦ absurd (omega arith) ]
-      | whole h b c d e ↦ elim why [ inl x ↦ absurd (omega arith) | inr x ↦ absurd (omega arith) ]
-    ]
-
-pub front_begun : (room : ℕ) (bytes : List ℕ) → 6 ≤ length bytes → 2 ≤ big_number 4 bytes → pdv_size bytes ≤ room → length bytes < pdv_size bytes → front room bytes ≡ Begun
-front_begun room bytes a b c d = rw (le-ltb (length bytes) 6 a, le-ltb (big_number 4 bytes) 2 b, le-ltb room (pdv_size bytes) c, lt-ltb (length bytes) (pdv_size bytes) d) refl
-
-pub front_whole : (room : ℕ) (bytes : List ℕ) → 6 ≤ length bytes → 2 ≤ big_number 4 bytes → pdv_size bytes ≤ room → pdv_size bytes ≤ length bytes → front room bytes ≡ Whole
-front_whole room bytes a b c d = rw (le-ltb (length bytes) 6 a, le-ltb (big_number 4 bytes) 2 b, le-ltb room (pdv_size bytes) c, le-ltb (length bytes) (pdv_size bytes) d) refl
-
--- ---- the marks by what stands at the front
-
-abbrev pub after : ℕ → ℕ → List ℕ → List Mark
-after k room bytes = if is_leftover room then Leftover ∷ [] else pdv_marks_in k room bytes
-
-pub marks_headless : (k room : ℕ) (bytes : List ℕ) → front room bytes ≡ Headless → pdv_marks_in (suc k) room bytes ≡ []
-marks_headless k room bytes e = ap (λ (f : Front). front_marks f bytes (after k (room - pdv_size bytes) (drop (pdv_size bytes) bytes))) e
-
-pub marks_bad : (k room : ℕ) (bytes : List ℕ) → front room bytes ≡ Bad → pdv_marks_in (suc k) room bytes ≡ BadPdv ∷ []
-marks_bad k room bytes e = ap (λ (f : Front). front_marks f bytes (after k (room - pdv_size bytes) (drop (pdv_size bytes) bytes))) e
-
-pub marks_begun : (k room : ℕ) (bytes : List ℕ) → front room bytes ≡ Begun → pdv_marks_in (suc k) room bytes ≡ head_mark bytes ∷ []
-marks_begun k room bytes e = ap (λ (f : Front). front_marks f bytes (after k (room - pdv_size bytes) (drop (pdv_size bytes) bytes))) e
-
-pub marks_whole : (k room : ℕ) (bytes : List ℕ) → front room bytes ≡ Whole
-    → pdv_marks_in (suc k) room bytes ≡ head_mark bytes ∷ pdv_mark bytes ∷ after k (room - pdv_size bytes) (drop (pdv_size bytes) bytes)
-marks_whole k room bytes e = ap (λ (f : Front). front_marks f bytes (after k (room - pdv_size bytes) (drop (pdv_size bytes) bytes))) e
-
--- ---- a head and a value stay what they are
-
 pub head_stays : (bytes more : List ℕ) → 6 ≤ length bytes → head_mark (bytes ++ more) ≡ head_mark bytes
 head_stays bytes more le = let s = same_head bytes more le in rw (s.number, s.context, s.control) refl
 
@@ -96,73 +33,130 @@ pdv_stays bytes more le two enough =
     ap (take (big_number 4 bytes - 2)) s.body ∙ take-append-le (big_number 4 bytes - 2) (drop 6 bytes) more fits in
     rw (s.number, s.context, s.control) (ap (λ (x : List ℕ). Pdv (get_or bytes 4 0) (get_or bytes 5 0) x) body)
 
--- a whole value stands at the front, whatever follows
-pub whole_later : (j room : ℕ) (bytes more : List ℕ) → 6 ≤ length bytes → 2 ≤ big_number 4 bytes → pdv_size bytes ≤ room → pdv_size bytes ≤ length bytes → front room (bytes ++ more) ≡ Whole
-whole_later j room bytes more a b c d =
-    let s = same_head bytes more a in
-    let long : 6 ≤ length (bytes ++ more) = omega (arith, length-append bytes more) in
-    let two : 2 ≤ big_number 4 (bytes ++ more) = omega (arith, s.number) in
-    let all : pdv_size (bytes ++ more) ≤ length (bytes ++ more) = omega (arith, s.number, length-append bytes more) in
-    let room_for : pdv_size (bytes ++ more) ≤ room = omega (arith, s.number) in
-    front_whole room (bytes ++ more) long two room_for all
-
 pub size_later : (bytes more : List ℕ) → 6 ≤ length bytes → pdv_size (bytes ++ more) ≡ pdv_size bytes
 size_later bytes more a = let s = same_head bytes more a in omega (arith, s.number)
 
-pub marks_whole_later : (j room : ℕ) (bytes more : List ℕ) → 6 ≤ length bytes → 2 ≤ big_number 4 bytes → pdv_size bytes ≤ room → pdv_size bytes ≤ length bytes
-    → pdv_marks_in (suc j) room (bytes ++ more) ≡ head_mark bytes ∷ pdv_mark bytes ∷ after j (room - pdv_size bytes) (drop (pdv_size bytes) bytes ++ more)
-marks_whole_later j room bytes more a b c d =
-    let cut : drop (pdv_size bytes) (bytes ++ more) ≡ drop (pdv_size bytes) bytes ++ more = drop-append-le (pdv_size bytes) bytes more d in
-    marks_whole j room (bytes ++ more) (whole_later j room bytes more a b c d)
-    ∙ rw (size_later bytes more a, cut, head_stays bytes more a, pdv_stays bytes more a b d) refl
+pub good_later : (room : ℕ) (bytes more : List ℕ) → IsGoodHead room bytes → IsGoodHead room (bytes ++ more)
+good_later room bytes more g =
+    let s = same_head bytes more g.headed in
+    record { headed = omega (arith, g.headed, length-append bytes more); least = omega (arith, g.least, s.number); fits = omega (arith, g.fits, s.number) }
 
-pub bad_later : (room : ℕ) (bytes more : List ℕ) → 6 ≤ length bytes → (big_number 4 bytes < 2) ⊎ (room < pdv_size bytes) → front room (bytes ++ more) ≡ Bad
-bad_later room bytes more a w =
-    let s = same_head bytes more a in
-    let long : 6 ≤ length (bytes ++ more) = omega (arith, length-append bytes more) in
-    let why : (big_number 4 (bytes ++ more) < 2) ⊎ (room < pdv_size (bytes ++ more)) = elim w [ inl x ↦ inl (omega (arith, s.number)) | inr x ↦ inr (omega (arith, s.number)) ] in
-    front_bad room (bytes ++ more) long why
+pub bad_later : (room : ℕ) (bytes more : List ℕ) → IsBadHead room bytes → IsBadHead room (bytes ++ more)
+bad_later room bytes more b =
+    let s = same_head bytes more b.headed in
+    record { headed = omega (arith, b.headed, length-append bytes more); why = elim b.why [ inl x ↦ inl (omega (arith, s.number)) | inr x ↦ inr (omega (arith, s.number)) ] }
 
--- ---- they only grow
+-- ---- which front
 
-pub grows_in : (k j room : ℕ) (bytes more : List ℕ) → length bytes ≤ k → length (bytes ++ more) ≤ j → Grows (pdv_marks_in k room bytes) (pdv_marks_in j room (bytes ++ more))
-grows_in zero j room bytes more le enough = (pdv_marks_in j room (bytes ++ more), refl)
-grows_in (suc k) zero room bytes more le enough =
-    elim (front_is room bytes) [
-      | headless h e ↦ ([], ap (λ (ms : List Mark). ms ++ []) (sym (marks_headless k room bytes e)))
-      | bad a w e ↦ absurd (omega (arith, length-append bytes more))
-      | begun a b c d e ↦ absurd (omega (arith, length-append bytes more))
-      | whole a b c d e ↦ absurd (omega (arith, length-append bytes more))
-    ]
-grows_in (suc k) (suc j) room bytes more le enough =
-    elim (front_is room bytes) [
-      | headless h e ↦ (pdv_marks_in (suc j) room (bytes ++ more), ap (λ (ms : List Mark). ms ++ pdv_marks_in (suc j) room (bytes ++ more)) (sym (marks_headless k room bytes e)))
-      | bad a w e ↦ ([], marks_bad j room (bytes ++ more) (bad_later room bytes more a w) ∙ ap (λ (ms : List Mark). ms ++ []) (sym (marks_bad k room bytes e)))
-      | begun a b c d e ↦
-          let s = same_head bytes more a in
-          elim (front_is room (bytes ++ more)) [
-            | headless h f ↦ absurd (omega (arith, length-append bytes more))
-            | bad g w f ↦ elim w [ inl x ↦ absurd (omega (arith, s.number)) | inr x ↦ absurd (omega (arith, s.number)) ]
-            | begun g h i l f ↦ ([], marks_begun j room (bytes ++ more) f ∙ ap (λ (m : Mark). m ∷ []) (head_stays bytes more a) ∙ ap (λ (ms : List Mark). ms ++ []) (sym (marks_begun k room bytes e)))
-            | whole g h i l f ↦
-                let rest = pdv_mark (bytes ++ more) ∷ after j (room - pdv_size (bytes ++ more)) (drop (pdv_size (bytes ++ more)) (bytes ++ more)) in
-                (rest, marks_whole j room (bytes ++ more) f ∙ ap (λ (m : Mark). m ∷ rest) (head_stays bytes more a) ∙ ap (λ (ms : List Mark). ms ++ rest) (sym (marks_begun k room bytes e)))
+data Is (room : ℕ) (bytes : List ℕ) : Type 0 where
+  is_headless : length bytes < 6 → Is room bytes
+  is_bad : IsBadHead room bytes → Is room bytes
+  is_begun : IsGoodHead room bytes → length bytes < pdv_size bytes → Is room bytes
+  is_whole : IsGoodHead room bytes → pdv_size bytes ≤ length bytes → Is room bytes
+
+front_is : (room : ℕ) (bytes : List ℕ) → Is room bytes
+front_is room bytes =
+    elim (cases_lt (length bytes) 6) [
+      | inl a ↦ is_headless a
+      | inr a ↦ elim (cases_lt (big_number 4 bytes) 2) [
+        | inl b ↦ is_bad (record { headed = a; why = inl b })
+        | inr b ↦ elim (cases_lt room (pdv_size bytes)) [
+          | inl c ↦ is_bad (record { headed = a; why = inr c })
+          | inr c ↦ elim (cases_lt (length bytes) (pdv_size bytes)) [
+            | inl d ↦ is_begun (record { headed = a; least = b; fits = c }) d
+            | inr d ↦ is_whole (record { headed = a; least = b; fits = c }) d
           ]
-      | whole a b c d e ↦
-          let n = pdv_size bytes in
-          let short : length (drop n bytes) ≤ k = omega (arith, length-drop n bytes) in
-          let short_too : length (drop n bytes ++ more) ≤ j = omega (arith, length-append bytes more, length-append (drop n bytes) more, length-drop n bytes) in
-          let rest = grows_after k j (room - n) (drop n bytes) more (grows_in k j (room - n) (drop n bytes) more short short_too) in
-          (rest.0, marks_whole_later j room bytes more a b c d ∙ ap (λ (ms : List Mark). head_mark bytes ∷ pdv_mark bytes ∷ ms) rest.1 ∙ ap (λ (ms : List Mark). ms ++ rest.0) (sym (marks_whole k room bytes e)))
-    ]
-  where
-    grows_after : (k j room : ℕ) (bytes more : List ℕ) → Grows (pdv_marks_in k room bytes) (pdv_marks_in j room (bytes ++ more)) → Grows (after k room bytes) (after j room (bytes ++ more))
-    grows_after k j room bytes more g =
-        elim (cases_Bool (is_leftover room)) [
-          | inl t ↦ ([], rw t refl)
-          | inr t ↦ (g.0, rw t g.1)
         ]
+      ]
+    ]
 
-pub pdv_grows : (room : ℕ) (bytes more : List ℕ) → Grows (pdv_marks room bytes) (pdv_marks room (bytes ++ more))
+front_headless : (room : ℕ) (bytes : List ℕ) → length bytes < 6 → front room bytes ≡ Headless
+front_headless room bytes a = rw (lt-ltb (length bytes) 6 a) refl
+
+front_bad : (room : ℕ) (bytes : List ℕ) → IsBadHead room bytes → front room bytes ≡ Bad
+front_bad room bytes b =
+    elim (cases_lt (big_number 4 bytes) 2) [
+      | inl x ↦ rw (le-ltb (length bytes) 6 b.headed, lt-ltb (big_number 4 bytes) 2 x) refl
+      | inr x ↦
+          let past : room < pdv_size bytes = elim b.why [ inl y ↦ absurd (omega arith) | inr y ↦ y ] in
+          rw (le-ltb (length bytes) 6 b.headed, le-ltb (big_number 4 bytes) 2 x, lt-ltb room (pdv_size bytes) past) refl
+    ]
+
+front_begun : (room : ℕ) (bytes : List ℕ) → IsGoodHead room bytes → length bytes < pdv_size bytes → front room bytes ≡ Partial
+front_begun room bytes g d = rw (le-ltb (length bytes) 6 g.headed, le-ltb (big_number 4 bytes) 2 g.least, le-ltb room (pdv_size bytes) g.fits, lt-ltb (length bytes) (pdv_size bytes) d) refl
+
+front_whole : (room : ℕ) (bytes : List ℕ) → IsGoodHead room bytes → pdv_size bytes ≤ length bytes → front room bytes ≡ Whole
+front_whole room bytes g d = rw (le-ltb (length bytes) 6 g.headed, le-ltb (big_number 4 bytes) 2 g.least, le-ltb room (pdv_size bytes) g.fits, le-ltb (length bytes) (pdv_size bytes) d) refl
+
+-- ---- what the function computes, by what stands at the front
+
+abbrev after : ℕ → ℕ → List ℕ → Pdvs
+after k room bytes = or_leftover (room - pdv_size bytes) (pdvs_in k (room - pdv_size bytes) (drop (pdv_size bytes) bytes))
+
+at_front : (f : Front) (k room : ℕ) (bytes : List ℕ) → front room bytes ≡ f → pdvs_in (suc k) room bytes ≡ with_front room bytes (after k room bytes) f
+at_front f k room bytes e = ap (with_front room bytes (after k room bytes)) e
+
+left_over : (room : ℕ) (later : Pdvs) → is_leftover room ≡ true → or_leftover room later ≡ record { marks = Leftover ∷ []; spot = Dropped }
+left_over room later t = rw t refl
+
+none_left : (room : ℕ) (later : Pdvs) → is_leftover room ≡ false → or_leftover room later ≡ later
+none_left room later t = rw t refl
+
+-- ---- the function computes what is marked
+
+abbrev MarkedAs : ℕ → List ℕ → Pdvs → Type 0
+MarkedAs room bytes i = Marked room bytes i.marks i.spot
+
+marked_in : (k room : ℕ) (bytes : List ℕ) → length bytes ≤ k → MarkedAs room bytes (pdvs_in k room bytes)
+marked_in zero room bytes le = too_short (omega arith)
+marked_in (suc k) room bytes le =
+    elim (front_is room bytes) [
+      | is_headless a ↦ subst (MarkedAs room bytes) (sym (at_front Headless k room bytes (front_headless room bytes a))) (too_short a)
+      | is_bad b ↦ subst (MarkedAs room bytes) (sym (at_front Bad k room bytes (front_bad room bytes b))) (bad b)
+      | is_begun g d ↦ subst (MarkedAs room bytes) (sym (at_front Partial k room bytes (front_begun room bytes g d))) (unfinished g d)
+      | is_whole g d ↦
+          let n = pdv_size bytes in
+          let later : MarkedAs (room - n) (drop n bytes) (pdvs_in k (room - n) (drop n bytes)) = marked_in k (room - n) (drop n bytes) (omega (arith, g.headed, length-drop n bytes)) in
+          let whole = at_front Whole k room bytes (front_whole room bytes g d) in
+          elim (cases_Bool (is_leftover (room - n))) [
+            | inl t ↦
+                let e = whole ∙ ap (λ (i : Pdvs). with_front room bytes i Whole) (left_over (room - n) (pdvs_in k (room - n) (drop n bytes)) t) in
+                subst (MarkedAs room bytes) (sym e) (whole_and_leftover g d t)
+            | inr t ↦
+                let e = whole ∙ ap (λ (i : Pdvs). with_front room bytes i Whole) (none_left (room - n) (pdvs_in k (room - n) (drop n bytes)) t) in
+                subst (MarkedAs room bytes) (sym e) (whole_and_more g d t later)
+          ]
+    ]
+
+pub marked : (room : ℕ) (bytes : List ℕ) → Marked room bytes (pdv_marks room bytes) (data_spot room bytes)
+unfolding pdv_marks data_spot
+marked room bytes = marked_in (length bytes) room bytes (omega arith)
+
+-- ---- and nothing else is
+
+computes : (k : ℕ) {room : ℕ} {bytes : List ℕ} {ms : List Mark} {s : DataSpot} → length bytes ≤ k → Marked room bytes ms s → pdvs_in k room bytes ≡ record { marks = ms; spot = s }
+computes zero le (too_short a) = refl
+computes zero le (bad b) = absurd (omega (arith, b.headed))
+computes zero le (unfinished g d) = absurd (omega (arith, g.headed))
+computes zero le (whole_and_leftover g d t) = absurd (omega (arith, g.headed))
+computes zero le (whole_and_more g d t later) = absurd (omega (arith, g.headed))
+computes (suc k) {room} {bytes} le (too_short a) = at_front Headless k room bytes (front_headless room bytes a)
+computes (suc k) {room} {bytes} le (bad b) = at_front Bad k room bytes (front_bad room bytes b)
+computes (suc k) {room} {bytes} le (unfinished g d) = at_front Partial k room bytes (front_begun room bytes g d)
+computes (suc k) {room} {bytes} le (whole_and_leftover g d t) =
+    let n = pdv_size bytes in
+    at_front Whole k room bytes (front_whole room bytes g d)
+    ∙ ap (λ (i : Pdvs). with_front room bytes i Whole) (left_over (room - n) (pdvs_in k (room - n) (drop n bytes)) t)
+computes (suc k) {room} {bytes} le (whole_and_more g d t later) =
+    let n = pdv_size bytes in
+    at_front Whole k room bytes (front_whole room bytes g d)
+    ∙ ap (λ (i : Pdvs). with_front room bytes i Whole)
+    (none_left (room - n) (pdvs_in k (room - n) (drop n bytes)) t ∙ computes k (omega (arith, g.headed, length-drop n bytes)) later)
+
+pub marks_are : {room : ℕ} {bytes : List ℕ} {ms : List Mark} {s : DataSpot} → Marked room bytes ms s → pdv_marks room bytes ≡ ms
 unfolding pdv_marks
-pdv_grows room bytes more = grows_in (length bytes) (length (bytes ++ more)) room bytes more (omega arith) (omega arith)
+marks_are {room} {bytes} m = ap (λ (i : Pdvs). i.marks) (computes (length bytes) (omega arith) m)
+
+pub spot_is : {room : ℕ} {bytes : List ℕ} {ms : List Mark} {s : DataSpot} → Marked room bytes ms s → data_spot room bytes ≡ s
+unfolding data_spot
+spot_is {room} {bytes} m = ap (λ (i : Pdvs). i.spot) (computes (length bytes) (omega arith) m)

@@ -4,12 +4,12 @@ use Rattle.std.proofs.lemmas.Bool.{cases_lt, lt-ltb, le-ltb}
 use Rattle.std.proofs.lemmas.List.{take_at, drop_at, take-append-drop, take-append-le, length-append, length-take, append-nil}
 use Rattle.std.proofs.lemmas.List.Concat.{flat_map-append}
 use Rattle.std.specs.List.{AllByRecursion}
-use Rattle.pdu.specs.Pieces.{Layout, IsWhole, IsPartial, joined, Splits, first_piece, onto, pieces_in, pieces_of}
+use Rattle.pdu.specs.Pieces.{Layout, IsWhole, IsPartial, joined, Splits, first_piece, with_first, pieces_in, pieces_of}
 
 -- a head is not empty, and what it says stands in it
 pub record Reads (l : Layout) : Type 0 where
   pub some : 1 ≤ l.head
-  pub same : (t u : List ℕ) → l.head ≤ length t → l.said (t ++ u) ≡ l.said t
+  pub same : (t u : List ℕ) → l.head ≤ length t → l.body (t ++ u) ≡ l.body t
 
 -- ---- the first piece
 
@@ -17,17 +17,17 @@ pub first_of_partial : (l : Layout) (r : List ℕ) → IsPartial l r → first_p
 first_of_partial l r p =
     elim (cases_lt (length r) l.head) [
       | inl lt ↦ rw (lt-ltb (length r) l.head lt) refl
-      | inr le ↦ rw (le-ltb (length r) l.head le, lt-ltb (length r) (l.head + l.said r) (p le)) refl
+      | inr le ↦ rw (le-ltb (length r) l.head le, lt-ltb (length r) (l.head + l.body r) (p le)) refl
     ]
 
 pub first_of_whole : (l : Layout) → Reads l → (f t : List ℕ) → IsWhole l f → first_piece l (f ++ t) ≡ Some (f, t)
 first_of_whole l reads f t w =
     let headed : l.head ≤ length f = w.headed in
-    let said : l.said (f ++ t) ≡ l.said f = reads.same f t headed in
-    let filled : length f ≡ l.head + l.said f = w.filled in
+    let same : l.body (f ++ t) ≡ l.body f = reads.same f t headed in
+    let filled : length f ≡ l.head + l.body f = w.filled in
     let long : l.head ≤ length (f ++ t) = omega (arith, length-append f t) in
-    let enough : l.head + l.said f ≤ length (f ++ t) = omega (arith, length-append f t) in
-    rw (said, le-ltb (length (f ++ t)) l.head long, le-ltb (length (f ++ t)) (l.head + l.said f) enough, take_at f t (l.head + l.said f) filled, drop_at f t (l.head + l.said f) filled) refl
+    let enough : l.head + l.body f ≤ length (f ++ t) = omega (arith, length-append f t) in
+    rw (same, le-ltb (length (f ++ t)) l.head long, le-ltb (length (f ++ t)) (l.head + l.body f) enough, take_at f t (l.head + l.body f) filled, drop_at f t (l.head + l.body f) filled) refl
 
 pub whole_length : (l : Layout) → Reads l → (f : List ℕ) → IsWhole l f → 1 ≤ length f
 whole_length l reads f w = omega (arith, reads.some, w.headed)
@@ -44,7 +44,7 @@ in_splits l reads zero (f ∷ fs) r all p le = absurd (omega (arith, whole_lengt
 in_splits l reads (suc k) (f ∷ fs) r all p le =
     let whole : first_piece l ((f ++ joined fs) ++ r) ≡ Some (f, joined fs ++ r) = rw append_assoc (first_of_whole l reads f (joined fs ++ r) all.0) in
     let short : length (joined fs ++ r) ≤ k = omega (arith, whole_length l reads f all.0, le, length-append (f ++ joined fs) r, length-append f (joined fs), length-append (joined fs) r) in
-    rw (whole, pieces_in) (ap (onto f) (in_splits l reads k fs r all.1 p short))
+    rw (whole, pieces_in) (ap (with_first f) (in_splits l reads k fs r all.1 p short))
 
 pub pieces_unique : (l : Layout) → Reads l → (s : List ℕ) (fs : List (List ℕ)) (r : List ℕ) → Splits l s fs r → pieces_of l s ≡ (fs, r)
 unfolding pieces_of
@@ -53,21 +53,21 @@ pieces_unique l reads s fs r h = rw h.whole (in_splits l reads (length (joined f
 -- ---- each text has pieces and a rest
 
 -- the first piece, cut from a text that is long enough
-pub cut_whole : (l : Layout) → Reads l → (s : List ℕ) → l.head ≤ length s → l.head + l.said s ≤ length s → IsWhole l (take (l.head + l.said s) s)
+pub cut_whole : (l : Layout) → Reads l → (s : List ℕ) → l.head ≤ length s → l.head + l.body s ≤ length s → IsWhole l (take (l.head + l.body s) s)
 cut_whole l reads s le enough =
-    let n : ℕ = l.head + l.said s in
+    let n : ℕ = l.head + l.body s in
     let front : l.head ≤ length (take n s) = omega (arith, length-take n s) in
-    let said : l.said s ≡ l.said (take n s) = ap l.said (sym (take-append-drop n s)) ∙ reads.same (take n s) (drop n s) front in
-    record { headed = front; filled = omega (arith, length-take n s, said) }
+    let same : l.body s ≡ l.body (take n s) = ap l.body (sym (take-append-drop n s)) ∙ reads.same (take n s) (drop n s) front in
+    record { headed = front; filled = omega (arith, length-take n s, same) }
 
 cut_first : (l : Layout) → Reads l → (s : List ℕ) → IsPartial l s ⊎ ((f : List ℕ) × (t : List ℕ) × (s ≡ f ++ t) × IsWhole l f)
 cut_first l reads s =
     elim (cases_lt (length s) l.head) [
       | inl lt ↦ inl (λ le. absurd (omega arith))
-      | inr le ↦ elim (cases_lt (length s) (l.head + l.said s)) [
+      | inr le ↦ elim (cases_lt (length s) (l.head + l.body s)) [
         | inl short ↦ inl (λ _. short)
         | inr enough ↦
-            let n : ℕ = l.head + l.said s in
+            let n : ℕ = l.head + l.body s in
             inr (take n s, drop n s, sym (take-append-drop n s), cut_whole l reads s le enough)
       ]
     ]
@@ -93,7 +93,7 @@ pieces_split l reads s =
     subst (λ (p : List (List ℕ) × List ℕ). Splits l s p.0 p.1) (sym (pieces_unique l reads s h.0 h.1 h.2)) h.2
 
 -- a text that begins with a whole piece
-pub pieces_next : (l : Layout) → Reads l → (f t : List ℕ) → IsWhole l f → pieces_of l (f ++ t) ≡ onto f (pieces_of l t)
+pub pieces_next : (l : Layout) → Reads l → (f t : List ℕ) → IsWhole l f → pieces_of l (f ++ t) ≡ with_first f (pieces_of l t)
 pieces_next l reads f t w =
     let h = pieces_split l reads t in
     pieces_unique l reads (f ++ t) (f ∷ (pieces_of l t).0) (pieces_of l t).1 (record {
@@ -133,11 +133,11 @@ rest_begins l reads r p f t partial w e =
       | inl longer ↦
           -- then f is whole in r, which is partial
           let headed : l.head ≤ length f = w.headed in
-          let filled : length f ≡ l.head + l.said f = w.filled in
+          let filled : length f ≡ l.head + l.body f = w.filled in
           let front : take (length f) r ≡ f = sym (take-append-le (length f) r p (omega arith)) ∙ ap (take (length f)) e ∙ take_at f t (length f) refl in
           let cut : r ≡ f ++ drop (length f) r = sym (take-append-drop (length f) r) ∙ ap (λ (x : List ℕ). x ++ drop (length f) r) front in
-          let said : l.said r ≡ l.said f = ap l.said cut ∙ reads.same f (drop (length f) r) headed in
-          let short : length r < l.head + l.said r = partial (omega arith) in
+          let same : l.body r ≡ l.body f = ap l.body cut ∙ reads.same f (drop (length f) r) headed in
+          let short : length r < l.head + l.body r = partial (omega arith) in
           absurd (omega arith)
       | inr le ↦
           let n = length r in

@@ -1,30 +1,32 @@
 -- A body spells a request exactly where it has no fault, and then just the one that is read.
-use Rattle.std.proofs.Common.{◌≡◌, ℕ, ◌+◌, ◌≤◌, nat_lt, List, [], ◌∷◌, ◌++◌, length, take, drop, Option, Some, None, Ok, Err, refl, sym, ap, subst, ◌∙◌, arith, inl, inr}
+use Rattle.std.proofs.Common.{◌≡◌, ℕ, ◌+◌, ◌≤◌, nat_lt, eqb, List, [], ◌∷◌, ◌++◌, length, take, drop, Option, Some, None, Ok, Err, refl, sym, ap, subst, ◌∙◌, arith, inl, inr}
 use Rattle.std.proofs.lemmas.Bool.{cases_Bool, ltb-false, le-ltb}
 use Rattle.std.proofs.lemmas.List.{length-append, length-map, length-take, length-drop, take-append-drop, drop-drop, take_at, drop_at}
-use Rattle.std.specs.List.{AllByRecursion}
+use Rattle.std.specs.List.{AllByRecursion, IsDistinct}
+use Rattle.element.specs.Numbers.{IsBytes}
 use Rattle.byteorder.specs.Endian.{big_number}
 use Rattle.pdu.specs.declared.fault.PduFault.{PduFault}
 use Rattle.pdu.specs.declared.fault.PduFault.TheVariants.{BadLength}
-use Rattle.pdu.specs.Record.{Record}
+use Rattle.pdu.specs.Record.{Record, ids}
 use Rattle.pdu.specs.Pieces.{joined}
 use Rattle.pdu.specs.Items.{items_of, left_over, of_kind, first_or_none, content, identifier, proposal_of, proposals, four_or_none, maximum_in, record_of}
-use Rattle.pdu.specs.Request.{One, InformationText, ContextTexts, AreDistinct, RequestText}
+use Rattle.pdu.specs.Request.{One, InformationText, ContextTexts, RequestText, IsRequest}
 use Rattle.pdu.specs.Refusal.{information_part_fault, items_fault, request_fault, as_result}
+use Rattle.pdu.proofs.IdLemmas.{bytes_past, bytes_each, bytes_kind}
 use Rattle.pdu.proofs.PartLemmas.{whole_is, items_joined, left_joined, one_from, one_length, one_first, information_text, information_fits, information_is}
-use Rattle.pdu.proofs.FitLemmas.{Fit, IsFresh, fit_judged, judged_fits}
-use Rattle.pdu.proofs.ContextLemmas.{texts_from, texts_are, texts_fit, kinds_are, proposals_are, distinct_from, distinct_back}
+use Rattle.pdu.proofs.FitLemmas.{Fit, IsFresh, fit_faultless, faultless_fits}
+use Rattle.pdu.proofs.ContextLemmas.{ids_odd, texts_from, texts_are, texts_fit, kinds_are, proposals_are, distinct_from, distinct_back}
 
 -- ---- no fault: the request that is read
 
-record Judged (text : List ℕ) : Type 0 where
+record Faultless (text : List ℕ) : Type 0 where
   pub nothing : left_over text ≡ []
   pub fits : Fit [] (items_of text)
 
-judged_is : (text : List ℕ) → items_fault text ≡ None → Judged text
+faultless_is : (text : List ℕ) → items_fault text ≡ None → Faultless text
 unfolding items_fault
-judged_is text none =
-    let h = judged_fits [] (items_of text) (left_over text) none (record { application = omega arith; information = omega arith }) in
+faultless_is text none =
+    let h = faultless_fits [] (items_of text) (left_over text) none (record { application = omega arith; information = omega arith }) in
     record { nothing = h.0; fits = h.1 }
 
 record Laid (b : List ℕ) : Type 0 where
@@ -58,7 +60,7 @@ pub request_text : (b : List ℕ) → request_fault b ≡ None → RequestText (
 request_text b none =
     let l = laid b none in
     let text = drop 68 b in
-    let j = judged_is text l.none in
+    let j = faultless_is text l.none in
     let w = whole_is text j.nothing in
     let f = j.fits in
     let is = items_of text in
@@ -74,13 +76,13 @@ request_text b none =
       called_size = omega (arith, length-take 16 (drop 4 b), length-drop 4 b);
       calling_size = omega (arith, length-take 16 (drop 20 b), length-drop 20 b);
       reserved_size = omega (arith, length-take 32 (drop 36 b), length-drop 36 b);
-      version_told = two_same b (omega arith);
+      version_is = two_same b (omega arith);
       each = w.each;
       application = one_from (λ i. (record_of b).application_context ≡ identifier i) (of_kind 0x10 is) (omega (arith, f.application)) refl;
       information = informed is f;
       contexts = subst (λ ps. ContextTexts ps (of_kind 0x20 is)) (sym same) (texts_from (of_kind 0x20 is) f.proposed);
       some = omega (arith, f.some, ap length same, length-map (of_kind 0x20 is) proposal_of);
-      distinct = subst AreDistinct (sym same) (distinct_from (of_kind 0x20 is) f.distinct);
+      distinct = subst (λ ps. IsDistinct eqb (ids ps)) (sym same) (distinct_from (of_kind 0x20 is) f.distinct);
     }
   where
     informed_list : (us : List (List ℕ)) → length us ≡ 1 → AllByRecursion (λ i. information_part_fault (content i) ≡ None) us
@@ -152,7 +154,7 @@ fits r b t =
       informed = informed_all r.maximum (of_kind 0x50 t.items) t.information;
       proposed = texts_fit r.contexts (of_kind 0x20 t.items) (kinds_are 0x20 t.items) t.contexts;
       fresh = fresh_all (of_kind 0x20 t.items);
-      distinct = distinct_back (of_kind 0x20 t.items) (subst AreDistinct (sym are) t.distinct);
+      distinct = distinct_back (of_kind 0x20 t.items) (subst (λ ps. IsDistinct eqb (ids ps)) (sym are) t.distinct);
     }
 
 pub request_fits : (r : Record) (b : List ℕ) → RequestText r b → request_fault b ≡ None
@@ -161,14 +163,14 @@ request_fits r b t =
     let p = placed r b t in
     let is : items_of (drop 68 b) ≡ t.items = ap items_of p.items ∙ items_joined t.items t.each in
     let nothing : left_over (drop 68 b) ≡ [] = ap left_over p.items ∙ left_joined t.items t.each in
-    rw (le-ltb (length b) 68 p.long, is, nothing) (fit_judged [] t.items (fits r b t))
+    rw (le-ltb (length b) 68 p.long, is, nothing) (fit_faultless [] t.items (fits r b t))
 
 pub request_is : (r : Record) (b : List ℕ) → RequestText r b → r ≡ record_of b
 request_is r b t =
     let p = placed r b t in
     let is : items_of (drop 68 b) ≡ t.items = ap items_of p.items ∙ items_joined t.items t.each in
     let f = fits r b t in
-    let version : r.version ≡ big_number 2 b = t.version_told ∙ ap (λ (x : List ℕ). big_number 2 x) (sym p.version) ∙ sym (two_same b (omega (arith, p.long))) in
+    let version : r.version ≡ big_number 2 b = t.version_is ∙ ap (λ (x : List ℕ). big_number 2 x) (sym p.version) ∙ sym (two_same b (omega (arith, p.long))) in
     let application : r.application_context ≡ identifier (first_or_none (of_kind 0x10 t.items)) = one_first (λ i. r.application_context ≡ identifier i) (of_kind 0x10 t.items) t.application in
     let maximum : r.maximum ≡ maximum_in t.items = information_is r.maximum (first_or_none (of_kind 0x50 t.items)) (one_first (InformationText r.maximum) (of_kind 0x50 t.items) t.information) in
     let contexts : proposals t.items ≡ r.contexts = proposals_are t.items f.proposed ∙ texts_are r.contexts (of_kind 0x20 t.items) t.contexts in
@@ -182,7 +184,20 @@ one_request r q b t u = request_is r b t ∙ sym (request_is q b u)
 pub none_where_fault : (b : List ℕ) (f : PduFault) → request_fault b ≡ Some f → (r : Record) → RequestText r b → ⊥
 none_where_fault b f e r t = let none = request_fits r b t in absurd cc
 
--- ---- what the judge of the items tells of the body
+-- ---- what its type keeps
+
+-- a request that is spelled by bytes has IDs of one byte
+pub request_kept : (r : Record) (b : List ℕ) → IsBytes b → RequestText r b → IsRequest r
+request_kept r b bytes t =
+    let p = placed r b t in
+    let tail : IsBytes (joined t.items) = subst IsBytes p.items (bytes_past 68 b bytes) in
+    record {
+      reserved_size = t.reserved_size;
+      ids_odd = ids_odd r.contexts (of_kind 0x20 t.items) (bytes_kind 0x20 t.items (bytes_each t.items tail)) t.contexts;
+      ids_distinct = t.distinct;
+    }
+
+-- ---- what the check of the items gives for the body
 
 as_ok : (o : Option PduFault) → Ok tt ≡ as_result o → o ≡ None
 as_ok None e = refl
@@ -193,7 +208,7 @@ as_err f None e = absurd cc
 as_err f (Some g) e = let same : f ≡ g = cc in ap (λ (x : PduFault). Some x) (sym same)
 
 pub request_ok : (b text : List ℕ) → 68 ≤ length b → text ≡ drop 68 b → Ok tt ≡ as_result (items_fault text) → request_fault b ≡ None
-request_ok b text long e told = rw (le-ltb (length b) 68 long, ← e) (as_ok (items_fault text) told)
+request_ok b text long e given = rw (le-ltb (length b) 68 long, ← e) (as_ok (items_fault text) given)
 
 pub request_err : (b text : List ℕ) (f : PduFault) → 68 ≤ length b → text ≡ drop 68 b → Err f ≡ as_result (items_fault text) → request_fault b ≡ Some f
-request_err b text f long e told = rw (le-ltb (length b) 68 long, ← e) (as_err f (items_fault text) told)
+request_err b text f long e given = rw (le-ltb (length b) 68 long, ← e) (as_err f (items_fault text) given)

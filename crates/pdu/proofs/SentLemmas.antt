@@ -1,8 +1,10 @@
--- Sending one piece after another.
-use Rattle.std.proofs.Common.{◌≡◌, ℕ, zero, suc, List, [], ◌∷◌, ◌++◌, Option, Some, None, append_assoc, refl, ap, ◌∙◌, take}
-use Rattle.std.proofs.lemmas.List.{append-nil}
+-- Sending one part after another.
+use Rattle.std.proofs.Common.{◌≡◌, ℕ, ◌+◌, List, [], ◌++◌, Option, Some, None, Result, Ok, Err, append_assoc, length, take, refl, sym, ap, ◌∙◌, arith}
+use Rattle.std.proofs.lemmas.List.{append-nil, length-append, take-append-le}
+use Rattle.std.proofs.Math.Seq.{take-append-add}
 use Rattle.std.specs.Io.KnownBytes.{append_known}
-use Rattle.pdu.specs.Sent.{GainsFront}
+use Rattle.pdu.specs.declared.wire.WireFailed.{WireFailed}
+use Rattle.pdu.specs.Sent.{Line, sent_all, cut_after, Sends}
 
 pub known_then : (old : Option (List ℕ)) (a b : List ℕ) → append_known (append_known old a) b ≡ append_known old (a ++ b)
 known_then None a b = refl
@@ -12,30 +14,32 @@ pub known_nothing : (old : Option (List ℕ)) → append_known old [] ≡ old
 known_nothing None = refl
 known_nothing (Some o) = simp append-nil
 
-front_within : (k : ℕ) (a b : List ℕ) → (j : ℕ) × (take k a ≡ take j (a ++ b))
-front_within zero a b = (0, refl)
-front_within (suc k) [] b = (0, refl)
-front_within (suc k) (x ∷ a) b =
-    let h = front_within k a b in
-    (suc h.0, ap (λ (xs : List ℕ). x ∷ xs) h.1)
+-- nothing is sent by nothing
+pub all_nothing : (old : Line) → sent_all [] old ≡ old
+all_nothing old = ap (λ (s : Option (List ℕ)). record { sent = s; failures = old.failures }) (known_nothing old.sent)
 
-front_past : (k : ℕ) (a b : List ℕ) → (j : ℕ) × (a ++ take k b ≡ take j (a ++ b))
-front_past k [] b = (k, refl)
-front_past k (x ∷ a) b =
-    let h = front_past k a b in
-    (suc h.0, ap (λ (xs : List ℕ). x ∷ xs) h.1)
+-- one text after another
+pub all_then : (a b : List ℕ) (old : Line) → sent_all b (sent_all a old) ≡ sent_all (a ++ b) old
+all_then a b old = ap (λ (s : Option (List ℕ)). record { sent = s; failures = old.failures }) (known_then old.sent a b)
 
--- a beginning of the first part is one of the whole
-pub gains_within : (old new : Option (List ℕ)) (a b : List ℕ) → GainsFront old new a → GainsFront old new (a ++ b)
-gains_within old new a b g =
-    let h = front_within g.0 a b in
-    (h.0, g.1 ∙ ap (append_known old) h.1)
+pub cut_then : (k : ℕ) (a b : List ℕ) (old : Line) → cut_after k b (sent_all a old) ≡ cut_after (length a + k) (a ++ b) old
+cut_then k a b old =
+    ap (λ (s : Option (List ℕ)). record { sent = s; failures = old.failures + 1 })
+    (known_then old.sent a (take k b) ∙ ap (append_known old.sent) (sym (take-append-add a b k)))
 
--- the first part, and a beginning of the second
-pub gains_past : (old now new : Option (List ℕ)) (a b : List ℕ) → now ≡ append_known old a → GainsFront now new b → GainsFront old new (a ++ b)
-gains_past old now new a b e g =
-    let h = front_past g.0 a b in
-    (h.0, g.1 ∙ ap (λ (o : Option (List ℕ)). append_known o (take g.0 b)) e ∙ known_then old a (take g.0 b) ∙ ap (append_known old) h.1)
+-- a send that failed in the first part failed in the whole
+pub sends_part : (a b : List ℕ) (f : WireFailed) (old new : Line) → Sends a (Err f) old new → Sends (a ++ b) (Err f) old new
+sends_part a b f old new s = record {
+  count = s.count;
+  few = omega (arith, s.few, length-append a b);
+  line = s.line ∙ ap (λ (t : List ℕ). record { sent = append_known old.sent t; failures = old.failures + 1 }) (sym (take-append-le s.count a b s.few));
+}
 
-pub sent_both : (old now new : Option (List ℕ)) (a b : List ℕ) → now ≡ append_known old a → new ≡ append_known now b → new ≡ append_known old (a ++ b)
-sent_both old now new a b e f = f ∙ ap (λ (o : Option (List ℕ)). append_known o b) e ∙ known_then old a b
+-- the first part, and then the second or a beginning of it
+pub sends_then : (a b : List ℕ) (result : Result (Unit {0}) WireFailed) (old now new : Line) → Sends a (Ok tt) old now → Sends b result now new → Sends (a ++ b) result old new
+sends_then a b (Ok u) old now new s t = t ∙ ap (sent_all b) s ∙ all_then a b old
+sends_then a b (Err f) old now new s t = record {
+  count = length a + t.count;
+  few = omega (arith, t.few, length-append a b);
+  line = t.line ∙ ap (cut_after t.count b) s ∙ cut_then t.count a b old;
+}

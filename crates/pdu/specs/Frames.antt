@@ -1,4 +1,4 @@
--- The frames of a stream: whole PDUs, each a head of six bytes and as many bytes as it says (PS3.8 section 9.3.1).
+-- The frames of a stream: whole PDUs, each a head of six bytes and a body of the length in it (PS3.8 section 9.3.1).
 use Rattle.std.specs.Prelude.{ℕ, List, drop}
 use Rattle.byteorder.specs.Endian.{big_number}
 use Rattle.pdu.specs.Pieces.{Layout, pieces_of}
@@ -6,7 +6,7 @@ use Rattle.pdu.specs.Pieces as pieces
 
 -- type 1, reserved 1, length 4 of the body that follows
 abbrev pub frame : Layout
-frame = record { head = 6; said = λ text. big_number 4 (drop 2 text) }
+frame = record { head = 6; body = λ text. big_number 4 (drop 2 text) }
 
 abbrev pub IsFrame : List ℕ → Type 0
 IsFrame f = pieces.IsWhole frame f
@@ -15,7 +15,7 @@ IsFrame f = pieces.IsWhole frame f
 abbrev pub IsRest : List ℕ → Type 0
 IsRest r = pieces.IsPartial frame r
 
--- the stream is these whole frames, and then a rest shorter than a frame
+-- the stream is these whole frames, followed by less than a frame
 abbrev pub Splits : List ℕ → List (List ℕ) → List ℕ → Type 0
 Splits stream frames rest = pieces.Splits frame stream frames rest
 

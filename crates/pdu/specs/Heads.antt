@@ -5,7 +5,7 @@ use Rattle.byteorder.specs.Endian.{big_number}
 use Rattle.pdu.specs.declared.head.PduHead.{PduHead}
 use Rattle.pdu.specs.declared.head.PdvHead.{PdvHead}
 
--- type 1, reserved 1, length 4; the reserved byte is not tested
+-- type 1, reserved 1, length 4; the reserved byte is ignored
 abbrev pub pdu_head_of : List ℕ → PduHead
 pdu_head_of b = record { kind = get_or b 0 0; length = big_number 4 (drop 2 b) }
 
@@ -13,7 +13,7 @@ pdu_head_of b = record { kind = get_or b 0 0; length = big_number 4 (drop 2 b) }
 abbrev pub is_command : ℕ → Bool
 is_command control = nat_eq (control % 2) 1
 
--- bit 1 of a control byte: the fragment is the last one. Bits 2 to 7 are not tested
+-- bit 1 of a control byte: the fragment is the last one. Bits 2 to 7 are ignored
 abbrev pub is_last : ℕ → Bool
 is_last control = nat_eq (control / 2 % 2) 1
 

@@ -1,20 +1,21 @@
--- What the items of an association request say (PS3.8 sections 9.3.2.1 to 9.3.2.3 and annex D.1).
+-- The items of an association request, and the record that they make (PS3.8 sections 9.3.2.1 to 9.3.2.3 and annex D.1).
 use Rattle.std.specs.Prelude.{◌≡◌, ◌<◌, ℕ, Bool, ◌&&◌, List, [], ◌∷◌, length, take, drop, map, get_or, nat_eq, nat_le, if◌then◌else◌}
 use Rattle.std.specs.List.{filter}
 use Rattle.byteorder.specs.Endian.{big_number}
 use Rattle.element.specs.Padding.{is_padding, without_trailing}
+use Rattle.pdu.specs.Types.{application_context_item, proposed_context_item, abstract_syntax_item, transfer_syntax_item, user_information_item, maximum_length_item}
 use Rattle.pdu.specs.Pieces.{Layout, pieces_of}
 use Rattle.pdu.specs.Record.{Proposal, Record}
 
 -- type 1, reserved 1, length 2 of the content that follows
 abbrev pub item : Layout
-item = record { head = 4; said = λ text. big_number 2 (drop 2 text) }
+item = record { head = 4; body = λ text. big_number 2 (drop 2 text) }
 
 -- the whole items at the front of a text
 unfoldable pub items_of : List ℕ → List (List ℕ)
 items_of text = (pieces_of item text).0
 
--- what is left after them, which begins no whole item
+-- the bytes after them, which begin with no whole item
 unfoldable pub left_over : List ℕ → List ℕ
 left_over text = (pieces_of item text).1
 
@@ -49,15 +50,15 @@ first_or_none (i ∷ is) = i
 abbrev pub content_in : ℕ → List (List ℕ) → List ℕ
 content_in k items = content (first_or_none (of_kind k items))
 
--- an identifier is read without trailing zero bytes and spaces
+-- a UID is read without trailing zero bytes and spaces
 abbrev pub unpadded : List ℕ → List ℕ
 unpadded bytes = without_trailing is_padding bytes
 
--- a proposed presentation context: an item of type 20H with its id and three reserved bytes
+-- a proposed presentation context: an item of type 20H with its ID and three reserved bytes
 abbrev pub is_context : List ℕ → Bool
-is_context i = is_kind 0x20 i && nat_le 8 (length i)
+is_context i = is_kind proposed_context_item i && nat_le 8 (length i)
 
--- its sub-items, after the id and the reserved bytes
+-- its sub-items, after the ID and the reserved bytes
 abbrev pub parts : List ℕ → List (List ℕ)
 parts i = items_of (drop 8 i)
 
@@ -66,13 +67,13 @@ identifier i = unpadded (content i)
 
 -- the identifiers of the 40H among these items, in their order
 abbrev pub syntaxes : List (List ℕ) → List (List ℕ)
-syntaxes items = map identifier (of_kind 0x40 items)
+syntaxes items = map identifier (of_kind transfer_syntax_item items)
 
 -- one 30H abstract syntax, one or more 40H transfer syntaxes
 abbrev pub proposal_of : List ℕ → Proposal
 proposal_of i = record {
   id = get_or i 4 0;
-  abstract_syntax = unpadded (content_in 0x30 (parts i));
+  abstract_syntax = unpadded (content_in abstract_syntax_item (parts i));
   transfer_syntaxes = syntaxes (parts i);
 }
 
@@ -84,16 +85,16 @@ abbrev pub four_or_none : List ℕ → ℕ
 four_or_none bytes = if nat_eq (length bytes) 4 then big_number 4 bytes else 0
 
 abbrev pub maximum_in : List (List ℕ) → ℕ
-maximum_in items = four_or_none (content_in 0x51 (items_of (content_in 0x50 items)))
+maximum_in items = four_or_none (content_in maximum_length_item (items_of (content_in user_information_item items)))
 
--- what the body of a request says: version 2, reserved 2, called title 16, calling title 16, reserved 32, items
+-- the record of a request, from its body: version 2, reserved 2, called title 16, calling title 16, reserved 32, items
 abbrev pub record_of : List ℕ → Record
 record_of b = let items = items_of (drop 68 b) in record {
   version = big_number 2 b;
   called = take 16 (drop 4 b);
   calling = take 16 (drop 20 b);
   reserved = take 32 (drop 36 b);
-  application_context = unpadded (content_in 0x10 items);
+  application_context = unpadded (content_in application_context_item items);
   contexts = proposals items;
   maximum = maximum_in items;
 }

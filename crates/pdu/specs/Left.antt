@@ -1,4 +1,4 @@
--- What the walks over a request's items have still to give.
+-- What the iterators over a request's items have still to yield.
 use Rattle.std.specs.Prelude.{ℕ, List}
 use Rattle.pdu.specs.declared.contexts.Contexts.{Contexts}
 use Rattle.pdu.specs.declared.syntaxes.TransferSyntaxes.{TransferSyntaxes}

@@ -1,4 +1,5 @@
 pub mod Sent
+pub mod Types
 pub mod Heads
 pub mod Texts
 pub mod Fault
@@ -6,9 +7,12 @@ pub mod Record
 pub mod Pieces
 pub mod Items
 pub mod Frames
+pub mod Pdvs
 pub mod Marks
-pub mod Standing
+pub mod Spot
+pub mod Parts
+pub mod Examples
 pub mod Left
 pub mod Request
 pub mod Refusal
-pub mod Told
+pub mod machine

@@ -1,45 +1,45 @@
--- A text that is a list of pieces, one after the other, each of which says in its first bytes how long it is: PDUs
--- (PS3.8 section 9.3.1) and the items of an association request (PS3.8 section 9.3.2).
+-- A text that is a list of pieces, one after the other, each with its length in its head: PDUs (PS3.8 section 9.3.1) and
+-- the items of an association request (PS3.8 section 9.3.2).
 use Rattle.std.specs.Prelude.{◌≡◌, ℕ, zero, suc, ◌+◌, ◌<◌, ◌≤◌, List, [], ◌∷◌, ◌++◌, length, take, drop, Option, Some, None, nat_lt, if◌then◌else◌}
 use Rattle.std.specs.List.{flat_map, AllByRecursion}
 
--- how a kind of piece says its length: the bytes of its head, and how many bytes a head says that follow it
+-- a kind of piece: the size of its head, and the length of its body, which stands in the head
 pub record Layout : Type 0 where
   pub head : ℕ
-  pub said : List ℕ → ℕ
+  pub body : List ℕ → ℕ
 
--- a whole piece: its head, and as many bytes as the head says
+-- a whole piece: its head, and all of its body
 pub record IsWhole (l : Layout) (piece : List ℕ) : Type 0 where
   pub headed : l.head ≤ length piece
-  pub filled : length piece ≡ l.head + l.said piece
+  pub filled : length piece ≡ l.head + l.body piece
 
 -- less than a whole piece
 abbrev pub IsPartial : Layout → List ℕ → Type 0
-IsPartial l rest = l.head ≤ length rest → length rest < l.head + l.said rest
+IsPartial l rest = l.head ≤ length rest → length rest < l.head + l.body rest
 
 abbrev pub joined : List (List ℕ) → List ℕ
 joined pieces = flat_map (λ piece. piece) pieces
 
--- the text is these whole pieces, and then less than one
+-- the text is these whole pieces, followed by less than one
 pub record Splits (l : Layout) (text : List ℕ) (pieces : List (List ℕ)) (rest : List ℕ) : Type 0 where
   pub whole : text ≡ joined pieces ++ rest
   pub each : AllByRecursion (IsWhole l) pieces
   pub partial : IsPartial l rest
 
--- the first piece, where it is whole, and what follows it
+-- the first piece, where it is whole, and the text after it
 abbrev pub first_piece : Layout → List ℕ → Option (List ℕ × List ℕ)
 first_piece l text =
     if nat_lt (length text) l.head then None
-    else (if nat_lt (length text) (l.head + l.said text) then None
-    else Some (take (l.head + l.said text) text, drop (l.head + l.said text) text))
+    else (if nat_lt (length text) (l.head + l.body text) then None
+    else Some (take (l.head + l.body text) text, drop (l.head + l.body text) text))
 
-abbrev pub onto : List ℕ → List (List ℕ) × List ℕ → List (List ℕ) × List ℕ
-onto piece (pieces, rest) = (piece ∷ pieces, rest)
+abbrev pub with_first : List ℕ → List (List ℕ) × List ℕ → List (List ℕ) × List ℕ
+with_first piece (pieces, rest) = (piece ∷ pieces, rest)
 
 -- the whole pieces among the first k, and what is left
 abbrev pub pieces_in : Layout → ℕ → List ℕ → List (List ℕ) × List ℕ
 pieces_in l zero text = ([], text)
-pieces_in l (suc k) text = elim (first_piece l text) [ None ↦ ([], text) | Some (piece, more) ↦ onto piece (pieces_in l k more) ]
+pieces_in l (suc k) text = elim (first_piece l text) [ None ↦ ([], text) | Some (piece, more) ↦ with_first piece (pieces_in l k more) ]
 
 -- the whole pieces, and what is left; no text has more pieces than bytes
 unfoldable pub pieces_of : Layout → List ℕ → List (List ℕ) × List ℕ

@@ -1,19 +1,21 @@
 -- What is wrong with the body of an A-ASSOCIATE-RQ (PS3.8 section 9.3.2; the numbers and their order are this
--- product's own profile). Items are judged from the front, each by the smallest number that it breaks.
+-- product's own profile). Items are checked in their order, each by the smallest number that it breaks.
 use Rattle.std.specs.Prelude.{◌≡◌, ℕ, ◌%◌, Bool, true, false, not, ◌&&◌, List, [], ◌∷◌, length, drop, get_or, nat_eq, nat_lt, Option, Some, None, Result, Ok, Err, if◌then◌else◌}
 use Rattle.std.specs.List.{list_any}
+use Rattle.std.specs.Option.{option_or}
 use Rattle.element.specs.Padding.{is_empty}
+use Rattle.pdu.specs.Types.{application_context_item, proposed_context_item, abstract_syntax_item, transfer_syntax_item, user_information_item, maximum_length_item}
 use Rattle.pdu.specs.declared.fault.PduFault.{PduFault}
 use Rattle.pdu.specs.declared.fault.PduFault.TheVariants.{BadLength, BadItem, BadContextId, DoubleContext, Missing}
 use Rattle.pdu.specs.Items.{items_of, left_over, is_kind, of_kind, content, parts, is_context}
 
--- nothing is left over, and no item passes the end
+-- whole items and nothing else: no item passes the end
 abbrev pub is_whole : List ℕ → Bool
 is_whole text = is_empty (left_over text)
 
 -- a second application context is 32
 abbrev pub application_fault : List (List ℕ) → Option PduFault
-application_fault before = if list_any (is_kind 0x10) before then Some BadItem else None
+application_fault before = if list_any (is_kind application_context_item) before then Some BadItem else None
 
 -- at most one maximum length, of four bytes
 abbrev pub is_maximum : List (List ℕ) → Bool
@@ -25,26 +27,21 @@ is_maximum (m ∷ n ∷ ms) = false
 abbrev pub information_part_fault : List ℕ → Option PduFault
 information_part_fault text =
     if not (is_whole text) then Some BadLength
-    else (if not (is_maximum (of_kind 0x51 (items_of text))) then Some BadItem
+    else (if not (is_maximum (of_kind maximum_length_item (items_of text))) then Some BadItem
     else None)
-
--- the first of two
-abbrev pub or_else : Option PduFault → Option PduFault → Option PduFault
-or_else None other = other
-or_else (Some f) other = Some f
 
 -- a second user information is 32
 abbrev pub information_fault : List (List ℕ) → List ℕ → Option PduFault
-information_fault before i = or_else (information_part_fault (content i)) (if list_any (is_kind 0x50) before then Some BadItem else None)
+information_fault before i = option_or (information_part_fault (content i)) (if list_any (is_kind user_information_item) before then Some BadItem else None)
 
 -- one abstract syntax and one or more transfer syntaxes
 abbrev pub has_syntaxes : List (List ℕ) → Bool
-has_syntaxes items = nat_eq (length (of_kind 0x30 items)) 1 && not (nat_eq (length (of_kind 0x40 items)) 0)
+has_syntaxes items = nat_eq (length (of_kind abstract_syntax_item items)) 1 && not (nat_eq (length (of_kind transfer_syntax_item items)) 0)
 
 abbrev pub id_of : List ℕ → ℕ
 id_of i = get_or i 4 0
 
--- a proposed context by itself: 31 without its id and reserved bytes, 32 by its sub-items, 33 by an even id
+-- a proposed context by itself: 31 without its ID and reserved bytes, 32 by its sub-items, 33 by an even ID
 abbrev pub context_part_fault : List ℕ → Option PduFault
 context_part_fault i =
     if not (is_context i) then Some BadLength
@@ -54,23 +51,23 @@ context_part_fault i =
     else None)))
 
 abbrev pub has_id : ℕ → List ℕ → Bool
-has_id id i = is_kind 0x20 i && nat_eq (id_of i) id
+has_id id i = is_kind proposed_context_item i && nat_eq (id_of i) id
 
--- an id that came before is 34
+-- an ID that came before is 34
 abbrev pub context_fault : List (List ℕ) → List ℕ → Option PduFault
-context_fault before i = or_else (context_part_fault i) (if list_any (has_id (id_of i)) before then Some DoubleContext else None)
+context_fault before i = option_or (context_part_fault i) (if list_any (has_id (id_of i)) before then Some DoubleContext else None)
 
--- the smallest number that an item breaks, after these items before it; unknown items are read over
+-- the fault of the smallest number of an item, where these items came before it; unknown items are ignored
 unfoldable pub item_fault : List (List ℕ) → List ℕ → Option PduFault
 item_fault before i =
-    if is_kind 0x10 i then application_fault before
-    else (if is_kind 0x20 i then context_fault before i
-    else (if is_kind 0x50 i then information_fault before i
+    if is_kind application_context_item i then application_fault before
+    else (if is_kind proposed_context_item i then context_fault before i
+    else (if is_kind user_information_item i then information_fault before i
     else None))
 
 -- what has to be there at the end
 abbrev pub has_all : List (List ℕ) → Bool
-has_all items = list_any (is_kind 0x10) items && (list_any (is_kind 0x20) items && list_any (is_kind 0x50) items)
+has_all items = list_any (is_kind application_context_item) items && (list_any (is_kind proposed_context_item) items && list_any (is_kind user_information_item) items)
 
 abbrev pub end_fault : List (List ℕ) → List ℕ → Option PduFault
 end_fault items rest =
@@ -79,12 +76,12 @@ end_fault items rest =
     else Some Missing)
 
 -- the first fault of these items and what is left after them; those before them, the last one first, have none
-abbrev pub judged : List (List ℕ) → List (List ℕ) → List ℕ → Option PduFault
-judged before [] rest = end_fault before rest
-judged before (i ∷ is) rest = or_else (item_fault before i) (judged (i ∷ before) is rest)
+abbrev pub list_fault : List (List ℕ) → List (List ℕ) → List ℕ → Option PduFault
+list_fault before [] rest = end_fault before rest
+list_fault before (i ∷ is) rest = option_or (item_fault before i) (list_fault (i ∷ before) is rest)
 
 unfoldable pub items_fault : List ℕ → Option PduFault
-items_fault text = judged [] (items_of text) (left_over text)
+items_fault text = list_fault [] (items_of text) (left_over text)
 
 -- the fault of a body; none where it spells a request
 abbrev pub request_fault : List ℕ → Option PduFault
@@ -93,7 +90,7 @@ request_fault b = if nat_lt (length b) 68 then Some BadLength else items_fault (
 abbrev pub RequestFault : List ℕ → PduFault → Type 0
 RequestFault b f = request_fault b ≡ Some f
 
--- an answer that tells this fault, or that there is none
+-- a result that fails with this fault, or succeeds where there is none
 abbrev pub as_result : Option PduFault → Result (Unit {0}) PduFault
 as_result None = Ok tt
 as_result (Some f) = Err f

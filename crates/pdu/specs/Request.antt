@@ -1,12 +1,13 @@
 -- The body of an A-ASSOCIATE-RQ: which bytes spell which request (PS3.8 section 9.3.2 and annex D.1).
-use Rattle.std.specs.Prelude.{◌≡◌, ℕ, ◌≤◌, ◌%◌, List, [], ◌∷◌, length}
-use Rattle.std.specs.List.{AllByRecursion}
+use Rattle.std.specs.Prelude.{◌≡◌, ℕ, ◌≤◌, ◌<◌, ◌%◌, eqb, List, [], ◌∷◌, length}
+use Rattle.std.specs.List.{AllByRecursion, IsDistinct}
 use Rattle.byteorder.specs.Endian.{big_number}
-use Rattle.pdu.specs.Record.{Proposal, Record}
+use Rattle.pdu.specs.Types.{application_context_item, proposed_context_item, abstract_syntax_item, user_information_item, maximum_length_item}
+use Rattle.pdu.specs.Record.{Proposal, Record, ids}
 use Rattle.pdu.specs.Pieces.{IsWhole, joined}
 use Rattle.pdu.specs.Items.{item, content, of_kind, identifier, syntaxes}
 
--- there is one, and it is such
+-- there is exactly one, and P holds of it
 abbrev pub One : (List ℕ → Type 0) → List (List ℕ) → Type 0
 One P [] = ⊥
 One P (i ∷ []) = P i
@@ -18,15 +19,15 @@ MaximumText maximum [] = maximum ≡ 0
 MaximumText maximum (m ∷ []) = (length (content m) ≡ 4) × (maximum ≡ big_number 4 (content m))
 MaximumText maximum (m ∷ n ∷ ms) = ⊥
 
--- user information (PS3.8 section 9.3.2.3): sub-items, of which 51H tells the maximum length; others are read over
+-- user information (PS3.8 section 9.3.2.3): sub-items, of which 51H is the maximum length; others are ignored
 pub record InformationText (maximum : ℕ) (i : List ℕ) : Type 0 where
   pub parts : List (List ℕ)
   pub whole : content i ≡ joined parts
   pub each : AllByRecursion (IsWhole item) parts
-  pub told : MaximumText maximum (of_kind 0x51 parts)
+  pub maximum_is : MaximumText maximum (of_kind maximum_length_item parts)
 
--- a proposed presentation context (PS3.8 section 9.3.2.2): its id, which is odd, three reserved bytes, and
--- sub-items: one 30H abstract syntax, one or more 40H transfer syntaxes; others are read over
+-- a proposed presentation context (PS3.8 section 9.3.2.2): its ID, which is odd, three reserved bytes, and
+-- sub-items: one 30H abstract syntax, one or more 40H transfer syntaxes; others are ignored
 pub record ContextText (p : Proposal) (i : List ℕ) : Type 0 where
   pub a : ℕ
   pub b : ℕ
@@ -34,28 +35,20 @@ pub record ContextText (p : Proposal) (i : List ℕ) : Type 0 where
   pub parts : List (List ℕ)
   pub whole : content i ≡ p.id ∷ a ∷ b ∷ c ∷ joined parts
   pub each : AllByRecursion (IsWhole item) parts
-  pub abstract_one : One (λ s. p.abstract_syntax ≡ identifier s) (of_kind 0x30 parts)
+  pub abstract_one : One (λ s. p.abstract_syntax ≡ identifier s) (of_kind abstract_syntax_item parts)
   pub transfer : p.transfer_syntaxes ≡ syntaxes parts
   pub some : 1 ≤ length p.transfer_syntaxes
   pub odd : p.id % 2 ≡ 1
 
--- one after the other, each spells its proposal
+-- item by item they spell these proposals
 abbrev pub ContextTexts : List Proposal → List (List ℕ) → Type 0
 ContextTexts [] [] = Unit {0}
 ContextTexts [] (i ∷ is) = ⊥
 ContextTexts (p ∷ ps) [] = ⊥
 ContextTexts (p ∷ ps) (i ∷ is) = ContextText p i × ContextTexts ps is
 
--- no two of them are equal
-abbrev pub IsNew : ℕ → List Proposal → Type 0
-IsNew id ps = AllByRecursion (λ q. q.id ≡ id → ⊥) ps
-
-abbrev pub AreDistinct : List Proposal → Type 0
-AreDistinct [] = Unit {0}
-AreDistinct (p ∷ ps) = IsNew p.id ps × AreDistinct ps
-
 -- the body b spells the request r: version, two reserved bytes, titles, 32 reserved bytes, and items in any order,
--- one of them 10H, one 50H, one or more 20H; others are read over
+-- one of them 10H, one 50H, one or more 20H; others are ignored
 pub record RequestText (r : Record) (b : List ℕ) : Type 0 where
   pub version : List ℕ
   pub unused : List ℕ
@@ -66,10 +59,20 @@ pub record RequestText (r : Record) (b : List ℕ) : Type 0 where
   pub called_size : length r.called ≡ 16
   pub calling_size : length r.calling ≡ 16
   pub reserved_size : length r.reserved ≡ 32
-  pub version_told : r.version ≡ big_number 2 version
+  pub version_is : r.version ≡ big_number 2 version
   pub each : AllByRecursion (IsWhole item) items
-  pub application : One (λ i. r.application_context ≡ identifier i) (of_kind 0x10 items)
-  pub information : One (InformationText r.maximum) (of_kind 0x50 items)
-  pub contexts : ContextTexts r.contexts (of_kind 0x20 items)
+  pub application : One (λ i. r.application_context ≡ identifier i) (of_kind application_context_item items)
+  pub information : One (InformationText r.maximum) (of_kind user_information_item items)
+  pub contexts : ContextTexts r.contexts (of_kind proposed_context_item items)
   pub some : 1 ≤ length r.contexts
-  pub distinct : AreDistinct r.contexts
+  pub distinct : IsDistinct eqb (ids r.contexts)
+
+-- the ID of a presentation context: an odd number of one byte
+abbrev pub IsContextId : ℕ → Type 0
+IsContextId id = (id % 2 ≡ 1) × (id < 256)
+
+-- what the type of a request guarantees: 32 reserved bytes, and IDs that are odd and distinct
+pub record IsRequest (r : Record) : Type 0 where
+  pub reserved_size : length r.reserved ≡ 32
+  pub ids_odd : AllByRecursion IsContextId (ids r.contexts)
+  pub ids_distinct : IsDistinct eqb (ids r.contexts)

@@ -1,6 +1,7 @@
 -- The PDUs that an acceptor sends beside A-ASSOCIATE-AC (PS3.8 sections 9.3.4 to 9.3.8). Reserved bytes are zeros.
 use Rattle.std.specs.Prelude.{ℕ, ◌+◌, Bool, List, [], ◌∷◌, ◌++◌, length, if◌then◌else◌}
 use Rattle.element.specs.Numbers.{be}
+use Rattle.pdu.specs.Types.{associate_rj, p_data_tf, release_rp, abort}
 
 -- type, reserved byte, length, body
 abbrev pub pdu_text : ℕ → List ℕ → List ℕ
@@ -8,15 +9,15 @@ pdu_text kind body = kind ∷ 0 ∷ (be (length body) 4 ++ body)
 
 -- A-ASSOCIATE-RJ (PS3.8 section 9.3.4)
 abbrev pub reject_text : ℕ → ℕ → ℕ → List ℕ
-reject_text result source reason = pdu_text 3 (0 ∷ result ∷ source ∷ reason ∷ [])
+reject_text result source reason = pdu_text associate_rj (0 ∷ result ∷ source ∷ reason ∷ [])
 
 -- A-RELEASE-RP (PS3.8 section 9.3.7)
 abbrev pub release_text : List ℕ
-release_text = pdu_text 6 (0 ∷ 0 ∷ 0 ∷ 0 ∷ [])
+release_text = pdu_text release_rp (0 ∷ 0 ∷ 0 ∷ 0 ∷ [])
 
 -- A-ABORT (PS3.8 section 9.3.8)
 abbrev pub abort_text : ℕ → ℕ → List ℕ
-abort_text source reason = pdu_text 7 (0 ∷ 0 ∷ source ∷ reason ∷ [])
+abort_text source reason = pdu_text abort (0 ∷ 0 ∷ source ∷ reason ∷ [])
 
 -- the control byte: bit 0 command, bit 1 last (PS3.8 annex E.2)
 abbrev pub control_of : Bool → Bool → ℕ
@@ -28,4 +29,4 @@ pdv_text context command last fragment = be (length fragment + 2) 4 ++ (context 
 
 -- P-DATA-TF of one presentation data value (PS3.8 section 9.3.5)
 abbrev pub data_text : ℕ → Bool → Bool → List ℕ → List ℕ
-data_text context command last fragment = pdu_text 4 (pdv_text context command last fragment)
+data_text context command last fragment = pdu_text p_data_tf (pdv_text context command last fragment)

@@ -6,7 +6,7 @@ ghost use Rattle.pdu.specs.Items.{items_of, proposals};
 use crate::item::Items;
 use crate::proposal::Proposal;
 
-/// The presentation contexts that a request proposes, in their order.
+/// An iterator over the presentation contexts that a request proposes, in their order.
 #[derive(Clone, Copy)]
 pub struct Contexts<'a> {
     items: Items<'a>,
@@ -15,7 +15,7 @@ pub struct Contexts<'a> {
 impl<'a> Contexts<'a> {
     ghost use Rattle.pdu.specs.Left.{proposals_left};
 
-    /// Those among the items of a text.
+    /// Iterates over those among the items in these bytes.
     pub(crate) fn of(text: &'a [u8]) -> Contexts<'a>
         ensures { proposals_left result ≡ proposals (items_of text.now) }
     {

@@ -1,7 +1,7 @@
-//! Why a PDU is refused.
+//! Why a PDU is invalid.
 ghost use Rattle.std.specs.Prelude.{◌≡◌};
 
-/// Why a PDU is refused.
+/// Why a PDU is invalid.
 #[derive(Clone, Copy, Debug, PartialEq, Eq)]
 pub enum PduFault {
     /// 30: a type that is not from 01H to 07H.
@@ -13,9 +13,9 @@ pub enum PduFault {
     /// is not of four bytes, or a proposed context without exactly one abstract syntax and at least
     /// one transfer syntax.
     BadItem,
-    /// 33: an even presentation context id.
+    /// 33: an even presentation context ID.
     BadContextId,
-    /// 34: a presentation context id that came before.
+    /// 34: a presentation context ID that came before.
     DoubleContext,
     /// 35: no application context, no proposed context or no user information.
     Missing,
@@ -24,7 +24,7 @@ pub enum PduFault {
 impl PduFault {
     ghost use Rattle.pdu.specs.Fault.{fault_number};
 
-    /// Its number, from 30 to 35.
+    /// Returns its number, from 30 to 35.
     pub fn number(self) -> u8
         ensures { result ≡ fault_number self }
     {

@@ -7,27 +7,26 @@ use byteorder::{BigEndian, ByteOrder};
 /// The head of a PDU (PS3.8 section 9.3.1).
 #[derive(Clone, Copy, Debug, PartialEq, Eq)]
 pub struct PduHead {
-    /// 01H A-ASSOCIATE-RQ, 02H AC, 03H RJ, 04H P-DATA-TF, 05H A-RELEASE-RQ, 06H RP, 07H A-ABORT;
-    /// other types are unknown.
+    /// The type of the PDU, one of `pdu_type`; others are unknown.
     pub kind: u8,
-    /// The bytes that follow the head.
+    /// The number of bytes that follow the head.
     pub length: u32,
 }
 
 /// The head of a presentation data value (PS3.8 section 9.3.5.1 and annex E.2).
 #[derive(Clone, Copy, Debug, PartialEq, Eq)]
 pub struct PdvHead {
-    /// The bytes that follow the length: two of this head, and the fragment.
+    /// The number of bytes that follow the length: two of this head, and the fragment.
     pub length: u32,
-    /// The presentation context's id.
+    /// The presentation context ID.
     pub context: u8,
-    /// Whether the fragment is of a command, else of a data set: bit 0 of the control byte.
+    /// Whether the fragment is part of a command, else of a data set: bit 0 of the control byte.
     pub command: bool,
-    /// Whether the fragment is the last one: bit 1 of the control byte. Bits 2 to 7 are not tested.
+    /// Whether the fragment is the last one: bit 1 of the control byte. Bits 2 to 7 are ignored.
     pub last: bool,
 }
 
-/// Reads the head of a PDU: its type, a reserved byte, which is not tested, and its length in big
+/// Reads the head of a PDU: its type, a reserved byte, which is ignored, and its length in big
 /// endian.
 pub fn read_pdu_head(bytes: &[u8; 6]) -> PduHead
     ensures { result ≡ pdu_head_of bytes.now }

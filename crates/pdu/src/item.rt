@@ -5,12 +5,13 @@ ghost use Rattle.pdu.specs.Items as spelling;
 ghost use Rattle.element.specs.Padding.{is_empty};
 ghost use Rattle.pdu.specs.Items.{item, items_of, left_over, Begins, BeginsNone};
 
+use crate::item_type;
 use byteorder::{BigEndian, ByteOrder};
 
-/// How many bytes follow the head of an item.
-fn said(head: &[u8]) -> u16
+/// Returns the length of an item's content, from its head.
+fn content_length(head: &[u8]) -> u16
     requires { 4 ≤ length head.now }
-    ensures { result ≡ item.said head.now }
+    ensures { result ≡ item.body head.now }
 {
     BigEndian::read_u16(&head[2..])
 }
@@ -23,28 +24,28 @@ pub struct Item<'a> {
 }
 
 impl<'a> Item<'a> {
-    /// Its type.
+    /// Returns its type.
     pub fn kind(self) -> u8
         ensures { result ≡ spelling.kind self.entry.bytes.now }
     {
         self.bytes[0]
     }
 
-    /// All of its bytes, with its head of four.
+    /// Returns all of its bytes, with its head of four.
     pub fn bytes(self) -> &'a [u8]
         ensures { result.now ≡ self.entry.bytes.now }
     {
         self.bytes
     }
 
-    /// Whether it is a proposed presentation context with its id and three reserved bytes.
+    /// Returns whether it is a proposed presentation context with its id and three reserved bytes.
     pub fn is_context(self) -> bool
         ensures { result ≡ spelling.is_context self.entry.bytes.now }
     {
-        self.kind() == 0x20 && self.bytes.len() >= 8
+        self.kind() == item_type::PROPOSED_CONTEXT && self.bytes.len() >= 8
     }
 
-    /// What follows its head.
+    /// Returns its content, which follows the head.
     pub fn content(self) -> &'a [u8]
         ensures { result.now ≡ spelling.content self.entry.bytes.now }
     {
@@ -52,14 +53,14 @@ impl<'a> Item<'a> {
     }
 }
 
-/// The whole items at the front of a text, in their order.
+/// An iterator over the whole items at the front of some bytes, in their order.
 #[derive(Clone, Copy)]
 pub struct Items<'a> {
     rest: &'a [u8],
 }
 
 impl<'a> Items<'a> {
-    /// Those of a text.
+    /// Iterates over the items of these bytes.
     pub fn of(text: &'a [u8]) -> Items<'a>
         ensures { items_of result.rest.now ≡ items_of text.now }
     {
@@ -67,7 +68,7 @@ impl<'a> Items<'a> {
     }
 }
 
-/// The first item of a text, where it is whole, and what follows it.
+/// Returns the first item, where it is whole, and the bytes after it.
 #[tactic(auto, using(crate::proofs::ItemLemmas::begins_short, crate::proofs::ItemLemmas::begins_begun, crate::proofs::ItemLemmas::begins_cut))]
 pub fn first_item<'a>(text: &'a [u8]) -> Option<(Item<'a>, &'a [u8])>
     ensures { MatchOption result (BeginsNone text.now) (λ p. Begins text.now p.0.bytes.now p.1.now) }
@@ -75,7 +76,7 @@ pub fn first_item<'a>(text: &'a [u8]) -> Option<(Item<'a>, &'a [u8])>
     if text.len() < 4 {
         return None;
     }
-    let size = 4 + usize::from(said(text));
+    let size = 4 + usize::from(content_length(text));
     if text.len() < size {
         return None;
     }
@@ -101,7 +102,7 @@ impl<'a> Iterator for Items<'a> {
     }
 }
 
-/// The content of the first item of this type; empty where there is none.
+/// Returns the content of the first item of this type; empty where there is none.
 pub fn content_in<'a>(kind: u8, text: &'a [u8]) -> &'a [u8]
     ensures { result.now ≡ spelling.content_in kind (items_of text.now) }
 {
@@ -113,7 +114,7 @@ pub fn content_in<'a>(kind: u8, text: &'a [u8]) -> &'a [u8]
     &[]
 }
 
-/// How many items of this type there are.
+/// Returns how many items of this type there are.
 pub fn count_of(kind: u8, text: &[u8]) -> usize
     ensures { result ≡ length (spelling.of_kind kind (items_of text.now)) }
 {
@@ -126,7 +127,7 @@ pub fn count_of(kind: u8, text: &[u8]) -> usize
     count
 }
 
-/// Whether a text is whole items and nothing else.
+/// Returns whether the bytes are whole items and nothing else.
 pub fn is_whole(text: &[u8]) -> bool
     ensures { result ≡ is_empty (left_over text.now) }
 {

@@ -1,17 +1,64 @@
 //! Laws of the definitions, each the contract of a function that does nothing.
-ghost use Rattle.std.specs.Prelude.{◌≡◌, ◌++◌, ℕ, List, length};
-ghost use Rattle.pdu.specs.Frames.{Splits, frames_of, rest_of};
-ghost use Rattle.std.specs.List.{AllByRecursion};
-ghost use Rattle.pdu.specs.Marks.{IsPdv, marks, marks_by, marks_of_values, new_marks, pdv_marks};
-ghost use Rattle.pdu.specs.Pieces.{joined};
+ghost use Rattle.std.specs.Prelude.{◌≡◌, eqb, ◌≤◌, ◌++◌, [], ◌∷◌, ℕ, List, length, take, drop};
+ghost use Rattle.std.specs.List.{AllByRecursion, IsDistinct};
+ghost use Rattle.element.specs.Numbers.{IsBytes};
+ghost use Rattle.pdu.specs.Types.{associate_rq, associate_ac, associate_rj, p_data_tf, release_rq, release_rp, abort, application_context_item, proposed_context_item, answered_context_item, abstract_syntax_item, transfer_syntax_item, user_information_item, maximum_length_item, implementation_class_item, implementation_version_item};
 ghost use Rattle.pdu.specs.Record.{Record};
-ghost use Rattle.pdu.specs.Request.{RequestText};
+ghost use Rattle.pdu.specs.Request.{RequestText, IsContextId, IsRequest};
 ghost use Rattle.pdu.specs.Items.{record_of};
 ghost use Rattle.pdu.specs.Refusal.{request_fault};
+ghost use Rattle.pdu.specs.Pieces.{joined};
+ghost use Rattle.pdu.specs.Frames.{Splits, frames_of, rest_of};
+ghost use Rattle.pdu.specs.Pdvs.{DataSpot, Marked, data_spot};
+ghost use Rattle.pdu.specs.Marks.{Mark, Head, PdvHead, Pdv, BadPdv, Leftover, End, IsPdv, marks, marks_by, marks_of_values, new_marks, pdv_marks};
+ghost use Rattle.pdu.specs.Examples.{no_pdu, good_then_bad, good_marks, good_then_bad_marks, empty_pdv, past_the_end, release_twice};
+
+use crate::item_type::{
+    ABSTRACT_SYNTAX, ANSWERED_CONTEXT, APPLICATION_CONTEXT, IMPLEMENTATION_CLASS_UID,
+    IMPLEMENTATION_VERSION_NAME, MAXIMUM_LENGTH, PROPOSED_CONTEXT, TRANSFER_SYNTAX,
+    USER_INFORMATION,
+};
+use crate::pdu_type::{
+    A_ABORT, A_ASSOCIATE_AC, A_ASSOCIATE_RJ, A_ASSOCIATE_RQ, A_RELEASE_RP, A_RELEASE_RQ, P_DATA_TF,
+};
+
+/// The types of PDUs are the standard's.
+pub fn pdu_types()
+    ensures associate_rq { A_ASSOCIATE_RQ ≡ associate_rq }
+    ensures associate_ac { A_ASSOCIATE_AC ≡ associate_ac }
+    ensures associate_rj { A_ASSOCIATE_RJ ≡ associate_rj }
+    ensures p_data_tf { P_DATA_TF ≡ p_data_tf }
+    ensures release_rq { A_RELEASE_RQ ≡ release_rq }
+    ensures release_rp { A_RELEASE_RP ≡ release_rp }
+    ensures abort { A_ABORT ≡ abort }
+{}
+
+/// The types of items are the standard's.
+pub fn item_types()
+    ensures application_context { APPLICATION_CONTEXT ≡ application_context_item }
+    ensures proposed_context { PROPOSED_CONTEXT ≡ proposed_context_item }
+    ensures answered_context { ANSWERED_CONTEXT ≡ answered_context_item }
+    ensures abstract_syntax { ABSTRACT_SYNTAX ≡ abstract_syntax_item }
+    ensures transfer_syntax { TRANSFER_SYNTAX ≡ transfer_syntax_item }
+    ensures user_information { USER_INFORMATION ≡ user_information_item }
+    ensures maximum_length { MAXIMUM_LENGTH ≡ maximum_length_item }
+    ensures implementation_class { IMPLEMENTATION_CLASS_UID ≡ implementation_class_item }
+    ensures implementation_version { IMPLEMENTATION_VERSION_NAME ≡ implementation_version_item }
+{}
 
 /// No body spells two requests (PS3.8 section 9.3.2).
 pub fn body_has_one_request()
     ensures { (r q : Record) (b : List ℕ) → RequestText r b → RequestText q b → r ≡ q }
+{}
+
+/// Each request has 32 reserved bytes, and IDs that are odd and distinct.
+pub fn requests_keep_their_form()
+    ensures { (r : Record) (b : List ℕ) → IsBytes b → RequestText r b → IsRequest r }
+{}
+
+/// There are 128 odd numbers of one byte, so a request proposes at most 128 contexts.
+pub fn ids_are_few()
+    ensures { (ns : List ℕ) → AllByRecursion IsContextId ns → IsDistinct eqb ns → length ns ≤ 128 }
 {}
 
 /// A body has no fault exactly where it spells a request, and then it spells the one that is read.
@@ -25,29 +72,70 @@ pub fn stream_has_frames()
     ensures { (s : List ℕ) → Splits s (frames_of s) (rest_of s) }
 {}
 
-/// No stream is so in two ways.
+/// No stream has two such lists.
 pub fn stream_has_one_list_of_frames()
     ensures { (s : List ℕ) (fs gs : List (List ℕ)) (r t : List ℕ) → Splits s fs r → Splits s gs t → (fs ≡ gs) × (r ≡ t) }
 {}
 
-/// Marks only ever get appended when bytes come.
+/// Marks never change: further bytes only append to them.
 pub fn marks_only_grow()
     ensures { (s p : List ℕ) → marks (s ++ p) ≡ marks s ++ new_marks s p }
 {}
 
-/// How the stream is cut into pieces does not show in its marks.
+/// The marks of a stream do not depend on how it is cut into pieces.
 pub fn marks_do_not_show_the_cut()
     ensures { (s : List ℕ) (ps qs : List (List ℕ)) → joined ps ≡ joined qs → marks_by s ps ≡ marks_by s qs }
 {}
 
-/// What comes later depends on the rest alone.
+/// What further bytes mark depends on the unfinished frame alone.
 pub fn marks_depend_on_the_rest()
     ensures marks { (s p : List ℕ) → new_marks s p ≡ new_marks (rest_of s) p }
     ensures rest { (s p : List ℕ) → rest_of (s ++ p) ≡ rest_of (rest_of s ++ p) }
+{}
+
+/// The bytes of a P-DATA-TF PDU after its head have just one list of marks, and leave it in one
+/// place: those that are computed (PS3.8 section 9.3.5 and annex E.2).
+pub fn marks_of_data_are_one()
+    ensures some { (room : ℕ) (bytes : List ℕ) → Marked room bytes (pdv_marks room bytes) (data_spot room bytes) }
+    ensures marks { (room : ℕ) (bytes : List ℕ) (ms : List Mark) (s : DataSpot) → Marked room bytes ms s → pdv_marks room bytes ≡ ms }
+    ensures spot { (room : ℕ) (bytes : List ℕ) (ms : List Mark) (s : DataSpot) → Marked room bytes ms s → data_spot room bytes ≡ s }
 {}
 
 /// Inside a P-DATA-TF PDU that is whole presentation data values and nothing else, each has its two
 /// marks (PS3.8 section 9.3.5).
 pub fn whole_values_are_marked()
     ensures { (vs : List (List ℕ)) → AllByRecursion IsPdv vs → pdv_marks (length (joined vs)) (joined vs) ≡ marks_of_values vs }
+{}
+
+/// Bytes that are no PDU have a head at the sixth byte, and nothing before.
+pub fn bytes_that_are_no_pdu()
+    ensures sixth { marks no_pdu ≡ Head 0x47 0x54202F20 ∷ [] }
+    ensures fifth { marks (take 5 no_pdu) ≡ [] }
+{}
+
+/// A good presentation data value is marked at its last byte, whatever follows it in its PDU: a
+/// receiver that waits for the whole PDU has other marks.
+pub fn a_good_value_before_a_bad_one()
+    ensures whole { marks good_then_bad ≡ good_then_bad_marks }
+    ensures at_once { marks (take 14 good_then_bad) ≡ good_marks }
+    ensures no_waiting { marks good_then_bad ≡ Head 4 14 ∷ End 4 (drop 6 good_then_bad) ∷ [] → ⊥ }
+{}
+
+/// From one to five bytes after a presentation data value are left over, and are dropped; six may
+/// be a head.
+pub fn bytes_left_over()
+    ensures one { marks (empty_pdv 7) ≡ Head 4 7 ∷ PdvHead 2 1 2 ∷ Pdv 1 2 [] ∷ Leftover ∷ [] }
+    ensures five { marks (empty_pdv 11) ≡ Head 4 11 ∷ PdvHead 2 1 2 ∷ Pdv 1 2 [] ∷ Leftover ∷ [] }
+    ensures dropped { marks (empty_pdv 11 ++ 1 ∷ 2 ∷ 3 ∷ 4 ∷ 5 ∷ []) ≡ Head 4 11 ∷ PdvHead 2 1 2 ∷ Pdv 1 2 [] ∷ Leftover ∷ End 4 (drop 6 (empty_pdv 11) ++ 1 ∷ 2 ∷ 3 ∷ 4 ∷ 5 ∷ []) ∷ [] }
+    ensures six { marks (empty_pdv 12) ≡ Head 4 12 ∷ PdvHead 2 1 2 ∷ Pdv 1 2 [] ∷ [] }
+{}
+
+/// A presentation data value that passes the end of its PDU is bad.
+pub fn a_value_past_its_frame()
+    ensures { marks past_the_end ≡ Head 4 6 ∷ BadPdv ∷ End 4 (drop 6 past_the_end) ∷ [] }
+{}
+
+/// One PDU after another.
+pub fn two_frames()
+    ensures { marks release_twice ≡ Head 5 4 ∷ End 5 (0 ∷ 0 ∷ 0 ∷ 0 ∷ []) ∷ Head 5 4 ∷ [] }
 {}

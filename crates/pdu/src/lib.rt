@@ -2,13 +2,16 @@
 //! which they are sent (PS3.8 section 9.3).
 #![tactic(auto)]
 
+mod checking;
 mod contexts;
 mod fault;
 mod head;
 mod item;
-mod judge;
+pub mod item_type;
 pub mod laws;
 mod memory_wire;
+pub mod part_laws;
+pub mod pdu_type;
 mod proposal;
 mod request;
 mod syntaxes;
@@ -24,6 +27,3 @@ pub use request::{Request, read_request};
 pub use syntaxes::TransferSyntaxes;
 pub use wire::{Wire, WireFailed};
 pub use writers::{write_abort, write_data, write_reject, write_release};
-
-#[cfg(test)]
-mod tests;

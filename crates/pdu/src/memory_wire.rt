@@ -1,12 +1,13 @@
-//! A wire over memory.
-ghost use Rattle.std.specs.Prelude.{◌≡◌, ◌<◌, ◌↔◌, [], Some, IsTrue};
+//! A wire that keeps its bytes in memory.
+ghost use Rattle.std.specs.Prelude.{◌≡◌, ◌<◌, ◌↔◌, [], IsTrue};
+ghost use Rattle.pdu.specs.Sent.{line_of};
 
 use crate::wire::{Wire, WireFailed};
 use element::count::Count;
 use std::alloc::Allocator;
 use std::marker::Model;
 
-/// Keeps what is sent. A growth that the allocator refuses is a failed send that sends nothing.
+/// Keeps what is sent. Where the allocator has no room for it, the send fails and sends nothing.
 #[derive(Drop)]
 pub struct MemoryWire<A: Allocator> {
     bytes: Vec<u8, A>,
@@ -16,9 +17,9 @@ pub struct MemoryWire<A: Allocator> {
 
 impl<A: Allocator> Model for MemoryWire<A> {
     ghost use Rattle.std.specs.Prelude.{◌<◌, ◌↔◌, IsTrue};
-    ghost use Rattle.pdu.specs.Sent.{Told};
+    ghost use Rattle.pdu.specs.Sent.{Memory};
 
-    ghost Value = { Told };
+    ghost Value = { Memory };
 
     ghost view = { λ w. record { sent = w.bytes.items; failures = w.failures.total } };
 
@@ -26,7 +27,7 @@ impl<A: Allocator> Model for MemoryWire<A> {
 }
 
 impl<A: Allocator> MemoryWire<A> {
-    /// Nothing was sent yet.
+    /// Creates a wire that has sent nothing.
     pub fn new(alloc: A) -> MemoryWire<A>
         ensures nothing { result.sent ≡ [] }
         ensures never { result.failures ≡ 0 }
@@ -38,14 +39,14 @@ impl<A: Allocator> MemoryWire<A> {
         }
     }
 
-    /// What was sent.
+    /// Returns the bytes sent so far.
     pub fn sent(&self) -> &[u8]
         ensures { result.now ≡ self.now.sent }
     {
         self.bytes.as_slice()
     }
 
-    /// Whether a send failed.
+    /// Returns whether a send has failed.
     pub fn failed(&self) -> bool
         ensures { IsTrue result ↔ (0 < self.now.failures) }
     {
@@ -54,9 +55,7 @@ impl<A: Allocator> MemoryWire<A> {
 }
 
 impl<A: Allocator> Wire for MemoryWire<A> {
-    ghost failures = { λ w. w.failures };
-
-    ghost sent = { λ w. Some w.sent };
+    ghost line = { line_of };
 
     fn send(&mut self, bytes: &[u8]) -> Result<(), WireFailed> {
         if self.bytes.extend_from_slice(bytes).is_err() {

@@ -3,11 +3,12 @@ ghost use Rattle.std.specs.Prelude.{◌≡◌, true};
 ghost use Rattle.pdu.specs.Items.{is_context, proposal_of};
 
 use crate::item::{Item, content_in};
+use crate::item_type;
 use crate::syntaxes::TransferSyntaxes;
 use element::unpadded;
 use std::marker::Model;
 
-/// A proposed presentation context (PS3.8 section 9.3.2.2): a view of its item.
+/// A proposed presentation context (PS3.8 section 9.3.2.2), as a view of its item.
 #[derive(Drop)]
 pub struct Proposal<'a> {
     id: u8,
@@ -25,7 +26,7 @@ impl<'a> Model for Proposal<'a> {
 }
 
 impl<'a> Proposal<'a> {
-    /// The one that an item of type 20H proposes.
+    /// Returns the one that this item of type 20H proposes.
     pub(crate) fn of(item: Item<'a>) -> Proposal<'a>
         requires { is_context item.bytes.now ≡ true }
         ensures { result ≡ proposal_of item.entry.bytes.now }
@@ -34,19 +35,19 @@ impl<'a> Proposal<'a> {
         let parts = &bytes[8..];
         Proposal {
             id: bytes[4],
-            abstract_name: unpadded(content_in(0x30, parts)),
+            abstract_name: unpadded(content_in(item_type::ABSTRACT_SYNTAX, parts)),
             parts,
         }
     }
 
-    /// The presentation context's id.
+    /// Returns the presentation context ID.
     pub fn id(&self) -> u8
         ensures { result ≡ self.now.id }
     {
         self.id
     }
 
-    /// The abstract syntax, without trailing zero bytes and spaces.
+    /// Returns the abstract syntax, without trailing zero bytes and spaces.
     pub fn abstract_syntax(&self) -> &'a [u8]
         ensures { result.now ≡ self.now.abstract_syntax }
     {
@@ -55,7 +56,7 @@ impl<'a> Proposal<'a> {
 
     ghost use Rattle.pdu.specs.Left.{syntaxes_left};
 
-    /// The transfer syntaxes in their order.
+    /// Returns an iterator over the transfer syntaxes in their order.
     pub fn transfer_syntaxes(&self) -> TransferSyntaxes<'a>
         ensures { syntaxes_left result ≡ self.now.transfer_syntaxes }
     {

@@ -1,19 +1,20 @@
 //! Association requests.
-ghost use Rattle.std.specs.Prelude.{◌≡◌, ◌≤◌, ◌+◌, length, take, drop, List, ℕ, IfOk, IfErr, OnErr};
+ghost use Rattle.std.specs.Prelude.{◌≡◌, ◌≤◌, ◌+◌, length, take, drop, List, ℕ, IfOk, IfErr, OnErr, None};
 ghost use Rattle.pdu.specs.Items.{record_of, maximum_in, items_of};
 ghost use Rattle.pdu.specs.Record.{Record};
-ghost use Rattle.pdu.specs.Request.{RequestText};
-ghost use Rattle.pdu.specs.Refusal.{RequestFault};
+ghost use Rattle.pdu.specs.Request.{RequestText, IsRequest};
+ghost use Rattle.pdu.specs.Refusal.{RequestFault, request_fault};
 
+use crate::checking::check_items;
 use crate::contexts::Contexts;
 use crate::fault::PduFault;
 use crate::item::content_in;
-use crate::judge::judge;
+use crate::item_type;
 use byteorder::{BigEndian, ByteOrder};
 use element::{AeTitle, unpadded};
 use std::marker::Model;
 
-/// An association request (PS3.8 section 9.3.2): a view of its body.
+/// An A-ASSOCIATE-RQ (PS3.8 section 9.3.2), as a view of its body.
 #[derive(Drop)]
 pub struct Request<'a> {
     version: u16,
@@ -27,43 +28,57 @@ pub struct Request<'a> {
 
 impl<'a> Model for Request<'a> {
     ghost use Rattle.pdu.specs.Record.{Record};
-    ghost use Rattle.pdu.specs.Items.{items_of, proposals};
+    ghost use Rattle.pdu.specs.Request.{IsRequest};
 
     ghost Value = { Record };
 
-    ghost view = { λ r. record { version = r.version; called = r.called.0; calling = r.calling.0; reserved = r.reserved.now; application_context = r.application_context.now; contexts = proposals (items_of r.items.now); maximum = r.maximum } };
+    ghost use Rattle.pdu.specs.machine.View.{asked};
+
+    ghost view = { asked };
+
+    ghost invariant = { λ r. IsRequest (asked r) };
 }
 
 impl<'a> Request<'a> {
-    /// The protocol version: bit 0 is version 1.
+    /// Does nothing; its contract is what the type guarantees: 32 reserved bytes, and presentation
+    /// context IDs that are odd and distinct, so at most 128 contexts.
+    pub fn keeps(&self)
+        ensures request { IsRequest self.now }
+        ensures few { length self.now.contexts ≤ 128 }
+    {
+        let _ = &self.reserved;
+    }
+
+    /// Returns the protocol version, whose bit 0 stands for version 1.
     pub fn version(&self) -> u16
         ensures { result ≡ self.now.version }
     {
         self.version
     }
 
-    /// The called AE title.
+    /// Returns the called AE title.
     pub fn called(&self) -> AeTitle
         ensures { result.0 ≡ self.now.called }
     {
         self.called
     }
 
-    /// The calling AE title.
+    /// Returns the calling AE title.
     pub fn calling(&self) -> AeTitle
         ensures { result.0 ≡ self.now.calling }
     {
         self.calling
     }
 
-    /// The 32 reserved bytes after the titles, which an A-ASSOCIATE-AC repeats.
+    /// Returns the 32 reserved bytes after the titles, which an A-ASSOCIATE-AC repeats.
     pub fn reserved(&self) -> &'a [u8]
-        ensures { result.now ≡ self.now.reserved }
+        ensures value { result.now ≡ self.now.reserved }
+        ensures size { length result.now ≡ 32 }
     {
         self.reserved
     }
 
-    /// The application context's name, without trailing zero bytes and spaces.
+    /// Returns the application context name, without trailing zero bytes and spaces.
     pub fn application_context(&self) -> &'a [u8]
         ensures { result.now ≡ self.now.application_context }
     {
@@ -72,15 +87,16 @@ impl<'a> Request<'a> {
 
     ghost use Rattle.pdu.specs.Left.{proposals_left};
 
-    /// The proposed presentation contexts in their order.
+    /// Returns an iterator over the proposed presentation contexts in their order, at most 128.
     pub fn contexts(&self) -> Contexts<'a>
-        ensures { proposals_left result ≡ self.now.contexts }
+        ensures value { proposals_left result ≡ self.now.contexts }
+        ensures few { length self.now.contexts ≤ 128 }
     {
         Contexts::of(self.items)
     }
 
-    /// The greatest length of a P-DATA PDU that the peer takes, in bytes; 0 where it told none, and
-    /// where it told that there is no greatest.
+    /// Returns the maximum length of a P-DATA-TF PDU that the peer receives, in bytes. It is 0 where the
+    /// request has no maximum length, or one of 0, which stands for no limit.
     pub fn maximum(&self) -> u32
         ensures { result ≡ self.now.maximum }
     {
@@ -88,46 +104,45 @@ impl<'a> Request<'a> {
     }
 }
 
-/// The bytes of a request's body before its items.
-const FIXED: usize = 68;
+/// The number of bytes in a request's body before its first item.
+const BEFORE_ITEMS: usize = 68;
 
-/// Reads the body of an association request (PS3.8 section 9.3.2). It takes no memory, and time
-/// linear in the body. A body that spells no request is refused by the first fault of its items, as
-/// the variants of `PduFault` say.
+/// Reads the body of an A-ASSOCIATE-RQ (PS3.8 section 9.3.2). It allocates nothing, and takes time
+/// linear in the body. An invalid body fails with the first fault of its items (see `PduFault`).
 pub fn read_request(body: &[u8]) -> Result<Request<'_>, PduFault>
     ensures record { IfOk result (λ r. r ≡ record_of body.now) }
     ensures text { IfOk result (λ r. RequestText r body.now) }
     ensures fault { IfErr result (λ f. RequestFault body.now f) }
     ensures only { OnErr result ((r : Record) → RequestText r body.now → ⊥) }
 {
-    if body.len() < FIXED {
+    if body.len() < BEFORE_ITEMS {
         return Err(PduFault::BadLength);
     }
-    let (_, items) = body.split_at(FIXED);
-    match judge(items) {
+    let (_, items) = body.split_at(BEFORE_ITEMS);
+    match check_items(items) {
         Ok(()) => Ok(view(body)),
         Err(fault) => Err(fault),
     }
 }
 
-/// The view of a request's body.
+/// Returns the view of a valid body.
 fn view<'a>(body: &'a [u8]) -> Request<'a>
-    requires { 68 ≤ length body.now }
+    requires { request_fault body.now ≡ None }
     ensures { result ≡ record_of body.now }
 {
-    let (_fixed, items) = body.split_at(FIXED);
+    let (_fixed, items) = body.split_at(BEFORE_ITEMS);
     Request {
         version: BigEndian::read_u16(body),
         called: title_at(body, 4),
         calling: title_at(body, 20),
-        reserved: &body[36..FIXED],
-        application_context: unpadded(content_in(0x10, items)),
+        reserved: &body[36..BEFORE_ITEMS],
+        application_context: unpadded(content_in(item_type::APPLICATION_CONTEXT, items)),
         maximum: maximum_of(items),
         items,
     }
 }
 
-/// The 16 bytes of a title.
+/// Returns the title of 16 bytes at this place.
 fn title_at(body: &[u8], place: usize) -> AeTitle
     requires { place + 16 ≤ length body.now }
     ensures { result.0 ≡ take 16 (drop place body.now) }
@@ -137,11 +152,14 @@ fn title_at(body: &[u8], place: usize) -> AeTitle
     AeTitle(title)
 }
 
-/// The maximum length that the items tell.
+/// Returns the maximum length in the user information; 0 where it is absent.
 fn maximum_of(items: &[u8]) -> u32
     ensures { result ≡ maximum_in (items_of items.now) }
 {
-    let value = content_in(0x51, content_in(0x50, items));
+    let value = content_in(
+        item_type::MAXIMUM_LENGTH,
+        content_in(item_type::USER_INFORMATION, items),
+    );
     if value.len() == 4 {
         BigEndian::read_u32(value)
     } else {

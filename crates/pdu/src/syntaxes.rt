@@ -4,10 +4,11 @@ ghost use Rattle.std.specs.Iterator.{YieldsFirstRef, item_count};
 ghost use Rattle.pdu.specs.Items.{items_of, syntaxes};
 
 use crate::item::Items;
+use crate::item_type;
 use element::unpadded;
 
-/// The transfer syntaxes of a proposed presentation context in their order, without trailing zero
-/// bytes and spaces.
+/// An iterator over the transfer syntaxes of a proposed presentation context in their order, without
+/// trailing zero bytes and spaces.
 #[derive(Clone, Copy)]
 pub struct TransferSyntaxes<'a> {
     items: Items<'a>,
@@ -16,7 +17,7 @@ pub struct TransferSyntaxes<'a> {
 impl<'a> TransferSyntaxes<'a> {
     ghost use Rattle.pdu.specs.Left.{syntaxes_left};
 
-    /// Those among the items of a text.
+    /// Iterates over those among the items in these bytes.
     pub(crate) fn of(text: &'a [u8]) -> TransferSyntaxes<'a>
         ensures { syntaxes_left result ≡ syntaxes (items_of text.now) }
     {
@@ -37,7 +38,7 @@ impl<'a> Iterator for TransferSyntaxes<'a> {
 
     fn next(&mut self) -> Option<&'a [u8]> {
         while let Some(item) = self.items.next() {
-            if item.kind() == 0x40 {
+            if item.kind() == item_type::TRANSFER_SYNTAX {
                 return Some(unpadded(item.content()));
             }
         }

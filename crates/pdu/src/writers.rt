@@ -1,19 +1,20 @@
 //! Writes the PDUs that an acceptor sends beside A-ASSOCIATE-AC.
-ghost use Rattle.std.specs.Prelude.{◌≡◌, ◌+◌, ◌<◌, ◌^◌, [], ◌∷◌, ◌++◌, length, OnOk, OnErr};
-ghost use Rattle.std.specs.Io.KnownBytes.{append_known};
+ghost use Rattle.std.specs.Prelude.{◌≡◌, ◌+◌, ◌<◌, ◌^◌, [], ◌∷◌, ◌++◌, length};
 ghost use Rattle.element.specs.Numbers.{be};
-ghost use Rattle.pdu.specs.Sent.{GainsFront};
+ghost use Rattle.pdu.specs.Sent.{Sends};
+ghost use Rattle.pdu.specs.Types.{p_data_tf};
 ghost use Rattle.pdu.specs.Texts.{pdu_text, reject_text, release_text, abort_text, data_text, control_of};
 
+use crate::pdu_type;
 use crate::wire::{Wire, WireFailed};
 use arrayvec::ArrayVec;
 use byteorder::{BigEndian, ByteOrder};
 
-/// A PDU of at most this many bytes is sent in one send: every reply to a command fits, whose two
-/// identifiers of 64 bytes are its longest parts.
-const ROOM: usize = 512;
+/// A P-DATA-TF PDU of at most this many bytes goes out in one send. Every reply to a command fits: its
+/// longest parts are two UIDs of 64 bytes.
+const ONE_SEND: usize = 512;
 
-/// The ten bytes of a PDU whose body has four.
+/// Returns the ten bytes of a PDU whose body has four.
 fn short_pdu(kind: u8, body: [u8; 4]) -> [u8; 10]
     ensures { result ≡ pdu_text kind body }
 {
@@ -28,41 +29,32 @@ pub fn write_reject<W: Wire>(
     reason: u8,
     wire: &mut W,
 ) -> Result<(), WireFailed>
-    ensures sent { OnOk result (W.sent wire.new ≡ append_known (W.sent wire.old) (reject_text outcome source reason)) }
-    ensures same_count { OnOk result (W.failures wire.new ≡ W.failures wire.old) }
-    ensures front { OnErr result (GainsFront (W.sent wire.old) (W.sent wire.new) (reject_text outcome source reason)) }
-    ensures counted { OnErr result (W.failures wire.new ≡ W.failures wire.old + 1) }
+    ensures sends { Sends (reject_text outcome source reason) result (W.line wire.old) (W.line wire.new) }
 {
-    wire.send(&short_pdu(3, [0, outcome, source, reason]))
+    wire.send(&short_pdu(pdu_type::A_ASSOCIATE_RJ, [0, outcome, source, reason]))
 }
 
 /// Sends an A-RELEASE-RP (PS3.8 section 9.3.7).
 pub fn write_release<W: Wire>(wire: &mut W) -> Result<(), WireFailed>
-    ensures sent { OnOk result (W.sent wire.new ≡ append_known (W.sent wire.old) release_text) }
-    ensures same_count { OnOk result (W.failures wire.new ≡ W.failures wire.old) }
-    ensures front { OnErr result (GainsFront (W.sent wire.old) (W.sent wire.new) release_text) }
-    ensures counted { OnErr result (W.failures wire.new ≡ W.failures wire.old + 1) }
+    ensures sends { Sends release_text result (W.line wire.old) (W.line wire.new) }
 {
-    wire.send(&short_pdu(6, [0, 0, 0, 0]))
+    wire.send(&short_pdu(pdu_type::A_RELEASE_RP, [0, 0, 0, 0]))
 }
 
 /// Sends an A-ABORT (PS3.8 section 9.3.8) with this source and reason.
 pub fn write_abort<W: Wire>(source: u8, reason: u8, wire: &mut W) -> Result<(), WireFailed>
-    ensures sent { OnOk result (W.sent wire.new ≡ append_known (W.sent wire.old) (abort_text source reason)) }
-    ensures same_count { OnOk result (W.failures wire.new ≡ W.failures wire.old) }
-    ensures front { OnErr result (GainsFront (W.sent wire.old) (W.sent wire.new) (abort_text source reason)) }
-    ensures counted { OnErr result (W.failures wire.new ≡ W.failures wire.old + 1) }
+    ensures sends { Sends (abort_text source reason) result (W.line wire.old) (W.line wire.new) }
 {
-    wire.send(&short_pdu(7, [0, 0, source, reason]))
+    wire.send(&short_pdu(pdu_type::A_ABORT, [0, 0, source, reason]))
 }
 
-/// The twelve bytes before a fragment of this length.
+/// Returns the twelve bytes that come before a fragment of this length.
 fn data_head(context: u8, command: bool, last: bool, length: u32) -> [u8; 12]
     requires { length + 6 < 2 ^ 32 }
-    ensures { result ≡ 4 ∷ 0 ∷ (be (length + 6) 4 ++ (be (length + 2) 4 ++ context ∷ control_of command last ∷ [])) }
+    ensures { result ≡ p_data_tf ∷ 0 ∷ (be (length + 6) 4 ++ (be (length + 2) 4 ++ context ∷ control_of command last ∷ [])) }
 {
     let mut head = [0u8; 12];
-    head[0] = 4;
+    head[0] = pdu_type::P_DATA_TF;
     BigEndian::write_u32(&mut head[2..6], length + 6);
     BigEndian::write_u32(&mut head[6..10], length + 2);
     head[10] = context;
@@ -70,34 +62,33 @@ fn data_head(context: u8, command: bool, last: bool, length: u32) -> [u8; 12]
     head
 }
 
+/// Returns the control byte.
 fn control(command: bool, last: bool) -> u8
     ensures { result ≡ control_of command last }
 {
     u8::from(command) + if last { 2 } else { 0 }
 }
 
-/// Sends the two parts, in one send where they fit the room, else one after the other.
-#[tactic(auto, using(crate::proofs::SentLemmas::sent_both, crate::proofs::SentLemmas::gains_within, crate::proofs::SentLemmas::gains_past))]
+/// Sends two parts, in one send where they are short, else one after the other. If the first send
+/// fails, the second part is not sent.
+#[tactic(auto, using(crate::proofs::SentLemmas::sends_then, crate::proofs::SentLemmas::sends_part))]
 fn send_both<W: Wire>(front: &[u8], back: &[u8], wire: &mut W) -> Result<(), WireFailed>
-    ensures sent { OnOk result (W.sent wire.new ≡ append_known (W.sent wire.old) (front.now ++ back.now)) }
-    ensures same_count { OnOk result (W.failures wire.new ≡ W.failures wire.old) }
-    ensures front { OnErr result (GainsFront (W.sent wire.old) (W.sent wire.new) (front.now ++ back.now)) }
-    ensures counted { OnErr result (W.failures wire.new ≡ W.failures wire.old + 1) }
+    ensures sends { Sends (front.now ++ back.now) result (W.line wire.old) (W.line wire.new) }
 {
-    if front.len() > ROOM || back.len() > ROOM - front.len() {
+    if front.len() > ONE_SEND || back.len() > ONE_SEND - front.len() {
         match wire.send(front) {
             Ok(()) => return wire.send(back),
             Err(WireFailed) => return Err(WireFailed),
         }
     }
-    let mut room = ArrayVec::<u8, ROOM>::new();
+    let mut room = ArrayVec::<u8, ONE_SEND>::new();
     let _front = room.try_extend_from_slice(front);
     let _back = room.try_extend_from_slice(back);
     wire.send(room.as_slice())
 }
 
-/// Sends a P-DATA-TF (PS3.8 section 9.3.5) of one presentation data value, in one send where it is
-/// short, else in two.
+/// Sends a P-DATA-TF (PS3.8 section 9.3.5) with one presentation data value, in one send where it is
+/// short, else in two. The length of the PDU has to fit its field of four bytes.
 pub fn write_data<W: Wire>(
     context: u8,
     command: bool,
@@ -106,10 +97,7 @@ pub fn write_data<W: Wire>(
     wire: &mut W,
 ) -> Result<(), WireFailed>
     requires { length fragment.now + 6 < 2 ^ 32 }
-    ensures sent { OnOk result (W.sent wire.new ≡ append_known (W.sent wire.old) (data_text context command last fragment.now)) }
-    ensures same_count { OnOk result (W.failures wire.new ≡ W.failures wire.old) }
-    ensures front { OnErr result (GainsFront (W.sent wire.old) (W.sent wire.new) (data_text context command last fragment.now)) }
-    ensures counted { OnErr result (W.failures wire.new ≡ W.failures wire.old + 1) }
+    ensures sends { Sends (data_text context command last fragment.now) result (W.line wire.old) (W.line wire.new) }
 {
     let head = data_head(context, command, last, fragment.len() as u32);
     send_both(&head, fragment, wire)

@@ -9,5 +9,5 @@ returns-then-text-lt4 c = begins_short c.args.text.now (omega arith)
 pub returns-then-text-size : goal.returns-then-text-size
 returns-then-text-size c =
     let b = c.args.text.now in
-    let short : length b < 4 + big_number 2 (drop 2 b) = omega (arith, c.said.ensures, c.from-size.ensures) in
+    let short : length b < 4 + big_number 2 (drop 2 b) = omega (arith, c.content_length.ensures, c.from-size.ensures) in
     begins_begun b short

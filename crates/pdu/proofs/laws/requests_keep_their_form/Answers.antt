@@ -1,0 +1,5 @@
+use Rattle.pdu.proofs.RequestLemmas.{request_kept}
+use Rattle.pdu.proofs.laws.requests_keep_their_form.Goals as goal
+
+pub returns : goal.returns
+returns c = request_kept

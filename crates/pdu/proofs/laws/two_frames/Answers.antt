@@ -1,0 +1,5 @@
+use Rattle.pdu.proofs.ExampleLemmas.{two_releases}
+use Rattle.pdu.proofs.laws.two_frames.Goals as goal
+
+pub returns : goal.returns
+returns c = two_releases

@@ -1,0 +1,5 @@
+use Rattle.pdu.proofs.BegunLemmas.{head_done}
+use Rattle.pdu.proofs.part_laws.a_head_is_whole.Goals as goal
+
+pub returns : goal.returns
+returns c r d lt six = head_done r d lt six

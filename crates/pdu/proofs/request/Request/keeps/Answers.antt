@@ -1,0 +1,5 @@
+use Rattle.pdu.proofs.IdLemmas.{kept_few}
+use Rattle.pdu.proofs.request.Request.keeps.Goals as goal
+
+pub returns-clause-few : goal.returns-clause-few
+returns-clause-few c = kept_few _ _ c.self.view_is c.self.invariant

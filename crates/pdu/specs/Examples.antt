@@ -1,0 +1,29 @@
+-- Streams of bytes on which the definitions of marks are tried.
+use Rattle.std.specs.Prelude.{ℕ, List, [], ◌∷◌, drop}
+use Rattle.pdu.specs.Marks.{Mark, Head, PdvHead, Pdv, BadPdv, End}
+
+-- 'GET / ', no PDU
+abbrev pub no_pdu : List ℕ
+no_pdu = 0x47 ∷ 0x45 ∷ 0x54 ∷ 0x20 ∷ 0x2F ∷ 0x20 ∷ []
+
+-- P-DATA with a presentation data value whose fragment has two bytes, and then one whose length is 1
+abbrev pub good_then_bad : List ℕ
+good_then_bad = 4 ∷ 0 ∷ 0 ∷ 0 ∷ 0 ∷ 14 ∷ 0 ∷ 0 ∷ 0 ∷ 4 ∷ 1 ∷ 3 ∷ 0xAA ∷ 0xBB ∷ 0 ∷ 0 ∷ 0 ∷ 1 ∷ 1 ∷ 3 ∷ []
+
+abbrev pub good_marks : List Mark
+good_marks = Head 4 14 ∷ PdvHead 4 1 3 ∷ Pdv 1 3 (0xAA ∷ 0xBB ∷ []) ∷ []
+
+abbrev pub good_then_bad_marks : List Mark
+good_then_bad_marks = Head 4 14 ∷ PdvHead 4 1 3 ∷ Pdv 1 3 (0xAA ∷ 0xBB ∷ []) ∷ BadPdv ∷ End 4 (drop 6 good_then_bad) ∷ []
+
+-- P-DATA of this length, of which a presentation data value with an empty fragment has come
+abbrev pub empty_pdv : ℕ → List ℕ
+empty_pdv n = 4 ∷ 0 ∷ 0 ∷ 0 ∷ 0 ∷ n ∷ 0 ∷ 0 ∷ 0 ∷ 2 ∷ 1 ∷ 2 ∷ []
+
+-- P-DATA of six bytes with a presentation data value of seven
+abbrev pub past_the_end : List ℕ
+past_the_end = 4 ∷ 0 ∷ 0 ∷ 0 ∷ 0 ∷ 6 ∷ 0 ∷ 0 ∷ 0 ∷ 3 ∷ 1 ∷ 3 ∷ []
+
+-- A-RELEASE-RQ, and the head of another
+abbrev pub release_twice : List ℕ
+release_twice = 5 ∷ 0 ∷ 0 ∷ 0 ∷ 0 ∷ 4 ∷ 0 ∷ 0 ∷ 0 ∷ 0 ∷ 5 ∷ 0 ∷ 0 ∷ 0 ∷ 0 ∷ 4 ∷ []

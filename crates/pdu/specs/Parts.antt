@@ -1,0 +1,41 @@
+-- What further bytes of a frame mark, and where the frame stands after them.
+use Rattle.std.specs.Prelude.{◌≡◌, ℕ, ◌<◌, ◌≤◌, List, [], ◌∷◌, ◌++◌, length, drop, nat_eq, if◌then◌else◌}
+use Rattle.byteorder.specs.Endian.{big_number}
+use Rattle.pdu.specs.Types.{p_data_tf}
+use Rattle.pdu.specs.Frames.{IsFrame, IsRest, rest_of}
+use Rattle.pdu.specs.Marks.{Mark, Leftover, End, pdv_size, is_leftover, frame_kind, new_marks}
+use Rattle.pdu.specs.Spot.{Spot, Plain, InPdv, spot}
+
+-- less than a whole presentation data value, of which the frame has room for this many bytes
+pub data IsUnfinished (room : ℕ) (b : List ℕ) : Type 0 where
+  in_head : length b < 6 → IsUnfinished room b
+  in_fragment : 6 ≤ length b → 2 ≤ big_number 4 b → pdv_size b ≤ room → length b < pdv_size b → IsUnfinished room b
+
+-- after a presentation data value that leaves this room in the frame
+abbrev pub leftover_marks : ℕ → List Mark
+leftover_marks room = if is_leftover room then Leftover ∷ [] else []
+
+abbrev pub leftover_spot : ℕ → Spot
+leftover_spot room = if is_leftover room then Plain else InPdv []
+
+abbrev pub body_spot : ℕ → Spot
+body_spot kind = if nat_eq kind p_data_tf then InPdv [] else Plain
+
+abbrev pub end_mark : List ℕ → Mark
+end_mark f = End (frame_kind f) (drop 6 f)
+
+-- while the frame is unfinished, these bytes have just these marks, and the frame stands there after them
+pub record GoesOn (r c : List ℕ) (ms : List Mark) (s : Spot) : Type 0 where
+  pub marks : new_marks r c ≡ ms
+  pub rest : rest_of (r ++ c) ≡ r ++ c
+  pub spot_is : spot (r ++ c) ≡ s
+
+-- where these bytes complete the frame, its end is marked too
+pub record Ends (r c : List ℕ) (ms : List Mark) : Type 0 where
+  pub marks : new_marks r c ≡ ms ++ end_mark (r ++ c) ∷ []
+  pub rest : rest_of (r ++ c) ≡ []
+
+-- what these bytes do, of a frame of which r came before
+pub record Comes (r c : List ℕ) (ms : List Mark) (s : Spot) : Type 0 where
+  pub goes_on : IsRest (r ++ c) → GoesOn r c ms s
+  pub ends : IsFrame (r ++ c) → Ends r c ms

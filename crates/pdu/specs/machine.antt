@@ -1,0 +1,3 @@
+-- What the code is proved against, beside the definitions.
+pub mod View
+pub mod SoFar
