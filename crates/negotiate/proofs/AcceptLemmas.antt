@@ -1,11 +1,9 @@
--- The parts of an A-ASSOCIATE-AC, one after the other.
-use Rattle.std.proofs.Common.{◌≡◌, ℕ, ◌-◌, List, [], ◌∷◌, ◌++◌, length, arith, refl, ap, ◌∙◌}
-use Rattle.std.specs.List.{flat_map}
+-- The first parts of an A-ASSOCIATE-AC, one after the other.
+use Rattle.std.proofs.Common.{◌≡◌, ℕ, List, [], ◌∷◌, ◌++◌, refl}
 use Rattle.element.specs.Numbers.{be}
 use Rattle.dictionary.specs.Syntaxes.{application_context}
 use Rattle.pdu.specs.Record.{Record}
-use Rattle.negotiate.specs.Accept.{item_text, context_text, user_text, before_contexts, accept_body, accept_text}
-use Rattle.negotiate.specs.Settings.{Settings}
+use Rattle.negotiate.specs.Accept.{item_text, before_contexts}
 
 -- the parts of the front, one appended after the other
 pub front_is : (follow : ℕ) (r : Record) (e0 e1 e2 e3 e4 e5 head called calling reserved : List ℕ) →
@@ -14,12 +12,3 @@ pub front_is : (follow : ℕ) (r : Record) (e0 e1 e2 e3 e4 e5 head called callin
     e5 ≡ 2 ∷ 0 ∷ (be follow 4 ++ before_contexts r)
 front_is follow r e0 e1 e2 e3 e4 e5 head called calling reserved h0 hh ha hb hc h1 h2 h3 h4 h5 =
     rw (h5, h4, h3, h2, h1, h0, hh, ha, hb, hc) refl
-
--- the front, the contexts and the user information, one after the other
-pub accept_is : (s : Settings) (r : Record) (size : ℕ) (front : List ℕ) →
-    size ≡ length (accept_text s r) → front ≡ 2 ∷ 0 ∷ (be (size - 6) 4 ++ before_contexts r) →
-    (front ++ flat_map context_text r.contexts) ++ user_text s.max_pdu ≡ accept_text s r
-accept_is s r size front size_is front_is =
-    let follow : size - 6 ≡ length (accept_body s r) = omega (arith, size_is) in
-    ap (λ f. (f ++ flat_map context_text r.contexts) ++ user_text s.max_pdu) front_is ∙
-    ap (λ n. (2 ∷ 0 ∷ (be n 4 ++ before_contexts r) ++ flat_map context_text r.contexts) ++ user_text s.max_pdu) follow

@@ -1,4 +1,3 @@
 pub mod AnswerLemmas
 pub mod AcceptLemmas
-pub mod GatherLemmas
-pub mod RequestLemmas
+pub mod TableLemmas

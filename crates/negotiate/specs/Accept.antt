@@ -6,6 +6,7 @@ use Rattle.element.specs.Numbers.{be}
 use Rattle.dictionary.specs.Syntaxes.{application_context, syntax_uid}
 use Rattle.pdu.specs.Record.{Record, Proposal}
 use Rattle.pdu.specs.Texts.{pdu_text, reject_text}
+use Rattle.pdu.specs.Types.{associate_ac, application_context_item, answered_context_item, transfer_syntax_item, user_information_item, maximum_length_item, implementation_class_item, implementation_version_item}
 use Rattle.negotiate.specs.declared.answer.Answer.{Answer}
 use Rattle.negotiate.specs.declared.answer.Answer.TheVariants.{Accept, Reject}
 use Rattle.negotiate.specs.Answer.{judged}
@@ -18,23 +19,27 @@ item_text kind content = kind ∷ 0 ∷ (be (length content) 2 ++ content)
 
 -- 21H: id, reserved byte, result, reserved byte, and 40H with the transfer syntax
 abbrev pub context_text : Proposal → List ℕ
-context_text p = item_text 0x21 (p.id ∷ 0 ∷ result_of p ∷ 0 ∷ item_text 0x40 (syntax_uid (carried p)))
+context_text p = item_text answered_context_item (p.id ∷ 0 ∷ result_of p ∷ 0 ∷ item_text transfer_syntax_item (syntax_uid (carried p)))
 
--- 50H: 51H the greatest P-DATA length that is taken; 52H and 55H the implementation's class and version name (this
+-- 50H: 51H the greatest P-DATA length that is accepted; 52H and 55H the implementation's class and version name (this
 -- product's own)
 abbrev pub user_text : ℕ → List ℕ
-user_text max_pdu = item_text 0x50 (item_text 0x51 (be max_pdu 4) ++ item_text 0x52 (codes "2.25.20260101") ++ item_text 0x55 (codes "DCMBOX_1"))
+user_text max_pdu =
+    item_text user_information_item
+    (item_text maximum_length_item (be max_pdu 4)
+    ++ item_text implementation_class_item (codes "2.25.20260101")
+    ++ item_text implementation_version_item (codes "DCMBOX_1"))
 
 -- version 1, the titles and the 32 reserved bytes as in the request, 10H
 abbrev pub before_contexts : Record → List ℕ
-before_contexts r = 0 ∷ 1 ∷ 0 ∷ 0 ∷ (r.called ++ r.calling ++ r.reserved ++ item_text 0x10 application_context)
+before_contexts r = 0 ∷ 1 ∷ 0 ∷ 0 ∷ (r.called ++ r.calling ++ r.reserved ++ item_text application_context_item application_context)
 
 -- then a 21H for each proposed context in its order, and 50H
 abbrev pub accept_body : Settings → Record → List ℕ
 accept_body s r = before_contexts r ++ flat_map context_text r.contexts ++ user_text s.max_pdu
 
 abbrev pub accept_text : Settings → Record → List ℕ
-accept_text s r = pdu_text 2 (accept_body s r)
+accept_text s r = pdu_text associate_ac (accept_body s r)
 
 abbrev pub text_by : Answer → Settings → Record → List ℕ
 text_by Accept s r = accept_text s r

@@ -7,6 +7,7 @@ use Rattle.element.specs.Title.{title_text}
 use Rattle.pdu.specs.Record.{Record}
 use Rattle.negotiate.specs.declared.answer.Answer.{Answer}
 use Rattle.negotiate.specs.declared.answer.Answer.TheVariants.{Accept, Reject}
+use Rattle.negotiate.specs.Rejections.{rejected_permanent, service_user, service_provider_acse, no_reason_given, application_context_name_not_supported, calling_ae_title_not_recognized, called_ae_title_not_recognized, protocol_version_not_supported}
 use Rattle.negotiate.specs.Settings.{Settings}
 
 abbrev pub same_bytes : List ℕ → List ℕ → Bool
@@ -31,9 +32,9 @@ has_version_1 r = nat_eq (r.version % 2) 1
 -- product's own profile; so is that the last four are the local user's.
 abbrev pub judged : Settings → Record → Answer
 judged s r =
-    if not (has_version_1 r) then Reject 1 2 2
-    else (if not (same_bytes r.application_context application_context) then Reject 1 1 2
-    else (if not (same_title r.called s.ae) then Reject 1 1 7
-    else (if not (may_call s.callers r.calling) then Reject 1 1 3
-    else (if nat_le 1 r.maximum && nat_le r.maximum 7 then Reject 1 1 1
+    if not (has_version_1 r) then Reject rejected_permanent service_provider_acse protocol_version_not_supported
+    else (if not (same_bytes r.application_context application_context) then Reject rejected_permanent service_user application_context_name_not_supported
+    else (if not (same_title r.called s.ae) then Reject rejected_permanent service_user called_ae_title_not_recognized
+    else (if not (may_call s.callers r.calling) then Reject rejected_permanent service_user calling_ae_title_not_recognized
+    else (if nat_le 1 r.maximum && nat_le r.maximum 7 then Reject rejected_permanent service_user no_reason_given
     else Accept))))

@@ -23,18 +23,28 @@ proposes_explicit uids = list_any (λ uid. is_explicit (syntax_of uid)) uids
 abbrev pub proposes_implicit : List (List ℕ) → Bool
 proposes_implicit uids = list_any (λ uid. is_implicit (syntax_of uid)) uids
 
--- the transfer syntax that is taken of those proposed: Explicit VR Little Endian before Implicit VR Little Endian, and
+-- the transfer syntax that is chosen from those proposed: Explicit VR Little Endian before Implicit VR Little Endian, and
 -- no other (this product's own profile)
-abbrev pub taken : List (List ℕ) → Option Syntax
-taken uids = if proposes_explicit uids then Some Explicit else (if proposes_implicit uids then Some Implicit else None)
+abbrev pub chosen : List (List ℕ) → Option Syntax
+chosen uids = if proposes_explicit uids then Some Explicit else (if proposes_implicit uids then Some Implicit else None)
 
--- 0 acceptance, 3 abstract syntax not supported, 4 transfer syntaxes not supported
+-- results (PS3.8 Table 9-18)
+
+abbrev pub acceptance : ℕ
+acceptance = 0
+
+abbrev pub abstract_syntax_not_supported : ℕ
+abstract_syntax_not_supported = 3
+
+abbrev pub transfer_syntaxes_not_supported : ℕ
+transfer_syntaxes_not_supported = 4
+
 abbrev pub result_by : Option Class → Option Syntax → ℕ
-result_by None syntax = 3
-result_by (Some class) None = 4
-result_by (Some class) (Some syntax) = 0
+result_by None syntax = abstract_syntax_not_supported
+result_by (Some class) None = transfer_syntaxes_not_supported
+result_by (Some class) (Some syntax) = acceptance
 
--- a refused context carries Implicit VR Little Endian in its answer, which the peer doesn't read
+-- a rejected context carries Implicit VR Little Endian in its answer, which the peer ignores
 abbrev pub carried_by : Option Class → Option Syntax → Syntax
 carried_by (Some class) (Some syntax) = syntax
 carried_by class syntax = Implicit
@@ -44,13 +54,13 @@ accepted_by (Some class) (Some syntax) = Some (record { class = class; syntax = 
 accepted_by class syntax = None
 
 abbrev pub result_of : Proposal → ℕ
-result_of p = result_by (class_of p.abstract_syntax) (taken p.transfer_syntaxes)
+result_of p = result_by (class_of p.abstract_syntax) (chosen p.transfer_syntaxes)
 
 abbrev pub carried : Proposal → Syntax
-carried p = carried_by (class_of p.abstract_syntax) (taken p.transfer_syntaxes)
+carried p = carried_by (class_of p.abstract_syntax) (chosen p.transfer_syntaxes)
 
 abbrev pub accepted : Proposal → Option Context
-accepted p = accepted_by (class_of p.abstract_syntax) (taken p.transfer_syntaxes)
+accepted p = accepted_by (class_of p.abstract_syntax) (chosen p.transfer_syntaxes)
 
 -- the accepted context of this id
 abbrev pub context_of : Record → ℕ → Option Context

@@ -1,5 +1,6 @@
 pub mod Settings
+pub mod Rejections
 pub mod Answer
 pub mod Contexts
+pub mod ContextRows
 pub mod Accept
-pub mod Gathers

@@ -1,5 +1,5 @@
--- What the receiver is set to (this product's own profile).
-use Rattle.std.specs.Prelude.{ℕ, List, map}
+-- The settings of the receiver (this product's own profile).
+use Rattle.std.specs.Prelude.{ℕ, ◌^◌, List, map}
 use Rattle.negotiate.specs.declared.config.Config.{Config}
 
 -- the receiver's own title and those that may call, each of 16 bytes; the greatest P-DATA length that it announces; the
@@ -12,3 +12,10 @@ pub record Settings : Type 0 where
 
 abbrev pub settings_of : Config → Settings
 settings_of c = record { ae = c.ae.0; callers = map (λ t. t.0) c.callers.items; max_pdu = c.max_pdu; max_data = c.max_data }
+
+-- the defaults
+abbrev pub default_max_pdu : ℕ
+default_max_pdu = 16384
+
+abbrev pub default_max_data : ℕ
+default_max_data = 2 ^ 40

@@ -1,38 +1,36 @@
-//! Writes an A-ASSOCIATE-AC.
-ghost use Rattle.std.specs.Prelude.{◌≡◌, ◌+◌, ◌*◌, ◌≤◌, ◌<◌, ◌^◌, [], ◌∷◌, ◌++◌, length, OnOk, OnErr};
-ghost use Rattle.std.specs.Io.KnownBytes.{append_known};
+//! Lays out an A-ASSOCIATE-AC.
+ghost use Rattle.std.specs.Prelude.{◌≡◌, ◌+◌, ◌*◌, ◌≤◌, [], ◌∷◌, ◌++◌, length};
 ghost use Rattle.std.specs.List.{flat_map};
 ghost use Rattle.arrayvec.specs.ArrayVec.{array_vec_len};
 ghost use Rattle.element.specs.Numbers.{be};
-ghost use Rattle.pdu.specs.Sent.{GainsFront};
-ghost use Rattle.negotiate.specs.Accept.{accept_text, before_contexts, context_text, user_text};
-ghost use Rattle.negotiate.specs.Gathers.{Gathers};
+ghost use Rattle.negotiate.specs.Accept.{accept_text, before_contexts, context_text};
 ghost use Rattle.negotiate.specs.Settings.{settings_of};
 
 use crate::config::Config;
-use crate::gather::{ROOM, put};
 use crate::items::{context_item, extend, extend_by_item, user_item};
 use crate::proposals::carried;
 use arrayvec::ArrayVec;
 use byteorder::{BigEndian, ByteOrder};
 use dictionary::{APPLICATION_CONTEXT, syntax_uid};
-use pdu::{Request, Wire, WireFailed};
+use pdu::{Request, item_type, pdu_type};
 
-/// The bytes of an A-ASSOCIATE-AC without its titles, reserved bytes and contexts.
-const FIXED: usize = 76;
+/// The bytes of an A-ASSOCIATE-AC without the titles and reserved bytes that it repeats, and without
+/// its contexts.
+const BARE: usize = 76;
 
-/// The bytes of a context's answer before the transfer syntax.
+/// The bytes of a context in it, without the transfer syntax.
 const CONTEXT: usize = 12;
 
-/// How many bytes the A-ASSOCIATE-AC has that answers the request.
+/// The bytes of the longest A-ASSOCIATE-AC: 140, and 31 for each of 128 contexts.
+const LONGEST: usize = 4108;
+
+/// Returns the size of the A-ASSOCIATE-AC that answers the request.
 pub(crate) fn accept_size(config: &Config, request: &Request) -> usize
-    requires whole { length request.now.reserved ≤ 32 }
-    requires few { length request.now.contexts ≤ 2 ^ 24 }
     ensures value { result ≡ length (accept_text (settings_of config.now) request.now) }
-    ensures fits { result < 2 ^ 30 }
-    ensures head { 6 ≤ result }
+    ensures least { 6 ≤ result }
+    ensures most { result ≤ 4108 }
 {
-    let mut size = FIXED
+    let mut size = BARE
         + request.called().0.len()
         + request.calling().0.len()
         + request.reserved().len();
@@ -42,91 +40,52 @@ pub(crate) fn accept_size(config: &Config, request: &Request) -> usize
     size
 }
 
-/// The head of an A-ASSOCIATE-AC that `follow` bytes follow, the protocol version and two reserved
-/// bytes.
-fn head(follow: u32) -> [u8; 10]
-    ensures { result ≡ 2 ∷ 0 ∷ (be follow 4 ++ 0 ∷ 1 ∷ 0 ∷ 0 ∷ []) }
+/// The head of an A-ASSOCIATE-AC of this length, the protocol version and two reserved bytes.
+fn head(length: u32) -> [u8; 10]
+    ensures { result ≡ 2 ∷ 0 ∷ (be length 4 ++ 0 ∷ 1 ∷ 0 ∷ 0 ∷ []) }
 {
-    let mut head = [2, 0, 0, 0, 0, 0, 0, 1, 0, 0];
-    BigEndian::write_u32(&mut head[2..6], follow);
+    let mut head = [pdu_type::A_ASSOCIATE_AC, 0, 0, 0, 0, 0, 0, 1, 0, 0];
+    BigEndian::write_u32(&mut head[2..6], length);
     head
 }
 
-/// The bytes of an A-ASSOCIATE-AC before its contexts (PS3.8 section 9.3.3), where `follow` bytes
-/// follow its head.
-fn front(request: &Request, follow: u32) -> ArrayVec<u8, ROOM>
-    requires { length request.now.reserved ≤ 32 }
-    ensures { result.items ≡ 2 ∷ 0 ∷ (be follow 4 ++ before_contexts request.now) }
+/// The bytes of an A-ASSOCIATE-AC of this length before its contexts (PS3.8 section 9.3.3).
+fn front(request: &Request, length: u32) -> ArrayVec<u8, LONGEST>
+    ensures items { result.items ≡ 2 ∷ 0 ∷ (be length 4 ++ before_contexts request.now) }
+    ensures size { array_vec_len result ≡ 99 }
 {
-    let mut front = ArrayVec::<u8, ROOM>::new();
-    extend(&mut front, &head(follow));
+    let mut front = ArrayVec::<u8, LONGEST>::new();
+    extend(&mut front, &head(length));
     extend(&mut front, &request.called().0);
     extend(&mut front, &request.calling().0);
     extend(&mut front, request.reserved());
-    extend_by_item(&mut front, 0x10, APPLICATION_CONTEXT);
+    extend_by_item(
+        &mut front,
+        item_type::APPLICATION_CONTEXT,
+        APPLICATION_CONTEXT,
+    );
     front
 }
 
-/// Puts the answer to each proposed context, in their order, behind what the room has.
-fn put_contexts<W: Wire>(
-    request: &Request,
-    room: &mut ArrayVec<u8, ROOM>,
-    wire: &mut W,
-) -> Result<(), WireFailed>
-    ensures sent { OnOk result (Gathers (W.sent wire.old) (W.sent wire.new)
-        room.new.items (room.old.items ++ flat_map context_text request.now.contexts)) }
-    ensures same_count { OnOk result (W.failures wire.new ≡ W.failures wire.old) }
-    ensures front { OnErr result (GainsFront (W.sent wire.old) (W.sent wire.new)
-        (room.old.items ++ flat_map context_text request.now.contexts)) }
-    ensures counted { OnErr result (W.failures wire.new ≡ W.failures wire.old + 1) }
+/// Appends the answer to each proposed context, in their order.
+fn put_contexts(request: &Request, pdu: &mut ArrayVec<u8, LONGEST>)
+    requires { array_vec_len pdu.old + 31 * length request.now.contexts ≤ 4067 }
+    ensures items { pdu.new.items ≡ pdu.old.items ++ flat_map context_text request.now.contexts }
+    ensures room { array_vec_len pdu.new ≤ 4067 }
 {
     for proposal in request.contexts() {
-        match put(context_item(&proposal).as_slice(), room, wire) {
-            Ok(()) => {}
-            Err(WireFailed) => return Err(WireFailed),
-        }
-    }
-    Ok(())
-}
-
-/// Puts what the receiver tells of itself behind what the room has, and sends the room.
-fn finish<W: Wire>(
-    max_pdu: u32,
-    room: &mut ArrayVec<u8, ROOM>,
-    wire: &mut W,
-) -> Result<(), WireFailed>
-    ensures sent { OnOk result (W.sent wire.new
-        ≡ append_known (W.sent wire.old) (room.old.items ++ user_text max_pdu)) }
-    ensures same_count { OnOk result (W.failures wire.new ≡ W.failures wire.old) }
-    ensures front { OnErr result (GainsFront (W.sent wire.old) (W.sent wire.new)
-        (room.old.items ++ user_text max_pdu)) }
-    ensures counted { OnErr result (W.failures wire.new ≡ W.failures wire.old + 1) }
-{
-    match put(user_item(max_pdu).as_slice(), room, wire) {
-        Ok(()) => wire.send(room.as_slice()),
-        Err(WireFailed) => Err(WireFailed),
+        extend(pdu, context_item(&proposal).as_slice());
     }
 }
 
-/// Sends the A-ASSOCIATE-AC that answers the request.
-pub(crate) fn write_accept<W: Wire>(
-    config: &Config,
-    request: &Request,
-    wire: &mut W,
-) -> Result<(), WireFailed>
-    requires whole { length request.now.reserved ≤ 32 }
-    requires few { length request.now.contexts ≤ 2 ^ 24 }
-    ensures sent { OnOk result (W.sent wire.new
-        ≡ append_known (W.sent wire.old) (accept_text (settings_of config.now) request.now)) }
-    ensures same_count { OnOk result (W.failures wire.new ≡ W.failures wire.old) }
-    ensures front { OnErr result (GainsFront (W.sent wire.old) (W.sent wire.new)
-        (accept_text (settings_of config.now) request.now)) }
-    ensures counted { OnErr result (W.failures wire.new ≡ W.failures wire.old + 1) }
+/// Returns the A-ASSOCIATE-AC that answers the request.
+pub(crate) fn accept_pdu(config: &Config, request: &Request) -> ArrayVec<u8, LONGEST>
+    ensures { result.items ≡ accept_text (settings_of config.now) request.now }
 {
+    request.keeps();
     let size = accept_size(config, request);
-    let mut room = front(request, (size - 6) as u32);
-    match put_contexts(request, &mut room, wire) {
-        Ok(()) => finish(config.max_pdu, &mut room, wire),
-        Err(WireFailed) => Err(WireFailed),
-    }
+    let mut pdu = front(request, (size - 6) as u32);
+    put_contexts(request, &mut pdu);
+    extend(&mut pdu, user_item(config.max_pdu).as_slice());
+    pdu
 }

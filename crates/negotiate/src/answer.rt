@@ -1,10 +1,12 @@
-//! Judges requests.
+//! Judges association requests.
 ghost use Rattle.std.specs.Prelude.{◌≡◌, map};
 ghost use Rattle.negotiate.specs.Answer.{judged};
 ghost use Rattle.negotiate.specs.Answer as spelling;
+ghost use Rattle.negotiate.specs.Rejections.{rejected_permanent, service_user};
 ghost use Rattle.negotiate.specs.Settings.{settings_of};
 
 use crate::config::Config;
+use crate::rejection;
 use dictionary::APPLICATION_CONTEXT;
 use element::AeTitle;
 use pdu::Request;
@@ -24,35 +26,46 @@ fn is_among(callers: &[AeTitle], calling: AeTitle) -> bool
     callers.contains(&calling)
 }
 
-/// Whether one of this title may call.
+/// Whether an application entity of this title may call.
 fn may_call(callers: &[AeTitle], calling: AeTitle) -> bool
     ensures { result ≡ spelling.may_call (map (λ t. t.0) callers.now) calling.0 }
 {
     callers.is_empty() || is_among(callers, calling)
 }
 
-/// The answer to a request, the first of these that holds: without protocol version 1 it is
-/// rejected by 1, 2, 2; for another application context than DICOM's by 1, 1, 2; for another called
-/// title by 1, 1, 7; for a calling title that may not call by 1, 1, 3; for a maximum length from 1
-/// to 7, in which no fragment fits, by 1, 1, 1 (this product's own profile); else it is accepted.
-/// Only the first is the service provider's rejection; the others are the local user's.
+/// Returns the answer to a request: the rejection of the first of these that fails, or else an
+/// acceptance. The protocol version is 1; the application context is DICOM's; the called title is
+/// the receiver's own; the calling title may call; and the peer's maximum length leaves room for a
+/// fragment, so it is 0 or at least 8 (this product's own profile). The first rejection is the
+/// service provider's, the others are the local user's.
 pub fn judge(config: &Config, request: &Request) -> Answer
     ensures { result ≡ judged (settings_of config.now) request.now }
 {
     if request.version() % 2 == 0 {
-        return Answer::Reject(1, 2, 2);
+        return Answer::Reject(
+            rejection::PERMANENT,
+            rejection::SERVICE_PROVIDER_ACSE,
+            rejection::PROTOCOL_VERSION_NOT_SUPPORTED,
+        );
     }
     if request.application_context() != APPLICATION_CONTEXT {
-        return Answer::Reject(1, 1, 2);
+        return user_rejection(rejection::APPLICATION_CONTEXT_NAME_NOT_SUPPORTED);
     }
     if request.called() != config.ae {
-        return Answer::Reject(1, 1, 7);
+        return user_rejection(rejection::CALLED_AE_TITLE_NOT_RECOGNIZED);
     }
     if !may_call(config.callers.as_slice(), request.calling()) {
-        return Answer::Reject(1, 1, 3);
+        return user_rejection(rejection::CALLING_AE_TITLE_NOT_RECOGNIZED);
     }
     if (1..=7).contains(&request.maximum()) {
-        return Answer::Reject(1, 1, 1);
+        return user_rejection(rejection::NO_REASON_GIVEN);
     }
     Answer::Accept
+}
+
+/// The local user's rejection for this reason.
+fn user_rejection(reason: u8) -> Answer
+    ensures { result ≡ Answer.Reject rejected_permanent service_user reason }
+{
+    Answer::Reject(rejection::PERMANENT, rejection::SERVICE_USER, reason)
 }

@@ -1,20 +1,20 @@
-//! What the receiver is set to.
+//! The settings of the receiver.
 ghost use Rattle.std.specs.Prelude.{◌≡◌, ◌^◌, ◌≤◌, map};
 
 use arrayvec::ArrayVec;
 use element::AeTitle;
 
-/// What the receiver is set to: who may associate with it, and how much it takes.
+/// The settings of the receiver: who may associate with it, and how much it accepts.
 #[derive(Drop)]
 pub struct Config {
-    /// Its own title, which a request has to name.
+    /// Its own title, which has to be the called title of a request.
     pub ae: AeTitle,
-    /// The titles that may call it; none means any.
+    /// The calling titles that are accepted; if empty, any is.
     pub callers: ArrayVec<AeTitle, 16>,
-    /// The greatest length of a P-DATA PDU that it takes, in bytes, as it announces it
+    /// The maximum length of a P-DATA-TF PDU that it accepts, in bytes, as it announces it
     /// (PS3.8 annex D.1); at least 1024.
     pub max_pdu: u32,
-    /// The greatest length of a data set that it takes, in bytes; from 1024 to 2^48.
+    /// The maximum length of a data set that it accepts, in bytes; from 1024 to 2^48.
     pub max_data: u64,
     pub ghost least_pdu: { 1024 ≤ max_pdu },
     pub ghost least_data: { 1024 ≤ max_data },
@@ -24,13 +24,13 @@ pub struct Config {
 impl Config {
     ghost use Rattle.negotiate.specs.Settings.{settings_of};
 
-    /// The greatest P-DATA length that is announced where nothing else is said.
+    /// The default of `max_pdu`.
     pub const DEFAULT_MAX_PDU: u32 = 16384;
 
-    /// The greatest data set that is taken where nothing else is said: 2^40 bytes.
+    /// The default of `max_data`, 2^40.
     pub const DEFAULT_MAX_DATA: u64 = 1_099_511_627_776;
 
-    /// These settings.
+    /// Creates the settings.
     pub fn new(ae: AeTitle, callers: ArrayVec<AeTitle, 16>, max_pdu: u32, max_data: u64) -> Config
         requires least_pdu { 1024 ≤ max_pdu }
         requires least_data { 1024 ≤ max_data }
@@ -48,7 +48,7 @@ impl Config {
         }
     }
 
-    /// A second one with the same settings.
+    /// Returns a copy of the settings. Unlike `Clone` it allocates nothing and cannot fail.
     pub fn same(&self) -> Config
         ensures { settings_of result ≡ settings_of self.now }
     {

@@ -7,7 +7,7 @@ use crate::proposals::{carried, result_of};
 use arrayvec::ArrayVec;
 use byteorder::{BigEndian, ByteOrder};
 use dictionary::syntax_uid;
-use pdu::Proposal;
+use pdu::{Proposal, item_type};
 
 /// The implementation's class (PS3.7 annex D.3.3.2).
 const IMPLEMENTATION_CLASS: &[u8] = b"2.25.20260101";
@@ -42,13 +42,17 @@ pub(crate) fn context_item(proposal: &Proposal) -> ArrayVec<u8, 64>
 {
     let mut content = ArrayVec::<u8, 64>::new();
     extend(&mut content, &[proposal.id(), 0, result_of(proposal), 0]);
-    extend_by_item(&mut content, 0x40, syntax_uid(carried(proposal)));
+    extend_by_item(
+        &mut content,
+        item_type::TRANSFER_SYNTAX,
+        syntax_uid(carried(proposal)),
+    );
     let mut item = ArrayVec::<u8, 64>::new();
-    extend_by_item(&mut item, 0x21, content.as_slice());
+    extend_by_item(&mut item, item_type::ANSWERED_CONTEXT, content.as_slice());
     item
 }
 
-/// What the receiver tells of itself (PS3.8 section 9.3.3.3).
+/// The user information of the receiver (PS3.8 section 9.3.3.3).
 pub(crate) fn user_item(max_pdu: u32) -> ArrayVec<u8, 64>
     ensures items { result.items ≡ user_text max_pdu }
     ensures size { array_vec_len result ≡ 41 }
@@ -56,10 +60,18 @@ pub(crate) fn user_item(max_pdu: u32) -> ArrayVec<u8, 64>
     let mut maximum = [0u8; 4];
     BigEndian::write_u32(&mut maximum, max_pdu);
     let mut content = ArrayVec::<u8, 64>::new();
-    extend_by_item(&mut content, 0x51, &maximum);
-    extend_by_item(&mut content, 0x52, IMPLEMENTATION_CLASS);
-    extend_by_item(&mut content, 0x55, IMPLEMENTATION_VERSION);
+    extend_by_item(&mut content, item_type::MAXIMUM_LENGTH, &maximum);
+    extend_by_item(
+        &mut content,
+        item_type::IMPLEMENTATION_CLASS_UID,
+        IMPLEMENTATION_CLASS,
+    );
+    extend_by_item(
+        &mut content,
+        item_type::IMPLEMENTATION_VERSION_NAME,
+        IMPLEMENTATION_VERSION,
+    );
     let mut item = ArrayVec::<u8, 64>::new();
-    extend_by_item(&mut item, 0x50, content.as_slice());
+    extend_by_item(&mut item, item_type::USER_INFORMATION, content.as_slice());
     item
 }

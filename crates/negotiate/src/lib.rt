@@ -5,16 +5,16 @@ mod accept;
 mod answer;
 mod config;
 mod contexts;
-mod gather;
 mod items;
+pub mod laws;
 mod proposals;
+pub mod rejection;
+mod table;
 mod writing;
 
 pub use answer::{Answer, judge};
 pub use config::Config;
 pub use contexts::context;
 pub use proposals::Context;
+pub use table::{ContextRow, compact, context_of};
 pub use writing::{answer_size, write_answer};
-
-#[cfg(test)]
-mod tests;

@@ -6,7 +6,7 @@ use dictionary::{Class, class_of, syntax_of};
 use element::Syntax;
 use pdu::Proposal;
 
-/// What an accepted presentation context is for.
+/// An accepted presentation context.
 #[derive(Clone, Copy, Debug, PartialEq, Eq)]
 pub struct Context {
     /// The service, by its abstract syntax.
@@ -15,10 +15,19 @@ pub struct Context {
     pub syntax: Syntax,
 }
 
-/// The transfer syntax that is taken of those that a context proposes: Explicit before Implicit VR
-/// Little Endian, and no other.
-fn taken_syntax(proposal: &Proposal) -> Option<Syntax>
-    ensures { result ≡ spelling.taken proposal.now.transfer_syntaxes }
+/// Result of a proposed context: acceptance (PS3.8 Table 9-18).
+const ACCEPTANCE: u8 = 0;
+
+/// Result: abstract-syntax-not-supported.
+const ABSTRACT_SYNTAX_NOT_SUPPORTED: u8 = 3;
+
+/// Result: transfer-syntaxes-not-supported.
+const TRANSFER_SYNTAXES_NOT_SUPPORTED: u8 = 4;
+
+/// Returns the transfer syntax that is chosen from those that a context proposes: Explicit before
+/// Implicit VR Little Endian, and no other.
+fn chosen_syntax(proposal: &Proposal) -> Option<Syntax>
+    ensures { result ≡ spelling.chosen proposal.now.transfer_syntaxes }
 {
     let mut has_implicit = false;
     for uid in proposal.transfer_syntaxes() {
@@ -35,29 +44,34 @@ fn taken_syntax(proposal: &Proposal) -> Option<Syntax>
     }
 }
 
-/// What a proposed context is for, where it is accepted.
+/// Returns the context if it is accepted.
 pub(crate) fn accepted(proposal: &Proposal) -> Option<Context>
     ensures { result ≡ spelling.accepted proposal.now }
 {
-    match (class_of(proposal.abstract_syntax()), taken_syntax(proposal)) {
+    match (
+        class_of(proposal.abstract_syntax()),
+        chosen_syntax(proposal),
+    ) {
         (Some(class), Some(syntax)) => Some(Context { class, syntax }),
         (_, _) => None,
     }
 }
 
-/// The result of a proposed context: 0 where it is accepted, 3 where its class is unknown, 4 where
-/// neither transfer syntax is proposed.
+/// Returns the result of a proposed context.
 pub(crate) fn result_of(proposal: &Proposal) -> u8
     ensures { result ≡ spelling.result_of proposal.now }
 {
-    match (class_of(proposal.abstract_syntax()), taken_syntax(proposal)) {
-        (None, _) => 3,
-        (Some(_), None) => 4,
-        (Some(_), Some(_)) => 0,
+    match (
+        class_of(proposal.abstract_syntax()),
+        chosen_syntax(proposal),
+    ) {
+        (None, _) => ABSTRACT_SYNTAX_NOT_SUPPORTED,
+        (Some(_), None) => TRANSFER_SYNTAXES_NOT_SUPPORTED,
+        (Some(_), Some(_)) => ACCEPTANCE,
     }
 }
 
-/// The transfer syntax that the answer to a proposed context carries.
+/// Returns the transfer syntax that the answer to a proposed context carries.
 pub(crate) fn carried(proposal: &Proposal) -> Syntax
     ensures { result ≡ spelling.carried proposal.now }
 {

@@ -1,11 +1,10 @@
 //! Writes answers.
-ghost use Rattle.std.specs.Prelude.{◌≡◌, ◌+◌, ◌≤◌, ◌^◌, length, OnOk, OnErr};
-ghost use Rattle.std.specs.Io.KnownBytes.{append_known};
-ghost use Rattle.pdu.specs.Sent.{GainsFront};
+ghost use Rattle.std.specs.Prelude.{◌≡◌, length};
+ghost use Rattle.pdu.specs.Sent.{Sends};
 ghost use Rattle.negotiate.specs.Accept.{answer_bytes};
 ghost use Rattle.negotiate.specs.Settings.{settings_of};
 
-use crate::accept::{accept_size, write_accept};
+use crate::accept::{accept_pdu, accept_size};
 use crate::answer::{Answer, judge};
 use crate::config::Config;
 use pdu::{Request, Wire, WireFailed, write_reject};
@@ -13,10 +12,8 @@ use pdu::{Request, Wire, WireFailed, write_reject};
 /// The bytes of an A-ASSOCIATE-RJ.
 const REJECT: usize = 10;
 
-/// How many bytes `write_answer` sends for this request.
+/// Returns how many bytes the answer to the request has, which `write_answer` sends.
 pub fn answer_size(config: &Config, request: &Request) -> usize
-    requires whole { length request.now.reserved ≤ 32 }
-    requires few { length request.now.contexts ≤ 2 ^ 24 }
     ensures { result ≡ length (answer_bytes (settings_of config.now) request.now) }
 {
     match judge(config, request) {
@@ -25,24 +22,17 @@ pub fn answer_size(config: &Config, request: &Request) -> usize
     }
 }
 
-/// Sends the answer to the request: the A-ASSOCIATE-RJ that `judge` names, or an
-/// A-ASSOCIATE-AC that takes or refuses each proposed context in its order.
+/// Sends the answer to the request, in one send: the A-ASSOCIATE-RJ that `judge` returns, or an
+/// A-ASSOCIATE-AC that accepts or rejects each proposed context in the request's order.
 pub fn write_answer<W: Wire>(
     config: &Config,
     request: &Request,
     wire: &mut W,
 ) -> Result<(), WireFailed>
-    requires whole { length request.now.reserved ≤ 32 }
-    requires few { length request.now.contexts ≤ 2 ^ 24 }
-    ensures sent { OnOk result (W.sent wire.new
-        ≡ append_known (W.sent wire.old) (answer_bytes (settings_of config.now) request.now)) }
-    ensures same_count { OnOk result (W.failures wire.new ≡ W.failures wire.old) }
-    ensures front { OnErr result (GainsFront (W.sent wire.old) (W.sent wire.new)
-        (answer_bytes (settings_of config.now) request.now)) }
-    ensures counted { OnErr result (W.failures wire.new ≡ W.failures wire.old + 1) }
+    ensures sends { Sends (answer_bytes (settings_of config.now) request.now) result (W.line wire.old) (W.line wire.new) }
 {
     match judge(config, request) {
-        Answer::Accept => write_accept(config, request, wire),
+        Answer::Accept => wire.send(accept_pdu(config, request).as_slice()),
         Answer::Reject(outcome, source, reason) => write_reject(outcome, source, reason, wire),
     }
 }

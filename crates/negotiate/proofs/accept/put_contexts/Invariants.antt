@@ -1,11 +1,13 @@
-use Rattle.std.proofs.Common.{◌≡◌}
+use Rattle.std.proofs.Common.{◌≡◌, ◌+◌, ◌*◌, ◌≤◌, ◌++◌, length}
+use Rattle.std.specs.List.{flat_map}
 use Rattle.pdu.specs.Left.{proposals_left}
-use Rattle.negotiate.proofs.GatherLemmas.{PutSoFar}
+use Rattle.negotiate.specs.Accept.{context_text}
 use Rattle.negotiate.proofs.accept.put_contexts.Given as goal
 
 abbrev pub invariant-loop-proposal : goal.invariant-loop-proposal
-invariant-loop-proposal g l =
-    (goal.iterator-loop-proposal g).can_next l.proposal-iterator ×
-    (goal.iterator-loop-proposal g).is_finite l.proposal-iterator ×
-    PutSoFar (g.W.Wire.sent l.fn.wire) (g.W.Wire.sent l.wire) l.fn.room.items l.room.items (proposals_left l.proposal-iterator) l.request.contexts ×
-    (g.W.Wire.failures l.wire ≡ g.W.Wire.failures l.fn.wire)
+invariant-loop-proposal l = record {
+  can_next : (goal.iterator-loop-proposal).can_next l.proposal-iterator;
+  is_finite : (goal.iterator-loop-proposal).is_finite l.proposal-iterator;
+  items : l.pdu.items ++ flat_map context_text (proposals_left l.proposal-iterator) ≡ l.fn.pdu.items ++ flat_map context_text l.request.contexts;
+  room : length l.pdu.items + 31 * length (proposals_left l.proposal-iterator) ≤ 4067;
+}

@@ -1,7 +1,7 @@
 use Rattle.std.proofs.Common.{◌≡◌, ◌||◌}
 use Rattle.pdu.specs.Left.{syntaxes_left}
 use Rattle.negotiate.specs.Contexts.{proposes_explicit, proposes_implicit}
-use Rattle.negotiate.proofs.proposals.taken_syntax.Given as goal
+use Rattle.negotiate.proofs.proposals.chosen_syntax.Given as goal
 
 abbrev pub invariant-loop-uid : goal.invariant-loop-uid
 invariant-loop-uid l =

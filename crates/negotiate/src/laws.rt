@@ -1,0 +1,51 @@
+//! Laws of the definitions, each the contract of a function that does nothing.
+ghost use Rattle.std.specs.Prelude.{◌≡◌, ◌≤◌, ◌⊎◌, ℕ, eqb, length};
+ghost use Rattle.std.specs.List.{IsDistinct};
+ghost use Rattle.pdu.specs.Record.{Record, ids};
+ghost use Rattle.negotiate.specs.ContextRows.{accepted_count, context_in, context_rows};
+ghost use Rattle.negotiate.specs.Contexts.{context_of};
+ghost use Rattle.negotiate.specs.Rejections as spelling;
+ghost use Rattle.negotiate.specs.Settings.{Settings, default_max_data, default_max_pdu};
+ghost use Rattle.negotiate.specs.Answer.{judged};
+ghost use Rattle.negotiate.specs.declared.answer.Answer.TheVariants.{Accept};
+
+use crate::config::Config;
+use crate::rejection::{
+    APPLICATION_CONTEXT_NAME_NOT_SUPPORTED, CALLED_AE_TITLE_NOT_RECOGNIZED,
+    CALLING_AE_TITLE_NOT_RECOGNIZED, LOCAL_LIMIT_EXCEEDED, NO_REASON_GIVEN, PERMANENT,
+    PROTOCOL_VERSION_NOT_SUPPORTED, SERVICE_PROVIDER_ACSE, SERVICE_PROVIDER_PRESENTATION,
+    SERVICE_USER, TRANSIENT,
+};
+
+/// The table of a request has its accepted contexts, and nothing else: a row for each of them, and
+/// under each presentation context ID what the request has there.
+pub fn table_has_the_accepted_contexts()
+    ensures contexts { (r : Record) → IsDistinct eqb (ids r.contexts) → (id : ℕ) → context_in (context_rows r) id ≡ context_of r id }
+    ensures count { (r : Record) → length (context_rows r) ≡ accepted_count r }
+{}
+
+/// A peer whose request is accepted takes fragments: its maximum length is 0, for none, or at least 8.
+pub fn accepted_peers_take_fragments()
+    ensures { (s : Settings) (r : Record) → judged s r ≡ Accept → (r.maximum ≡ 0) ⊎ (8 ≤ r.maximum) }
+{}
+
+/// The default settings are those of the definitions.
+pub fn defaults_are_named()
+    ensures max_pdu { Config.DEFAULT_MAX_PDU ≡ default_max_pdu }
+    ensures max_data { Config.DEFAULT_MAX_DATA ≡ default_max_data }
+{}
+
+/// The numbers of rejections are those of the definitions.
+pub fn rejections_are_named()
+    ensures permanent { PERMANENT ≡ spelling.rejected_permanent }
+    ensures transient { TRANSIENT ≡ spelling.rejected_transient }
+    ensures service_user { SERVICE_USER ≡ spelling.service_user }
+    ensures service_provider_acse { SERVICE_PROVIDER_ACSE ≡ spelling.service_provider_acse }
+    ensures service_provider_presentation { SERVICE_PROVIDER_PRESENTATION ≡ spelling.service_provider_presentation }
+    ensures no_reason_given { NO_REASON_GIVEN ≡ spelling.no_reason_given }
+    ensures application_context_name_not_supported { APPLICATION_CONTEXT_NAME_NOT_SUPPORTED ≡ spelling.application_context_name_not_supported }
+    ensures calling_ae_title_not_recognized { CALLING_AE_TITLE_NOT_RECOGNIZED ≡ spelling.calling_ae_title_not_recognized }
+    ensures called_ae_title_not_recognized { CALLED_AE_TITLE_NOT_RECOGNIZED ≡ spelling.called_ae_title_not_recognized }
+    ensures protocol_version_not_supported { PROTOCOL_VERSION_NOT_SUPPORTED ≡ spelling.protocol_version_not_supported }
+    ensures local_limit_exceeded { LOCAL_LIMIT_EXCEEDED ≡ spelling.local_limit_exceeded }
+{}
