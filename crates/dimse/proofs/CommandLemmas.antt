@@ -7,7 +7,7 @@ use Rattle.byteorder.specs.Endian.{little_number}
 use Rattle.byteorder.specs.Numbers.{little_number-reads_back}
 use Rattle.element.specs.Numbers.{le, IsBytes}
 use Rattle.dimse.specs.declared.fault.DimseFault.{DimseFault}
-use Rattle.dimse.specs.Command.{Element, CommandRecord, AreRising, SpellsSet, element_bytes, elements_bytes, command_of, CommandText, CommandFault}
+use Rattle.dimse.specs.Command.{CommandElement, CommandRecord, AreRising, SpellsSet, command_element_bytes, command_elements_bytes, command_of, CommandText, CommandFault}
 use Rattle.dimse.specs.Reading.{element_at, with_element, elements_in, elements_of, counts, set_of, command_in_set, command_in}
 use Rattle.dimse.specs.Reply.{element}
 use Rattle.dimse.proofs.ReplyLemmas.{element_length}
@@ -16,28 +16,28 @@ use Rattle.dimse.proofs.ElementLemmas.{element_again, element_takes, low_four, f
 
 -- ---- elements
 
-next_again : (most last : ℕ) (b : List ℕ) (x : Element × List ℕ) → element_at b ≡ Some x → last < x.0.number → elements_in (suc most) last b ≡ with_element x.0 (elements_in most x.0.number x.1)
+next_again : (most last : ℕ) (b : List ℕ) (x : CommandElement × List ℕ) → element_at b ≡ Some x → last < x.0.number → elements_in (suc most) last b ≡ with_element x.0 (elements_in most x.0.number x.1)
 unfolding elements_in
 next_again most last [] x e lt = absurd (cc element_none)
 next_again most last (c ∷ b) x e lt = rw (e, lt-ltb last x.0.number lt) refl
 
-elements_again : (most last : ℕ) (es : List Element) → AreRising last es → length (elements_bytes es) ≤ most → elements_in most last (elements_bytes es) ≡ Some es
+elements_again : (most last : ℕ) (es : List CommandElement) → AreRising last es → length (command_elements_bytes es) ≤ most → elements_in most last (command_elements_bytes es) ≡ Some es
 unfolding elements_in
 elements_again zero last [] rising le = refl
 elements_again (suc most) last [] rising le = refl
-elements_again zero last (e ∷ es) rising le = absurd (omega (arith, element_length e.number e.value, length-append (element_bytes e) (elements_bytes es)))
+elements_again zero last (e ∷ es) rising le = absurd (omega (arith, element_length e.number e.value, length-append (command_element_bytes e) (command_elements_bytes es)))
 elements_again (suc most) last (e ∷ es) rising le =
-    next_again most last (elements_bytes (e ∷ es)) (e, elements_bytes es) (element_again e (elements_bytes es) rising.0) rising.1
-    ∙ ap (with_element e) (elements_again most e.number es rising.2 (omega (arith, le, element_length e.number e.value, length-append (element_bytes e) (elements_bytes es))))
+    next_again most last (command_elements_bytes (e ∷ es)) (e, command_elements_bytes es) (element_again e (command_elements_bytes es) rising.0) rising.1
+    ∙ ap (with_element e) (elements_again most e.number es rising.2 (omega (arith, le, element_length e.number e.value, length-append (command_element_bytes e) (command_elements_bytes es))))
 
-abbrev IsSpelled : ℕ → List ℕ → List Element → Type 0
-IsSpelled last b es = AreRising last es × (b ≡ elements_bytes es)
+abbrev IsSpelled : ℕ → List ℕ → List CommandElement → Type 0
+IsSpelled last b es = AreRising last es × (b ≡ command_elements_bytes es)
 
-nothing : (last : ℕ) (es : List Element) → ◌≡◌ {A = Option (List Element)} (Some []) (Some es) → IsSpelled last [] es
-nothing last es e = let none : [] ≡ es = cc in subst (λ (x : List Element). IsSpelled last [] x) none (tt, refl)
+nothing : (last : ℕ) (es : List CommandElement) → ◌≡◌ {A = Option (List CommandElement)} (Some []) (Some es) → IsSpelled last [] es
+nothing last es e = let none : [] ≡ es = cc in subst (λ (x : List CommandElement). IsSpelled last [] x) none (tt, refl)
 
-first_take : (most last : ℕ) (b : List ℕ) (es : List Element) (o : Option (Element × List ℕ))
-    → ((last : ℕ) (b : List ℕ) (es : List Element) → IsBytes b → elements_in most last b ≡ Some es → IsSpelled last b es)
+first_take : (most last : ℕ) (b : List ℕ) (es : List CommandElement) (o : Option (CommandElement × List ℕ))
+    → ((last : ℕ) (b : List ℕ) (es : List CommandElement) → IsBytes b → elements_in most last b ≡ Some es → IsSpelled last b es)
     → IsBytes b → element_at b ≡ o → (elim o [ None ↦ None | Some x ↦ cond (ltb last x.0.number) (with_element x.0 (elements_in most x.0.number x.1)) None ]) ≡ Some es → IsSpelled last b es
 first_take most last b es None again bytes e h = absurd cc
 first_take most last b es (Some x) again bytes e h =
@@ -45,9 +45,9 @@ first_take most last b es (Some x) again bytes e h =
     let t = element_takes b x bytes e in
     let rest = again x.0.number x.1 g.1.0 t.bytes g.1.1.0 in
     subst (IsSpelled last b) (sym g.1.1.1)
-    ((t.element, ltb-true _ _ g.0, rest.0), t.parts ∙ ap (λ (r : List ℕ). element_bytes x.0 ++ r) rest.1)
+    ((t.element, ltb-true _ _ g.0, rest.0), t.parts ∙ ap (λ (r : List ℕ). command_element_bytes x.0 ++ r) rest.1)
 
-elements_take : (most last : ℕ) (b : List ℕ) (es : List Element) → IsBytes b → elements_in most last b ≡ Some es → IsSpelled last b es
+elements_take : (most last : ℕ) (b : List ℕ) (es : List CommandElement) → IsBytes b → elements_in most last b ≡ Some es → IsSpelled last b es
 unfolding elements_in
 elements_take zero last [] es bytes h = nothing last es h
 elements_take zero last (c ∷ b) es bytes h = absurd cc
@@ -68,15 +68,15 @@ all_three a b c p q r = rw (p, q, r) refl
 counter_is : (n : ℕ) → n < 2 ^ 32 → counts (element 0 (le n 4)) n ≡ true
 counter_is n lt = all_three _ _ _ refl refl (eq-eqb _ _ (little_number-reads_back 4 n [] lt))
 
-set_by : (text : List ℕ) (x : Element × List ℕ) → element_at text ≡ Some x → counts x.0 (length x.1) ≡ true → set_of text ≡ elements_of x.1
+set_by : (text : List ℕ) (x : CommandElement × List ℕ) → element_at text ≡ Some x → counts x.0 (length x.1) ≡ true → set_of text ≡ elements_of x.1
 unfolding set_of
 set_by text x e h = rw (e, set_of, h) refl
 
-pub set_again : (text : List ℕ) (es : List Element) → SpellsSet text es → set_of text ≡ Some es
+pub set_again : (text : List ℕ) (es : List CommandElement) → SpellsSet text es → set_of text ≡ Some es
 unfolding elements_of
 set_again text es h =
-    let rest = elements_bytes es in
-    let first : Element = element 0 (le (length rest) 4) in
+    let rest = command_elements_bytes es in
+    let first : CommandElement = element 0 (le (length rest) 4) in
     let read : element_at text ≡ Some (first, rest) =
     ap element_at h.whole ∙ element_again first rest (record { in_group = omega arith; even = refl; fits = omega arith }) in
     set_by text (first, rest) read (counter_is (length rest) h.counted) ∙ elements_again (length rest) 0 es h.rising (omega arith)
@@ -85,14 +85,14 @@ four_is : (value : List ℕ) (n : ℕ) → IsBytes value → length value ≡ 4 
 four_is (a ∷ b ∷ c ∷ d ∷ []) n bytes len e = sym (low_four n a b c d [] (bytes 0) (bytes 1) (bytes 2) (bytes 3) (omega arith))
 four_is _ n bytes len e = absurd (omega arith)
 
-chosen : (t : Bool) (o : Option (List Element)) (es : List Element) → cond t o None ≡ Some es → (t ≡ true) × (o ≡ Some es)
+chosen : (t : Bool) (o : Option (List CommandElement)) (es : List CommandElement) → cond t o None ≡ Some es → (t ≡ true) × (o ≡ Some es)
 chosen true o es e = (refl, e)
 chosen false o es e = absurd cc
 
-element_is : (e : Element) (number : ℕ) (value : List ℕ) → e.number ≡ number → e.value ≡ value → e ≡ element number value
+element_is : (e : CommandElement) (number : ℕ) (value : List ℕ) → e.number ≡ number → e.value ≡ value → e ≡ element number value
 element_is e number value p q = rw (← p, ← q) refl
 
-set_first : (text : List ℕ) (es : List Element) (o : Option (Element × List ℕ)) → IsBytes text → element_at text ≡ o
+set_first : (text : List ℕ) (es : List CommandElement) (o : Option (CommandElement × List ℕ)) → IsBytes text → element_at text ≡ o
     → (elim o [ None ↦ None | Some x ↦ cond (counts x.0 (length x.1)) (elements_of x.1) None ]) ≡ Some es → SpellsSet text es
 unfolding elements_of
 set_first text es None bytes e h = absurd cc
@@ -107,16 +107,16 @@ set_first text es (Some x) bytes e h =
     record {
       rising = rest.0;
       counted = subst (λ (r : List ℕ). length r < 2 ^ 32) rest.1 below;
-      whole = t.parts ∙ ap (λ (f : Element). element_bytes f ++ x.1) first ∙ ap (λ (r : List ℕ). element_bytes (element 0 (le (length r) 4)) ++ r) rest.1;
+      whole = t.parts ∙ ap (λ (f : CommandElement). command_element_bytes f ++ x.1) first ∙ ap (λ (r : List ℕ). command_element_bytes (element 0 (le (length r) 4)) ++ r) rest.1;
     }
 
-pub set_takes : (text : List ℕ) (es : List Element) → IsBytes text → set_of text ≡ Some es → SpellsSet text es
+pub set_takes : (text : List ℕ) (es : List CommandElement) → IsBytes text → set_of text ≡ Some es → SpellsSet text es
 unfolding set_of
 set_takes text es bytes h = set_first text es (element_at text) bytes refl h
 
 -- ---- commands
 
-pub command_again : (text : List ℕ) (es : List Element) → SpellsSet text es → command_in text ≡ command_of es
+pub command_again : (text : List ℕ) (es : List CommandElement) → SpellsSet text es → command_in text ≡ command_of es
 unfolding command_in
 command_again text es h = ap command_in_set (set_again text es h)
 
@@ -130,7 +130,7 @@ one_command text a b p q =
     let same : ◌≡◌ {A = Result CommandRecord DimseFault} (Ok a) (Ok b) = sym (command_only text a p) ∙ command_only text b q in
     cc
 
-found_by : (text : List ℕ) (command : CommandRecord) (o : Option (List Element)) → IsBytes text → set_of text ≡ o → command_in_set o ≡ Ok command → CommandText command text
+found_by : (text : List ℕ) (command : CommandRecord) (o : Option (List CommandElement)) → IsBytes text → set_of text ≡ o → command_in_set o ≡ Ok command → CommandText command text
 found_by text command None bytes e h = absurd cc
 found_by text command (Some es) bytes e h = (es, set_takes text es bytes e, h)
 
@@ -138,10 +138,10 @@ pub command_found : (text : List ℕ) (command : CommandRecord) → IsBytes text
 unfolding command_in
 command_found text command bytes h = found_by text command (set_of text) bytes refl h
 
-no_set : (text : List ℕ) → set_of text ≡ None → (es : List Element) → SpellsSet text es → ⊥
+no_set : (text : List ℕ) → set_of text ≡ None → (es : List CommandElement) → SpellsSet text es → ⊥
 no_set text e es h = let same : Some es ≡ None = sym (set_again text es h) ∙ e in cc
 
-fault_by : (text : List ℕ) (fault : DimseFault) (o : Option (List Element)) → IsBytes text → set_of text ≡ o → command_in_set o ≡ Err fault → CommandFault fault text
+fault_by : (text : List ℕ) (fault : DimseFault) (o : Option (List CommandElement)) → IsBytes text → set_of text ≡ o → command_in_set o ≡ Err fault → CommandFault fault text
 fault_by text fault None bytes e h = inr (cc, λ x. no_set text e x.0 x.1)
 fault_by text fault (Some es) bytes e h = inl (es, set_takes text es bytes e, h)
 

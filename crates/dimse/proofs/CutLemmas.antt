@@ -3,7 +3,7 @@ use Rattle.std.proofs.Common.{◌≡◌, ℕ, zero, suc, ◌<◌, ◌≤◌, Lis
 use Rattle.std.proofs.lemmas.Bool.{cases_lt, le-leb, lt-leb}
 use Rattle.std.proofs.lemmas.List.{append-nil, length-append, length-take, length-drop, take_at, drop_at, take-append-drop}
 use Rattle.pdu.specs.Pieces.{joined}
-use Rattle.dimse.specs.Reply.{HaveSize, IsCut, fragments_in, fragments}
+use Rattle.dimse.specs.Reply.{HaveSize, IsFragmented, fragments_in, fragments}
 
 joined_one : (f : List ℕ) → joined (f ∷ []) ≡ f
 joined_one f = append-nil f
@@ -39,7 +39,7 @@ cuts (suc more) size text one le =
       | inr le ↦ rw (le-leb (length text) size le) (one_fragment size text le)
     ]
 
-pub fragments_cut : (size : ℕ) (text : List ℕ) → 1 ≤ size → IsCut size text (fragments size text)
+pub fragments_cut : (size : ℕ) (text : List ℕ) → 1 ≤ size → IsFragmented size text (fragments size text)
 unfolding fragments
 fragments_cut size text one =
     let h = cuts (length text) size text one (omega arith) in
@@ -64,6 +64,6 @@ only (suc k) size (first ∷ next ∷ more) one le h =
     let again = only k size (next ∷ more) one (omega (arith, le, h.0, length-append first rest)) h.2 in
     rw (lt-leb (length (first ++ rest)) size long, take_at first rest size len, drop_at first rest size len) (ap (λ (c : List (List ℕ)). first ∷ c) again)
 
-pub one_cut : (size : ℕ) (text : List ℕ) (cut : List (List ℕ)) → 1 ≤ size → IsCut size text cut → cut ≡ fragments size text
+pub one_cut : (size : ℕ) (text : List ℕ) (cut : List (List ℕ)) → 1 ≤ size → IsFragmented size text cut → cut ≡ fragments size text
 unfolding fragments
 one_cut size text cut one h = rw h.whole (only (length (joined cut)) size cut one (omega arith) h.sizes)

@@ -6,14 +6,14 @@ use Rattle.byteorder.specs.Endian.{little_number}
 use Rattle.byteorder.specs.Numbers.{little_number-reads_back}
 use Rattle.element.specs.Numbers.{le, IsBytes}
 use Rattle.element.proofs.Headers.{two_cells, four_cells}
-use Rattle.dimse.specs.Command.{Element, IsElement, element_bytes}
+use Rattle.dimse.specs.Command.{CommandElement, IsElement, command_element_bytes}
 use Rattle.dimse.specs.Reading.{is_element, element_at}
 
 abbrev pub front : ℕ → ℕ → List ℕ → List ℕ
 front number size rest = le 0 2 ++ (le number 2 ++ (le size 4 ++ rest))
 
-pub bytes_front : (e : Element) (rest : List ℕ) → element_bytes e ++ rest ≡ front e.number (length e.value) (e.value ++ rest)
-unfolding element_bytes
+pub bytes_front : (e : CommandElement) (rest : List ℕ) → command_element_bytes e ++ rest ≡ front e.number (length e.value) (e.value ++ rest)
+unfolding command_element_bytes
 bytes_front e rest = refl
 
 all_hold : (a b c d : Bool) → a ≡ true → b ≡ true → c ≡ true → d ≡ true → (a && (b && (c && d))) ≡ true
@@ -27,11 +27,11 @@ size_front : (number size : ℕ) (rest : List ℕ) → size < 2 ^ 32 → little_
 size_front number size rest lt = little_number-reads_back 4 size rest lt
 
 read_front : (number size n k : ℕ) (value rest : List ℕ) → length value ≡ size → n ≡ number → k ≡ size
-    → cond {A = Option (Element × List ℕ)} true (Some (record { number = n; value = take k (value ++ rest) }, drop k (value ++ rest))) None ≡ Some (record { number = number; value = value }, rest)
+    → cond {A = Option (CommandElement × List ℕ)} true (Some (record { number = n; value = take k (value ++ rest) }, drop k (value ++ rest))) None ≡ Some (record { number = number; value = value }, rest)
 read_front number size n k value rest len e f =
     rw (e, f, take_at value rest size len, drop_at value rest size len) refl
 
-pub element_again : (e : Element) (rest : List ℕ) → IsElement e → element_at (element_bytes e ++ rest) ≡ Some (e, rest)
+pub element_again : (e : CommandElement) (rest : List ℕ) → IsElement e → element_at (command_element_bytes e ++ rest) ≡ Some (e, rest)
 unfolding element_at
 element_again e rest h =
     let size = length e.value in
@@ -81,8 +81,8 @@ bytes_take n b bytes i =
     ]
 
 -- what a reader took from the front
-pub record Takes (b : List ℕ) (x : Element × List ℕ) : Type 0 where
-  pub parts : b ≡ element_bytes x.0 ++ x.1
+pub record Takes (b : List ℕ) (x : CommandElement × List ℕ) : Type 0 where
+  pub parts : b ≡ command_element_bytes x.0 ++ x.1
   pub element : IsElement x.0
   pub value : IsBytes x.0.value
   pub bytes : IsBytes x.1
@@ -94,18 +94,18 @@ first_of_all true true false d h = absurd cc
 first_of_all true false c d h = absurd cc
 first_of_all false b c d h = absurd cc
 
-chosen : (t : Bool) (y x : Element × List ℕ) → cond t (Some y) None ≡ Some x → (t ≡ true) × (y ≡ x)
+chosen : (t : Bool) (y x : CommandElement × List ℕ) → cond t (Some y) None ≡ Some x → (t ≡ true) × (y ≡ x)
 chosen true y x e = (refl, cc)
 chosen false y x e = absurd cc
 
-pub element_takes : (b : List ℕ) (x : Element × List ℕ) → IsBytes b → element_at b ≡ Some x → Takes b x
+pub element_takes : (b : List ℕ) (x : CommandElement × List ℕ) → IsBytes b → element_at b ≡ Some x → Takes b x
 unfolding element_at
 element_takes b x bytes e =
     let number = little_number 2 (drop 2 b) in
     let size = little_number 4 (drop 4 b) in
     let value = take size (drop 8 b) in
     let rest = drop size (drop 8 b) in
-    let read : Element × List ℕ = (record { number = number; value = value }, rest) in
+    let read : CommandElement × List ℕ = (record { number = number; value = value }, rest) in
     let c = chosen (is_element b) read x e in
     let tests = first_of_all (leb 8 (length b)) (eqb (little_number 2 b) 0) (eqb (size % 2) 0) (leb size (length b - 8)) c.0 in
     let long : 8 ≤ length b = leb-true _ _ tests.0 in
@@ -113,7 +113,7 @@ element_takes b x bytes e =
     let even : size % 2 ≡ 0 = eqb-true _ _ tests.2 in
     let len : length value ≡ size = omega (arith, length-take size (drop 8 b), length-drop 8 b) in
     let whole : b ≡ front number size (drop 8 b) = cells b bytes long (eqb-true _ _ tests.1) in
-    let parts : b ≡ element_bytes read.0 ++ rest =
+    let parts : b ≡ command_element_bytes read.0 ++ rest =
     whole ∙ ap (λ (n : ℕ). front number n (drop 8 b)) (sym len) ∙ ap (front number (length value)) (sym (take-append-drop size (drop 8 b))) ∙ sym (bytes_front read.0 rest) in
     subst (Takes b) c.1 (record {
       parts = parts;

@@ -1,3 +1,5 @@
+pub mod JoinLemmas
+pub mod RowLemmas
 pub mod SetLemmas
 pub mod SendingLemmas
 pub mod ReplyLemmas

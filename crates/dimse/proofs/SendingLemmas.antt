@@ -1,11 +1,11 @@
 -- Sending a command set fragment by fragment.
-use Rattle.std.proofs.Common.{◌≡◌, ℕ, zero, suc, ◌+◌, ◌^◌, ◌<◌, ◌≤◌, Bool, true, false, cond, leb, List, [], ◌∷◌, ◌++◌, length, take, drop, Option, refl, sym, ap, ◌∙◌, append_assoc, arith}
+use Rattle.std.proofs.Common.{◌≡◌, ℕ, zero, suc, ◌+◌, ◌^◌, ◌<◌, ◌≤◌, Bool, true, false, cond, leb, List, [], ◌∷◌, ◌++◌, length, take, drop, Result, Ok, Err, refl, sym, ap, ◌∙◌, append_assoc, arith}
 use Rattle.std.proofs.lemmas.Bool.{le-leb, lt-leb}
 use Rattle.std.proofs.lemmas.List.{length-drop}
-use Rattle.std.specs.Io.KnownBytes.{append_known}
-use Rattle.pdu.specs.Sent.{GainsFront}
+use Rattle.pdu.specs.declared.wire.WireFailed.{WireFailed}
+use Rattle.pdu.specs.Sent.{Line, sent_all, Sends}
 use Rattle.pdu.specs.Texts.{data_text}
-use Rattle.pdu.proofs.SentLemmas.{known_then, known_nothing, gains_within, gains_past}
+use Rattle.pdu.proofs.SentLemmas.{all_nothing, all_then, sends_part, sends_then}
 use Rattle.dimse.specs.Reply.{fragments_in, fragments, command_pdus}
 
 pdus_two : (context : ℕ) (f : List ℕ) (b : Bool) (g : List ℕ) (gs : List (List ℕ)) (text : List ℕ)
@@ -19,18 +19,17 @@ pdus_next context f zero size text = refl
 pdus_next context f (suc more) size text = pdus_two context f (leb (length text) size) (take size text) (fragments_in more size (drop size text)) text
 
 -- what was sent, and what is left of the whole
-pub record Sending (old now : Option (List ℕ)) (failed_old failed_now context size : ℕ) (whole rest : List ℕ) : Type 0 where
+pub record Sending (old now : Line) (context size : ℕ) (whole rest : List ℕ) : Type 0 where
   pub done : List ℕ
   pub more : ℕ
   pub room : length rest ≤ more
   pub short : length rest + 6 < 2 ^ 32
-  pub sent : now ≡ append_known old done
-  pub same_count : failed_now ≡ failed_old
+  pub sent : now ≡ sent_all done old
   pub left : whole ≡ done ++ command_pdus context (fragments_in more size rest)
 
-pub sending_all : (old : Option (List ℕ)) (failed context size : ℕ) (text : List ℕ) → length text + 6 < 2 ^ 32 → Sending old old failed failed context size (command_pdus context (fragments size text)) text
+pub sending_all : (old : Line) (context size : ℕ) (text : List ℕ) → length text + 6 < 2 ^ 32 → Sending old old context size (command_pdus context (fragments size text)) text
 unfolding fragments
-sending_all old failed context size text short = record { done = []; more = length text; room = omega arith; short = short; sent = sym (known_nothing old); same_count = refl; left = refl }
+sending_all old context size text short = record { done = []; more = length text; room = omega arith; short = short; sent = sym (all_nothing old); left = refl }
 
 -- while the rest is longer than a fragment
 cut : (context size more : ℕ) (rest : List ℕ) → size < length rest → length rest ≤ suc more
@@ -47,10 +46,9 @@ ahead context size zero whole rest done some lt le e = absurd (omega arith)
 ahead context size (suc more) whole rest done some lt le e =
     record { more = more; room = omega (arith, length-drop size rest); left = e ∙ ap (λ (t : List ℕ). done ++ t) (cut context size more rest lt le) }
 
-pub sending_next : (old now new : Option (List ℕ)) (failed_old failed_now failed_new context size : ℕ) (whole rest : List ℕ) → Sending old now failed_old failed_now context size whole rest
-    → 1 ≤ size → size < length rest → new ≡ append_known now (data_text context true false (take size rest)) → failed_new ≡ failed_now
-    → Sending old new failed_old failed_new context size whole (drop size rest)
-sending_next old now new failed_old failed_now failed_new context size whole rest s some lt e f =
+pub sending_next : (old now new : Line) (context size : ℕ) (whole rest : List ℕ) → Sending old now context size whole rest
+    → 1 ≤ size → size < length rest → Sends (data_text context true false (take size rest)) (Ok tt) now new → Sending old new context size whole (drop size rest)
+sending_next old now new context size whole rest s some lt e =
     let a = ahead context size s.more whole rest s.done some lt s.room s.left in
     let text = data_text context true false (take size rest) in
     record {
@@ -58,35 +56,27 @@ sending_next old now new failed_old failed_now failed_new context size whole res
       more = a.more;
       room = a.room;
       short = omega (arith, s.short, length-drop size rest);
-      sent = e ∙ ap (λ (o : Option (List ℕ)). append_known o text) s.sent ∙ known_then old s.done text;
-      same_count = f ∙ s.same_count;
+      sent = e ∙ ap (sent_all text) s.sent ∙ all_then s.done text old;
       left = a.left ∙ sym (append_assoc s.done text (command_pdus context (fragments_in a.more size (drop size rest))));
     }
 
 -- a failed send of a fragment
-pub sending_fails : (old now new : Option (List ℕ)) (failed_old failed_now context size : ℕ) (whole rest : List ℕ) → Sending old now failed_old failed_now context size whole rest
-    → 1 ≤ size → size < length rest → GainsFront now new (data_text context true false (take size rest)) → GainsFront old new whole
-sending_fails old now new failed_old failed_now context size whole rest s some lt g =
+pub sending_fails : (old now new : Line) (f : WireFailed) (context size : ℕ) (whole rest : List ℕ) → Sending old now context size whole rest
+    → 1 ≤ size → size < length rest → Sends (data_text context true false (take size rest)) (Err f) now new → Sends whole (Err f) old new
+sending_fails old now new f context size whole rest s some lt e =
     let a = ahead context size s.more whole rest s.done some lt s.room s.left in
     let text = data_text context true false (take size rest) in
     let after = command_pdus context (fragments_in a.more size (drop size rest)) in
-    rw a.left (gains_past old now new s.done (text ++ after) s.sent (gains_within now new text after g))
+    rw a.left (sends_then s.done (text ++ after) (Err f) old now new s.sent (sends_part text after f now new e))
 
 last_of : (context size more : ℕ) (rest : List ℕ) → length rest ≤ size → command_pdus context (fragments_in more size rest) ≡ data_text context true true rest
 last_of context size zero rest le = refl
 last_of context size (suc more) rest le = rw (le-leb (length rest) size le) refl
 
 -- the last fragment
-pub last_sent : (old now : Option (List ℕ)) (failed_old failed_now context size : ℕ) (whole rest : List ℕ) → Sending old now failed_old failed_now context size whole rest
-    → length rest ≤ size → append_known now (data_text context true true rest) ≡ append_known old whole
-last_sent old now failed_old failed_now context size whole rest s le =
+pub last_sent : (old now new : Line) (r : Result (Unit {0}) WireFailed) (context size : ℕ) (whole rest : List ℕ) → Sending old now context size whole rest
+    → length rest ≤ size → Sends (data_text context true true rest) r now new → Sends whole r old new
+last_sent old now new r context size whole rest s le e =
     let text = data_text context true true rest in
     let all : whole ≡ s.done ++ text = s.left ∙ ap (λ (t : List ℕ). s.done ++ t) (last_of context size s.more rest le) in
-    ap (λ (o : Option (List ℕ)). append_known o text) s.sent ∙ known_then old s.done text ∙ sym (ap (append_known old) all)
-
-pub last_front : (old now new : Option (List ℕ)) (failed_old failed_now context size : ℕ) (whole rest : List ℕ) → Sending old now failed_old failed_now context size whole rest
-    → length rest ≤ size → GainsFront now new (data_text context true true rest) → GainsFront old new whole
-last_front old now new failed_old failed_now context size whole rest s le g =
-    let text = data_text context true true rest in
-    let all : whole ≡ s.done ++ text = s.left ∙ ap (λ (t : List ℕ). s.done ++ t) (last_of context size s.more rest le) in
-    rw all (gains_past old now new s.done text s.sent g)
+    rw all (sends_then s.done text r old now new s.sent e)

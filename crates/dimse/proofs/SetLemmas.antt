@@ -4,11 +4,11 @@ use Rattle.std.specs.Option.{is_some}
 use Rattle.std.proofs.Math.Dec.{eqb-suc-zero}
 use Rattle.std.proofs.lemmas.Bool.{ltb-true, leb-true, lt-ltb, le-ltb}
 use Rattle.std.proofs.lemmas.List.{length-drop}
-use Rattle.dimse.specs.Command.{Element, value_of}
+use Rattle.dimse.specs.Command.{CommandElement, value_of}
 use Rattle.dimse.specs.Reading.{is_element, element_at, with_element, elements_in, elements_of}
 
-pub guarded : (t : Bool) (x : Element) (o : Option (List Element)) (more : List Element) → cond t (with_element x o) None ≡ Some more
-    → (t ≡ true) × ((others : List Element) × ((o ≡ Some others) × (more ≡ x ∷ others)))
+pub guarded : (t : Bool) (x : CommandElement) (o : Option (List CommandElement)) (more : List CommandElement) → cond t (with_element x o) None ≡ Some more
+    → (t ≡ true) × ((others : List CommandElement) × ((o ≡ Some others) × (more ≡ x ∷ others)))
 guarded true x (Some others) more e = (refl, (others, (refl, cc)))
 guarded true x None more e = absurd cc
 guarded false x o more e = absurd cc
@@ -18,14 +18,14 @@ unfolding element_at
 element_none = refl
 
 -- the first of the elements
-pub record FirstIn (last : ℕ) (x : Element × List ℕ) (more : List Element) : Type 0 where
+pub record FirstIn (last : ℕ) (x : CommandElement × List ℕ) (more : List CommandElement) : Type 0 where
   pub above : last < x.0.number
   pub most : ℕ
-  pub others : List Element
+  pub others : List CommandElement
   pub after : elements_in most x.0.number x.1 ≡ Some others
   pub whole : more ≡ x.0 ∷ others
 
-pub first_in : (most last : ℕ) (b : List ℕ) (x : Element × List ℕ) (more : List Element) → element_at b ≡ Some x → elements_in most last b ≡ Some more → FirstIn last x more
+pub first_in : (most last : ℕ) (b : List ℕ) (x : CommandElement × List ℕ) (more : List CommandElement) → element_at b ≡ Some x → elements_in most last b ≡ Some more → FirstIn last x more
 unfolding elements_in
 first_in zero last [] x more e h = absurd (cc element_none)
 first_in zero last (c ∷ b) x more e h = absurd cc
@@ -34,7 +34,7 @@ first_in (suc most) last (c ∷ b) x more e h =
     let g = guarded (ltb last x.0.number) x.0 (elements_in most x.0.number x.1) more (rw e at h) in
     record { above = ltb-true _ _ g.0; most = most; others = g.1.0; after = g.1.1.0; whole = g.1.1.1 }
 
-pub none_in : (most last : ℕ) (b : List ℕ) (more : List Element) → element_at b ≡ None → elements_in most last b ≡ Some more → more ≡ []
+pub none_in : (most last : ℕ) (b : List ℕ) (more : List CommandElement) → element_at b ≡ None → elements_in most last b ≡ Some more → more ≡ []
 unfolding elements_in
 none_in zero last [] more e h = cc
 none_in zero last (c ∷ b) more e h = absurd cc
@@ -42,30 +42,30 @@ none_in (suc most) last [] more e h = cc
 none_in (suc most) last (c ∷ b) more e h = let g : None ≡ Some more = rw e at h in absurd cc
 
 -- what a search for an element's value still has before it
-pub record Left (n : ℕ) (es : List Element) (b : List ℕ) : Type 0 where
+pub record Left (n : ℕ) (es : List CommandElement) (b : List ℕ) : Type 0 where
   pub most : ℕ
   pub last : ℕ
-  pub more : List Element
+  pub more : List CommandElement
   pub here : elements_in most last b ≡ Some more
   pub same : value_of n more ≡ value_of n es
 
-pub left_all : (n : ℕ) (es : List Element) (b : List ℕ) → elements_of b ≡ Some es → Left n es b
+pub left_all : (n : ℕ) (es : List CommandElement) (b : List ℕ) → elements_of b ≡ Some es → Left n es b
 unfolding elements_of
 left_all n es b h = record { most = length b; last = 0; more = es; here = h; same = refl }
 
-pub left_next : (n : ℕ) (es : List Element) (b : List ℕ) (x : Element × List ℕ) → Left n es b → Some x ≡ element_at b → eqb x.0.number n ≡ false → Left n es x.1
+pub left_next : (n : ℕ) (es : List CommandElement) (b : List ℕ) (x : CommandElement × List ℕ) → Left n es b → Some x ≡ element_at b → eqb x.0.number n ≡ false → Left n es x.1
 left_next n es b x l e other =
     let f = first_in l.most l.last b x l.more (sym e) l.here in
     let passed : value_of n (x.0 ∷ f.others) ≡ value_of n f.others = rw other refl in
     record { most = f.most; last = x.0.number; more = f.others; here = f.after; same = sym passed ∙ sym (ap (value_of n) f.whole) ∙ l.same }
 
-pub left_found : (n : ℕ) (es : List Element) (b : List ℕ) (x : Element × List ℕ) → Left n es b → Some x ≡ element_at b → eqb x.0.number n ≡ true → Some x.0.value ≡ value_of n es
+pub left_found : (n : ℕ) (es : List CommandElement) (b : List ℕ) (x : CommandElement × List ℕ) → Left n es b → Some x ≡ element_at b → eqb x.0.number n ≡ true → Some x.0.value ≡ value_of n es
 left_found n es b x l e this =
     let f = first_in l.most l.last b x l.more (sym e) l.here in
     let found : value_of n (x.0 ∷ f.others) ≡ Some x.0.value = rw this refl in
     sym found ∙ sym (ap (value_of n) f.whole) ∙ l.same
 
-pub left_none : (n : ℕ) (es : List Element) (b : List ℕ) → Left n es b → None ≡ element_at b → None ≡ value_of n es
+pub left_none : (n : ℕ) (es : List CommandElement) (b : List ℕ) → Left n es b → None ≡ element_at b → None ≡ value_of n es
 left_none n es b l e = ap (value_of n) (sym (none_in l.most l.last b l.more (sym e) l.here)) ∙ l.same
 
 -- what a test of the order still has before it
@@ -78,7 +78,7 @@ pub ahead_all : (b : List ℕ) → Ahead b b 0
 unfolding elements_of
 ahead_all b = record { most = length b; room = omega arith; same = refl }
 
-shorter : (b : List ℕ) (t : Bool) (e : Element) (n : ℕ) (x : Element × List ℕ) → (t ≡ true → 8 ≤ length b) → cond t (Some (e, drop n (drop 8 b))) None ≡ Some x → length x.1 < length b
+shorter : (b : List ℕ) (t : Bool) (e : CommandElement) (n : ℕ) (x : CommandElement × List ℕ) → (t ≡ true → 8 ≤ length b) → cond t (Some (e, drop n (drop 8 b))) None ≡ Some x → length x.1 < length b
 shorter b true e n x long h =
     let at-least : 8 ≤ length b = long refl in
     let same : drop n (drop 8 b) ≡ x.1 = cc in
@@ -90,15 +90,15 @@ first_holds : (a b : Bool) → (a && b) ≡ true → a ≡ true
 first_holds true b h = refl
 first_holds false b h = h
 
-pub element_shorter : (b : List ℕ) (x : Element × List ℕ) → Some x ≡ element_at b → length x.1 < length b
+pub element_shorter : (b : List ℕ) (x : CommandElement × List ℕ) → Some x ≡ element_at b → length x.1 < length b
 unfolding element_at
 element_shorter b x e = shorter b (is_element b) _ _ x (λ t. leb-true _ _ (first_holds _ _ t)) (sym e)
 
-some_with : (x : Element) (o : Option (List Element)) → is_some (with_element x o) ≡ is_some o
+some_with : (x : CommandElement) (o : Option (List CommandElement)) → is_some (with_element x o) ≡ is_some o
 some_with x None = refl
 some_with x (Some es) = refl
 
-next_of : (most : ℕ) (whole b : List ℕ) (last : ℕ) (x : Element × List ℕ) → length b ≤ most → is_some (elements_in most last b) ≡ is_some (elements_of whole) → Some x ≡ element_at b → last < x.0.number → Ahead whole x.1 x.0.number
+next_of : (most : ℕ) (whole b : List ℕ) (last : ℕ) (x : CommandElement × List ℕ) → length b ≤ most → is_some (elements_in most last b) ≡ is_some (elements_of whole) → Some x ≡ element_at b → last < x.0.number → Ahead whole x.1 x.0.number
 unfolding elements_in
 next_of most whole [] last x room same e lt = absurd (cc element_none)
 next_of zero whole (c ∷ b) last x room same e lt = absurd (omega arith)
@@ -120,7 +120,7 @@ stop_of most whole [] last same more e = absurd (omega arith)
 stop_of zero whole (c ∷ b) last same more e = same
 stop_of (suc most) whole (c ∷ b) last same more e = rw (sym e) at same
 
-order_of : (most : ℕ) (whole b : List ℕ) (last : ℕ) (x : Element × List ℕ) → is_some (elements_in most last b) ≡ is_some (elements_of whole) → Some x ≡ element_at b → x.0.number ≤ last → false ≡ is_some (elements_of whole)
+order_of : (most : ℕ) (whole b : List ℕ) (last : ℕ) (x : CommandElement × List ℕ) → is_some (elements_in most last b) ≡ is_some (elements_of whole) → Some x ≡ element_at b → x.0.number ≤ last → false ≡ is_some (elements_of whole)
 unfolding elements_in
 order_of most whole [] last x same e le = absurd (cc element_none)
 order_of zero whole (c ∷ b) last x same e le = same
@@ -128,7 +128,7 @@ order_of (suc most) whole (c ∷ b) last x same e le =
     let step : is_some (cond (ltb last x.0.number) (with_element x.0 (elements_in most x.0.number x.1)) None) ≡ is_some (elements_of whole) = rw (sym e) at same in
     rw (le-ltb last x.0.number le) at step
 
-pub ahead_next : (whole b : List ℕ) (last : ℕ) (x : Element × List ℕ) → Ahead whole b last → Some x ≡ element_at b → last < x.0.number → Ahead whole x.1 x.0.number
+pub ahead_next : (whole b : List ℕ) (last : ℕ) (x : CommandElement × List ℕ) → Ahead whole b last → Some x ≡ element_at b → last < x.0.number → Ahead whole x.1 x.0.number
 ahead_next whole b last x a e lt = next_of a.most whole b last x a.room a.same e lt
 
 none_left : (most : ℕ) (whole b : List ℕ) (last : ℕ) → is_some (elements_in most last b) ≡ is_some (elements_of whole) → None ≡ element_at b → eqb (length b) 0 ≡ is_some (elements_of whole)
@@ -140,5 +140,5 @@ pub ahead_none : (whole b : List ℕ) (last : ℕ) → Ahead whole b last → No
 ahead_none whole b last a e = none_left a.most whole b last a.same e
 
 -- one comes that is not above the last
-pub ahead_order : (whole b : List ℕ) (last : ℕ) (x : Element × List ℕ) → Ahead whole b last → Some x ≡ element_at b → x.0.number ≤ last → false ≡ is_some (elements_of whole)
+pub ahead_order : (whole b : List ℕ) (last : ℕ) (x : CommandElement × List ℕ) → Ahead whole b last → Some x ≡ element_at b → x.0.number ≤ last → false ≡ is_some (elements_of whole)
 ahead_order whole b last x a e le = order_of a.most whole b last x a.same e le

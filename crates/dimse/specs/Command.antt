@@ -1,5 +1,5 @@
 -- Command sets and the commands that they spell (PS3.7 sections 6.3.1, 9.3.1, 9.3.5 and annex E).
-use Rattle.std.specs.Prelude.{◌≡◌, ℕ, ◌^◌, ◌<◌, ◌%◌, Bool, true, false, not, ◌&&◌, List, [], ◌∷◌, ◌++◌, length, Option, Some, None, Result, Ok, Err, nat_eq, if◌then◌else◌, ◌⊎◌}
+use Rattle.std.specs.Prelude.{◌≡◌, ℕ, ◌^◌, ◌<◌, ◌%◌, Bool, true, false, not, ◌&&◌, List, [], ◌∷◌, ◌++◌, length, Option, Some, None, Result, Ok, Err, nat_eq, ok_or, option_and_then, if◌then◌else◌, ◌⊎◌}
 use Rattle.byteorder.specs.Endian.{little_number}
 use Rattle.element.specs.Numbers.{le}
 use Rattle.element.specs.Header.{header_bytes}
@@ -8,41 +8,41 @@ use Rattle.dimse.specs.declared.fault.DimseFault.{DimseFault}
 use Rattle.dimse.specs.declared.fault.DimseFault.TheVariants.{BadCommand, UnknownField, WrongKind}
 
 -- an element of group 0000: its number in the group, and its value
-pub record Element : Type 0 where
+pub record CommandElement : Type 0 where
   pub number : ℕ
   pub value : List ℕ
 
 -- tag, length and value, in Implicit VR Little Endian
-unfoldable pub element_bytes : Element → List ℕ
-element_bytes e = header_bytes (record { tag = record { 0 = 0; 1 = e.number }; vr = None; length = length e.value }) ++ e.value
+unfoldable pub command_element_bytes : CommandElement → List ℕ
+command_element_bytes e = header_bytes (record { tag = record { 0 = 0; 1 = e.number }; vr = None; length = length e.value }) ++ e.value
 
-abbrev pub elements_bytes : List Element → List ℕ
-elements_bytes [] = []
-elements_bytes (e ∷ es) = element_bytes e ++ elements_bytes es
+abbrev pub command_elements_bytes : List CommandElement → List ℕ
+command_elements_bytes [] = []
+command_elements_bytes (e ∷ es) = command_element_bytes e ++ command_elements_bytes es
 
 -- the number is one of the group, and the length even and of four bytes; so it is never the undefined length
-pub record IsElement (e : Element) : Type 0 where
+pub record IsElement (e : CommandElement) : Type 0 where
   pub in_group : e.number < 2 ^ 16
   pub even : length e.value % 2 ≡ 0
   pub fits : length e.value < 2 ^ 32
 
 -- elements whose numbers rise from above `last`
-abbrev pub AreRising : ℕ → List Element → Type 0
+abbrev pub AreRising : ℕ → List CommandElement → Type 0
 AreRising last [] = Unit {0}
 AreRising last (e ∷ es) = IsElement e × (last < e.number) × AreRising e.number es
 
 -- a command set: (0000,0000), which counts the bytes after it, and the elements after it
-abbrev pub set_bytes : List Element → List ℕ
-set_bytes es = element_bytes (record { number = 0; value = le (length (elements_bytes es)) 4 }) ++ elements_bytes es
+abbrev pub command_set_bytes : List CommandElement → List ℕ
+command_set_bytes es = command_element_bytes (record { number = 0; value = le (length (command_elements_bytes es)) 4 }) ++ command_elements_bytes es
 
 -- the text is the command set of these elements
-pub record SpellsSet (text : List ℕ) (es : List Element) : Type 0 where
+pub record SpellsSet (text : List ℕ) (es : List CommandElement) : Type 0 where
   pub rising : AreRising 0 es
-  pub counted : length (elements_bytes es) < 2 ^ 32
-  pub whole : text ≡ set_bytes es
+  pub counted : length (command_elements_bytes es) < 2 ^ 32
+  pub whole : text ≡ command_set_bytes es
 
 -- the value of the element of this number
-abbrev pub value_of : ℕ → List Element → Option (List ℕ)
+abbrev pub value_of : ℕ → List CommandElement → Option (List ℕ)
 value_of n [] = None
 value_of n (e ∷ es) = if nat_eq e.number n then Some e.value else value_of n es
 
@@ -50,7 +50,19 @@ value_of n (e ∷ es) = if nat_eq e.number n then Some e.value else value_of n e
 abbrev pub two_bytes : List ℕ → Option ℕ
 two_bytes value = if nat_eq (length value) 2 then Some (little_number 2 value) else None
 
--- What a request of C-STORE (field 0001H) or C-ECHO (field 0030H) says. The identifiers stand without trailing
+-- ---- commands
+
+-- command fields of requests, and the data set type of a message without data set
+abbrev pub c_store : ℕ
+c_store = 0x0001
+
+abbrev pub c_echo : ℕ
+c_echo = 0x0030
+
+abbrev pub no_data_set : ℕ
+no_data_set = 0x0101
+
+-- What a C-STORE or C-ECHO request says. The identifiers stand without trailing
 -- zero bytes and spaces; C-STORE alone names an instance and has a data set after it.
 pub record CommandRecord : Type 0 where
   pub class : List ℕ
@@ -60,8 +72,8 @@ pub record CommandRecord : Type 0 where
   pub instance : Option (List ℕ)
 
 abbrev pub is_request : ℕ → Bool → Option (List ℕ) → Bool
-is_request field with_data None = nat_eq field 0x0030 && not with_data
-is_request field with_data (Some instance) = nat_eq field 0x0001 && with_data
+is_request field with_data None = nat_eq field c_echo && not with_data
+is_request field with_data (Some instance) = nat_eq field c_store && with_data
 
 abbrev pub is_uid_or_none : Option (List ℕ) → Bool
 is_uid_or_none None = true
@@ -80,27 +92,26 @@ abbrev pub ◌>>=◌ : {A B : Type 0} → Result A DimseFault → (A → Result 
 
 -- an element that has to be there, readable by `reads`
 abbrev pub needed : {A : Type 0} → (List ℕ → Option A) → Option (List ℕ) → Result A DimseFault
-needed reads None = Err BadCommand
-needed reads (Some value) = elim (reads value) [ None ↦ Err BadCommand | Some x ↦ Ok x ]
+needed reads value = ok_or (option_and_then reads value) BadCommand
 
--- affected SOP class 0002, command field 0100, message id 0110, data set type 0800 (0101H: no data set), and for
+-- affected SOP class 0002, command field 0100, message id 0110, data set type 0800, and for
 -- C-STORE affected SOP instance 1000
-unfoldable pub stored : List ℕ → ℕ → List Element → Result CommandRecord DimseFault
+unfoldable pub stored : List ℕ → ℕ → List CommandElement → Result CommandRecord DimseFault
 stored class message es = do
   instance ← needed uid_of (value_of 0x1000 es)
-  Ok (record { class = class; field = 0x0001; message = message; with_data = true; instance = Some instance })
+  Ok (record { class = class; field = c_store; message = message; with_data = true; instance = Some instance })
 
-abbrev pub request_of : List ℕ → ℕ → ℕ → ℕ → List Element → Result CommandRecord DimseFault
+abbrev pub request_of : List ℕ → ℕ → ℕ → ℕ → List CommandElement → Result CommandRecord DimseFault
 request_of class field message kind es =
-    if nat_eq field 0x0030 then
-    (if nat_eq kind 0x0101 then Ok (record { class = class; field = 0x0030; message = message; with_data = false; instance = None })
+    if nat_eq field c_echo then
+    (if nat_eq kind no_data_set then Ok (record { class = class; field = c_echo; message = message; with_data = false; instance = None })
     else Err WrongKind)
-    else (if nat_eq field 0x0001 then
-    (if nat_eq kind 0x0101 then Err WrongKind else stored class message es)
+    else (if nat_eq field c_store then
+    (if nat_eq kind no_data_set then Err WrongKind else stored class message es)
     else Err UnknownField)
 
 -- the command that a set's elements say, or the first rule that they break
-unfoldable pub command_of : List Element → Result CommandRecord DimseFault
+unfoldable pub command_of : List CommandElement → Result CommandRecord DimseFault
 command_of es = do
   class ← needed uid_of (value_of 0x0002 es)
   field ← needed two_bytes (value_of 0x0100 es)
@@ -110,8 +121,8 @@ command_of es = do
 
 -- the text spells the command
 abbrev pub CommandText : CommandRecord → List ℕ → Type 0
-CommandText command text = (es : List Element) × SpellsSet text es × (command_of es ≡ Ok command)
+CommandText command text = (es : List CommandElement) × SpellsSet text es × (command_of es ≡ Ok command)
 
 -- the first rule that the text breaks: it is no command set, or its elements say no command
 abbrev pub CommandFault : DimseFault → List ℕ → Type 0
-CommandFault fault text = ((es : List Element) × SpellsSet text es × (command_of es ≡ Err fault)) ⊎ ((fault ≡ BadCommand) × ¬ ((es : List Element) × SpellsSet text es))
+CommandFault fault text = ((es : List CommandElement) × SpellsSet text es × (command_of es ≡ Err fault)) ⊎ ((fault ≡ BadCommand) × ¬ ((es : List CommandElement) × SpellsSet text es))

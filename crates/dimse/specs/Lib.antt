@@ -1,6 +1,11 @@
 pub mod Fault
 pub mod Command
 pub mod Reading
+pub mod Status
+pub mod Detail
 pub mod Reply
 pub mod Messages
+pub mod MessageLaws
+pub mod Joining
+pub mod machine
 pub mod Worked

@@ -2,6 +2,7 @@
 -- fragments up to the last one, all in one presentation context (PS3.7 section 6.3; PS3.8 annex E). The bytes of one
 -- command set are at most `room` (this product's own profile).
 use Rattle.std.specs.Prelude.{◌≡◌, ℕ, ◌+◌, ◌-◌, ◌≤◌, Bool, true, false, List, [], ◌∷◌, ◌++◌, length, Option, Some, None, Result, Ok, Err, nat_eq, nat_le, if◌then◌else◌}
+use Rattle.pdu.specs.declared.head.PdvHead.{PdvHead}
 use Rattle.pdu.specs.Heads.{is_command, is_last}
 use Rattle.dimse.specs.declared.fault.DimseFault.{DimseFault}
 use Rattle.dimse.specs.declared.fault.DimseFault.TheVariants.{CommandTooLong, WrongKind, OtherContext}
@@ -59,19 +60,28 @@ pub data Begun : Type 0 where
   InCommand : (context : ℕ) (command : List ℕ) → Begun
   InSet : (context : ℕ) (command set : List ℕ) → Begun
 
+-- ---- the head of a presentation data value
+
 abbrev pub if_room : ℕ → ℕ → Option DimseFault
 if_room room size = if nat_le size room then None else Some CommandTooLong
 
 abbrev pub if_context : ℕ → ℕ → Option DimseFault → Option DimseFault
 if_context first context other = if nat_eq context first then other else Some OtherContext
 
--- whether the head of a presentation data value is refused after what has come: n bytes follow its length, of which two
--- are its context and its control byte
+-- Whether a head is refused after what has come, and by which rule first: another context than the message's, a fragment
+-- of the other kind than is due, a command set above the room. Of the bytes that follow the length two are of the head.
+abbrev pub head_refusal : ℕ → Begun → PdvHead → Option DimseFault
+head_refusal room NoMessage h = if h.command then if_room room (h.length - 2) else Some WrongKind
+head_refusal room (InCommand first command) h =
+    if_context first h.context (if h.command then if_room room (length command + (h.length - 2)) else Some WrongKind)
+head_refusal room (InSet first command set) h = if_context first h.context (if h.command then Some WrongKind else None)
+
+-- the same by the length, the context and the control byte
 abbrev pub refusal : ℕ → Begun → ℕ → ℕ → ℕ → Option DimseFault
-refusal room NoMessage n context control = if is_command control then if_room room (n - 2) else Some WrongKind
-refusal room (InCommand first command) n context control =
-    if_context first context (if is_command control then if_room room (length command + (n - 2)) else Some WrongKind)
-refusal room (InSet first command set) n context control = if_context first context (if is_command control then Some WrongKind else None)
+refusal room b n context control =
+    head_refusal room b (record { length = n; context = context; command = is_command control; last = is_last control })
+
+-- ---- the table of messages
 
 -- what a presentation data value brings, at its last byte
 pub data Brought : Type 0 where
@@ -79,33 +89,33 @@ pub data Brought : Type 0 where
   Goes : Begun → Brought
   -- the message is whole
   Ends : Message → Brought
-  -- the command set is whole and spells no command that is taken
+  -- it is refused
   Refuses : DimseFault → Brought
 
+-- a whole command set: a data set comes after it where it announces one
 abbrev pub with_command : ℕ → List ℕ → Result CommandRecord DimseFault → Brought
 with_command context command (Err fault) = Refuses fault
 with_command context command (Ok c) = if c.with_data then Goes (InSet context command []) else Ends (record { context = context; command = command; set = [] })
 
-abbrev pub in_command : ℕ → List ℕ → Bool → Brought
-in_command context command last = if last then with_command context command (command_in command) else Goes (InCommand context command)
+abbrev pub whole_command : ℕ → List ℕ → Brought
+whole_command context command = with_command context command (command_in command)
 
-abbrev pub in_set : ℕ → List ℕ → List ℕ → Bool → Brought
-in_set context command set last = if last then Ends (record { context = context; command = command; set = set }) else Goes (InSet context command set)
+-- A message_row for each of: what has come; whether the fragment is of a command set (true) or of a data set; whether it is marked
+-- as the last one.
+abbrev pub message_row : Begun → Bool → Bool → ℕ → List ℕ → Brought
+message_row NoMessage true false context bytes = Goes (InCommand context bytes)
+message_row NoMessage true true context bytes = whole_command context bytes
+message_row NoMessage false last context bytes = Refuses WrongKind
+message_row (InCommand first command) true false context bytes = Goes (InCommand first (command ++ bytes))
+message_row (InCommand first command) true true context bytes = whole_command first (command ++ bytes)
+message_row (InCommand first command) false last context bytes = Refuses WrongKind
+message_row (InSet first command set) true last context bytes = Refuses WrongKind
+message_row (InSet first command set) false false context bytes = Goes (InSet first command (set ++ bytes))
+message_row (InSet first command set) false true context bytes = Ends (record { context = first; command = command; set = set ++ bytes })
 
 -- what a presentation data value brings whose head was not refused
 abbrev pub brought : Begun → Pdv → Brought
-brought NoMessage p = in_command p.context p.fragment (is_last p.control)
-brought (InCommand context command) p = in_command context (command ++ p.fragment) (is_last p.control)
-brought (InSet context command set) p = in_set context command (set ++ p.fragment) (is_last p.control)
-
--- what has come of a message after it
-abbrev pub begun_by : Brought → Begun
-begun_by (Goes b) = b
-begun_by (Ends m) = NoMessage
-begun_by (Refuses fault) = NoMessage
-
-abbrev pub after : Begun → Pdv → Begun
-after b p = begun_by (brought b p)
+brought b p = message_row b (is_command p.control) (is_last p.control) p.context p.fragment
 
 -- the message that it ends
 abbrev pub message_by : Brought → Option Message
@@ -116,22 +126,13 @@ message_by (Refuses fault) = None
 abbrev pub ended : Begun → Pdv → Option Message
 ended b p = message_by (brought b p)
 
--- the refusal of the command set that it ends
-abbrev pub fault_by : Brought → Option DimseFault
-fault_by (Goes b) = None
-fault_by (Ends m) = None
-fault_by (Refuses fault) = Some fault
-
-abbrev pub command_refusal : Begun → Pdv → Option DimseFault
-command_refusal b p = fault_by (brought b p)
-
 -- ---- the messages of a list of presentation data values
 
 -- the whole messages, what has come of the next one, and what was refused, after which nothing more is taken
 pub record Messages : Type 0 where
   pub whole : List Message
   pub begun : Begun
-  pub refused : Option DimseFault
+  pub fault : Option DimseFault
 
 abbrev pub unless_refused : Option DimseFault → Brought → Brought
 unless_refused None b = b
@@ -141,33 +142,17 @@ abbrev pub next : ℕ → Begun → Pdv → Brought
 next room b p = unless_refused (refusal room b (length p.fragment + 2) p.context p.control) (brought b p)
 
 abbrev pub with_message : Message → Messages → Messages
-with_message m ms = record { whole = m ∷ ms.whole; begun = ms.begun; refused = ms.refused }
+with_message m ms = record { whole = m ∷ ms.whole; begun = ms.begun; fault = ms.fault }
 
 -- the messages given what a presentation data value brings, and those of the later ones by what has come before them
 abbrev pub with_later : Brought → (Begun → Messages) → Messages
 with_later (Goes b) later = later b
 with_later (Ends m) later = with_message m (later NoMessage)
-with_later (Refuses fault) later = record { whole = []; begun = NoMessage; refused = Some fault }
+with_later (Refuses fault) later = record { whole = []; begun = NoMessage; fault = Some fault }
 
 unfoldable pub messages_from : ℕ → Begun → List Pdv → Messages
-messages_from room b [] = record { whole = []; begun = b; refused = None }
+messages_from room b [] = record { whole = []; begun = b; fault = None }
 messages_from room b (p ∷ ps) = with_later (next room b p) (λ more. messages_from room more ps)
 
 unfoldable pub messages : ℕ → List Pdv → Messages
 messages room ps = messages_from room NoMessage ps
-
--- the messages of one list and then of another one that begins with what has come of a message
-abbrev pub and_then : Messages → Messages → Messages
-and_then first second = elim first.refused [
-  | None ↦ record { whole = first.whole ++ second.whole; begun = second.begun; refused = second.refused }
-  | Some fault ↦ first
-]
-
--- the list begins with the fragments of this message; these are the messages of the rest
-pub record BeginsWith (room : ℕ) (m : Message) (later : List Message) (ps : List Pdv) : Type 0 where
-  pub commands : List Pdv
-  pub sets : List Pdv
-  pub more : List Pdv
-  pub parts : ps ≡ (commands ++ sets) ++ more
-  pub message : IsMessage room m commands sets
-  pub rest : (messages room more).whole ≡ later

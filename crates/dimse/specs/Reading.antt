@@ -4,7 +4,7 @@ use Rattle.byteorder.specs.Endian.{little_number}
 use Rattle.element.specs.Padding.{is_empty}
 use Rattle.dimse.specs.declared.fault.DimseFault.{DimseFault}
 use Rattle.dimse.specs.declared.fault.DimseFault.TheVariants.{BadCommand}
-use Rattle.dimse.specs.Command.{Element, CommandRecord, command_of}
+use Rattle.dimse.specs.Command.{CommandElement, CommandRecord, command_of}
 
 -- a header of group 0000 with an even length, and as many bytes after it
 abbrev pub is_element : List ℕ → Bool
@@ -12,18 +12,18 @@ is_element b =
     nat_le 8 (length b) && (nat_eq (little_number 2 b) 0 && (nat_eq (little_number 4 (drop 4 b) % 2) 0 && nat_le (little_number 4 (drop 4 b)) (length b - 8)))
 
 -- the element at the front, and the bytes after it
-unfoldable pub element_at : List ℕ → Option (Element × List ℕ)
+unfoldable pub element_at : List ℕ → Option (CommandElement × List ℕ)
 element_at b =
     if is_element b then
     Some (record { number = little_number 2 (drop 2 b); value = take (little_number 4 (drop 4 b)) (drop 8 b) }, drop (little_number 4 (drop 4 b)) (drop 8 b))
     else None
 
-abbrev pub with_element : Element → Option (List Element) → Option (List Element)
+abbrev pub with_element : CommandElement → Option (List CommandElement) → Option (List CommandElement)
 with_element e None = None
 with_element e (Some es) = Some (e ∷ es)
 
 -- the elements of a text of no more than `most` bytes, their numbers rising from above `last`
-unfoldable pub elements_in : ℕ → ℕ → List ℕ → Option (List Element)
+unfoldable pub elements_in : ℕ → ℕ → List ℕ → Option (List CommandElement)
 elements_in zero last b = if is_empty b then Some [] else None
 elements_in (suc most) last b =
     if is_empty b then Some []
@@ -33,28 +33,24 @@ elements_in (suc most) last b =
     ])
 
 -- the elements that the text spells
-unfoldable pub elements_of : List ℕ → Option (List Element)
+unfoldable pub elements_of : List ℕ → Option (List CommandElement)
 elements_of b = elements_in (length b) 0 b
 
 -- (0000,0000) with a value of four bytes that counts the bytes after it
-abbrev pub counts : Element → ℕ → Bool
+abbrev pub counts : CommandElement → ℕ → Bool
 counts e rest = nat_eq e.number 0 && (nat_eq (length e.value) 4 && nat_eq (little_number 4 e.value) rest)
 
 -- the elements of a command set but (0000,0000)
-unfoldable pub set_of : List ℕ → Option (List Element)
+unfoldable pub set_of : List ℕ → Option (List CommandElement)
 set_of text = elim (element_at text) [
   | None ↦ None
   | Some x ↦ if counts x.0 (length x.1) then elements_of x.1 else None
 ]
 
-abbrev pub command_in_set : Option (List Element) → Result CommandRecord DimseFault
+abbrev pub command_in_set : Option (List CommandElement) → Result CommandRecord DimseFault
 command_in_set None = Err BadCommand
 command_in_set (Some es) = command_of es
 
 -- the command that the text spells, or the first rule that it breaks
 unfoldable pub command_in : List ℕ → Result CommandRecord DimseFault
 command_in text = command_in_set (set_of text)
-
-abbrev pub known_elements : Option (List Element) → List Element
-known_elements None = []
-known_elements (Some es) = es

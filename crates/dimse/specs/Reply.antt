@@ -1,32 +1,53 @@
 -- Responses to C-ECHO and C-STORE (PS3.7 sections 9.3.1.2, 9.3.5.2 and annex E), and how their command sets are cut into
 -- P-DATA-TF PDUs of one presentation data value each (PS3.8 annex D.1 and annex E).
-use Rattle.std.specs.Prelude.{◌≡◌, ℕ, zero, suc, ◌+◌, ◌-◌, ◌*◌, ◌/◌, ◌%◌, ◌≤◌, ◌⊎◌, true, false, List, [], ◌∷◌, ◌++◌, length, take, drop, Option, Some, None, nat_eq, nat_le, if◌then◌else◌}
+use Rattle.std.specs.Prelude.{◌≡◌, ℕ, zero, suc, ◌+◌, ◌-◌, ◌*◌, ◌/◌, ◌≤◌, ◌⊎◌, true, false, ◌&&◌, ◌||◌, List, [], ◌∷◌, ◌++◌, length, take, drop, Option, Some, None, nat_eq, nat_le, if◌then◌else◌}
+use Rattle.element.specs.declared.tag.Tag.{Tag}
 use Rattle.element.specs.Numbers.{le}
+use Rattle.element.specs.Uid.{even_uid}
 use Rattle.pdu.specs.Pieces.{joined}
 use Rattle.pdu.specs.Texts.{data_text}
-use Rattle.dimse.specs.Command.{Element, CommandRecord, set_bytes}
+use Rattle.dimse.specs.declared.detail.Detail.{Detail}
+use Rattle.dimse.specs.Command.{CommandElement, CommandRecord, command_set_bytes, c_store, no_data_set}
+use Rattle.dimse.specs.Status.{data_set_mismatch, cannot_understand}
+use Rattle.dimse.specs.Detail.{comment_of}
 
--- an identifier as a value: a zero byte makes its length even (PS3.5 section 9.1)
-abbrev pub even_uid : List ℕ → List ℕ
-even_uid uid = if nat_eq (length uid % 2) 0 then uid else (uid ++ 0 ∷ [])
-
-abbrev pub element : ℕ → List ℕ → Element
+abbrev pub element : ℕ → List ℕ → CommandElement
 element number value = record { number = number; value = value }
 
-abbrev pub instance_elements : Option (List ℕ) → List Element
+-- affected SOP instance 1000
+abbrev pub instance_elements : Option (List ℕ) → List CommandElement
 instance_elements None = []
 instance_elements (Some uid) = element 0x1000 (even_uid uid) ∷ []
 
--- affected SOP class 0002, command field 0100 (that of the request with its highest bit set), message id responded to
--- 0120, data set type 0800 (none), status 0900, and of C-STORE affected SOP instance 1000
-abbrev pub reply_elements : CommandRecord → ℕ → List Element
-reply_elements command status =
+-- offending element 0901, left out where the tag is (0000,0000)
+abbrev pub tag_elements : Tag → List CommandElement
+tag_elements tag = if nat_eq tag.0 0 && nat_eq tag.1 0 then [] else element 0x0901 (le tag.0 2 ++ le tag.1 2) ∷ []
+
+-- offending element 0901 and error comment 0902; none where the cause has no name
+abbrev pub detail_elements : Option Detail → List CommandElement
+detail_elements None = []
+detail_elements (Some detail) = elim (comment_of detail.number) [
+  | None ↦ []
+  | Some text ↦ tag_elements detail.tag ++ element 0x0902 text ∷ []
+]
+
+-- a reply to a C-STORE whose status is C000 or A900 names its cause, and no other one does
+abbrev pub carried : ℕ → ℕ → Option Detail → Option Detail
+carried field status detail =
+    if nat_eq field c_store && (nat_eq status cannot_understand || nat_eq status data_set_mismatch) then detail else None
+
+-- Affected SOP class 0002, command field 0100 (that of the request with its highest bit set), message id responded to
+-- 0120, data set type 0800 (none), status 0900, what names the cause of a failure, and of C-STORE affected SOP instance
+-- 1000.
+abbrev pub reply_elements : CommandRecord → ℕ → Option Detail → List CommandElement
+reply_elements command status detail =
     element 0x0002 (even_uid command.class) ∷ element 0x0100 (le (command.field + 0x8000) 2) ∷ element 0x0120 (le command.message 2)
-    ∷ element 0x0800 (le 0x0101 2) ∷ element 0x0900 (le status 2) ∷ instance_elements command.instance
+    ∷ element 0x0800 (le no_data_set 2) ∷ element 0x0900 (le status 2)
+    ∷ (detail_elements (carried command.field status detail) ++ instance_elements command.instance)
 
 -- the command set of the response
-unfoldable pub reply_command : CommandRecord → ℕ → List ℕ
-reply_command command status = set_bytes (reply_elements command status)
+unfoldable pub reply_command : CommandRecord → ℕ → Option Detail → List ℕ
+reply_command command status detail = command_set_bytes (reply_elements command status detail)
 
 -- a peer's maximum length that leaves room for a fragment; 0 is no maximum
 abbrev pub IsMaximum : ℕ → Type 0
@@ -44,7 +65,7 @@ HaveSize size (last ∷ []) = length last ≤ size
 HaveSize size (fragment ∷ next ∷ more) = (length fragment ≡ size) × (1 ≤ length next) × HaveSize size (next ∷ more)
 
 -- the text cut into such fragments
-pub record IsCut (size : ℕ) (text : List ℕ) (cut : List (List ℕ)) : Type 0 where
+pub record IsFragmented (size : ℕ) (text : List ℕ) (cut : List (List ℕ)) : Type 0 where
   pub whole : text ≡ joined cut
   pub sizes : HaveSize size cut
 
@@ -63,7 +84,7 @@ command_pdus context (fragment ∷ []) = data_text context true true fragment
 command_pdus context (fragment ∷ next ∷ more) = data_text context true false fragment ++ command_pdus context (next ∷ more)
 
 -- the response as it is sent
-unfoldable pub reply_bytes : CommandRecord → ℕ → ℕ → ℕ → List ℕ
-reply_bytes command status context maximum =
-    let set = reply_command command status in
+unfoldable pub reply_bytes : CommandRecord → ℕ → Option Detail → ℕ → ℕ → List ℕ
+reply_bytes command status detail context maximum =
+    let set = reply_command command status detail in
     command_pdus context (fragments (fragment_size maximum (length set)) set)

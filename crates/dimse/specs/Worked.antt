@@ -1,7 +1,10 @@
 -- Worked examples on which the definitions are tried.
-use Rattle.std.specs.Prelude.{ℕ, false, true, List, [], ◌∷◌, Some, None, codes}
+use Rattle.std.specs.Prelude.{ℕ, false, true, List, [], ◌∷◌, drop, Option, Some, None, codes}
+use Rattle.byteorder.specs.Endian.{little_number}
 use Rattle.dimse.specs.Command.{CommandRecord}
+use Rattle.dimse.specs.declared.detail.Detail.{Detail}
 use Rattle.dimse.specs.Messages.{Pdv}
+use Rattle.dimse.specs.Reply.{reply_command}
 
 abbrev pub pdv : ℕ → ℕ → List ℕ → Pdv
 pdv context control fragment = record { context = context; control = control; fragment = fragment }
@@ -32,3 +35,28 @@ echo_reply =
 -- a store of a CT instance `1.2.3`
 abbrev pub store_record : CommandRecord
 store_record = record { class = codes "1.2.840.10008.5.1.4.1.1.2"; field = 0x0001; message = 7; with_data = true; instance = Some (codes "1.2.3") }
+
+-- its command set, with a priority
+abbrev pub store : List ℕ
+store =
+    0 ∷ 0 ∷ 0 ∷ 0 ∷ 4 ∷ 0 ∷ 0 ∷ 0 ∷ 88 ∷ 0 ∷ 0 ∷ 0
+    ∷ 0 ∷ 0 ∷ 2 ∷ 0 ∷ 26 ∷ 0 ∷ 0 ∷ 0 ∷ 49 ∷ 46 ∷ 50 ∷ 46 ∷ 56 ∷ 52 ∷ 48 ∷ 46 ∷ 49 ∷ 48 ∷ 48 ∷ 48 ∷ 56 ∷ 46 ∷ 53 ∷ 46 ∷ 49 ∷ 46 ∷ 52 ∷ 46 ∷ 49 ∷ 46 ∷ 49 ∷ 46 ∷ 50 ∷ 0
+    ∷ 0 ∷ 0 ∷ 0 ∷ 1 ∷ 2 ∷ 0 ∷ 0 ∷ 0 ∷ 1 ∷ 0
+    ∷ 0 ∷ 0 ∷ 16 ∷ 1 ∷ 2 ∷ 0 ∷ 0 ∷ 0 ∷ 7 ∷ 0
+    ∷ 0 ∷ 0 ∷ 0 ∷ 7 ∷ 2 ∷ 0 ∷ 0 ∷ 0 ∷ 0 ∷ 0
+    ∷ 0 ∷ 0 ∷ 0 ∷ 8 ∷ 2 ∷ 0 ∷ 0 ∷ 0 ∷ 2 ∷ 1
+    ∷ 0 ∷ 0 ∷ 0 ∷ 16 ∷ 6 ∷ 0 ∷ 0 ∷ 0 ∷ 49 ∷ 46 ∷ 50 ∷ 46 ∷ 51 ∷ 0 ∷ []
+
+-- the cause of a failure, and what its reply to that store has: the count of (0000,0000), and the bytes after the status
+abbrev pub cause : ℕ → ℕ → ℕ → Option Detail
+cause number group element = Some (record { number = number; tag = record { 0 = group; 1 = element } })
+
+abbrev pub group_length : ℕ → Option Detail → ℕ
+group_length status detail = little_number 4 (drop 8 (reply_command store_record status detail))
+
+abbrev pub after_status : ℕ → Option Detail → List ℕ
+after_status status detail = drop 86 (reply_command store_record status detail)
+
+-- affected SOP instance `1.2.3`
+abbrev pub instance_123 : List ℕ
+instance_123 = 0 ∷ 0 ∷ 0 ∷ 16 ∷ 6 ∷ 0 ∷ 0 ∷ 0 ∷ 49 ∷ 46 ∷ 50 ∷ 46 ∷ 51 ∷ 0 ∷ []

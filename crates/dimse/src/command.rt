@@ -1,13 +1,13 @@
 //! Commands.
 ghost use Rattle.std.specs.Prelude.{◌≡◌, true, false, Some, None, option_map};
-ghost use Rattle.dimse.specs.Command.{is_request, is_uid_or_none};
+ghost use Rattle.dimse.specs.Command.{c_echo, c_store, is_request, is_uid_or_none};
 ghost use Rattle.element.specs.Uid.{is_uid};
 
 use element::Uid;
 use std::marker::Model;
 
-/// A request of C-ECHO or C-STORE (PS3.7 sections 9.3.1 and 9.3.5). A C-STORE names an instance and
-/// has a data set after it; a C-ECHO has neither.
+/// A C-ECHO or C-STORE request (PS3.7 sections 9.3.1 and 9.3.5). A C-STORE names an instance and is
+/// followed by a data set; a C-ECHO has neither.
 #[derive(Debug, Drop)]
 pub struct Command {
     class: Uid,
@@ -34,10 +34,10 @@ impl Command {
     /// Command field of a C-ECHO request.
     pub const C_ECHO: u16 = 0x0030;
 
-    /// A C-ECHO request.
+    /// Returns a C-ECHO request.
     pub(crate) fn echo(class: Uid, message: u16) -> Command
         requires { is_uid class ≡ true }
-        ensures { result ≡ record { class = class; field = 0x0030; message = message; with_data = false; instance = None } }
+        ensures { result ≡ record { class = class; field = c_echo; message = message; with_data = false; instance = None } }
     {
         Command {
             class,
@@ -48,11 +48,11 @@ impl Command {
         }
     }
 
-    /// A C-STORE request.
+    /// Returns a C-STORE request.
     pub(crate) fn store(class: Uid, message: u16, instance: Uid) -> Command
         requires class { is_uid class ≡ true }
         requires instance { is_uid instance ≡ true }
-        ensures { result ≡ record { class = class; field = 0x0001; message = message; with_data = true; instance = Some instance } }
+        ensures { result ≡ record { class = class; field = c_store; message = message; with_data = true; instance = Some instance } }
     {
         Command {
             class,
@@ -63,7 +63,7 @@ impl Command {
         }
     }
 
-    /// The affected SOP class.
+    /// Returns the affected SOP Class UID.
     pub fn class(&self) -> &Uid
         ensures value { result.now ≡ self.now.class }
         ensures is_uid { is_uid self.now.class ≡ true }
@@ -71,7 +71,7 @@ impl Command {
         &self.class
     }
 
-    /// The command field: 0001H for C-STORE, 0030H for C-ECHO.
+    /// Returns the command field: 0001H for C-STORE, 0030H for C-ECHO.
     pub fn field(&self) -> u16
         ensures value { result ≡ self.now.field }
         ensures kind { is_request self.now.field self.now.with_data self.now.instance ≡ true }
@@ -79,21 +79,21 @@ impl Command {
         self.field
     }
 
-    /// The message id.
+    /// Returns the message ID.
     pub fn message(&self) -> u16
         ensures { result ≡ self.now.message }
     {
         self.message
     }
 
-    /// Whether a data set comes after the command.
+    /// Returns whether a data set follows the command.
     pub fn with_data(&self) -> bool
         ensures { result ≡ self.now.with_data }
     {
         self.with_data
     }
 
-    /// The affected SOP instance, which C-STORE alone has.
+    /// Returns the affected SOP Instance UID, which only a C-STORE has.
     pub fn instance(&self) -> Option<&Uid>
         ensures value { option_map (λ u. u.now) result ≡ self.now.instance }
         ensures is_uid { is_uid_or_none self.now.instance ≡ true }

@@ -1,13 +1,13 @@
 //! The elements of a command set.
 ghost use Rattle.std.specs.Prelude.{◌≡◌, List, option_map, Some};
 ghost use Rattle.std.specs.Option.{is_some};
-ghost use Rattle.dimse.specs.Command.{Element, value_of};
+ghost use Rattle.dimse.specs.Command.{CommandElement, value_of};
 ghost use Rattle.dimse.specs.Reading as spelling;
 
 use byteorder::{ByteOrder, LittleEndian};
 
-/// The element at the front: its number in group 0000 and its value; and the bytes after it. `None`
-/// where no whole element of group 0000 with an even length stands there.
+/// Returns the element at the front, as its number in group 0000 and its value, and the bytes after
+/// it; or `None` if no whole element of group 0000 with an even length stands there.
 #[tactic(auto, unfolding(crate::specs::Reading::element_at))]
 pub fn element_at(bytes: &[u8]) -> Option<(u16, &[u8], &[u8])>
     ensures { option_map (λ x. (record { number = x.0; value = x.1.now }, x.2.now)) result ≡ spelling.element_at bytes.now }
@@ -25,7 +25,7 @@ pub fn element_at(bytes: &[u8]) -> Option<(u16, &[u8], &[u8])>
     Some((number, value, rest))
 }
 
-/// Whether the bytes are whole elements of rising numbers above 0000.
+/// Returns whether the bytes are whole elements of rising numbers above 0000.
 #[tactic(auto, unfolding(crate::specs::Reading::elements_of))]
 pub fn are_rising(bytes: &[u8]) -> bool
     ensures { result ≡ is_some (spelling.elements_of bytes.now) }
@@ -42,9 +42,9 @@ pub fn are_rising(bytes: &[u8]) -> bool
     rest.is_empty()
 }
 
-/// The value of the element of this number.
+/// Returns the value of the element of this number, or `None` if there is none.
 pub fn value_in(bytes: &[u8], number: u16) -> Option<&[u8]>
-    ensures { (es : List Element) → spelling.elements_of bytes.now ≡ Some es → option_map (λ v. v.now) result ≡ value_of number es }
+    ensures { (es : List CommandElement) → spelling.elements_of bytes.now ≡ Some es → option_map (λ v. v.now) result ≡ value_of number es }
 {
     let mut rest = bytes;
     while let Some((at, value, more)) = element_at(rest) {

@@ -1,25 +1,27 @@
-//! Why a message is refused.
+//! Why a message is rejected.
 ghost use Rattle.std.specs.Prelude.{◌≡◌};
-ghost use Rattle.dimse.specs.Fault.{number_of};
+ghost use Rattle.dimse.specs.Fault.{fault_name, number_of};
 
-/// Why a message is refused.
+use std::fmt;
+
+/// Why a message is rejected.
 #[derive(Clone, Copy, Debug, PartialEq, Eq)]
 pub enum DimseFault {
-    /// 40: the bytes of one command set are more than are kept.
+    /// 40: the command set has more bytes than are kept.
     CommandTooLong,
-    /// 41: the bytes are no command set, or an element that is needed is missing or unreadable.
+    /// 41: the bytes are not a command set, or a required element is missing or unreadable.
     BadCommand,
-    /// 42: the command field is that of another service than C-ECHO and C-STORE.
+    /// 42: the command field is neither C-ECHO's nor C-STORE's.
     UnknownField,
-    /// 43: a data set is announced by C-ECHO or not by C-STORE, or a fragment of a data set came
-    /// where one of a command was due, or the reverse.
+    /// 43: a C-ECHO announces a data set or a C-STORE none, or a fragment of a data set came where
+    /// one of a command set was due, or the reverse.
     WrongKind,
     /// 44: a fragment came in another presentation context than the message's first one.
     OtherContext,
 }
 
 impl DimseFault {
-    /// Its number.
+    /// Returns its number.
     pub fn number(self) -> u8
         ensures { result ≡ number_of self }
     {
@@ -30,5 +32,25 @@ impl DimseFault {
             DimseFault::WrongKind => 43,
             DimseFault::OtherContext => 44,
         }
+    }
+
+    /// Returns its name.
+    pub fn name(self) -> &'static str
+        ensures { result.now ≡ fault_name self }
+    {
+        match self {
+            DimseFault::CommandTooLong => "CommandTooLong",
+            DimseFault::BadCommand => "BadCommand",
+            DimseFault::UnknownField => "UnknownField",
+            DimseFault::WrongKind => "WrongKind",
+            DimseFault::OtherContext => "OtherContext",
+        }
+    }
+}
+
+/// The number and the name, as `41 BadCommand`.
+impl fmt::Display for DimseFault {
+    fn fmt<W: fmt::Write>(&self, f: &mut fmt::Formatter<W>) -> fmt::Result {
+        write!(f, "{} {}", self.number(), self.name())
     }
 }

@@ -3,18 +3,24 @@
 #![tactic(auto)]
 
 mod command;
+mod detail;
 mod element_numbers;
 mod elements;
 mod fault;
+mod join;
+mod joined;
 pub mod laws;
 mod reading;
+mod reply_set;
 mod response;
 mod set;
+mod stage;
+pub mod status;
 
 pub use command::Command;
+pub use detail::{CLASS_MISMATCH, Detail, INSTANCE_MISMATCH, cause_name};
 pub use fault::DimseFault;
+pub use join::Join;
+pub use joined::Joined;
 pub use reading::read_command;
 pub use response::write_response;
-
-#[cfg(test)]
-mod tests;

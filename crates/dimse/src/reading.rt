@@ -58,12 +58,12 @@ fn read_text(bytes: &[u8]) -> Result<Command, DimseFault>
     }
 }
 
-/// The command that the bytes of a whole command set spell (PS3.7 sections 6.3.1, 9.3.1 and 9.3.5),
-/// in Implicit VR Little Endian with rising tags of group 0000 and even lengths. The first that
-/// holds of these is the error: `BadCommand` where the bytes are no command set, or the affected
-/// class, the command field, the message id or the data set type is missing or unreadable;
-/// `UnknownField` where the field is neither C-ECHO nor C-STORE; `WrongKind` where a C-ECHO
-/// announces a data set or a C-STORE none; `BadCommand` where a C-STORE names no readable instance.
+/// Reads a whole command set (PS3.7 sections 6.3.1, 9.3.1 and 9.3.5): Implicit VR Little Endian,
+/// rising tags of group 0000, even lengths. The error is the first of these that applies:
+/// `BadCommand` if the bytes are not a command set, or the affected class, the command field, the
+/// message ID or the data set type is missing or unreadable; `UnknownField` if the field is neither
+/// C-ECHO's nor C-STORE's; `WrongKind` if a C-ECHO announces a data set or a C-STORE none;
+/// `BadCommand` if a C-STORE names no readable instance.
 pub fn read_command(bytes: &[u8]) -> Result<Command, DimseFault>
     ensures exact { result ≡ command_in bytes.now }
     ensures found { IfOk result (λ c. CommandText c bytes.now) }

@@ -18,18 +18,18 @@ pub struct CommandSet<'a> {
 }
 
 impl<'a> Model for CommandSet<'a> {
-    ghost use Rattle.std.specs.Prelude.{◌≡◌, List, Some};
-    ghost use Rattle.dimse.specs.Command.{Element};
-    ghost use Rattle.dimse.specs.Reading.{elements_of, known_elements};
+    ghost use Rattle.std.specs.Prelude.{◌≡◌, List, [], Some, unwrap_or};
+    ghost use Rattle.dimse.specs.Command.{CommandElement};
+    ghost use Rattle.dimse.specs.Reading.{elements_of};
 
-    ghost Value = { List Element };
+    ghost Value = { List CommandElement };
 
-    ghost view = { λ s. known_elements (elements_of s.elements.now) };
+    ghost view = { λ s. unwrap_or (elements_of s.elements.now) [] };
 
-    ghost invariant = { λ s. elements_of s.elements.now ≡ Some (known_elements (elements_of s.elements.now)) };
+    ghost invariant = { λ s. elements_of s.elements.now ≡ Some (unwrap_or (elements_of s.elements.now) []) };
 }
 
-/// Whether the element is (0000,0000) with the count of the bytes after it.
+/// Returns whether the element is (0000,0000) and counts the bytes after it.
 fn counts(number: u16, count: &[u8], elements: &[u8]) -> bool
     ensures { result ≡ spelling.counts (record { number = number; value = count.now }) (length elements.now) }
 {
@@ -37,7 +37,7 @@ fn counts(number: u16, count: &[u8], elements: &[u8]) -> bool
 }
 
 impl<'a> CommandSet<'a> {
-    /// The command set that the bytes are; `None` where they are none.
+    /// Returns the command set that the bytes are, or `None` if they are none.
     #[tactic(auto, unfolding(crate::specs::Reading::set_of))]
     pub fn read(bytes: &'a [u8]) -> Option<CommandSet<'a>>
         ensures { result ≡ set_of bytes.now }
@@ -51,14 +51,15 @@ impl<'a> CommandSet<'a> {
         }
     }
 
-    /// The value of the element of this number.
+    /// Returns the value of the element of this number, or `None` if there is none.
     pub fn value(&self, number: u16) -> Option<&'a [u8]>
         ensures { option_map (λ v. v.now) result ≡ value_of number self.now }
     {
         value_in(self.elements, number)
     }
 
-    /// The unique identifier that this element holds; BadCommand where it is missing or holds none.
+    /// Returns the unique identifier that this element holds, or `BadCommand` if it is missing or
+    /// holds none.
     pub fn uid(&self, number: u16) -> Result<Uid, DimseFault>
         ensures value { result ≡ needed uid_of (value_of number self.now) }
         ensures is_uid { IfOk result (λ u. is_uid u ≡ true) }
@@ -67,8 +68,8 @@ impl<'a> CommandSet<'a> {
         Uid::read(value).ok_or(DimseFault::BadCommand)
     }
 
-    /// The number of two bytes that this element holds; BadCommand where it is missing or holds
-    /// none.
+    /// Returns the number of two bytes that this element holds, or `BadCommand` if it is missing or
+    /// holds none.
     pub fn number(&self, number: u16) -> Result<u16, DimseFault>
         ensures { result ≡ needed two_bytes (value_of number self.now) }
     {

@@ -16,9 +16,21 @@ pub returns-clause-other_kind : goal.returns-clause-other_kind
 unfolding stored command_of element_at elements_in elements_of set_of command_in messages_from messages
 returns-clause-other_kind c = refl
 
+pub returns-clause-context_before_kind : goal.returns-clause-context_before_kind
+unfolding stored command_of element_at elements_in elements_of set_of command_in messages_from messages
+returns-clause-context_before_kind c = refl
+
 pub returns-clause-too_long : goal.returns-clause-too_long
 unfolding stored command_of element_at elements_in elements_of set_of command_in messages_from messages
 returns-clause-too_long c = refl
+
+pub returns-clause-with_set : goal.returns-clause-with_set
+unfolding stored command_of element_at elements_in elements_of set_of command_in messages_from messages
+returns-clause-with_set c = refl
+
+pub returns-clause-command_in_set : goal.returns-clause-command_in_set
+unfolding stored command_of element_at elements_in elements_of set_of command_in messages_from messages
+returns-clause-command_in_set c = refl
 
 pub returns-clause-unreadable : goal.returns-clause-unreadable
 unfolding stored command_of element_at elements_in elements_of set_of command_in messages_from messages

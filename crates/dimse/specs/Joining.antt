@@ -1,0 +1,93 @@
+-- What a join of fragments shows of a message (PS3.7 section 6.3; PS3.8 annex E): all that has come of it, a part of a
+-- fragment with it, but for the bytes of its data set, which a join does not keep.
+use Rattle.std.specs.Prelude.{◌≡◌, ℕ, ◌-◌, ◌≤◌, Bool, false, List, [], ◌++◌, length, drop, get_or, Option, None, Some, Result, Ok, Err, nat_lt, if◌then◌else◌}
+use Rattle.pdu.specs.Heads.{is_last, pdv_head_of}
+use Rattle.pdu.specs.Marks.{pdv_size}
+use Rattle.dimse.specs.declared.fault.DimseFault.{DimseFault}
+use Rattle.dimse.specs.declared.joined.Joined.{Joined}
+use Rattle.dimse.specs.declared.joined.Joined.TheVariants as joined
+use Rattle.dimse.specs.Messages.{Pdv, Begun, NoMessage, InCommand, InSet, Brought, Goes, Ends, Refuses, head_refusal}
+
+-- ---- what a part of a fragment adds
+
+-- a message with a fragment, which may be a part of one
+abbrev pub with_fragment : ℕ → List ℕ → Begun → Begun
+with_fragment context fragment NoMessage = InCommand context fragment
+with_fragment context fragment (InCommand first command) = InCommand first (command ++ fragment)
+with_fragment context fragment (InSet first command set) = InSet first command (set ++ fragment)
+
+-- what has come of a message, with these bytes of a presentation data value: six of its head, and then its fragment
+abbrev pub with_pdv : List ℕ → Begun → Begun
+with_pdv begun message = if nat_lt (length begun) 6 then message else with_fragment (get_or begun 4 0) (drop 6 begun) message
+
+-- the presentation data value that these bytes are
+abbrev pub pdv_of : List ℕ → Pdv
+pdv_of bytes = record { context = get_or bytes 4 0; control = get_or bytes 5 0; fragment = drop 6 bytes }
+
+-- ---- what a join shows
+
+-- what contracts see of a join
+pub record Joining : Type 0 where
+  -- what has come of a message, its data set left empty
+  pub message : Begun
+  -- the bytes of its command set; after the end of a message the bytes of that message's command set, until the join is
+  -- cleared or the next message begins
+  pub command : List ℕ
+  -- how many bytes of an unfinished fragment are still to come
+  pub left : ℕ
+  -- whether it is marked as the last one
+  pub last : Bool
+
+abbrev pub without_set : Begun → Begun
+without_set NoMessage = NoMessage
+without_set (InCommand context command) = InCommand context command
+without_set (InSet context command set) = InSet context command []
+
+abbrev pub command_bytes : Begun → List ℕ
+command_bytes NoMessage = []
+command_bytes (InCommand context command) = command
+command_bytes (InSet context command set) = command
+
+-- the bytes that an unfinished presentation data value still lacks; none while its head is not whole
+abbrev pub left_of : List ℕ → ℕ
+left_of begun = if nat_lt (length begun) 6 then 0 else (pdv_size begun - length begun)
+
+abbrev pub last_of : List ℕ → Bool
+last_of begun = if nat_lt (length begun) 6 then false else is_last (get_or begun 5 0)
+
+abbrev pub shown : Begun → List ℕ → Joining
+shown message begun = record {
+  message = without_set message;
+  command = command_bytes message;
+  left = left_of begun;
+  last = last_of begun;
+}
+
+-- The join shows what has come of a message: this of it by whole presentation data values, and these bytes of the next
+-- one, whose head was not refused.
+pub record Shows (room : ℕ) (join : Joining) (message : Begun) (begun : List ℕ) : Type 0 where
+  pub shows : join ≡ shown (with_pdv begun message) begun
+  pub accepted : 6 ≤ length begun → head_refusal room message (pdv_head_of begun) ≡ None
+
+-- ---- the results of its calls
+
+abbrev pub ok_unless : Option DimseFault → Result (Unit {0}) DimseFault
+ok_unless None = Ok tt
+ok_unless (Some fault) = Err fault
+
+-- the message goes on: with more of the same kind, or with a data set that is due from here on
+abbrev pub goes_on : Begun → Begun → Joined
+goes_on (InSet first command set) later = joined.More
+goes_on before (InSet first command set) = joined.DataDue
+goes_on before later = joined.More
+
+-- a join after the end of a message: it still shows its command set
+abbrev pub lending : List ℕ → Joining
+lending command = record { message = NoMessage; command = command; left = 0; last = false }
+
+-- What the end of a presentation data value makes of a join, by what it brings to the message: the join shows what has
+-- come then, or lends the command set of the message that has ended; a refusal leaves it unchanged.
+abbrev pub Joins : ℕ → Begun → Brought → Joining → Joining → Result Joined DimseFault → Type 0
+Joins room before (Goes later) old new result = (result ≡ Ok (goes_on before later)) × Shows room new later []
+Joins room before (Ends m) old new result = (result ≡ Ok joined.Message) × (new ≡ lending m.command)
+Joins room before (Refuses fault) old new result = (result ≡ Err fault) × (new ≡ old)

@@ -1,0 +1,20 @@
+-- What the laws of messages speak of: lists of presentation data values one after the other, and the fragments at their
+-- front.
+use Rattle.std.specs.Prelude.{◌≡◌, ℕ, List, ◌++◌, None, Some}
+use Rattle.dimse.specs.Messages.{Pdv, Message, IsMessage, Messages, messages}
+
+-- the messages of one list and then of another one that begins with what has come of a message
+abbrev pub and_then : Messages → Messages → Messages
+and_then first second = elim first.fault [
+  | None ↦ record { whole = first.whole ++ second.whole; begun = second.begun; fault = second.fault }
+  | Some fault ↦ first
+]
+
+-- the list begins with the fragments of this message; these are the messages of the rest
+pub record BeginsWith (room : ℕ) (m : Message) (later : List Message) (ps : List Pdv) : Type 0 where
+  pub commands : List Pdv
+  pub sets : List Pdv
+  pub more : List Pdv
+  pub parts : ps ≡ (commands ++ sets) ++ more
+  pub message : IsMessage room m commands sets
+  pub rest : (messages room more).whole ≡ later

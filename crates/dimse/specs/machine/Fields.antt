@@ -1,0 +1,32 @@
+-- The fields of a join, and what its private methods do with them.
+use Rattle.std.specs.Prelude.{◌≡◌, ℕ, ◌+◌, ◌≤◌, Bool, true, false, List, [], Result, Ok, Err, if◌then◌else◌}
+use Rattle.dimse.specs.declared.fault.DimseFault.{DimseFault}
+use Rattle.dimse.specs.declared.joined.Joined.{Joined}
+use Rattle.dimse.specs.declared.joined.Joined.TheVariants.{More, DataDue, Message}
+use Rattle.dimse.specs.declared.stage.Stage.{Stage}
+use Rattle.dimse.specs.declared.stage.Stage.TheVariants.{Between, Command, Set}
+use Rattle.dimse.specs.Command.{CommandRecord}
+use Rattle.dimse.specs.Reading.{command_in}
+use Rattle.dimse.specs.Messages.{Begun, NoMessage, InCommand, InSet}
+
+abbrev pub message_at : Stage → ℕ → List ℕ → Begun
+message_at Between context command = NoMessage
+message_at Command context command = InCommand context command
+message_at Set context command = InSet context command []
+
+-- the command set has room for the begun fragment
+abbrev pub HasRoom : ℕ → Stage → ℕ → ℕ → Type 0
+HasRoom room stage size left = stage ≡ Command → size + left ≤ room
+
+-- a whole command set
+abbrev pub read_as : Result CommandRecord DimseFault → Result Joined DimseFault
+read_as (Err fault) = Err fault
+read_as (Ok c) = if c.with_data then Ok DataDue else Ok Message
+
+-- what the end of a fragment makes of a message, by whether it is the last one
+abbrev pub ended_as : Begun → Bool → Result Joined DimseFault
+ended_as NoMessage last = Ok More
+ended_as (InCommand context command) false = Ok More
+ended_as (InCommand context command) true = read_as (command_in command)
+ended_as (InSet context command set) false = Ok More
+ended_as (InSet context command set) true = Ok Message

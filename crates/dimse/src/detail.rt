@@ -1,0 +1,65 @@
+//! The cause that a failure reply names.
+ghost use Rattle.std.specs.Prelude.{◌≡◌, ◌≤◌, length, option_map, IfSome};
+ghost use Rattle.dimse.specs.Detail as spelling;
+
+use arrayvec::ArrayVec;
+use element::Tag;
+
+/// The room of an error comment: `fault`, two digits, two spaces and a name, padded.
+pub(crate) const COMMENT: usize = 26;
+
+/// The cause of a failed C-STORE, which its reply names.
+#[derive(Clone, Copy, Debug, PartialEq, Eq)]
+pub struct Detail {
+    /// The number of the data set's fault, 10 to 17, 20 or 21; `CLASS_MISMATCH` if the data set does
+    /// not name the command's class; `INSTANCE_MISMATCH` if it does not name its instance.
+    pub number: u8,
+    /// The offending element; (0000,0000) if there is none.
+    pub tag: Tag,
+}
+
+/// The class of the data set is missing, unreadable or other than the command's.
+pub const CLASS_MISMATCH: u8 = 45;
+
+/// The instance of the data set is missing, unreadable or other than the command's.
+pub const INSTANCE_MISMATCH: u8 = 46;
+
+/// Returns the name of the cause with this number, or `None` if it has none.
+pub fn cause_name(number: u8) -> Option<&'static str>
+    ensures value { option_map (λ name. name.now) result ≡ spelling.name_of number }
+    ensures short { IfSome result (λ name. length name.now ≤ 16) }
+{
+    let name = match number {
+        10 => "BadVr",
+        11 => "OddLength",
+        12 => "Order",
+        13 => "BadGroup",
+        14 => "UndefinedLength",
+        15 => "UnexpectedTag",
+        16 => "DelimiterLength",
+        17 => "Overrun",
+        20 => "Truncated",
+        21 => "KeptTooLong",
+        45 => "ClassMismatch",
+        46 => "InstanceMismatch",
+        _ => return None,
+    };
+    Some(name)
+}
+
+/// Returns the error comment of a cause with this name.
+pub(crate) fn comment(number: u8, name: &str) -> ArrayVec<u8, COMMENT>
+    requires { length name.now ≤ 16 }
+    ensures { result.items ≡ spelling.comment number name.now }
+{
+    let mut text = ArrayVec::new();
+    let _fault = text.try_extend_from_slice(b"fault ");
+    text.push(b'0' + number / 10);
+    text.push(b'0' + number % 10);
+    text.push(b' ');
+    let _name = text.try_extend_from_slice(name.as_bytes());
+    if text.len() % 2 != 0 {
+        text.push(b' ');
+    }
+    text
+}

@@ -1,0 +1,190 @@
+//! Joins the fragments of a message.
+ghost use Rattle.std.specs.Prelude.{◌≡◌, ◌-◌, ◌≤◌, ◌^◌, ◌++◌, [], List, ℕ, length, OnOk, OnErr};
+ghost use Rattle.pdu.specs.Heads.{pdv_head_of};
+ghost use Rattle.dimse.specs.Messages.{Begun, NoMessage, brought, head_refusal};
+ghost use Rattle.dimse.specs.Joining.{Shows, Joins, ok_unless, pdv_of, without_set};
+ghost use Rattle.dimse.specs.machine.Fields.{ended_as};
+
+use crate::fault::DimseFault;
+use crate::joined::Joined;
+use crate::reading::read_command;
+use crate::stage::Stage;
+use arrayvec::ArrayVec;
+use pdu::PdvHead;
+use std::marker::Model;
+
+/// Joins the fragments of one message at a time (PS3.7 section 6.3; PS3.8 annex E): it keeps the
+/// command set, of at most `C` bytes, and counts the bytes of the data set.
+#[derive(Drop)]
+pub struct Join<const C: usize> {
+    stage: Stage,
+    context: u8,
+    command: ArrayVec<u8, C>,
+    left: u32,
+    last: bool,
+}
+
+impl<const C: usize> Model for Join<C> {
+    ghost use Rattle.arrayvec.specs.ArrayVec.{array_vec_len};
+    ghost use Rattle.dimse.specs.Joining.{Joining};
+    ghost use Rattle.dimse.specs.machine.Fields.{HasRoom, message_at};
+
+    ghost Value = { Joining };
+
+    ghost view = { λ j. record { message = message_at j.stage j.context j.command.items; command = j.command.items; left = j.left; last = j.last } };
+
+    ghost invariant = { λ j. HasRoom C j.stage (array_vec_len j.command) j.left };
+}
+
+impl<const C: usize> Join<C> {
+    /// Returns a join without any fragment.
+    pub fn new() -> Join<C>
+        requires { C ≤ 2 ^ 24 }
+        ensures { Shows C result NoMessage [] }
+    {
+        Join {
+            stage: Stage::Between,
+            context: 0,
+            command: ArrayVec::new(),
+            left: 0,
+            last: false,
+        }
+    }
+
+    /// Returns the first rule that the head breaks, if any, after what has come of the message.
+    fn refusal(&self, head: &PdvHead) -> Option<DimseFault>
+        ensures { result ≡ head_refusal C self.now.message head.now }
+    {
+        let size = head.length.saturating_sub(2) as usize;
+        match (self.stage, head.command) {
+            (Stage::Command | Stage::Set, _) if head.context != self.context => {
+                Some(DimseFault::OtherContext)
+            }
+            (Stage::Between | Stage::Command, false) | (Stage::Set, true) => {
+                Some(DimseFault::WrongKind)
+            }
+            (Stage::Between, true) if size > C => Some(DimseFault::CommandTooLong),
+            (Stage::Command, true) if size > C - self.command.len() => {
+                Some(DimseFault::CommandTooLong)
+            }
+            _ => None,
+        }
+    }
+
+    /// Begins the fragment that follows this head. The error is the first of these that applies, and
+    /// leaves the join unchanged: `OtherContext` if the message's first fragment came in another
+    /// context; `WrongKind` if the fragment is of a data set and one of a command set is due, or the
+    /// reverse; `CommandTooLong` if the command set would have more than `C` bytes.
+    pub fn head(&mut self, head: &PdvHead) -> Result<(), DimseFault>
+        ensures judged { (message : Begun) → self.old.message ≡ without_set message → result ≡ ok_unless (head_refusal C message head.now) }
+        ensures begun { (message : Begun) (bytes : List ℕ) → self.old.message ≡ without_set message → length bytes ≡ 6 → head.now ≡ pdv_head_of bytes → OnOk result (Shows C self.new message bytes) }
+        ensures left { OnOk result (self.new.left ≡ head.now.length - 2) }
+        ensures refused { OnErr result (self.new ≡ self.old) }
+    {
+        if let Some(fault) = self.refusal(head) {
+            return Err(fault);
+        }
+        if let Stage::Between = self.stage {
+            self.command.clear();
+            self.context = head.context;
+            self.stage = Stage::Command;
+        }
+        self.left = head.length.saturating_sub(2);
+        self.last = head.last;
+        Ok(())
+    }
+
+    /// Takes the next part of the unfinished fragment. The bytes of a data set are only counted.
+    pub fn take(&mut self, part: &[u8])
+        requires { length part.now ≤ self.old.left }
+        ensures shows { (message : Begun) (begun : List ℕ) → Shows C self.old message begun → Shows C self.new message (begun ++ part.now) }
+        ensures left { self.new.left ≡ self.old.left - length part.now }
+    {
+        if let Stage::Command = self.stage {
+            let _taken = self.command.try_extend_from_slice(part);
+        }
+        self.left -= part.len() as u32;
+    }
+
+    /// Returns what the end of the unfinished fragment makes of the message.
+    fn joined(&self) -> Result<Joined, DimseFault>
+        ensures { result ≡ ended_as self.now.message self.now.last }
+    {
+        match self.stage {
+            Stage::Command if self.last => {
+                let command = read_command(self.command.as_slice())?;
+                if command.with_data() {
+                    Ok(Joined::DataDue)
+                } else {
+                    Ok(Joined::Message)
+                }
+            }
+            Stage::Set if self.last => Ok(Joined::Message),
+            _ => Ok(Joined::More),
+        }
+    }
+
+    /// Ends the unfinished fragment, at its last byte. If it completes a command set that is no valid
+    /// command, the fault (`BadCommand`, `UnknownField` or `WrongKind`) is the error, and the join
+    /// stays unchanged. After `Message` the join lends the command until `clear` or the next message.
+    pub fn end(&mut self) -> Result<Joined, DimseFault>
+        ensures { (message : Begun) (begun : List ℕ) → 6 ≤ length begun → Shows C self.old message begun → Joins C message (brought message (pdv_of begun)) self.old self.new result }
+    {
+        let joined = self.joined()?;
+        match joined {
+            Joined::More => {}
+            Joined::DataDue => self.stage = Stage::Set,
+            Joined::Message => self.stage = Stage::Between,
+        }
+        self.left = 0;
+        self.last = false;
+        Ok(joined)
+    }
+
+    /// Returns the bytes of the command set so far; from its end until `clear`, all of them.
+    pub fn command(&self) -> &[u8]
+        ensures value { result.now ≡ self.now.command }
+        ensures fits { length self.now.command ≤ C }
+    {
+        self.command.as_slice()
+    }
+
+    /// Drops the message.
+    pub fn clear(&mut self)
+        ensures { Shows C self.new NoMessage [] }
+    {
+        self.stage = Stage::Between;
+        self.command.clear();
+        self.left = 0;
+        self.last = false;
+    }
+}
+
+#[cfg(test)]
+mod tests {
+    use super::*;
+    use std::test::*;
+
+    /// Takes a join apart: a further field, or a further variant, would not compile.
+    #[test]
+    fn a_join_keeps_a_command_and_numbers(rt: HostRuntime) {
+        let Join::<256> {
+            stage,
+            context,
+            command,
+            left,
+            last,
+        } = Join::<256>::new();
+        let stage: u8 = match stage {
+            Stage::Between => 0,
+            Stage::Command => 1,
+            Stage::Set => 2,
+        };
+        let context: u8 = context;
+        let command: ArrayVec<u8, 256> = command;
+        let left: u32 = left;
+        let last: bool = last;
+        assert_eq!(rt; (stage, context, left, last), (0, 0, 0, false));
+        assert!(rt; command.is_empty());
+    }
+}
