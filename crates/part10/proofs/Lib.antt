@@ -1,4 +1,12 @@
 pub mod Bounds
 pub mod MetaLemmas
 pub mod OneHeader
-pub mod Tried
+pub mod Examples
+pub mod FaultLemmas
+pub mod HeaderLemmas
+pub mod ValueLemmas
+pub mod PrefixLemmas
+pub mod ElementLemmas
+pub mod GroupLemmas
+pub mod WholeLemmas
+pub mod Verdicts

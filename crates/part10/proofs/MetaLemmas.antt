@@ -8,13 +8,13 @@ use Rattle.element.specs.declared.syntax.Syntax.{Syntax}
 use Rattle.element.specs.declared.syntax.Syntax.TheVariants.{Implicit, Explicit}
 use Rattle.element.specs.Vr.{is_capital, is_short}
 use Rattle.element.specs.Header.{SpellsHeader, header_bytes}
-use Rattle.element.specs.Padding.{is_padding, is_empty, onto, without_trailing}
+use Rattle.element.specs.Padding.{is_padding, is_empty, kept_before, without_trailing}
 use Rattle.element.specs.Title.{title_text}
 use Rattle.element.specs.Uid.{is_uid_character, is_uid, uid_of}
 use Rattle.element.proofs.Headers.{written_spells}
 use Rattle.dictionary.specs.Syntaxes.{syntax_uid}
 use Rattle.part10.specs.declared.meta.Meta.{Meta}
-use Rattle.part10.specs.Written.{padded}
+use Rattle.element.specs.Padding.{padded}
 use Rattle.part10.specs.File.{meta_element, uid_element, instance_elements, implementation_elements, title_element, meta_group, head}
 use Rattle.part10.specs.MetaText.{MetaElement, MetaElements, no_more, element_then, SpellsMeta, said_of}
 use Rattle.part10.proofs.Bounds.{title_text_short}
@@ -40,12 +40,12 @@ padded_short padding v = by (nat_eq (length v % 2) 0)
 no_padding : (c : ℕ) → is_uid_character c ≡ true → is_padding c ≡ false
 no_padding c e = grind (arith, nat_tests)
 
-kept : (x : ℕ) (rest : List ℕ) → is_padding x ≡ false → onto is_padding x rest ≡ x ∷ rest
+kept : (x : ℕ) (rest : List ℕ) → is_padding x ≡ false → kept_before is_padding x rest ≡ x ∷ rest
 kept x [] e = rw e refl
 kept x (y ∷ rest) e = refl
 
 -- the text of an identifier ends in nothing that is dropped
-text_kept : (text : List ℕ) → list_all is_uid_character text ≡ true → without_trailing is_padding text ≡ text
+pub text_kept : (text : List ℕ) → list_all is_uid_character text ≡ true → without_trailing is_padding text ≡ text
 text_kept [] e = refl
 text_kept (x ∷ xs) e =
     let parts = and_parts (is_uid_character x) (list_all is_uid_character xs) e in
@@ -119,18 +119,18 @@ title_read text short = by (is_empty text)
     by false = meta_last 0x0013 0x0016 65 69 (padded 32 text) (omega arith) (omega arith) refl few (padded_even 32 text)
 
 uid_elements : Meta → List MetaElement → List MetaElement
-uid_elements meta behind =
+uid_elements meta after =
     record { number = 0x0001; value = 0 ∷ 1 ∷ [] }
     ∷ record { number = 0x0002; value = padded 0 meta.class }
     ∷ record { number = 0x0003; value = padded 0 meta.instance }
     ∷ record { number = 0x0010; value = padded 0 (syntax_uid meta.syntax) }
-    ∷ behind
+    ∷ after
 
 implementation : List MetaElement → List MetaElement
-implementation behind =
+implementation after =
     record { number = 0x0012; value = padded 0 (codes "2.25.20260101") }
     ∷ record { number = 0x0013; value = codes "DCMBOX_1" }
-    ∷ behind
+    ∷ after
 
 uid_short : (text : List ℕ) → is_uid text ≡ true → length (padded 0 text) < 65536
 uid_short text e =

@@ -1,23 +1,24 @@
 -- The file of a stored instance (PS3.10 section 7.1). Which optional elements stand in its header, and what
 -- names this implementation, is this product's own profile.
-use Rattle.std.specs.Prelude.{ℕ, List, [], ◌∷◌, ◌++◌, length, replicate, if◌then◌else◌, codes}
+use Rattle.std.specs.Prelude.{ℕ, List, [], ◌∷◌, ◌++◌, length, replicate, Some, if◌then◌else◌, codes}
 use Rattle.element.specs.Numbers.{le}
-use Rattle.element.specs.Padding.{is_empty}
+use Rattle.element.specs.Header.{header_bytes}
+use Rattle.element.specs.Padding.{is_empty, padded}
 use Rattle.element.specs.Title.{title_text}
+use Rattle.element.specs.Uid.{even_uid}
 use Rattle.dictionary.specs.Syntaxes.{syntax_uid}
 use Rattle.part10.specs.declared.meta.Meta.{Meta}
-use Rattle.part10.specs.Written.{padded, element_bytes}
 
 -- 128 zero bytes and the four letters
 abbrev pub prefix : List ℕ
 prefix = replicate 128 0 ++ codes "DICM"
 
--- the element (0002,number)
+-- the element (0002,number) in Explicit VR Little Endian (PS3.5 section 7.1.2)
 abbrev pub meta_element : ℕ → List ℕ → List ℕ → List ℕ
-meta_element number vr value = element_bytes (record { 0 = 2; 1 = number }) vr value
+meta_element number vr value = header_bytes (record { tag = record { 0 = 2; 1 = number }; vr = Some vr; length = length value }) ++ value
 
 abbrev pub uid_element : ℕ → List ℕ → List ℕ
-uid_element number text = meta_element number (codes "UI") (padded 0 text)
+uid_element number text = meta_element number (codes "UI") (even_uid text)
 
 -- the version of the header, the class, the instance and its transfer syntax
 unfoldable pub instance_elements : Meta → List ℕ
@@ -36,11 +37,11 @@ implementation_elements =
 unfoldable pub title_element : List ℕ → List ℕ
 title_element text = if is_empty text then [] else meta_element 0x0016 (codes "AE") (padded 32 text)
 
--- the elements of group 0002 behind its length; of the calling title, what is left without spaces round it
+-- the elements of group 0002 after its length; of the calling title, what is left without spaces at both ends
 abbrev pub meta_group : Meta → List ℕ
 meta_group meta = instance_elements meta ++ implementation_elements ++ title_element (title_text meta.calling.0)
 
--- File Meta Information Group Length: the bytes of the group behind it
+-- File Meta Information Group Length: the bytes of the group after it
 abbrev pub length_element : ℕ → List ℕ
 length_element bytes = meta_element 0x0000 (codes "UL") (le bytes 4)
 

@@ -1,5 +1,5 @@
-pub mod Shelf
-pub mod Written
+pub mod Store
 pub mod File
 pub mod MetaText
-pub mod Tried
+pub mod Examples
+pub mod machine

@@ -1,13 +1,17 @@
 -- The file header as it is read, and what is wrong with a file that has none (PS3.10 section 7.1). That the
--- preamble is not looked at, and that the VRs behind the first element are not, is this product's own profile.
-use Rattle.std.specs.Prelude.{◌≡◌, ◌≢◌, ℕ, ◌%◌, ◌^◌, ◌<◌, List, [], ◌∷◌, ◌++◌, length, take, drop, Option, Some, None, nat_eq, if◌then◌else◌, codes}
+-- preamble is not looked at, and that the VRs after the first element are not, is this product's own profile.
+use Rattle.std.specs.Prelude.{◌≡◌, ◌≢◌, ℕ, ◌%◌, ◌^◌, ◌<◌, List, [], ◌∷◌, ◌++◌, length, take, drop, Option, Some, None, IfSome, ⊤, ◌⊎◌, nat_eq, if◌then◌else◌, codes}
+use Rattle.std.specs.Io.KnownBytes.{Consumes}
 use Rattle.element.specs.declared.syntax.Syntax.{Syntax}
 use Rattle.element.specs.declared.syntax.Syntax.TheVariants.{Explicit}
 use Rattle.element.specs.declared.header.Header.{Header}
 use Rattle.element.specs.Header.{SpellsHeader}
+use Rattle.element.specs.Numbers.{IsBytes}
 use Rattle.element.specs.Uid.{uid_of}
 use Rattle.dictionary.specs.Syntaxes.{syntax_uid}
 use Rattle.part10.specs.declared.meta.Meta.{Meta}
+use Rattle.part10.specs.declared.meta_fault.MetaFault.{MetaFault}
+use Rattle.part10.specs.declared.meta_fault.MetaFault.TheVariants.{NotPart10, BadMeta, OtherSyntax, ReadFailed}
 use Rattle.part10.specs.File.{length_element}
 
 -- an element of group 0002: its element number and its value
@@ -66,14 +70,50 @@ pub record HasMeta (said : Said) (file : List ℕ) : Type 0 where
 abbrev pub HasLetters : List ℕ → Type 0
 HasLetters file = take 4 (drop 128 file) ≡ codes "DICM"
 
--- what is first found wrong with a file: 50, the letters do not stand behind 128 bytes; 51, it has no file
--- header; 53, its transfer syntax is not one that is taken
-pub data MetaFaultOf : List ℕ → ℕ → Type 0 where
-  not_part10 : {file : List ℕ} → ¬ HasLetters file → MetaFaultOf file 50
-  bad_meta : {file : List ℕ} → HasLetters file → ((said : Said) → ¬ HasMeta said file) → MetaFaultOf file 51
-  other_syntax : {file : List ℕ} {said : Said} → HasMeta said file → ((s : Syntax) → said.syntax ≢ syntax_uid s)
-      → MetaFaultOf file 53
+-- a fault's number
+abbrev pub fault_number : MetaFault → ℕ
+fault_number NotPart10 = 50
+fault_number BadMeta = 51
+fault_number OtherSyntax = 53
+fault_number ReadFailed = 54
 
--- no file has two file headers that say different things
+-- what is first wrong with a file: the letters do not stand after 128 bytes; it has no file header; its transfer
+-- syntax is not one that is taken. That a read fails is no fault of the file
+abbrev pub MetaFaultOf : List ℕ → MetaFault → Type 0
+MetaFaultOf file NotPart10 = ¬ HasLetters file
+MetaFaultOf file BadMeta = HasLetters file × ((said : Said) → ¬ HasMeta said file)
+MetaFaultOf file OtherSyntax = (said : Said) × HasMeta said file × ((s : Syntax) → said.syntax ≢ syntax_uid s)
+MetaFaultOf file ReadFailed = ⊥
+
+-- reading took just a file header that says this
+abbrev pub TakesMeta : Said → Option (List ℕ) → Option (List ℕ) → Type 0
+TakesMeta said old new = (header : List ℕ) × SpellsMeta said header × Consumes old new header
+
+-- reading took just a file header with a transfer syntax that is not taken
+abbrev pub NamesOther : Option (List ℕ) → Option (List ℕ) → Type 0
+NamesOther old new = (said : Said) × TakesMeta said old new × ((s : Syntax) → said.syntax ≢ syntax_uid s)
+
+-- reading fails with this fault: a read failed, or it is the fault of the bytes that were left, where they are known
+abbrev pub Refuses : MetaFault → Option (List ℕ) → Type 0
+Refuses ReadFailed old = ⊤
+Refuses NotPart10 old = IfSome old (λ file. MetaFaultOf file NotPart10)
+Refuses BadMeta old = IfSome old (λ file. MetaFaultOf file BadMeta)
+Refuses OtherSyntax old = IfSome old (λ file. MetaFaultOf file OtherSyntax)
+
+-- the file has a file header with a transfer syntax that is taken
+abbrev pub IsTaken : List ℕ → Type 0
+IsTaken file = (said : Said) × HasMeta said file × ((s : Syntax) × (said.syntax ≡ syntax_uid s))
+
+-- no file has two file headers that say different things, or that end at different places
 abbrev pub OneHeader : Type 0
-OneHeader = (file : List ℕ) (said told : Said) → HasMeta said file → HasMeta told file → said ≡ told
+OneHeader = (file : List ℕ) (said told : Said) (has : HasMeta said file) (also : HasMeta told file) → (said ≡ told) × (has.front ≡ also.front)
+
+-- every file is taken or has a fault
+abbrev pub TakenOrFaulty : Type 0
+TakenOrFaulty = (file : List ℕ) → IsBytes file → IsTaken file ⊎ ((fault : MetaFault) × MetaFaultOf file fault)
+
+-- none is taken and has a fault, and none has two faults
+abbrev pub OneVerdict : Type 0
+OneVerdict =
+    ((file : List ℕ) (fault : MetaFault) → IsTaken file → ¬ MetaFaultOf file fault)
+    × ((file : List ℕ) (fault other : MetaFault) → MetaFaultOf file fault → MetaFaultOf file other → fault ≡ other)

@@ -1,56 +1,35 @@
-//! Where files are put.
-ghost use Rattle.std.specs.Prelude.{◌≡◌, ◌+◌, ℕ, Bool, true, false, Option, OnOk, OnErr};
-ghost use Rattle.part10.specs.Shelf.{Shelf, told_after, without_draft, appended, committed};
+//! Where received files are kept.
+ghost use Rattle.std.specs.Prelude.{◌≡◌, true, false};
+ghost use Rattle.part10.specs.Store.{Store, Leaves, without_draft, appended, committed, stepped};
 
-/// The call failed: no draft is left, and the files are as they were (fault 52).
+/// The call failed: there is no draft, and the files are as they were (fault 52).
 #[derive(Clone, Copy, Debug, PartialEq, Eq)]
 pub struct FilingFailed;
 
-/// Where files are put: a draft is begun, gets bytes, and is committed, which makes one file of it,
-/// or discarded, which makes none.
+/// Keeps files. A draft is begun, gets bytes, and is either committed, which makes one file of it, or
+/// discarded, which makes none.
+///
+/// A call that fails leaves no draft and the files as they were, and adds one to the failures.
 pub trait Filing {
-    /// How often a call failed.
-    ghost failures: { Self → ℕ };
+    /// The files and the draft's bytes, where the filing knows them; whether there is a draft; how
+    /// many calls failed.
+    ghost store: { Self → Store };
 
-    /// Whether a draft is there.
-    ghost has_draft: { Self → Bool };
-
-    /// The files, oldest first, and the draft's bytes, where the filing tells them.
-    ghost told: { Self → Option Shelf };
-
-    /// Sets an empty draft in place of any; or fails, once, and leaves no draft.
+    /// Sets an empty draft in place of any.
     fn begin(&mut self) -> Result<(), FilingFailed>
-        ensures told { OnOk result (told self.new ≡ told_after without_draft (told self.old)) }
-        ensures draft { OnOk result (has_draft self.new ≡ true) }
-        ensures same_count { OnOk result (failures self.new ≡ failures self.old) }
-        ensures dropped { OnErr result (told self.new ≡ told_after without_draft (told self.old)) }
-        ensures no_draft { OnErr result (has_draft self.new ≡ false) }
-        ensures counted { OnErr result (failures self.new ≡ failures self.old + 1) };
+        ensures leaves { Leaves without_draft true result (store self.old) (store self.new) };
 
-    /// Puts the bytes at the draft's end; or fails, once, and leaves no draft.
+    /// Adds the bytes at the draft's end.
     fn append(&mut self, bytes: &[u8]) -> Result<(), FilingFailed>
-        requires { has_draft self.old ≡ true }
-        ensures told { OnOk result (told self.new ≡ told_after (appended bytes.now) (told self.old)) }
-        ensures draft { OnOk result (has_draft self.new ≡ true) }
-        ensures same_count { OnOk result (failures self.new ≡ failures self.old) }
-        ensures dropped { OnErr result (told self.new ≡ told_after without_draft (told self.old)) }
-        ensures no_draft { OnErr result (has_draft self.new ≡ false) }
-        ensures counted { OnErr result (failures self.new ≡ failures self.old + 1) };
+        requires { (store self.old).has_draft ≡ true }
+        ensures leaves { Leaves (appended bytes.now) true result (store self.old) (store self.new) };
 
-    /// Puts the draft last in the list of files, and leaves none; or fails, once, and leaves no draft
-    /// and the list as it was.
+    /// Makes the draft the last file.
     fn commit(&mut self) -> Result<(), FilingFailed>
-        requires { has_draft self.old ≡ true }
-        ensures told { OnOk result (told self.new ≡ told_after committed (told self.old)) }
-        ensures draft { OnOk result (has_draft self.new ≡ false) }
-        ensures same_count { OnOk result (failures self.new ≡ failures self.old) }
-        ensures dropped { OnErr result (told self.new ≡ told_after without_draft (told self.old)) }
-        ensures no_draft { OnErr result (has_draft self.new ≡ false) }
-        ensures counted { OnErr result (failures self.new ≡ failures self.old + 1) };
+        requires { (store self.old).has_draft ≡ true }
+        ensures leaves { Leaves committed false result (store self.old) (store self.new) };
 
-    /// Leaves no draft. It never fails.
+    /// Drops the draft, if there is one. It never fails.
     fn discard(&mut self)
-        ensures told { told self.new ≡ told_after without_draft (told self.old) }
-        ensures draft { has_draft self.new ≡ false }
-        ensures same_count { failures self.new ≡ failures self.old };
+        ensures leaves { store self.new ≡ stepped without_draft false (store self.old) };
 }

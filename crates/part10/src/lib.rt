@@ -1,16 +1,20 @@
-//! Files of DICOM objects (PS3.10 section 7.1): where they are put, and what stands at their head.
+//! DICOM files (PS3.10 section 7.1): their headers, and where received files are kept.
 #![tactic(auto)]
 
 mod filing;
+mod folder_filing;
 pub mod laws;
 mod memory_filing;
 mod meta;
+mod meta_fault;
+mod place;
+mod reading;
 mod writing;
 
 pub use filing::{Filing, FilingFailed};
+pub use folder_filing::FolderFiling;
 pub use memory_filing::MemoryFiling;
 pub use meta::Meta;
+pub use meta_fault::MetaFault;
+pub use reading::read_meta;
 pub use writing::meta_bytes;
-
-#[cfg(test)]
-mod tests;

@@ -1,13 +1,13 @@
 //! A filing over memory.
-ghost use Rattle.std.specs.Prelude.{◌≡◌, ◌+◌, [], Some, None, is_some, map};
-ghost use Rattle.part10.specs.Shelf.{shelf_of};
+ghost use Rattle.std.specs.Prelude.{◌≡◌, ◌+◌, [], None, map};
+ghost use Rattle.part10.specs.Store.{store_of};
 
 use crate::filing::{Filing, FilingFailed};
 use element::count::Count;
 use std::alloc::Allocator;
 use std::marker::Model;
 
-/// Keeps the files. A growth that the allocator refuses is a failure.
+/// Keeps the files in memory. A growth that the allocator refuses is a failed call.
 #[derive(Drop)]
 pub struct MemoryFiling<A: Allocator + Copy> {
     alloc: A,
@@ -18,7 +18,7 @@ pub struct MemoryFiling<A: Allocator + Copy> {
 
 impl<A: Allocator + Copy> Model for MemoryFiling<A> {
     ghost use Rattle.std.specs.Prelude.{map, option_map};
-    ghost use Rattle.part10.specs.Shelf.{Kept};
+    ghost use Rattle.part10.specs.Store.{Kept};
 
     ghost Value = { Kept };
 
@@ -26,7 +26,7 @@ impl<A: Allocator + Copy> Model for MemoryFiling<A> {
 }
 
 impl<A: Allocator + Copy> MemoryFiling<A> {
-    /// No file and no draft is there, and no call has failed.
+    /// Returns a filing without files and without a draft, of which no call has failed.
     pub fn new(alloc: A) -> MemoryFiling<A>
         ensures files { result.files ≡ [] }
         ensures draft { result.draft ≡ None }
@@ -40,13 +40,14 @@ impl<A: Allocator + Copy> MemoryFiling<A> {
         }
     }
 
-    /// The files, oldest first.
+    /// Returns the files, oldest first.
     pub fn files(&self) -> &[Vec<u8, A>]
         ensures { map (λ v. v.items) result.now ≡ self.now.files }
     {
         self.files.as_slice()
     }
 
+    /// Drops the draft and counts a failure.
     fn fail(&mut self)
         ensures files { self.new.files ≡ self.old.files }
         ensures draft { self.new.draft ≡ None }
@@ -58,11 +59,7 @@ impl<A: Allocator + Copy> MemoryFiling<A> {
 }
 
 impl<A: Allocator + Copy> Filing for MemoryFiling<A> {
-    ghost failures = { λ f. f.failures };
-
-    ghost has_draft = { λ f. is_some f.draft };
-
-    ghost told = { λ f. Some (shelf_of f) };
+    ghost store = { λ f. store_of f };
 
     fn begin(&mut self) -> Result<(), FilingFailed> {
         self.draft = Some(Vec::new(self.alloc));

@@ -1,15 +1,15 @@
-//! What a file header says.
+//! The contents of a file header.
 use element::{AeTitle, Syntax, Uid};
 
-/// What the file header says of an instance (PS3.10 section 7.1).
+/// The part of a file header that describes its instance (PS3.10 section 7.1).
 #[derive(Debug, Drop)]
 pub struct Meta {
-    /// The class of the instance.
+    /// The SOP class of the instance.
     pub class: Uid,
-    /// The instance.
+    /// The SOP instance.
     pub instance: Uid,
-    /// How the data set is laid out.
+    /// The transfer syntax of the data set.
     pub syntax: Syntax,
-    /// Who sent it; left out of the header where it is all spaces.
+    /// The title of the sender; not written if it is all spaces.
     pub calling: AeTitle,
 }

@@ -6,7 +6,7 @@ ghost use Rattle.element.specs.Uid.{is_uid};
 ghost use Rattle.element.specs.Vr.{is_short_vr};
 ghost use Rattle.part10.specs.File as file;
 ghost use Rattle.part10.specs.MetaText.{SpellsMeta, said_of};
-ghost use Rattle.part10.specs.Written.{padded};
+ghost use Rattle.element.specs.Padding.{padded};
 
 use crate::Meta;
 use arrayvec::ArrayVec;
@@ -23,7 +23,7 @@ fn put(head: &mut Head, bytes: &[u8])
     head.try_extend_from_slice(bytes).unwrap();
 }
 
-/// Puts an element of group 0002 at the end, under a VR with a length of two bytes.
+/// Appends an element of group 0002 with a VR whose length takes two bytes.
 fn put_element(head: &mut Head, number: u16, vr: [u8; 2], value: &[u8], padding: u8)
     requires room { array_vec_len head.old + length value.now + 9 ≤ 512 }
     requires short { is_short_vr vr ≡ true }
@@ -51,7 +51,7 @@ fn put_uid(head: &mut Head, number: u16, text: &[u8])
     put_element(head, number, *b"UI", text, 0);
 }
 
-/// The version of the file header, and what the instance is.
+/// Returns the elements with the version of the header, the class, the instance and the syntax.
 #[tactic(auto, using(crate::proofs::Bounds::syntax_uid_short), unfolding(element::specs::Vr::is_short, crate::specs::File::instance_elements))]
 fn instance_elements(meta: &Meta) -> Head
     ensures items { result.items ≡ file.instance_elements meta.now }
@@ -73,7 +73,7 @@ fn instance_elements(meta: &Meta) -> Head
     group
 }
 
-/// What names this implementation.
+/// Appends the elements that name this implementation.
 #[tactic(auto, unfolding(element::specs::Vr::is_short, crate::specs::File::implementation_elements))]
 fn put_implementation(group: &mut Head)
     requires room { array_vec_len group.old ≤ 240 }
@@ -84,7 +84,7 @@ fn put_implementation(group: &mut Head)
     put_element(group, 0x0013, *b"SH", b"DCMBOX_1", b' ');
 }
 
-/// Who sent the instance, where anything remains of the title.
+/// Appends the element with the sender's title, if anything remains of the title without spaces.
 #[tactic(auto, using(crate::proofs::Bounds::title_text_short), unfolding(element::specs::Vr::is_short, crate::specs::File::title_element))]
 fn put_title(group: &mut Head, calling: AeTitle)
     requires room { array_vec_len group.old ≤ 330 }
@@ -130,8 +130,8 @@ fn file_header(meta: &Meta) -> Head
     head
 }
 
-/// The file header: what stands before the data set (PS3.10 section 7.1). 128 zero bytes, `DICM`, and
-/// group 0002 in Explicit VR Little Endian.
+/// Returns the file header: the bytes before the data set (PS3.10 section 7.1). They are 128 zero
+/// bytes, `DICM`, and group 0002 in Explicit VR Little Endian.
 pub fn meta_bytes(meta: &Meta) -> ArrayVec<u8, 512>
     ensures bytes { result.items ≡ file.head meta.now }
     ensures reads_back { SpellsMeta (said_of meta.now) result.items }

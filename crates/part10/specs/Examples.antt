@@ -1,9 +1,10 @@
--- Files by which the definitions of the file header are tried (PS3.10 section 7.1).
+-- Example files for the definitions of the file header (PS3.10 section 7.1).
 use Rattle.std.specs.Prelude.{◌≡◌, ℕ, List, [], ◌++◌, length, take, drop, replicate, codes}
 use Rattle.element.specs.declared.syntax.Syntax.TheVariants.{Explicit}
 use Rattle.element.specs.Numbers.{le}
 use Rattle.part10.specs.declared.meta.Meta.{Meta}
 use Rattle.part10.specs.File.{meta_element, uid_element, length_element, head, File}
+use Rattle.part10.specs.declared.meta_fault.MetaFault.TheVariants.{NotPart10, BadMeta, OtherSyntax}
 use Rattle.part10.specs.MetaText.{Said, SpellsMeta, MetaFaultOf}
 
 -- a CT image from SCANNER1
@@ -22,21 +23,21 @@ OneCtStore =
     × (take 12 (drop 132 (head ct_meta)) ≡ meta_element 0x0000 (codes "UL") (le 144 4))
     × (length (File ct_meta (replicate 48 0)) ≡ 336)
 
--- nothing, zeros alone, the letters too early; nothing behind the letters, and a cut element there
+-- nothing, zeros alone, the letters too early; nothing after the letters, and a cut element there
 abbrev pub NoHeaders : Type 0
 NoHeaders =
-    MetaFaultOf [] 50
-    × MetaFaultOf (replicate 300 0) 50
-    × MetaFaultOf (replicate 127 0 ++ codes "DICM" ++ replicate 100 0) 50
-    × MetaFaultOf (replicate 128 0 ++ codes "DICM") 51
-    × MetaFaultOf (replicate 128 0 ++ codes "DICM" ++ take 11 (length_element 34)) 51
+    MetaFaultOf [] NotPart10
+    × MetaFaultOf (replicate 300 0) NotPart10
+    × MetaFaultOf (replicate 127 0 ++ codes "DICM" ++ replicate 100 0) NotPart10
+    × MetaFaultOf (replicate 128 0 ++ codes "DICM") BadMeta
+    × MetaFaultOf (replicate 128 0 ++ codes "DICM" ++ take 11 (length_element 34)) BadMeta
 
 -- group 0002 with what it has to have alone
 abbrev pub least_group : List ℕ → List ℕ
 least_group syntax =
     uid_element 0x0002 (codes "1.2.840.10008.5.1.4.1.1.2") ++ (uid_element 0x0003 (codes "1.2.3") ++ uid_element 0x0010 syntax)
 
--- behind a preamble of other bytes than zeros
+-- after a preamble of other bytes than zeros
 abbrev pub least_header : List ℕ → List ℕ
 least_header syntax =
     replicate 128 7 ++ codes "DICM" ++ length_element (length (least_group syntax)) ++ least_group syntax
@@ -44,8 +45,8 @@ least_header syntax =
 abbrev pub least_said : List ℕ → Said
 least_said syntax = record { class = codes "1.2.840.10008.5.1.4.1.1.2"; instance = codes "1.2.3"; syntax = syntax }
 
--- Explicit is read, JPEG Baseline is told
-abbrev pub OtherSyntax : Type 0
-OtherSyntax =
+-- Explicit VR Little Endian is taken, JPEG Baseline is a fault
+abbrev pub SyntaxIsSaid : Type 0
+SyntaxIsSaid =
     SpellsMeta (least_said (codes "1.2.840.10008.1.2.1")) (least_header (codes "1.2.840.10008.1.2.1"))
-    × MetaFaultOf (least_header (codes "1.2.840.10008.1.2.4.50") ++ replicate 20 0) 53
+    × MetaFaultOf (least_header (codes "1.2.840.10008.1.2.4.50") ++ replicate 20 0) OtherSyntax

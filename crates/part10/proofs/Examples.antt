@@ -6,10 +6,11 @@ use Rattle.element.specs.declared.syntax.Syntax.TheVariants.{Implicit, Explicit}
 use Rattle.element.specs.Vr.{is_short}
 use Rattle.element.specs.Uid.{is_uid}
 use Rattle.dictionary.specs.Syntaxes.{syntax_uid}
-use Rattle.part10.specs.Written.{padded}
+use Rattle.part10.specs.declared.meta_fault.MetaFault.TheVariants.{NotPart10}
+use Rattle.element.specs.Padding.{padded}
 use Rattle.part10.specs.File.{uid_element, length_element, instance_elements, implementation_elements, title_element}
-use Rattle.part10.specs.MetaText.{Said, SpellsMeta, HasMeta, MetaElement, MetaElements, no_more, MetaFaultOf, not_part10, bad_meta, other_syntax}
-use Rattle.part10.specs.Tried.{OneCtStore, NoHeaders, OtherSyntax, least_group, least_header, least_said}
+use Rattle.part10.specs.MetaText.{Said, SpellsMeta, HasMeta, MetaElement, MetaElements, no_more, MetaFaultOf}
+use Rattle.part10.specs.Examples.{OneCtStore, NoHeaders, SyntaxIsSaid, least_group, least_header, least_said}
 use Rattle.part10.proofs.MetaLemmas.{uid_back, uid_then}
 
 pub one_ct_store : OneCtStore
@@ -29,8 +30,8 @@ too_short : (said : Said) (file : List ℕ) → length file < 144 → ¬ HasMeta
 too_short said file short has = absurd (omega (arith, short, header_long said file has))
 
 -- a byte that is no D
-no_letters : (file : List ℕ) → get_or (take 4 (drop 128 file)) 0 0 ≢ 68 → MetaFaultOf file 50
-no_letters file other = not_part10 (λ same. other (ap (λ xs. get_or xs 0 0) same))
+no_letters : (file : List ℕ) → get_or (take 4 (drop 128 file)) 0 0 ≢ 68 → MetaFaultOf file NotPart10
+no_letters file other same = other (ap (λ xs. get_or xs 0 0) same)
 
 pub no_headers : NoHeaders
 unfolding is_short
@@ -38,8 +39,8 @@ no_headers = (
   no_letters [] (λ e. absurd (omega (arith, e))),
   no_letters (replicate 300 0) (λ e. absurd (omega (arith, e))),
   no_letters (replicate 127 0 ++ codes "DICM" ++ replicate 100 0) (λ e. absurd (omega (arith, e))),
-  bad_meta refl (λ said. too_short said (replicate 128 0 ++ codes "DICM") (omega arith)),
-  bad_meta refl (λ said. too_short said (replicate 128 0 ++ codes "DICM" ++ take 11 (length_element 34)) (omega arith)),
+  (refl, λ said. too_short said (replicate 128 0 ++ codes "DICM") (omega arith)),
+  (refl, λ said. too_short said (replicate 128 0 ++ codes "DICM" ++ take 11 (length_element 34)) (omega arith)),
 )
 
 least_elements : List ℕ → List MetaElement
@@ -82,10 +83,12 @@ not_taken : (s : Syntax) → codes "1.2.840.10008.1.2.4.50" ≢ syntax_uid s
 not_taken Implicit same = absurd (omega (arith, ap length same))
 not_taken Explicit same = absurd (omega (arith, ap length same))
 
-pub other_syntax_is_told : OtherSyntax
-other_syntax_is_told = (
+pub other_syntax_is_a_fault : SyntaxIsSaid
+other_syntax_is_a_fault = (
   explicit_is,
-  other_syntax {said = least_said (codes "1.2.840.10008.1.2.4.50")}
-      (record { front = least_header (codes "1.2.840.10008.1.2.4.50"); back = replicate 20 0; whole = refl; spelled = jpeg_is })
-      not_taken,
+  (
+    least_said (codes "1.2.840.10008.1.2.4.50"),
+    record { front = least_header (codes "1.2.840.10008.1.2.4.50"); back = replicate 20 0; whole = refl; spelled = jpeg_is },
+    not_taken,
+  ),
 )

@@ -1,0 +1,15 @@
+use Rattle.std.proofs.Common.{◌++◌, sym, arith, length-append, length-take}
+use Rattle.std.proofs.KnownBytes.{Consumes-trans}
+use Rattle.part10.proofs.ValueLemmas.{both_padding}
+use Rattle.part10.proofs.reading.read_padding.Goals as goal
+
+pub loop-left-preserved : goal.loop-left-preserved
+loop-left-preserved g c =
+    let so_far = c.loop-left.invariant in
+    let filled = c.in_ok-read_whole.ensures in
+    record {
+      text = so_far.text ++ c.read_whole.new.room;
+      taken = Consumes-trans _ _ _ _ _ so_far.taken filled.took;
+      counted = rw length-append (omega (arith, filled.size, length-take c.min-part.result c.loop-left.room, c.min-part.array_long, c.min-part.ensures, so_far.counted));
+      is = rw (so_far.is, c.are_padding-is_padding.ensures) (sym (both_padding so_far.text c.read_whole.new.room));
+    }

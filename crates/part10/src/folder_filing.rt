@@ -1,0 +1,318 @@
+//! A filing over a folder.
+ghost use Rattle.std.specs.Prelude.{◌≡◌, ◌≤◌, ◌+◌, None, OnOk, is_some, true, false};
+
+use crate::filing::{Filing, FilingFailed};
+use crate::place::{Layout, Place, number_in};
+use element::count::Count;
+use std::fs::{File, TryLockError};
+use std::io::{Error, ErrorKind, Write};
+use std::rt::Files;
+use std::{fs, io};
+
+/// Keeps each committed draft as a file of its own: `I` and seven digits.
+///
+/// The draft is the file `DRAFT` of the folder. The folder has one writer: it stays locked until
+/// this value is dropped. No file is ever written over.
+///
+/// A commit writes the draft to the disk (`sync_all`) before it gives it its name, and the folder
+/// after that, so that a file that was committed survives a loss of power. The folder's file system
+/// must have hard links: the name is made by one, which fails where the name is taken.
+#[derive(Drop)]
+pub struct FolderFiling<R: Files<File = File> + Alloc + Clone + Drop> {
+    rt: R,
+    dir: String<R::A>,
+    draft_path: String<R::A>,
+    /// The opened folder, which holds the lock.
+    folder: File,
+    layout: Layout,
+    /// Of the last file that was found or committed.
+    last: Place,
+    draft: Option<File>,
+    has_sync: bool,
+    committed: u32,
+    dropped: u32,
+    failures: Count,
+}
+
+/// Opens the folder and locks it.
+fn lock<R: Files<File = File>>(rt: &R, dir: &str) -> io::Result<File> {
+    let folder = fs::open(rt, dir)?;
+    match folder.try_lock() {
+        Ok(()) => Ok(folder),
+        Err(TryLockError::WouldBlock) => Err(Error::new(
+            ErrorKind::WouldBlock,
+            "the folder is in use by another writer",
+        )),
+        Err(TryLockError::Error(error)) => Err(error),
+    }
+}
+
+/// Returns the greatest number in a name of this letter, if there is one.
+fn highest<R: Files + Alloc + Clone + Drop>(
+    rt: &R,
+    dir: &str,
+    letter: char,
+    only_folders: bool,
+) -> io::Result<Option<u32>> {
+    let mut highest = None;
+    for entry in fs::read_dir(rt, dir)? {
+        match entry {
+            Ok(entry) => {
+                if let Some(number) = number_in(letter, entry.file_name()) {
+                    if !only_folders || entry.file_type()?.is_dir() {
+                        highest = highest.max(Some(number));
+                    }
+                }
+            }
+            // A name that is not UTF-8 is no number.
+            Err(error) if error.kind() == ErrorKind::InvalidFilename => {}
+            Err(error) => return Err(error),
+        }
+    }
+    Ok(highest)
+}
+
+/// Returns where the last file of the folder stands; 0 is the number of a file that is not there.
+fn last_place<R: Files + Alloc + Clone + Drop>(
+    rt: &R,
+    dir: &str,
+    layout: Layout,
+) -> io::Result<Place> {
+    let Layout::Levels { per } = layout else {
+        let file = highest(rt, dir, 'I', false)?.unwrap_or(0);
+        return Ok(Place { folder: 0, file });
+    };
+    match highest(rt, dir, 'S', true)? {
+        // As if a folder before the first were full.
+        None => Ok(Place {
+            folder: 0,
+            file: per,
+        }),
+        Some(folder) => {
+            let path = format!(in rt.alloc(); "{dir}/S{folder:07}")?;
+            let file = highest(rt, path.as_str(), 'I', false)?.unwrap_or(0);
+            Ok(Place { folder, file })
+        }
+    }
+}
+
+impl<R: Files<File = File> + Alloc + Clone + Drop> FolderFiling<R> {
+    /// Opens a folder whose files all stand in it. The folder must be there.
+    ///
+    /// Fails with `WouldBlock` if another filing has the folder open.
+    pub fn open(rt: R, dir: &str) -> io::Result<FolderFiling<R>> {
+        FolderFiling::with_layout(rt, dir, Layout::Flat)
+    }
+
+    /// Opens a folder whose files stand in folders of `per` files: `S` and seven digits. The folder
+    /// must be there.
+    ///
+    /// Fails with `WouldBlock` if another filing has the folder open.
+    pub fn open_levels(rt: R, dir: &str, per: u32) -> io::Result<FolderFiling<R>>
+        requires some { 1 ≤ per }
+        requires most { per ≤ 9999 }
+    {
+        FolderFiling::with_layout(rt, dir, Layout::Levels { per })
+    }
+
+    fn with_layout(rt: R, dir: &str, layout: Layout) -> io::Result<FolderFiling<R>> {
+        let folder = lock(&rt, dir)?;
+        let last = last_place(&rt, dir, layout)?;
+        let draft_path = format!(in rt.alloc(); "{dir}/DRAFT")?;
+        let dir = String::from_str(rt.alloc(), dir)?;
+        Ok(FolderFiling {
+            rt,
+            dir,
+            draft_path,
+            folder,
+            layout,
+            last,
+            draft: None,
+            has_sync: true,
+            committed: 0,
+            dropped: 0,
+            failures: Count::new(),
+        })
+    }
+
+    /// Commits without writing to the disk: faster, and a loss of power may lose files that were
+    /// committed.
+    pub fn without_sync(self) -> FolderFiling<R> {
+        FolderFiling {
+            has_sync: false,
+            ..self
+        }
+    }
+
+    /// Returns how many drafts were committed since the folder was opened.
+    pub fn committed(&self) -> u32 {
+        self.committed
+    }
+
+    /// Returns how many drafts were not committed since the folder was opened: discarded, replaced
+    /// by another, or lost by a failed call. It stops at the greatest `u32`.
+    pub fn dropped(&self) -> u32 {
+        self.dropped
+    }
+
+    /// Removes the file of a draft, so that nothing is written into a file that may have a name.
+    fn remove_draft(&self) -> io::Result<()> {
+        match fs::remove_file(&self.rt, self.draft_path.as_str()) {
+            Err(error) if error.kind() == ErrorKind::NotFound => Ok(()),
+            result => result,
+        }
+    }
+
+    fn drop_draft(&mut self)
+        ensures draft { is_some self.new.draft ≡ false }
+        ensures same_count { self.new.failures.total ≡ self.old.failures.total }
+    {
+        if self.draft.take().is_some() {
+            self.dropped = self.dropped.saturating_add(1);
+            // What stays there is removed when the next draft is begun.
+            let _ = self.remove_draft();
+        }
+    }
+
+    fn begin_draft(&mut self) -> io::Result<()>
+        ensures draft { OnOk result (is_some self.new.draft ≡ true) }
+        ensures same_count { self.new.failures.total ≡ self.old.failures.total }
+    {
+        self.drop_draft();
+        self.remove_draft()?;
+        self.draft = Some(File::create_new(&self.rt, self.draft_path.as_str())?);
+        Ok(())
+    }
+
+    fn sync_draft(&self) -> io::Result<()> {
+        match &self.draft {
+            Some(draft) if self.has_sync => draft.sync_all(),
+            _ => Ok(()),
+        }
+    }
+
+    /// Makes a folder for files.
+    fn make_folder(&mut self, folder: u32) -> io::Result<()>
+        ensures same_count { self.new.failures.total ≡ self.old.failures.total }
+    {
+        let dir = &self.dir;
+        let path = format!(in self.rt.alloc(); "{dir}/S{folder:07}")?;
+        fs::create_dir(&self.rt, path.as_str())?;
+        if self.has_sync {
+            if let Err(error) = self.folder.sync_all() {
+                let _ = fs::remove_dir(&self.rt, path.as_str());
+                return Err(error);
+            }
+        }
+        self.last = Place { folder, file: 0 };
+        Ok(())
+    }
+
+    /// Writes the folder of a file to the disk.
+    fn sync_folder(&self, place: Place) -> io::Result<()> {
+        if !self.has_sync {
+            return Ok(());
+        }
+        if self.layout == Layout::Flat {
+            return self.folder.sync_all();
+        }
+        let dir = &self.dir;
+        let folder = place.folder;
+        let path = format!(in self.rt.alloc(); "{dir}/S{folder:07}")?;
+        fs::open(&self.rt, path)?.sync_all()
+    }
+
+    fn path_of(&self, place: Place) -> io::Result<String<R::A>> {
+        let dir = &self.dir;
+        let Place { folder, file } = place;
+        let path = match self.layout {
+            Layout::Flat => format!(in self.rt.alloc(); "{dir}/I{file:07}")?,
+            Layout::Levels { .. } => format!(in self.rt.alloc(); "{dir}/S{folder:07}/I{file:07}")?,
+        };
+        Ok(path)
+    }
+
+    /// Gives the draft its name.
+    fn name_draft(&mut self, place: Place) -> io::Result<()>
+        ensures same_count { self.new.failures.total ≡ self.old.failures.total }
+    {
+        let path = self.path_of(place)?;
+        if let Err(error) = fs::hard_link(&self.rt, self.draft_path.as_str(), path.as_str()) {
+            if error.kind() == ErrorKind::AlreadyExists {
+                self.last = place;
+            }
+            return Err(error);
+        }
+        if let Err(error) = self.sync_folder(place) {
+            if fs::remove_file(&self.rt, path.as_str()).is_err() {
+                self.last = place;
+            }
+            return Err(error);
+        }
+        self.last = place;
+        Ok(())
+    }
+
+    fn commit_draft(&mut self) -> io::Result<()>
+        ensures draft { OnOk result (is_some self.new.draft ≡ false) }
+        ensures same_count { self.new.failures.total ≡ self.old.failures.total }
+    {
+        self.sync_draft()?;
+        let Some(place) = self.last.next(self.layout) else {
+            return Err(Error::new(ErrorKind::StorageFull, "all numbers are in use"));
+        };
+        let Some(committed) = self.committed.checked_add(1) else {
+            return Err(Error::new(ErrorKind::StorageFull, "all commits are counted"));
+        };
+        if place.folder != self.last.folder {
+            self.make_folder(place.folder)?;
+        }
+        self.name_draft(place)?;
+        self.committed = committed;
+        self.draft = None;
+        let _ = self.remove_draft();
+        Ok(())
+    }
+
+    fn fail(&mut self)
+        ensures draft { is_some self.new.draft ≡ false }
+        ensures counted { self.new.failures.total ≡ self.old.failures.total + 1 }
+    {
+        self.drop_draft();
+        self.failures.add_one();
+    }
+}
+
+impl<R: Files<File = File> + Alloc + Clone + Drop> Filing for FolderFiling<R> {
+    ghost store = { λ f. record { told = None; has_draft = is_some f.draft; failures = f.failures.total } };
+
+    fn begin(&mut self) -> Result<(), FilingFailed> {
+        if self.begin_draft().is_err() {
+            self.fail();
+            return Err(FilingFailed);
+        }
+        Ok(())
+    }
+
+    fn append(&mut self, bytes: &[u8]) -> Result<(), FilingFailed> {
+        if let Some(draft) = &mut self.draft {
+            if draft.write_all(bytes).is_ok() {
+                return Ok(());
+            }
+        }
+        self.fail();
+        Err(FilingFailed)
+    }
+
+    fn commit(&mut self) -> Result<(), FilingFailed> {
+        if self.commit_draft().is_err() {
+            self.fail();
+            return Err(FilingFailed);
+        }
+        Ok(())
+    }
+
+    fn discard(&mut self) {
+        self.drop_draft();
+    }
+}

@@ -1,0 +1,65 @@
+//! Where the files of a folder stand, and their names: a letter and seven digits.
+ghost use Rattle.std.specs.Prelude.{◌≡◌, ◌≤◌, IfSome};
+ghost use Rattle.part10.specs.machine.Places.{next_place};
+
+/// The greatest number that seven digits spell.
+const GREATEST: u32 = 9_999_999;
+
+/// How a folder keeps its files.
+#[derive(Clone, Copy, Debug, PartialEq, Eq)]
+pub enum Layout {
+    /// All files stand in the folder itself.
+    Flat,
+    /// The files stand in folders, so many in each.
+    Levels { per: u32 },
+}
+
+/// Where a file stands.
+#[derive(Clone, Copy, Debug, PartialEq, Eq)]
+pub struct Place {
+    /// The number of its folder; 0 in a flat layout.
+    pub folder: u32,
+    /// The number of the file.
+    pub file: u32,
+}
+
+impl Place {
+    /// Returns where the file after this one stands, or `None` if the numbers are used up.
+    pub fn next(self, layout: Layout) -> Option<Place>
+        ensures { result ≡ next_place layout self }
+    {
+        let Place { folder, file } = self;
+        let most = match layout {
+            Layout::Flat => GREATEST,
+            Layout::Levels { per } => per,
+        };
+        if file < most {
+            return Some(Place {
+                folder,
+                file: file + 1,
+            });
+        }
+        if layout == Layout::Flat || folder >= GREATEST {
+            return None;
+        }
+        Some(Place {
+            folder: folder + 1,
+            file: 1,
+        })
+    }
+}
+
+/// Returns the number in a name that is this letter and seven digits.
+pub fn number_in(letter: char, name: &str) -> Option<u32>
+    ensures { IfSome result (λ n. n ≤ 9999999) }
+{
+    let digits = name.strip_prefix(letter)?;
+    if digits.len() != 7 || !digits.bytes().all(|byte| byte.is_ascii_digit()) {
+        return None;
+    }
+    let number: u32 = digits.parse().ok()?;
+    if number > GREATEST {
+        return None;
+    }
+    Some(number)
+}

@@ -1,0 +1,310 @@
+//! Reads file headers.
+ghost use Rattle.std.specs.Prelude.{◌≡◌, ◌^◌, ◌<◌, ◌≤◌, ℕ, List, ◌++◌, length, take, replicate, OnOk, IfOk, IfErr};
+ghost use Rattle.std.specs.Io.KnownBytes.{Consumes, IsAtEnd};
+ghost use Rattle.std.specs.Str.{bytes_eq};
+ghost use Rattle.element.specs.Padding as padding;
+ghost use Rattle.element.specs.Numbers.{le};
+ghost use Rattle.part10.specs.MetaText.{said_of, TakesMeta, NamesOther, Refuses};
+ghost use Rattle.part10.specs.File.{length_element};
+ghost use Rattle.part10.specs.declared.meta_fault.MetaFault.TheVariants.{ReadFailed, OtherSyntax};
+ghost use Rattle.part10.specs.machine.Reading as part;
+
+use crate::meta::Meta;
+use crate::meta_fault::MetaFault;
+use arrayvec::ArrayVec;
+use byteorder::{ByteOrder, LittleEndian};
+use dictionary::syntax_of;
+use element::{AeTitle, Header, Need, Syntax, Tag, Uid, need, read_header, unpadded};
+use std::io::{ErrorKind, Read};
+
+/// Reads once, and again where a signal interrupted the call.
+fn read_once<R: Read>(input: &mut R, room: &mut [u8]) -> Result<usize, MetaFault>
+    ensures size { length room.new ≡ length room.old }
+    ensures within { IfOk result (λ n. n ≤ length room.new) }
+    ensures took { IfOk result (λ n. Consumes (R.remaining input.old) (R.remaining input.new) (take n room.new)) }
+    ensures end { IfOk result (λ n. n ≡ 0 → 0 < length room.new → IsAtEnd (R.remaining input.new)) }
+    ensures failed { IfErr result (λ fault. fault ≡ ReadFailed) }
+{
+    for _ in 0..u64::MAX {
+        match input.read(room) {
+            Ok(n) => return Ok(n),
+            Err(error) if error.kind() == ErrorKind::Interrupted => {}
+            Err(_) => return Err(MetaFault::ReadFailed),
+        }
+    }
+    Err(MetaFault::ReadFailed)
+}
+
+/// Fills the room, and returns how many bytes the reader had for it.
+fn fill<R: Read>(input: &mut R, room: &mut [u8]) -> Result<usize, MetaFault>
+    ensures size { length room.new ≡ length room.old }
+    ensures within { IfOk result (λ n. n ≤ length room.new) }
+    ensures took { IfOk result (λ n. Consumes (R.remaining input.old) (R.remaining input.new) (take n room.new)) }
+    ensures end { IfOk result (λ n. n < length room.new → IsAtEnd (R.remaining input.new)) }
+    ensures failed { IfErr result (λ fault. fault ≡ ReadFailed) }
+{
+    let mut at = 0;
+    while at < room.len() {
+        let n = read_once(input, &mut room[at..])?;
+        if n == 0 {
+            return Ok(at);
+        }
+        at += n;
+    }
+    Ok(at)
+}
+
+/// Fills the room, or fails with `BadMeta` if the reader ends before.
+fn read_whole<R: Read>(input: &mut R, room: &mut [u8]) -> Result<(), MetaFault>
+    ensures size { length room.new ≡ length room.old }
+    ensures took { OnOk result (Consumes (R.remaining input.old) (R.remaining input.new) room.new) }
+    ensures short { IfErr result (λ fault. part.Breaks fault (R.remaining input.old) (λ rest. length rest < length room.new)) }
+{
+    if fill(input, room)? < room.len() {
+        return Err(MetaFault::BadMeta);
+    }
+    Ok(())
+}
+
+/// Returns whether the bytes are this text.
+fn is_text(bytes: &[u8], text: &[u8]) -> bool
+    ensures { result ≡ bytes_eq bytes.now text.now }
+{
+    bytes == text
+}
+
+/// Reads the preamble and the letters after it.
+fn read_letters<R: Read>(input: &mut R) -> Result<(), MetaFault>
+    ensures read { OnOk result (part.Reads (R.remaining input.old) (R.remaining input.new) part.IsPrefix) }
+    ensures none { IfErr result (λ fault. part.NoLetters fault (R.remaining input.old)) }
+{
+    let mut room = [0; 132];
+    let count = fill(input, &mut room)?;
+    if count < 132 {
+        return Err(MetaFault::NotPart10);
+    }
+    if !is_text(&room[128..], b"DICM") {
+        return Err(MetaFault::NotPart10);
+    }
+    Ok(())
+}
+
+/// Returns the number that four bytes spell, the least significant byte first.
+fn read_number(bytes: &[u8]) -> u32
+    requires { length bytes.now ≡ 4 }
+    ensures { le result 4 ≡ bytes.now }
+{
+    LittleEndian::read_u32(bytes)
+}
+
+/// Reads the element that counts the bytes of the group after it.
+fn read_group_size<R: Read>(input: &mut R) -> Result<u32, MetaFault>
+    ensures read { IfOk result (λ n. Consumes (R.remaining input.old) (R.remaining input.new) (length_element n)) }
+    ensures range { IfOk result (λ n. n < 2 ^ 32) }
+    ensures none { IfErr result (λ fault. part.Breaks fault (R.remaining input.old) part.NoSize) }
+{
+    let mut room = [0; 12];
+    read_whole(input, &mut room)?;
+    if !is_text(&room[..8], &[2, 0, 0, 0, b'U', b'L', 4, 0]) {
+        return Err(MetaFault::BadMeta);
+    }
+    Ok(read_number(&room[8..]))
+}
+
+fn joined(front: &[u8; 8], back: &[u8]) -> ArrayVec<u8, 12>
+    requires { length back.now ≤ 4 }
+    ensures { result.items ≡ front.now ++ back.now }
+{
+    let mut whole = ArrayVec::new();
+    whole.try_extend_from_slice(front).unwrap();
+    whole.try_extend_from_slice(back).unwrap();
+    whole
+}
+
+/// Reads a header, and returns it with its size; fails if that is more than `left`.
+#[tactic(auto, using(crate::proofs::HeaderLemmas::need_bounds, crate::proofs::HeaderLemmas::whole_at))]
+fn read_short_header<R: Read>(input: &mut R, left: u32) -> Result<(Header, u32), MetaFault>
+    ensures read { IfOk result (λ r. part.HeaderRead left r.0 r.1 (R.remaining input.old) (R.remaining input.new)) }
+    ensures none { IfErr result (λ fault. part.Breaks fault (R.remaining input.old) (part.NoHeader left)) }
+{
+    let mut front = [0; 8];
+    read_whole(input, &mut front)?;
+    let Need::Size(size) = need(Syntax::Explicit, &front) else {
+        return Err(MetaFault::BadMeta);
+    };
+    if size > left as usize {
+        return Err(MetaFault::BadMeta);
+    }
+    let mut back = [0; 4];
+    let back = &mut back[..size - 8];
+    read_whole(input, back)?;
+    let whole = joined(&front, back);
+    Ok((read_header(Syntax::Explicit, whole.as_slice()), size as u32))
+}
+
+/// Returns whether the bytes are padding alone.
+fn are_padding(bytes: &[u8]) -> bool
+    ensures { result ≡ padding.is_empty (padding.without_trailing padding.is_padding bytes.now) }
+{
+    unpadded(bytes).is_empty()
+}
+
+/// Reads this many bytes, and returns whether they are padding alone.
+fn read_padding<R: Read>(input: &mut R, size: u32) -> Result<bool, MetaFault>
+    ensures read { IfOk result (λ is_padding. part.Reads (R.remaining input.old) (R.remaining input.new) (part.IsPart size is_padding)) }
+    ensures short { IfErr result (λ fault. part.Breaks fault (R.remaining input.old) (λ rest. length rest < size)) }
+{
+    let mut room = [0; 64];
+    let mut left = size;
+    let mut is_padding = true;
+    while left > 0 {
+        let part = left.min(64);
+        let bytes = &mut room[..part as usize];
+        read_whole(input, bytes)?;
+        is_padding &= are_padding(bytes);
+        left -= part;
+    }
+    Ok(is_padding)
+}
+
+/// Reads a value through, and returns the unique identifier that it holds.
+fn read_value<R: Read>(input: &mut R, size: u32) -> Result<Option<Uid>, MetaFault>
+    ensures read { IfOk result (λ uid. part.Reads (R.remaining input.old) (R.remaining input.new) (part.IsValue size uid)) }
+    ensures short { IfErr result (λ fault. part.Breaks fault (R.remaining input.old) (λ rest. length rest < size)) }
+{
+    let mut room = [0; 64];
+    let first = size.min(64);
+    let bytes = &mut room[..first as usize];
+    read_whole(input, bytes)?;
+    let is_padding = read_padding(input, size - first)?;
+    if !is_padding {
+        return Ok(None);
+    }
+    Ok(Uid::read(bytes))
+}
+
+/// An element of group 0002.
+#[derive(Drop)]
+struct Element {
+    number: u16,
+    /// The bytes of its header and its value.
+    size: u32,
+    /// The unique identifier that its value holds.
+    uid: Option<Uid>,
+}
+
+/// Returns whether the header is that of an element of group 0002 with a greater number than `last`,
+/// and with an even, so defined, length.
+fn is_next(header: Header, last: u16) -> bool
+    ensures { result ≡ part.is_next header last }
+{
+    let Tag(group, number) = header.tag;
+    group == 2 && last < number && header.length % 2 == 0
+}
+
+/// Reads an element of group 0002 with a greater number than `last` and at most `left` bytes.
+fn read_element<R: Read>(input: &mut R, last: u16, left: u32) -> Result<Element, MetaFault>
+    ensures read { IfOk result (λ e. part.ElementRead last left e (R.remaining input.old) (R.remaining input.new)) }
+    ensures none { IfErr result (λ fault. part.Breaks fault (R.remaining input.old) (part.NoElement last left)) }
+{
+    let (header, size) = read_short_header(input, left)?;
+    let number = header.tag.1;
+    let length = header.length;
+    if !is_next(header, last) {
+        return Err(MetaFault::BadMeta);
+    }
+    if length > left - size {
+        return Err(MetaFault::BadMeta);
+    }
+    let uid = read_value(input, length)?;
+    Ok(Element {
+        number,
+        size: size + length,
+        uid,
+    })
+}
+
+/// The elements that a file header must have, as far as they were found.
+#[derive(Drop)]
+struct Found {
+    class: Option<Uid>,
+    instance: Option<Uid>,
+    syntax: Option<Uid>,
+}
+
+impl Found {
+    fn none() -> Found
+        ensures { result ≡ record { class = None; instance = None; syntax = None } }
+    {
+        Found {
+            class: None,
+            instance: None,
+            syntax: None,
+        }
+    }
+
+    /// Keeps the element's identifier if it is one of the three.
+    fn note(&mut self, element: Element)
+        ensures { self.new ≡ part.noted element.number element.uid self.old }
+    {
+        match element.number {
+            0x0002 => self.class = element.uid,
+            0x0003 => self.instance = element.uid,
+            0x0010 => self.syntax = element.uid,
+            _ => {}
+        }
+    }
+
+    /// Returns the contents of the header, or why it is not accepted.
+    fn meta(self) -> Result<Meta, MetaFault>
+        ensures { part.IsMeta self result }
+    {
+        let class = self.class.ok_or(MetaFault::BadMeta)?;
+        let instance = self.instance.ok_or(MetaFault::BadMeta)?;
+        let syntax = self.syntax.ok_or(MetaFault::BadMeta)?;
+        let syntax = syntax_of(syntax.as_bytes()).ok_or(MetaFault::OtherSyntax)?;
+        Ok(Meta {
+            class,
+            instance,
+            syntax,
+            calling: AeTitle::default(),
+        })
+    }
+}
+
+/// Reads the elements of a group of this many bytes.
+fn read_group<R: Read>(input: &mut R, size: u32) -> Result<Found, MetaFault>
+    ensures read { IfOk result (λ found. part.GroupRead size found (R.remaining input.old) (R.remaining input.new)) }
+    ensures none { IfErr result (λ fault. part.Breaks fault (R.remaining input.old) (part.NoGroup size)) }
+{
+    let mut found = Found::none();
+    let mut last = 0;
+    let mut left = size;
+    while left > 0 {
+        let element = read_element(input, last, left)?;
+        last = element.number;
+        left -= element.size;
+        found.note(element);
+    }
+    Ok(found)
+}
+
+/// Reads the file header that the reader begins with (PS3.10 section 7.1), and no byte after it.
+///
+/// Any preamble is accepted. Group 0002 must begin with its length, end where that says, have rising
+/// tags and even, defined lengths, and name the class, the instance and one of the two transfer
+/// syntaxes; other elements are skipped. The calling title is not read: it is all spaces. The room
+/// that this takes is fixed, whatever a length says.
+///
+/// After `OtherSyntax` just the header was read, too; after any other error the reader's position is
+/// not determined.
+pub fn read_meta<R: Read>(input: &mut R) -> Result<Meta, MetaFault>
+    ensures header { IfOk result (λ meta. TakesMeta (said_of meta) (R.remaining input.old) (R.remaining input.new)) }
+    ensures calling { IfOk result (λ meta. meta.calling.0 ≡ replicate 16 32) }
+    ensures fault { IfErr result (λ fault. Refuses fault (R.remaining input.old)) }
+    ensures other_syntax { IfErr result (λ fault. fault ≡ OtherSyntax → NamesOther (R.remaining input.old) (R.remaining input.new)) }
+{
+    read_letters(input)?;
+    let size = read_group_size(input)?;
+    read_group(input, size)?.meta()
+}
