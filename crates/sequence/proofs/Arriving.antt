@@ -3,13 +3,13 @@ use Rattle.std.proofs.Common.{◌≡◌, ℕ, ◌+◌, Bool, true, false, List, 
 use Rattle.element.specs.declared.syntax.Syntax.{Syntax}
 use Rattle.element.specs.declared.header.Header.{Header}
 use Rattle.element.specs.Header.{need, is_whole}
-use Rattle.sequence.specs.declared.level.Frame.{Frame}
+use Rattle.sequence.specs.declared.level.Scope.{Scope}
 use Rattle.sequence.specs.declared.wanted.Want.{Want}
 use Rattle.sequence.specs.Open.{IsUnfinished, IsLeft}
 use Rattle.sequence.specs.Wanted.{Values}
 use Rattle.sequence.specs.Rules.{Limits, Broken, broken_due, ◌or_else◌, broken}
-use Rattle.sequence.specs.Machine.{State, spot_of, nearer, nearest, stops_at, arrive, due, due_by}
-use Rattle.sequence.specs.Standing.{IsBytes, Reaches, at_root, AreNested, Holds, AllHold, AreLevels, IsDue, Stands}
+use Rattle.sequence.specs.machine.Machine.{State, spot_of, nearer, nearest, stops_at, arrive, due, due_by}
+use Rattle.sequence.specs.machine.Standing.{IsBytes, Reaches, at_root, AreNested, Holds, AllHold, AreLevels, IsDue, Stands}
 use Rattle.sequence.proofs.Nesting.{level_ends}
 use Rattle.sequence.proofs.Ends.{levels_end, IsTaken}
 
@@ -32,7 +32,7 @@ pub no_header : (s : Syntax) → IsUnfinished s []
 unfolding is_whole need
 no_header s = record { part = refl; good = λ e. absurd cc }
 
-due_stands : (s : Syntax) (lim : Limits) (values : Values) (f : Frame) (fs : List Frame) (b : List ℕ) (x : Broken) → broken_due (spot_of f fs (length b)) ≡ x → IsDue s lim values f fs b → Stands s lim (due_by x f fs (length b)) values b
+due_stands : (s : Syntax) (lim : Limits) (values : Values) (f : Scope) (fs : List Scope) (b : List ℕ) (x : Broken) → broken_due (spot_of f fs (length b)) ≡ x → IsDue s lim values f fs b → Stands s lim (due_by x f fs (length b)) values b
 unfolding broken is_whole need
 due_stands s lim values f fs b None e d = (
   refl,
@@ -61,8 +61,8 @@ due_stands s lim values f fs b (Some x) e d = record {
 
 -- a place where a header is due: the levels, and the machine's state there
 pub record Lands (s : Syntax) (lim : Limits) (values : Values) (st : State) (p : List ℕ) : Type 0 where
-  pub top : Frame
-  pub below : List Frame
+  pub top : Scope
+  pub below : List Scope
   pub due-is : IsDue s lim values top below p
   pub lands : st ≡ due top below (length p)
 
@@ -70,15 +70,15 @@ ends_here : (o : Option ℕ) (p : ℕ) → stops_at o p ≡ true → o ≡ Some 
 ends_here None p h = absurd cc
 ends_here (Some e) p h = ap Some (eqb-true e p h)
 
-root_stays : {s : Syntax} {ws : List Want} {values : Values} {f : Frame} {b : List ℕ} (n : ℕ) → Reaches s ws values f [] b → stops_at f.stop n ≡ false
+root_stays : {s : Syntax} {ws : List Want} {values : Values} {f : Scope} {b : List ℕ} (n : ℕ) → Reaches s ws values f [] b → stops_at f.stop n ≡ false
 root_stays n (at_root d e k fits) = refl
 
-arrives_by : (s : Syntax) (lim : Limits) (values : Values) (f g : Frame) (gs : List Frame) (p : List ℕ) (b : Bool) → stops_at f.stop (length p) ≡ b → Reaches s lim.wanted values f (g ∷ gs) p → AreLevels lim f (g ∷ gs) (length p) → (Reaches s lim.wanted values g gs p → AreLevels lim g gs (length p) → Lands s lim values (arrive (length p) g gs) p)
+arrives_by : (s : Syntax) (lim : Limits) (values : Values) (f g : Scope) (gs : List Scope) (p : List ℕ) (b : Bool) → stops_at f.stop (length p) ≡ b → Reaches s lim.wanted values f (g ∷ gs) p → AreLevels lim f (g ∷ gs) (length p) → (Reaches s lim.wanted values g gs p → AreLevels lim g gs (length p) → Lands s lim values (arrive (length p) g gs) p)
     → Lands s lim values (if b then arrive (length p) g gs else due f (g ∷ gs) (length p)) p
 arrives_by s lim values f g gs p true e r l go = go (subst (λ z. Reaches s lim.wanted values g gs z) (append-nil p) (level_ends [] r (inl (ends_here f.stop (length p) e, refl)))) (levels_end lim f g gs (length p) l)
 arrives_by s lim values f g gs p false e r l go = record { top = f; below = g ∷ gs; due-is = record { reaches = r; levels = l; stays = e }; lands = refl }
 
-arrives : (s : Syntax) (lim : Limits) (values : Values) (f : Frame) (fs : List Frame) (p : List ℕ) → Reaches s lim.wanted values f fs p → AreLevels lim f fs (length p) → Lands s lim values (arrive (length p) f fs) p
+arrives : (s : Syntax) (lim : Limits) (values : Values) (f : Scope) (fs : List Scope) (p : List ℕ) → Reaches s lim.wanted values f fs p → AreLevels lim f fs (length p) → Lands s lim values (arrive (length p) f fs) p
 unfolding arrive
 arrives s lim values f [] p r l = record { top = f; below = []; due-is = record { reaches = r; levels = l; stays = root_stays (length p) r }; lands = refl }
 arrives s lim values f (g ∷ gs) p r l = arrives_by s lim values f g gs p (stops_at f.stop (length p)) refl r l (λ r2 l2. arrives s lim values g gs p r2 l2)
@@ -87,11 +87,11 @@ lands_stand : (s : Syntax) (lim : Limits) (values : Values) (st : State) (b : Li
 unfolding due
 lands_stand s lim values st b l = rw l.lands (due_stands s lim values l.top l.below b (broken_due (spot_of l.top l.below (length b))) refl l.due-is)
 
-pub arrive_stands : {s : Syntax} {values : Values} {f : Frame} {fs : List Frame} {b : List ℕ} (lim : Limits) (p : ℕ) → p ≡ length b → Reaches s lim.wanted values f fs b → AreLevels lim f fs p → Stands s lim (arrive p f fs) values b
+pub arrive_stands : {s : Syntax} {values : Values} {f : Scope} {fs : List Scope} {b : List ℕ} (lim : Limits) (p : ℕ) → p ≡ length b → Reaches s lim.wanted values f fs b → AreLevels lim f fs p → Stands s lim (arrive p f fs) values b
 arrive_stands {s = s} {values = values} {f = f} {fs = fs} {b = b} lim p e r l = rw e (lands_stand s lim values (arrive (length b) f fs) b (arrives s lim values f fs b r (subst (AreLevels lim f fs) e l)))
 
-same_levels : {lim : Limits} {f : Frame} {fs : List Frame} {n : ℕ} (g : Frame) → f.stop ≡ g.stop → AreLevels lim f fs n → AreLevels lim g fs n
+same_levels : {lim : Limits} {f : Scope} {fs : List Scope} {n : ℕ} (g : Scope) → f.stop ≡ g.stop → AreLevels lim f fs n → AreLevels lim g fs n
 same_levels {lim} {f} {fs} {n} g e l = record { nested = subst (λ o. IsLeft o None × AreNested (if is_some o then o else None) fs) e l.nested; hold = subst (λ o. Holds o n × AllHold fs n) e l.hold; deep = l.deep; short = l.short }
 
-pub same_taken : {lim : Limits} {f : Frame} {fs : List Frame} {p : ℕ} {h : Header} (g : Frame) → f.stop ≡ g.stop → IsTaken lim f fs p h → IsTaken lim g fs p h
+pub same_taken : {lim : Limits} {f : Scope} {fs : List Scope} {p : ℕ} {h : Header} (g : Scope) → f.stop ≡ g.stop → IsTaken lim f fs p h → IsTaken lim g fs p h
 same_taken {lim} {f} {fs} {p} {h} g e t = record { levels = same_levels g e t.levels; ends = λ d. subst (λ o. Holds (nearer o (nearest fs)) (p + h.length)) e (t.ends d); far = t.far }

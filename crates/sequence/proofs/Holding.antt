@@ -1,28 +1,29 @@
--- What a walker tells and holds determines the machine's state, and the other way round.
+-- What a walker reports and holds determines the machine's state, and the other way round.
 use Rattle.std.proofs.Common.{◌≡◌, ℕ, ◌+◌, ◌-◌, List, [], ◌∷◌, ◌++◌, length, Option, Some, None, refl, sym, ap, subst, ◌∙◌, arith, length-append}
 use Rattle.element.specs.declared.syntax.Syntax.{Syntax}
 use Rattle.element.specs.declared.tag.Tag.{Tag}
 use Rattle.element.specs.declared.header.Header.{Header}
 use Rattle.element.specs.Numbers.{IsBytes}
 use Rattle.element.specs.Header.{number}
-use Rattle.sequence.specs.declared.level.Frame.{Frame}
+use Rattle.sequence.specs.declared.level.Scope.{Scope}
 use Rattle.sequence.specs.declared.fault.Fault.{Fault}
 use Rattle.sequence.specs.declared.wanted.Want.{Want}
 use Rattle.sequence.specs.declared.stage.Stage.{Stage}
 use Rattle.sequence.specs.declared.stage.Stage.TheVariants as stages
 use Rattle.sequence.specs.declared.walker.Walker.{Walker}
 use Rattle.sequence.specs.Tree.{Elements}
-use Rattle.sequence.specs.Open.{Entry, Tail, in_header, in_value, Open}
+use Rattle.sequence.specs.Open.{PathEntry, Tail, in_header, in_value, Open}
 use Rattle.sequence.specs.Wanted.{Values, kept_of}
 use Rattle.sequence.specs.Rules.{Limits}
 use Rattle.sequence.specs.FirstFault.{IsUnbroken, FirstFault}
 use Rattle.sequence.specs.Walk.{Told, Tells, going, refused}
-use Rattle.sequence.specs.Machine.{set_frame, State, at, Mode, Heading, Reading, Stopped, run, start}
-use Rattle.sequence.specs.Keeping.{keeps, with_value}
-use Rattle.sequence.specs.Stored.{wants_of, values_of}
-use Rattle.sequence.specs.Holding.{frame_at, levels_at, with_begun, values_at, IsIn}
-use Rattle.sequence.specs.State.{mode_of, top, below, state_of, kept_values, limits_of, syntax_of, fault_by, fault_of, told_by, HoldsFront, StandsAt}
-use Rattle.sequence.specs.Standing.{IsStopped, StandsIn, Stands}
+use Rattle.sequence.specs.machine.Machine.{set_scope, State, at, Mode, Heading, Reading, Stopped, run, start}
+use Rattle.sequence.specs.machine.Keeping.{keeps, with_value}
+use Rattle.sequence.specs.machine.Stored.{wants_of, values_of}
+use Rattle.sequence.specs.Holding.{scope_at, levels_at, with_begun, values_at, IsIn}
+use Rattle.sequence.specs.Taken.{IsWalked, whole_text, before_fault, Holds}
+use Rattle.sequence.specs.machine.State.{mode_of, top, below, state_of, kept_values, limits_of, syntax_of, fault_by, fault_of, told_by, HoldsFront, StandsAt}
+use Rattle.sequence.specs.machine.Standing.{IsStopped, StandsIn, Stands}
 use Rattle.sequence.proofs.Runs.{HasStopped}
 use Rattle.sequence.proofs.Plug.{IsFront}
 use Rattle.sequence.proofs.Telling.{all_over, all_is, open_due, due_open}
@@ -32,14 +33,14 @@ use Rattle.sequence.proofs.Tellings.{one_fault}
 
 -- the levels of a path
 
-levels_over : (n : ℕ) (path : List Entry) (s : Syntax) (last : ℕ) → all_over n path (set_frame s None last) ≡ levels_at n path s last
+levels_over : (n : ℕ) (path : List PathEntry) (s : Syntax) (last : ℕ) → all_over n path (set_scope s None last) ≡ levels_at n path s last
 levels_over n [] s last = refl
-levels_over n (e ∷ path) s last = ap (λ z. frame_at n e ∷ z) (levels_over n path s last)
+levels_over n (e ∷ path) s last = ap (λ z. scope_at n e ∷ z) (levels_over n path s last)
 
-front_levels : {s : Syntax} {ws : List Want} {values : Values} {n : ℕ} {b : List ℕ} {tail : Tail} {f : Frame} {fs : List Frame} (x : IsFront s ws values n b tail f fs) → f ∷ fs ≡ levels_at n x.path s x.last
-front_levels {s = s} {n = n} {f = f} {fs = fs} x = sym (all_is n x.path (set_frame s None x.last) f fs x.top x.below) ∙ levels_over n x.path s x.last
+front_levels : {s : Syntax} {ws : List Want} {values : Values} {n : ℕ} {b : List ℕ} {tail : Tail} {f : Scope} {fs : List Scope} (x : IsFront s ws values n b tail f fs) → f ∷ fs ≡ levels_at n x.path s x.last
+front_levels {s = s} {n = n} {f = f} {fs = fs} x = sym (all_is n x.path (set_scope s None x.last) f fs x.top x.below) ∙ levels_over n x.path s x.last
 
-value_at : (lim : Limits) (fs : List Frame) (path : List Entry) (h : Header) (v : List ℕ) (es : Elements) → length path ≡ length fs → with_value lim fs (number h.tag) v (kept_of lim.wanted es) ≡ values_at lim.wanted es path (in_value h v)
+value_at : (lim : Limits) (fs : List Scope) (path : List PathEntry) (h : Header) (v : List ℕ) (es : Elements) → length path ≡ length fs → with_value lim fs (number h.tag) v (kept_of lim.wanted es) ≡ values_at lim.wanted es path (in_value h v)
 value_at lim [] (e ∷ path) h v es same = absurd (omega arith)
 value_at lim (f ∷ fs) [] h v es same = absurd (omega arith)
 value_at lim [] [] h v es same = refl
@@ -50,15 +51,15 @@ value_at lim (f ∷ fs) (e ∷ path) h v es same = refl
 fault_breaks : {s : Syntax} {lim : Limits} {b p u : List ℕ} {rule : ℕ} {tag : Tag} → FirstFault s lim b p u rule tag → IsUnbroken s lim b → ⊥
 fault_breaks {p = p} {u = u} {rule = rule} {tag = tag} f ok = ok p u f.rest rule tag f.text f.breaks
 
-record IsTold (told : Told) (fault-is : Option Fault) (place-is : ℕ) : Type 0 where
-  fault : told.fault ≡ fault-is
-  place : told.place ≡ place-is
+pub record IsTold (told : Told) (fault-is : Option Fault) (place-is : ℕ) : Type 0 where
+  pub fault : told.fault ≡ fault-is
+  pub place : told.place ≡ place-is
 
-tells_going : (s : Syntax) (lim : Limits) (b : List ℕ) (told : Told) → IsUnbroken s lim b → Tells s lim b told → IsTold told None (length b)
+pub tells_going : (s : Syntax) (lim : Limits) (b : List ℕ) (told : Told) → IsUnbroken s lim b → Tells s lim b told → IsTold told None (length b)
 tells_going s lim b told ok (going fine o) = record { fault = refl; place = refl }
 tells_going s lim b told ok (refused f o) = absurd (fault_breaks f ok)
 
-tells_refused : (s : Syntax) (lim : Limits) (b p u : List ℕ) (rule : ℕ) (tag : Tag) (told : Told) → FirstFault s lim b p u rule tag → Tells s lim b told → IsTold told (Some (record { number = rule; place = length p; tag = tag })) (length (p ++ u))
+pub tells_refused : (s : Syntax) (lim : Limits) (b p u : List ℕ) (rule : ℕ) (tag : Tag) (told : Told) → FirstFault s lim b p u rule tag → Tells s lim b told → IsTold told (Some (record { number = rule; place = length p; tag = tag })) (length (p ++ u))
 tells_refused s lim b p u rule tag told f (going ok o) = absurd (fault_breaks f ok)
 tells_refused s lim b p u rule tag told f (refused {p = p2} {u = u2} {rule = rule2} {tag = tag2} g o) =
     let k = one_fault s lim b p2 p u2 u rule2 rule tag2 tag g f in
@@ -72,7 +73,7 @@ pub record Walks {V D : ℕ} (w : Walker V D) (b : List ℕ) : Type 0 where
 
 -- from the machine
 
-abbrev Held : {V D : ℕ} → Walker V D → List ℕ → Elements → List Entry → ℕ → Tail → Type 0
+abbrev Held : {V D : ℕ} → Walker V D → List ℕ → Elements → List PathEntry → ℕ → Tail → Type 0
 Held w b es path last tail = HoldsFront w (length b) es path last tail × IsIn w.stage w.header.items tail
 
 module _ {V D : ℕ} (w : Walker V D) (b : List ℕ) (h : Walks w b) where
@@ -85,7 +86,7 @@ module _ {V D : ℕ} (w : Walker V D) (b : List ℕ) (h : Walks w b) where
   not_stopped : (stage : Stage) → w.stage ≡ stage → (HasStopped (mode_of stage w.place w.header.items) → ⊥) → IsUnbroken (syntax_of w) (limits_of w) b
   not_stopped stage e on = goes_unbroken (syntax_of w) (limits_of w) b (λ k. on (subst (λ (z : State). HasStopped z.mode) (run_is stage e) k))
 
-  going_by : (stage : Stage) (es : Elements) (path : List Entry) (last : ℕ) (tail : Tail) → w.stage ≡ stage → fault_by stage ≡ None → Open (syntax_of w) b es path last tail → Held w b es path last tail
+  going_by : (stage : Stage) (es : Elements) (path : List PathEntry) (last : ℕ) (tail : Tail) → w.stage ≡ stage → fault_by stage ≡ None → Open (syntax_of w) b es path last tail → Held w b es path last tail
   going_by (stages.Stopped fault) es path last tail e none o = absurd cc
   going_by stages.Heading es path last tail e none o =
       let k = (stands_in stages.Heading e).1 in
@@ -112,10 +113,10 @@ module _ {V D : ℕ} (w : Walker V D) (b : List ℕ) (h : Walks w b) where
         subst (λ z. IsIn z w.header.items tail) (sym e) (subst (λ z. IsIn (stages.Value t n kept) w.header.items z) q.3 inside),
       )
 
-  pub holds_going : (es : Elements) (path : List Entry) (last : ℕ) (tail : Tail) → fault_of w ≡ None → Open (syntax_of w) b es path last tail → HoldsFront w (length b) es path last tail × IsIn w.stage w.header.items tail
+  pub holds_going : (es : Elements) (path : List PathEntry) (last : ℕ) (tail : Tail) → fault_of w ≡ None → Open (syntax_of w) b es path last tail → HoldsFront w (length b) es path last tail × IsIn w.stage w.header.items tail
   holds_going es path last tail none o = going_by w.stage es path last tail refl none o
 
-  refused_by : (stage : Stage) (p u : List ℕ) (rule : ℕ) (tag : Tag) (es : Elements) (path : List Entry) (last : ℕ) → w.stage ≡ stage → FirstFault (syntax_of w) (limits_of w) b p u rule tag → Open (syntax_of w) p es path last (in_header []) → HoldsFront w (length p) es path last (in_header [])
+  refused_by : (stage : Stage) (p u : List ℕ) (rule : ℕ) (tag : Tag) (es : Elements) (path : List PathEntry) (last : ℕ) → w.stage ≡ stage → FirstFault (syntax_of w) (limits_of w) b p u rule tag → Open (syntax_of w) p es path last (in_header []) → HoldsFront w (length p) es path last (in_header [])
   refused_by stages.Heading p u rule tag es path last e f o = absurd (fault_breaks f (not_stopped stages.Heading e (λ k. k)))
   refused_by (stages.Value t n kept) p u rule tag es path last e f o = absurd (fault_breaks f (not_stopped (stages.Value t n kept) e (λ k. k)))
   refused_by (stages.Stopped fault) p u rule tag es path last e f o =
@@ -130,16 +131,44 @@ module _ {V D : ℕ} (w : Walker V D) (b : List ℕ) (h : Walks w b) where
         values = h.values ∙ x.kept ∙ (λ i. kept_of (wants_of w.kept) (q.0 i));
       }
 
-  pub holds_refused : (p u : List ℕ) (rule : ℕ) (tag : Tag) (es : Elements) (path : List Entry) (last : ℕ) → FirstFault (syntax_of w) (limits_of w) b p u rule tag → Open (syntax_of w) p es path last (in_header []) → HoldsFront w (length p) es path last (in_header [])
+  pub holds_refused : (p u : List ℕ) (rule : ℕ) (tag : Tag) (es : Elements) (path : List PathEntry) (last : ℕ) → FirstFault (syntax_of w) (limits_of w) b p u rule tag → Open (syntax_of w) p es path last (in_header []) → HoldsFront w (length p) es path last (in_header [])
   holds_refused p u rule tag es path last f o = refused_by w.stage p u rule tag es path last refl f o
+
+-- what a walker holds of the front that it went through
+
+pub walker_holds : {V D : ℕ} (w : Walker V D) (b : List ℕ) → Walks w b → Tells (syntax_of w) (limits_of w) b (told_by w) → (front : List ℕ) (es : Elements) (path : List PathEntry) (last : ℕ) (tail : Tail) → IsWalked (syntax_of w) (limits_of w) b front → Open (syntax_of w) front es path last tail
+    → Holds w front es path last tail
+walker_holds w b h t front es path last tail (whole_text ok) o =
+    let told = tells_going (syntax_of w) (limits_of w) b (told_by w) ok t in
+    record { opened = (holds_going w b h es path last tail told.fault o).0; begun = λ none. (holds_going w b h es path last tail none o).1 }
+walker_holds w b h t front es path last tail (before_fault {p = p} {u = u} {rule = rule} {tag = tag} f) o =
+    let told = tells_refused (syntax_of w) (limits_of w) b p u rule tag (told_by w) f t in
+    let same : in_header [] ≡ tail = (one_path (syntax_of w) p f.breaks.elements es f.breaks.path path f.breaks.last last (in_header []) tail f.breaks.due o).3 in
+    let here : Open (syntax_of w) p es path last (in_header []) = subst (Open (syntax_of w) p es path last) (sym same) o in
+    record { opened = subst (HoldsFront w (length p) es path last) same (holds_refused w b h p u rule tag es path last f here); begun = λ none. absurd (let k : ◌≡◌ {A = Option Fault} None (Some (record { number = rule; place = length p; tag = tag })) = sym none ∙ told.fault in cc) }
+
+tells_unbroken : (s : Syntax) (lim : Limits) (b : List ℕ) (told : Told) → told.fault ≡ None → Tells s lim b told → IsUnbroken s lim b
+tells_unbroken s lim b told e (going ok o) = ok
+tells_unbroken s lim b told e (refused f o) = absurd cc
+
+-- of a walker that refused nothing, and of one that refused
+
+pub stands_going : {V D : ℕ} (w : Walker V D) (b : List ℕ) → StandsAt w b → (es : Elements) (path : List PathEntry) (last : ℕ) (tail : Tail) → fault_of w ≡ None → Open (syntax_of w) b es path last tail → HoldsFront w (length b) es path last tail × IsIn w.stage w.header.items tail
+stands_going w b h es path last tail none o =
+    let k = h.holds b es path last tail (whole_text (tells_unbroken (syntax_of w) (limits_of w) b (told_by w) none h.tells)) o in
+    (k.opened, k.begun none)
+
+stands_refused : {V D : ℕ} (w : Walker V D) (b : List ℕ) → StandsAt w b → (p u : List ℕ) (rule : ℕ) (tag : Tag) (es : Elements) (path : List PathEntry) (last : ℕ) → FirstFault (syntax_of w) (limits_of w) b p u rule tag → Open (syntax_of w) p es path last (in_header [])
+    → HoldsFront w (length p) es path last (in_header [])
+stands_refused w b h p u rule tag es path last f o = (h.holds p es path last (in_header []) (before_fault f) o).opened
 
 -- back to the machine
 
-record SameLevels (f g : Frame) (fs gs : List Frame) : Type 0 where
+record SameLevels (f g : Scope) (fs gs : List Scope) : Type 0 where
   first : f ≡ g
   rest : fs ≡ gs
 
-same_levels : (f g : Frame) (fs gs : List Frame) → f ∷ fs ≡ g ∷ gs → SameLevels f g fs gs
+same_levels : (f g : Scope) (fs gs : List Scope) → f ∷ fs ≡ g ∷ gs → SameLevels f g fs gs
 same_levels f g fs gs e = record { first = cc; rest = cc }
 
 mode_heading : (stage : Stage) (place : ℕ) (header before t b : List ℕ) → IsIn stage header (in_header t) → place ≡ length b → b ≡ before ++ t → mode_of stage place header ≡ Heading (length before) t
@@ -168,12 +197,12 @@ record IsState {V D : ℕ} (w : Walker V D) (st : State) (values : Values) : Typ
   kept : kept_values w ≡ values
 
 module _ {V D : ℕ} (w : Walker V D) (b : List ℕ) (h : StandsAt w b) where
-  state_by : (f : Frame) (fs : List Frame) (p : ℕ) (m : Mode) → run (limits_of w) (start (syntax_of w)) b ≡ at f fs p m → StandsIn (syntax_of w) (limits_of w) (keeps (limits_of w) (start (syntax_of w)) [] b) f fs p m b → IsState w (at f fs p m) (keeps (limits_of w) (start (syntax_of w)) [] b)
+  state_by : (f : Scope) (fs : List Scope) (p : ℕ) (m : Mode) → run (limits_of w) (start (syntax_of w)) b ≡ at f fs p m → StandsIn (syntax_of w) (limits_of w) (keeps (limits_of w) (start (syntax_of w)) [] b) f fs p m b → IsState w (at f fs p m) (keeps (limits_of w) (start (syntax_of w)) [] b)
   state_by f fs p (Heading begin t) e k =
       let ok = goes_unbroken (syntax_of w) (limits_of w) b (λ z. subst (λ (st : State). HasStopped st.mode) e z) in
       let told = tells_going (syntax_of w) (limits_of w) b (told_by w) ok h.tells in
       let y = heading_at (syntax_of w) (limits_of w) (keeps (limits_of w) (start (syntax_of w)) [] b) f fs begin t b k.1 in
-      let g = h.going y.front.elements y.front.path y.front.last (in_header t) told.fault y.is_open in
+      let g = stands_going w b h y.front.elements y.front.path y.front.last (in_header t) told.fault y.is_open in
       let levels = same_levels (top w) f (below w) fs (g.0.levels ∙ sym (front_levels y.front)) in
       let mode = mode_heading w.stage w.place w.header.items k.1.before t b g.1 told.place k.1.text ∙ ap (λ z. Heading z t) (sym k.1.place) in
       let place : w.place ≡ p = told.place ∙ sym k.0 in
@@ -183,7 +212,7 @@ module _ {V D : ℕ} (w : Walker V D) (b : List ℕ) (h : StandsAt w b) where
       let ok = goes_unbroken (syntax_of w) (limits_of w) b (λ z. subst (λ (st : State). HasStopped st.mode) e z) in
       let told = tells_going (syntax_of w) (limits_of w) b (told_by w) ok h.tells in
       let y = reading_at (syntax_of w) (limits_of w) (keeps (limits_of w) (start (syntax_of w)) [] b) f fs t n b k.1 in
-      let g = h.going y.front.elements y.front.path y.front.last (in_value r.h r.v) told.fault y.is_open in
+      let g = stands_going w b h y.front.elements y.front.path y.front.last (in_value r.h r.v) told.fault y.is_open in
       let levels = same_levels (top w) f (below w) fs (g.0.levels ∙ ap (with_begun (in_value r.h r.v)) (sym (front_levels y.front)) ∙ ap (λ z. z ∷ fs) (sym r.top)) in
       let mode = mode_reading w.stage w.place w.header.items r.v r.h t n g.1 r.tagged r.size in
       let place : w.place ≡ p = told.place ∙ sym k.0 in
@@ -197,7 +226,7 @@ module _ {V D : ℕ} (w : Walker V D) (b : List ℕ) (h : StandsAt w b) where
       let told = tells_refused (syntax_of w) (limits_of w) b k.before k.u rule t (told_by w) first h.tells in
       let x = open_due (syntax_of w) (limits_of w) (keeps (limits_of w) (start (syntax_of w)) [] b) f fs k.before k.due in
       let due = due_open (syntax_of w) (limits_of w) (keeps (limits_of w) (start (syntax_of w)) [] b) f fs k.before k.due in
-      let g = h.refused k.before k.u rule t x.elements x.path x.last first due in
+      let g = stands_refused w b h k.before k.u rule t x.elements x.path x.last first due in
       let levels = same_levels (top w) f (below w) fs (g.levels ∙ sym (front_levels x)) in
       let mode = mode_stopped w.stage w.place w.header.items (record { number = rule; place = length k.before; tag = t }) told.fault ∙ ap (λ z. Stopped rule z t) (sym k.place-is) in
       let place-is : w.place ≡ p = told.place ∙ sym k.came in

@@ -1,6 +1,14 @@
 pub mod Runs
 pub mod Tops
 pub mod Storing
+pub mod Extending
+pub mod Pieces
+pub mod Heads
+pub mod Begun
+pub mod Gathered
+pub mod Fitting
+pub mod Quiet
+pub mod Stepping
 pub mod Parts
 pub mod Sound
 pub mod Unbroken
@@ -19,7 +27,8 @@ pub mod Standings
 pub mod Finishing
 pub mod Answered
 pub mod Depths
-pub mod Tried
+pub mod Examples
+pub mod Along
 pub mod Staying
 pub mod Readings
 pub mod Once

@@ -6,13 +6,13 @@ use Rattle.element.specs.Header.{number}
 use Rattle.sequence.specs.Shape.{shape}
 use Rattle.sequence.specs.declared.shape.Shape.{Shape}
 use Rattle.sequence.specs.declared.shape.Shape.TheVariants.{Sequence}
-use Rattle.sequence.specs.Tree.{item_end_tag, sequence_end_tag, delimitation, Elements, no_elements, value, sequence, Items, no_items, item, Closed, counted, delimited, IsElement, IsItem, DataSet, nothing, value_then, sequence_then, ItemList, no_more, item_then}
-use Rattle.sequence.specs.Open.{last_of, Entry, Tail, in_header, sequence_entry, item_entry, IsTail, header_tail, value_tail, Nested, at_elements, in_sequence_of, in_item_of, Open}
+use Rattle.sequence.specs.Tree.{item_end_tag, sequence_end_tag, delimitation, Elements, no_elements, value, sequence, Items, no_items, item, Ended, counted, delimited, IsElement, IsItem, DataSet, nothing, value_then, sequence_then, ItemList, no_more, item_then}
+use Rattle.sequence.specs.Open.{last_of, PathEntry, Tail, in_header, item_entry, text_of, entry_of, IsTail, header_tail, value_tail, Nested, at_elements, in_sequence_of, in_item_of, Open}
 use Rattle.sequence.proofs.Arriving.{no_header}
 use Rattle.sequence.proofs.Readings.{End, in_tail, at_mark, Reads, ends, marked, element, Behind, value_ends, value_on, open_sequence, counted_sequence, delimited_sequence, ReadsItems, items_end, items_marked, one_item, open_item, counted_item, delimited_item, reads_once}
 
 -- a header that has this shape
-behind_is : {s : Syntax} {last : ℕ} {h : Header} {sh : Shape} {x : List ℕ} {es : Elements} {path : List Entry} {l : ℕ} {e : End} → shape s h ≡ sh → Behind sh s last h x es path l e → Behind (shape s h) s last h x es path l e
+behind_is : {s : Syntax} {last : ℕ} {h : Header} {sh : Shape} {x : List ℕ} {es : Elements} {path : List PathEntry} {l : ℕ} {e : End} → shape s h ≡ sh → Behind sh s last h x es path l e → Behind (shape s h) s last h x es path l e
 behind_is {s} {last} {h} {sh} {x} {es} {path} {l} {e} same b = subst (λ z. Behind z s last h x es path l e) (sym same) b
 
 three : (a b c d : List ℕ) → (a ++ (b ++ c)) ++ d ≡ a ++ (b ++ (c ++ d))
@@ -23,8 +23,8 @@ four a b m c d = simp append_assoc
 
 -- a sequence and an item with their ends, in front of the rest of a text
 
-sequence_reads : {s : Syntax} {last : ℕ} {h : Header} {inner : Syntax} {is : Items} {ib cb : List ℕ} {es : Elements} {path : List Entry} {l : ℕ} {e : End} (hb b t : List ℕ) → IsElement s last h hb → shape s h ≡ Sequence inner
-    → ((more : List ℕ) (end : End) → ReadsItems inner more no_items [] end → ReadsItems inner (ib ++ more) is [] end) → Closed sequence_end_tag h.length ib cb → Reads s (number h.tag) (b ++ t) es path l e
+sequence_reads : {s : Syntax} {last : ℕ} {h : Header} {inner : Syntax} {is : Items} {ib cb : List ℕ} {es : Elements} {path : List PathEntry} {l : ℕ} {e : End} (hb b t : List ℕ) → IsElement s last h hb → shape s h ≡ Sequence inner
+    → ((more : List ℕ) (end : End) → ReadsItems inner more no_items [] end → ReadsItems inner (ib ++ more) is [] end) → Ended sequence_end_tag h.length ib cb → Reads s (number h.tag) (b ++ t) es path l e
     → Reads s last ((hb ++ (cb ++ b)) ++ t) (sequence h is es) path l e
 sequence_reads {s} {last} {h} {inner} {is} {ib} {cb} {es} {path} {l} {e} hb b t el sh items (counted n defined even size) r =
     subst (λ z. Reads s last z (sequence h is es) path l e) (sym (three hb ib b t))
@@ -33,8 +33,8 @@ sequence_reads {s} {last} {h} {inner} {is} {ib} {cb} {es} {path} {l} {e} hb b t 
     subst (λ z. Reads s last z (sequence h is es) path l e) (sym (four hb ib (delimitation sequence_end_tag) b t))
     (element el (behind_is sh (delimited_sequence refl (items (delimitation sequence_end_tag ++ (b ++ t)) (at_mark (b ++ t)) items_marked) r)))
 
-item_reads : {s : Syntax} {h : Header} {es : Elements} {eb cb : List ℕ} {is : Items} {path : List Entry} {e : End} (hb b t : List ℕ) → IsItem s h hb
-    → ((more : List ℕ) (end : End) → Reads s (last_of 0 es) more no_elements [] (last_of 0 es) end → Reads s 0 (eb ++ more) es [] (last_of 0 es) end) → Closed item_end_tag h.length eb cb → ReadsItems s (b ++ t) is path e
+item_reads : {s : Syntax} {h : Header} {es : Elements} {eb cb : List ℕ} {is : Items} {path : List PathEntry} {e : End} (hb b t : List ℕ) → IsItem s h hb
+    → ((more : List ℕ) (end : End) → Reads s (last_of 0 es) more no_elements [] (last_of 0 es) end → Reads s 0 (eb ++ more) es [] (last_of 0 es) end) → Ended item_end_tag h.length eb cb → ReadsItems s (b ++ t) is path e
     → ReadsItems s ((hb ++ (cb ++ b)) ++ t) (item h es is) path e
 item_reads {s} {h} {es} {eb} {cb} {is} {path} {e} hb b t it set (counted n defined even size) r =
     subst (λ z. ReadsItems s z (item h es is) path e) (sym (three hb eb b t))
@@ -43,15 +43,15 @@ item_reads {s} {h} {es} {eb} {cb} {is} {path} {e} hb b t it set delimited r =
     subst (λ z. ReadsItems s z (item h es is) path e) (sym (four hb eb (delimitation item_end_tag) b t))
     (one_item it (delimited_item refl (set (delimitation item_end_tag ++ (b ++ t)) (at_mark (b ++ t)) marked) r))
 
--- whole elements, behind which the rest t of the text stands
+-- whole elements, after which the rest t of the text stands
 mutual
-  set_reads : {s : Syntax} {last : ℕ} {es : Elements} {b : List ℕ} {path : List Entry} {l : ℕ} {e : End} (t : List ℕ) → DataSet s last es b → Reads s (last_of last es) t no_elements path l e → Reads s last (b ++ t) es path l e
+  set_reads : {s : Syntax} {last : ℕ} {es : Elements} {b : List ℕ} {path : List PathEntry} {l : ℕ} {e : End} (t : List ℕ) → DataSet s last es b → Reads s (last_of last es) t no_elements path l e → Reads s last (b ++ t) es path l e
   set_reads t nothing r = r
   set_reads {s = s} {last = last} {path = path} {l = l} {e = e} t (value_then {h = h} {hb = hb} {v = v} {es = es} {b = b} el sh val rest) r =
       subst (λ z. Reads s last z (value h v es) path l e) (sym (three hb v b t)) (element el (behind_is sh (value_on val.size (set_reads t rest r))))
   set_reads t (sequence_then {hb = hb} {b = b} el sh items closed rest) r = sequence_reads hb b t el sh (λ more end k. list_reads more items k) closed (set_reads t rest r)
 
-  list_reads : {s : Syntax} {is : Items} {b : List ℕ} {path : List Entry} {e : End} (t : List ℕ) → ItemList s is b → ReadsItems s t no_items path e → ReadsItems s (b ++ t) is path e
+  list_reads : {s : Syntax} {is : Items} {b : List ℕ} {path : List PathEntry} {e : End} (t : List ℕ) → ItemList s is b → ReadsItems s t no_items path e → ReadsItems s (b ++ t) is path e
   list_reads t no_more r = r
   list_reads t (item_then {hb = hb} {b = b} it set closed rest) r = item_reads hb b t it (λ more end k. set_reads more set k) closed (list_reads t rest r)
 
@@ -61,15 +61,15 @@ tail_reads : {s : Syntax} {last : ℕ} {tail : Tail} {t : List ℕ} → IsTail s
 tail_reads (header_tail part) = ends part
 tail_reads (value_tail v el sh lt) = element el (behind_is sh (value_ends lt))
 
-nested_reads : {s : Syntax} {b : List ℕ} {es : Elements} {path : List Entry} {last : ℕ} {tail : Tail} → Nested s b es path last tail → Reads s 0 b es path last (in_tail tail)
+nested_reads : {s : Syntax} {b : List ℕ} {es : Elements} {path : List PathEntry} {last : ℕ} {tail : Tail} → Nested s b es path last tail → Reads s 0 b es path last (in_tail tail)
 nested_reads (at_elements {t = t} set tail) = set_reads t set (tail_reads tail)
-nested_reads (in_sequence_of {hb = hb} {ib = ib} {t = t} set el sh level items tail) = set_reads (hb ++ (ib ++ t)) set (element el (behind_is sh (open_sequence level (list_reads t items (items_end tail)))))
-nested_reads (in_item_of {s = s} {es = es} {b = b} {h = h} {hb = hb} {inner = inner} {ib = ib} {k = k} {kb = kb} {b2 = b2} {path = path} {last = last} {tail = tail} set el sh level items it level2 deeper) =
-    subst (λ z. Reads s 0 (b ++ (hb ++ (ib ++ (kb ++ b2)))) es z (number h.tag) (in_tail tail))
-    (append_assoc path (item_entry inner k.length (length b2) last ∷ []) (sequence_entry inner h.length (length (ib ++ (kb ++ b2))) ∷ []))
-    (set_reads (hb ++ (ib ++ (kb ++ b2))) set (element el (behind_is sh (open_sequence level (list_reads (kb ++ b2) items (one_item it (open_item level2 (nested_reads deeper))))))))
+nested_reads (in_sequence_of q {t = t} level tail) = set_reads (q.spelling ++ (q.item_bytes ++ t)) q.elements-are (element q.header-is (behind_is q.shaped (open_sequence level (list_reads t q.items-are (items_end tail)))))
+nested_reads (in_item_of {s = s} q {k = k} {kb = kb} {b2 = b2} {path = path} {last = last} {tail = tail} level it level2 deeper) =
+    subst (λ z. Reads s 0 (text_of q (kb ++ b2)) q.elements z (number q.header.tag) (in_tail tail))
+    (append_assoc path (item_entry q.inner k.length (length b2) last ∷ []) (entry_of q (kb ++ b2) ∷ []))
+    (set_reads (q.spelling ++ (q.item_bytes ++ (kb ++ b2))) q.elements-are (element q.header-is (behind_is q.shaped (open_sequence level (list_reads (kb ++ b2) q.items-are (one_item it (open_item level2 (nested_reads deeper))))))))
 
-pub one_path : (s : Syntax) (b : List ℕ) (es es2 : Elements) (path path2 : List Entry) (last last2 : ℕ) (tail tail2 : Tail) → Open s b es path last tail → Open s b es2 path2 last2 tail2 → (es ≡ es2) × (path ≡ path2) × (last ≡ last2) × (tail ≡ tail2)
+pub one_path : (s : Syntax) (b : List ℕ) (es es2 : Elements) (path path2 : List PathEntry) (last last2 : ℕ) (tail tail2 : Tail) → Open s b es path last tail → Open s b es2 path2 last2 tail2 → (es ≡ es2) × (path ≡ path2) × (last ≡ last2) × (tail ≡ tail2)
 one_path s b es es2 path path2 last last2 tail tail2 o o2 =
     let k = reads_once (nested_reads o.nested) (nested_reads o2.nested) refl o.innermost o2.innermost in
     (k.elements, k.path-is, k.last, (let e : in_tail tail ≡ in_tail tail2 = k.end in cc))

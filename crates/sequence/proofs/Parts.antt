@@ -11,7 +11,7 @@ use Rattle.element.specs.Header.{need, is_marker, header_at, SpellsHeader, plain
 use Rattle.element.proofs.Headers.{NeedIs, few, plain_eight, no_vr, refused, short_eight, long_twelve, need_is, is_need, need_on, plain_on, vr_on, exact_spells, more_short, size_eight}
 use Rattle.sequence.specs.Tree.{delimitation}
 use Rattle.sequence.specs.Open.{IsUnfinished}
-use Rattle.sequence.specs.Standing.{IsBytes}
+use Rattle.sequence.specs.machine.Standing.{IsBytes}
 
 asked_by : (s : Syntax) (t : List ℕ) (x k : ℕ) (n : Need) → need s t ≡ n → has_size n (length t) ≡ false → n ≢ BadVr → need s (t ++ x ∷ []) ≡ Size k → k ≤ length (t ++ x ∷ []) → 8 ≤ k → length (t ++ x ∷ []) ≡ k
 asked_by s t x k More e part good g at_most eight = absurd (let lt = more_short (subst (λ z. NeedIs s t z) e (need_is s t)) in omega (arith, lt, at_most, eight, length-append t (x ∷ [])))
@@ -22,7 +22,7 @@ asked_by s t x k (Size j) e part good g at_most eight =
     let lt = leb-false j (length t) part in
     omega (arith, lt, at_most, same, length-append t (x ∷ []))
 
-bad_by : {s : Syntax} {w : List ℕ} (v : List ℕ) {n : Need} → NeedIs s w n → n ≡ BadVr → NeedIs s (w ++ v) BadVr
+pub bad_by : {s : Syntax} {w : List ℕ} (v : List ℕ) {n : Need} → NeedIs s w n → n ≡ BadVr → NeedIs s (w ++ v) BadVr
 bad_by {s = s} {w = w} v (refused ge p c) e = refused (omega (arith, ge, length-append w v)) (plain_on s w v false (omega (arith, ge)) p) (vr_on (λ x y. is_capital x && is_capital y) w v false ge c)
 bad_by v (few lt) e = absurd cc
 bad_by v (plain_eight ge p) e = absurd cc

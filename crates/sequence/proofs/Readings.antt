@@ -11,50 +11,50 @@ use Rattle.sequence.specs.Shape.{undefined_length, shape}
 use Rattle.sequence.specs.declared.shape.Shape.{Shape}
 use Rattle.sequence.specs.declared.shape.Shape.TheVariants.{Value, Sequence}
 use Rattle.sequence.specs.Tree.{item_end_tag, sequence_end_tag, delimitation, Elements, no_elements, value, sequence, Items, no_items, item, IsElement, IsItem}
-use Rattle.sequence.specs.Open.{Entry, Tail, in_header, in_value, left_of, sequence_entry, item_entry, IsUnfinished, IsOpenLevel, IsInnermost}
+use Rattle.sequence.specs.Open.{PathEntry, Tail, in_header, in_value, left_of, sequence_entry, item_entry, IsUnfinished, IsOpenLevel, IsInnermost}
 use Rattle.sequence.proofs.Runs.{sequence_end_mark, item_end_mark, IsMark}
 
--- where a reading ends: in a tail, or at a delimitation, behind which this text stands
+-- where a reading ends: in a tail, or at a delimitation, after which this text stands
 pub data End : Type 0 where
   in_tail : Tail → End
   at_mark : List ℕ → End
 
 mutual
-  -- x is elements above the tag `last`, and what is open behind them
-  pub data Reads : Syntax → ℕ → List ℕ → Elements → List Entry → ℕ → End → Type 0 where
+  -- x is elements above the tag `last`, and what is open after them
+  pub data Reads : Syntax → ℕ → List ℕ → Elements → List PathEntry → ℕ → End → Type 0 where
     ends : {s : Syntax} {last : ℕ} {t : List ℕ} → IsUnfinished s t → Reads s last t no_elements [] last (in_tail (in_header t))
     marked : {s : Syntax} {last : ℕ} {b : List ℕ} → Reads s last (delimitation item_end_tag ++ b) no_elements [] last (at_mark b)
-    element : {s : Syntax} {last : ℕ} {h : Header} {hb x : List ℕ} {es : Elements} {path : List Entry} {l : ℕ} {e : End}
+    element : {s : Syntax} {last : ℕ} {h : Header} {hb x : List ℕ} {es : Elements} {path : List PathEntry} {l : ℕ} {e : End}
         → IsElement s last h hb → Behind (shape s h) s last h x es path l e → Reads s last (hb ++ x) es path l e
 
-  -- the same of what stands behind a header of this shape
-  pub data Behind : Shape → Syntax → ℕ → Header → List ℕ → Elements → List Entry → ℕ → End → Type 0 where
+  -- the same of what stands after a header of this shape
+  pub data Behind : Shape → Syntax → ℕ → Header → List ℕ → Elements → List PathEntry → ℕ → End → Type 0 where
     value_ends : {s : Syntax} {last : ℕ} {h : Header} {v : List ℕ} → length v < h.length → Behind Value s last h v no_elements [] last (in_tail (in_value h v))
-    value_on : {s : Syntax} {last : ℕ} {h : Header} {v b : List ℕ} {es : Elements} {path : List Entry} {l : ℕ} {e : End}
+    value_on : {s : Syntax} {last : ℕ} {h : Header} {v b : List ℕ} {es : Elements} {path : List PathEntry} {l : ℕ} {e : End}
         → length v ≡ h.length → Reads s (number h.tag) b es path l e → Behind Value s last h (v ++ b) (value h v es) path l e
-    open_sequence : {s inner : Syntax} {last : ℕ} {h : Header} {x : List ℕ} {is : Items} {path : List Entry} {tail : Tail}
+    open_sequence : {s inner : Syntax} {last : ℕ} {h : Header} {x : List ℕ} {is : Items} {path : List PathEntry} {tail : Tail}
         → IsOpenLevel h.length (length x) → ReadsItems inner x is path (in_tail tail)
         → Behind (Sequence inner) s last h x no_elements (path ++ sequence_entry inner h.length (length x) ∷ []) (number h.tag) (in_tail tail)
-    counted_sequence : {s inner : Syntax} {last : ℕ} {h : Header} {x b : List ℕ} {is : Items} {es : Elements} {path : List Entry} {l : ℕ} {e : End}
+    counted_sequence : {s inner : Syntax} {last : ℕ} {h : Header} {x b : List ℕ} {is : Items} {es : Elements} {path : List PathEntry} {l : ℕ} {e : End}
         → h.length ≢ undefined_length → length x ≡ h.length → ReadsItems inner x is [] (in_tail (in_header [])) → Reads s (number h.tag) b es path l e
         → Behind (Sequence inner) s last h (x ++ b) (sequence h is es) path l e
-    delimited_sequence : {s inner : Syntax} {last : ℕ} {h : Header} {x b : List ℕ} {is : Items} {es : Elements} {path : List Entry} {l : ℕ} {e : End}
+    delimited_sequence : {s inner : Syntax} {last : ℕ} {h : Header} {x b : List ℕ} {is : Items} {es : Elements} {path : List PathEntry} {l : ℕ} {e : End}
         → h.length ≡ undefined_length → ReadsItems inner x is [] (at_mark b) → Reads s (number h.tag) b es path l e
         → Behind (Sequence inner) s last h x (sequence h is es) path l e
 
   -- the same of items
-  pub data ReadsItems : Syntax → List ℕ → Items → List Entry → End → Type 0 where
+  pub data ReadsItems : Syntax → List ℕ → Items → List PathEntry → End → Type 0 where
     items_end : {s : Syntax} {t : List ℕ} → IsUnfinished s t → ReadsItems s t no_items [] (in_tail (in_header t))
     items_marked : {s : Syntax} {b : List ℕ} → ReadsItems s (delimitation sequence_end_tag ++ b) no_items [] (at_mark b)
-    one_item : {s : Syntax} {h : Header} {hb x : List ℕ} {is : Items} {path : List Entry} {e : End}
+    one_item : {s : Syntax} {h : Header} {hb x : List ℕ} {is : Items} {path : List PathEntry} {e : End}
         → IsItem s h hb → InItem s h x is path e → ReadsItems s (hb ++ x) is path e
 
-  pub data InItem : Syntax → Header → List ℕ → Items → List Entry → End → Type 0 where
-    open_item : {s : Syntax} {h : Header} {x : List ℕ} {es : Elements} {path : List Entry} {l : ℕ} {tail : Tail}
+  pub data InItem : Syntax → Header → List ℕ → Items → List PathEntry → End → Type 0 where
+    open_item : {s : Syntax} {h : Header} {x : List ℕ} {es : Elements} {path : List PathEntry} {l : ℕ} {tail : Tail}
         → IsOpenLevel h.length (length x) → Reads s 0 x es path l (in_tail tail) → InItem s h x no_items (path ++ item_entry s h.length (length x) l ∷ []) (in_tail tail)
-    counted_item : {s : Syntax} {h : Header} {x b : List ℕ} {es : Elements} {is : Items} {path : List Entry} {l : ℕ} {e : End}
+    counted_item : {s : Syntax} {h : Header} {x b : List ℕ} {es : Elements} {is : Items} {path : List PathEntry} {l : ℕ} {e : End}
         → h.length ≢ undefined_length → length x ≡ h.length → Reads s 0 x es [] l (in_tail (in_header [])) → ReadsItems s b is path e → InItem s h (x ++ b) (item h es is) path e
-    delimited_item : {s : Syntax} {h : Header} {x b : List ℕ} {es : Elements} {is : Items} {path : List Entry} {l : ℕ} {e : End}
+    delimited_item : {s : Syntax} {h : Header} {x b : List ℕ} {es : Elements} {is : Items} {path : List PathEntry} {l : ℕ} {e : End}
         → h.length ≡ undefined_length → Reads s 0 x es [] l (at_mark b) → ReadsItems s b is path e → InItem s h x (item h es is) path e
 
 -- the parts of a text
@@ -106,11 +106,11 @@ header_once {s} {h} {h2} {hb} {hb2} {x} {x2} e f same =
     record { header = k.0; bytes = parts.0; rest = parts.1 }
 
 -- an open level that is whole is not the innermost one
-front_innermost : (path : List Entry) (e : Entry) → IsInnermost (path ++ e ∷ []) → IsInnermost path
+front_innermost : (path : List PathEntry) (e : PathEntry) → IsInnermost (path ++ e ∷ []) → IsInnermost path
 front_innermost [] e h = tt
 front_innermost (d ∷ path) e h = h
 
-whole_not : {path : List Entry} {A : Type 0} (e : Entry) → IsInnermost (path ++ e ∷ []) → path ≡ [] → e.left ≡ Some 0 → A
+whole_not : {path : List PathEntry} {A : Type 0} (e : PathEntry) → IsInnermost (path ++ e ∷ []) → path ≡ [] → e.left ≡ Some 0 → A
 whole_not {path} e h nil left = absurd (subst (λ z. IsInnermost (z ++ e ∷ [])) nil h left)
 
 none_left : (n came : ℕ) → n ≢ undefined_length → n ≤ came → left_of n came ≡ Some 0
@@ -118,13 +118,13 @@ none_left n came defined le = rw (ne_eqb n undefined_length defined) (ap Some (l
 
 -- what two readings have in common
 
-pub record SameReads (es es2 : Elements) (path path2 : List Entry) (l l2 : ℕ) (e e2 : End) : Type 0 where
+pub record SameReads (es es2 : Elements) (path path2 : List PathEntry) (l l2 : ℕ) (e e2 : End) : Type 0 where
   pub elements : es ≡ es2
   pub path-is : path ≡ path2
   pub last : l ≡ l2
   pub end : e ≡ e2
 
-pub record SameItems (is is2 : Items) (path path2 : List Entry) (e e2 : End) : Type 0 where
+pub record SameItems (is is2 : Items) (path path2 : List PathEntry) (e e2 : End) : Type 0 where
   pub items : is ≡ is2
   pub path-is : path ≡ path2
   pub end : e ≡ e2
@@ -137,7 +137,7 @@ counted_all n x y b defined level size same =
     same ∙ ap (λ z. y ++ z) (nil_from_length b none) ∙ append-nil y
 
 mutual
-  pub reads_once : {s : Syntax} {last : ℕ} {x x2 : List ℕ} {es es2 : Elements} {path path2 : List Entry} {l l2 : ℕ} {e e2 : End} → Reads s last x es path l e → Reads s last x2 es2 path2 l2 e2 → x ≡ x2 → IsInnermost path → IsInnermost path2 → SameReads es es2 path path2 l l2 e e2
+  pub reads_once : {s : Syntax} {last : ℕ} {x x2 : List ℕ} {es es2 : Elements} {path path2 : List PathEntry} {l l2 : ℕ} {e e2 : End} → Reads s last x es path l e → Reads s last x2 es2 path2 l2 e2 → x ≡ x2 → IsInnermost path → IsInnermost path2 → SameReads es es2 path path2 l l2 e e2
   reads_once (ends u) (ends u2) same i j = record { elements = refl; path-is = refl; last = refl; end = ap (λ z. in_tail (in_header z)) same }
   reads_once (ends {s = s} u) (marked) same i j = unfinished_not _ u (mark_spells s item_end_tag item_end_mark) same
   reads_once (ends u) (element el b) same i j = unfinished_not _ u el.spelled same
@@ -150,7 +150,7 @@ mutual
       let k = header_once el.spelled el2.spelled same in
       behind_once b (subst (λ (z : Header). Behind (shape s z) s last z x2 es2 path2 l2 e2) (sym k.header) b2) k.rest i j
 
-  behind_once : {sh : Shape} {s : Syntax} {last : ℕ} {h : Header} {x x2 : List ℕ} {es es2 : Elements} {path path2 : List Entry} {l l2 : ℕ} {e e2 : End} → Behind sh s last h x es path l e → Behind sh s last h x2 es2 path2 l2 e2 → x ≡ x2 → IsInnermost path → IsInnermost path2 → SameReads es es2 path path2 l l2 e e2
+  behind_once : {sh : Shape} {s : Syntax} {last : ℕ} {h : Header} {x x2 : List ℕ} {es es2 : Elements} {path path2 : List PathEntry} {l l2 : ℕ} {e e2 : End} → Behind sh s last h x es path l e → Behind sh s last h x2 es2 path2 l2 e2 → x ≡ x2 → IsInnermost path → IsInnermost path2 → SameReads es es2 path path2 l l2 e e2
   behind_once (value_ends {h = h} lt) (value_ends lt2) same i j = record { elements = refl; path-is = refl; last = refl; end = ap (λ z. in_tail (in_value h z)) same }
   behind_once (value_ends lt) (value_on {v = v} {b = b} size r) same i j = absurd (omega (arith, lt, size, ap length same, length-append v b))
   behind_once (value_on {v = v} {b = b} size r) (value_ends lt) same i j = absurd (omega (arith, lt, size, ap length same, length-append v b))
@@ -188,7 +188,7 @@ mutual
       let m = reads_once on on2 rest i j in
       record { elements = λ n. sequence h (k.items n) (m.elements n); path-is = m.path-is; last = m.last; end = m.end }
 
-  items_once : {s : Syntax} {x x2 : List ℕ} {is is2 : Items} {path path2 : List Entry} {e e2 : End} → ReadsItems s x is path e → ReadsItems s x2 is2 path2 e2 → x ≡ x2 → IsInnermost path → IsInnermost path2 → SameItems is is2 path path2 e e2
+  items_once : {s : Syntax} {x x2 : List ℕ} {is is2 : Items} {path path2 : List PathEntry} {e e2 : End} → ReadsItems s x is path e → ReadsItems s x2 is2 path2 e2 → x ≡ x2 → IsInnermost path → IsInnermost path2 → SameItems is is2 path path2 e e2
   items_once (items_end u) (items_end u2) same i j = record { items = refl; path-is = refl; end = ap (λ z. in_tail (in_header z)) same }
   items_once (items_end {s = s} u) items_marked same i j = unfinished_not _ u (mark_spells s sequence_end_tag sequence_end_mark) same
   items_once (items_end u) (one_item it b) same i j = unfinished_not _ u it.spelled same
@@ -201,7 +201,7 @@ mutual
       let k = header_once it.spelled it2.spelled same in
       item_once b (subst (λ (z : Header). InItem s z x2 is2 path2 e2) (sym k.header) b2) k.rest i j
 
-  item_once : {s : Syntax} {h : Header} {x x2 : List ℕ} {is is2 : Items} {path path2 : List Entry} {e e2 : End} → InItem s h x is path e → InItem s h x2 is2 path2 e2 → x ≡ x2 → IsInnermost path → IsInnermost path2 → SameItems is is2 path path2 e e2
+  item_once : {s : Syntax} {h : Header} {x x2 : List ℕ} {is is2 : Items} {path path2 : List PathEntry} {e e2 : End} → InItem s h x is path e → InItem s h x2 is2 path2 e2 → x ≡ x2 → IsInnermost path → IsInnermost path2 → SameItems is is2 path path2 e e2
   item_once (open_item {s = s} {h = h} {x = x} {path = path} level r) (open_item {x = x2} {path = path2} level2 r2) same i j =
       let k = reads_once r r2 same (front_innermost path _ i) (front_innermost path2 _ j) in
       record { items = refl; path-is = λ n. k.path-is n ++ item_entry s h.length (length (same n)) (k.last n) ∷ []; end = k.end }

@@ -5,16 +5,16 @@ use Rattle.element.specs.declared.syntax.Syntax.{Syntax}
 use Rattle.element.specs.declared.syntax.Syntax.TheVariants.{Implicit, Explicit}
 use Rattle.element.specs.declared.tag.Tag.{Tag}
 use Rattle.element.specs.declared.header.Header.{Header}
-use Rattle.sequence.specs.declared.level.Frame.{Frame}
+use Rattle.sequence.specs.declared.level.Scope.{Scope}
 use Rattle.sequence.specs.Rules.{Limits}
 use Rattle.element.specs.Header.{number, is_marker, is_plain, header_at, IsTag, SpellsHeader, plain}
 use Rattle.sequence.specs.Shape.{is_undefined, undefined_length, shape}
 use Rattle.sequence.specs.declared.shape.Shape.TheVariants.{Value, Sequence}
-use Rattle.sequence.specs.Tree.{item_tag, item_end_tag, sequence_end_tag, delimitation, Elements, Items, IsElement, IsItem, IsValue, Closed, counted, delimited, DataSet, nothing, value_then, sequence_then, ItemList, no_more, item_then}
+use Rattle.sequence.specs.Tree.{item_tag, item_end_tag, sequence_end_tag, delimitation, Elements, Items, IsElement, IsItem, IsValue, Ended, counted, delimited, DataSet, nothing, value_then, sequence_then, ItemList, no_more, item_then}
 use Rattle.sequence.specs.Open.{last_of}
 use Rattle.sequence.specs.Rules.{Broken, broken_due, broken}
 use Rattle.element.specs.Header.{is_whole}
-use Rattle.sequence.specs.Machine.{set_frame, sequence_frame, Mode, Heading, Reading, Stopped, State, at, spot_of, due_by, due, arrive, stop_of, begin_value, begin_level, leave, stops_at, take_header, headed_by, headed, read, next, run}
+use Rattle.sequence.specs.machine.Machine.{set_scope, sequence_scope, Mode, Heading, Reading, Stopped, State, at, spot_of, due_by, due, arrive, stop_of, begin_value, begin_level, leave, stops_at, take_header, headed_by, headed, read, next, run}
 use Rattle.element.proofs.Headers.{whole_spelled, read_spelled, front_spelled, spelled_long}
 
 abbrev pub HasStopped : Mode → Type 0
@@ -31,24 +31,24 @@ unfolding run
 run_append lim st [] b = refl
 run_append lim st (x ∷ a) b = run_append lim (next lim st x) a b
 
-pub run_stopped : (lim : Limits) (f : Frame) (fs : List Frame) (p : ℕ) (m : Mode) (b : List ℕ) → HasStopped m → run lim (at f fs p m) b ≡ at f fs p m
+pub run_stopped : (lim : Limits) (f : Scope) (fs : List Scope) (p : ℕ) (m : Mode) (b : List ℕ) → HasStopped m → run lim (at f fs p m) b ≡ at f fs p m
 unfolding run
 run_stopped lim f fs p (Stopped n q t) [] h = refl
 run_stopped lim f fs p (Stopped n q t) (x ∷ b) h = run_stopped lim f fs p (Stopped n q t) b h
 run_stopped lim f fs p (Heading q t) b h = absurd h
 run_stopped lim f fs p (Reading t n) b h = absurd h
 
--- the frame has bytes left
+-- the scope has bytes left
 abbrev pub IsOpen : Option ℕ → ℕ → Type 0
 IsOpen None p = Unit {0}
 IsOpen (Some e) p = p < e
 
--- the frame has n bytes left, or more
+-- the scope has n bytes left, or more
 abbrev pub Holds : Option ℕ → ℕ → Type 0
 Holds None p = Unit {0}
 Holds (Some e) p = p ≤ e
 
-pub arrive_open : (p : ℕ) (f : Frame) (fs : List Frame) → IsOpen f.stop p → arrive p f fs ≡ due f fs p
+pub arrive_open : (p : ℕ) (f : Scope) (fs : List Scope) → IsOpen f.stop p → arrive p f fs ≡ due f fs p
 unfolding arrive
 arrive_open p f [] h = refl
 arrive_open p f (g ∷ gs) h = rw (open_stops f.stop p h) refl
@@ -57,7 +57,7 @@ arrive_open p f (g ∷ gs) h = rw (open_stops f.stop p h) refl
     open_stops None p h = refl
     open_stops (Some e) p h = grind (arith, nat_tests)
 
-pub arrive_stopped : (p : ℕ) (f g : Frame) (gs : List Frame) → f.stop ≡ Some p → arrive p f (g ∷ gs) ≡ arrive p g gs
+pub arrive_stopped : (p : ℕ) (f g : Scope) (gs : List Scope) → f.stop ≡ Some p → arrive p f (g ∷ gs) ≡ arrive p g gs
 unfolding arrive
 arrive_stopped p f g gs e = rw (ap (λ o. stops_at o p) e ∙ eq-eqb p p refl) refl
 
@@ -79,15 +79,15 @@ goes_then lim st mid want a b g h = rw (run_append lim st a b) (goes_from lim (r
 
 -- a header, byte by byte
 
-headed_last : (x : Broken) (f : Frame) (fs : List Frame) (p start : ℕ) (t : List ℕ) (h : Header) → is_whole f.syntax t ≡ true → header_at f.syntax t ≡ h → Goes (headed_by x f fs p start t) (take_header p f fs h)
+headed_last : (x : Broken) (f : Scope) (fs : List Scope) (p start : ℕ) (t : List ℕ) (h : Header) → is_whole f.syntax t ≡ true → header_at f.syntax t ≡ h → Goes (headed_by x f fs p start t) (take_header p f fs h)
 headed_last (Some x) f fs p start t h w e = inr tt
 headed_last None f fs p start t h w e = inl (rw (w, e) refl)
 
-headed_on : (x : Broken) (f : Frame) (fs : List Frame) (p start : ℕ) (t : List ℕ) → is_whole f.syntax t ≡ false → Goes (headed_by x f fs p start t) (at f fs p (Heading start t))
+headed_on : (x : Broken) (f : Scope) (fs : List Scope) (p start : ℕ) (t : List ℕ) → is_whole f.syntax t ≡ false → Goes (headed_by x f fs p start t) (at f fs p (Heading start t))
 headed_on (Some x) f fs p start t w = inr tt
 headed_on None f fs p start t w = inl (rw w refl)
 
-pub heading_run : (lim : Limits) (f : Frame) (fs : List Frame) (p q start : ℕ) (t : List ℕ) (h : Header) (x : ℕ) (b : List ℕ) → SpellsHeader f.syntax h (t ++ x ∷ b) → q ≡ p + suc (length b)
+pub heading_run : (lim : Limits) (f : Scope) (fs : List Scope) (p q start : ℕ) (t : List ℕ) (h : Header) (x : ℕ) (b : List ℕ) → SpellsHeader f.syntax h (t ++ x ∷ b) → q ≡ p + suc (length b)
     → Goes (run lim (at f fs p (Heading start t)) (x ∷ b)) (take_header q f fs h)
 unfolding run headed
 heading_run lim f fs p q start t h x [] e q-is =
@@ -100,16 +100,16 @@ heading_run lim f fs p q start t h x (y ∷ b) e q-is =
     (headed_on (broken lim (spot_of f fs start) (t ++ x ∷ [])) f fs (p + 1) start (t ++ x ∷ []) (front_spelled (t ++ x ∷ []) y b more))
     (heading_run lim f fs (p + 1) q start (t ++ x ∷ []) h y b more (omega arith))
 
-due_on : (x : Broken) (f : Frame) (fs : List Frame) (p : ℕ) → Goes (due_by x f fs p) (at f fs p (Heading p []))
+due_on : (x : Broken) (f : Scope) (fs : List Scope) (p : ℕ) → Goes (due_by x f fs p) (at f fs p (Heading p []))
 due_on None f fs p = inl refl
 due_on (Some x) f fs p = inr tt
 
-header_on : (lim : Limits) (f : Frame) (fs : List Frame) (p q : ℕ) (h : Header) (hb : List ℕ) → SpellsHeader f.syntax h hb → 8 ≤ length hb → q ≡ p + length hb
+header_on : (lim : Limits) (f : Scope) (fs : List Scope) (p q : ℕ) (h : Header) (hb : List ℕ) → SpellsHeader f.syntax h hb → 8 ≤ length hb → q ≡ p + length hb
     → Goes (run lim (at f fs p (Heading p [])) hb) (take_header q f fs h)
 header_on lim f fs p q h [] e le q-is = absurd (omega arith)
 header_on lim f fs p q h (x ∷ hb) e le q-is = heading_run lim f fs p q p [] h x hb e q-is
 
-pub header_run : (lim : Limits) (f : Frame) (fs : List Frame) (p q : ℕ) (h : Header) (hb : List ℕ) → SpellsHeader f.syntax h hb → IsOpen f.stop p → q ≡ p + length hb
+pub header_run : (lim : Limits) (f : Scope) (fs : List Scope) (p q : ℕ) (h : Header) (hb : List ℕ) → SpellsHeader f.syntax h hb → IsOpen f.stop p → q ≡ p + length hb
     → Goes (run lim (arrive p f fs) hb) (take_header q f fs h)
 unfolding due
 header_run lim f fs p q h hb e room q-is =
@@ -119,7 +119,7 @@ header_run lim f fs p q h hb e room q-is =
 
 -- a value
 
-pub reading_run : (lim : Limits) (f : Frame) (fs : List Frame) (t : Tag) (p q n : ℕ) (v : List ℕ) → length v ≡ n → 0 < n → q ≡ p + n → run lim (at f fs p (Reading t n)) v ≡ arrive q f fs
+pub reading_run : (lim : Limits) (f : Scope) (fs : List Scope) (t : Tag) (p q n : ℕ) (v : List ℕ) → length v ≡ n → 0 < n → q ≡ p + n → run lim (at f fs p (Reading t n)) v ≡ arrive q f fs
 unfolding run read
 reading_run lim f fs t p q n [] e lt q-is = absurd (omega arith)
 reading_run lim f fs t p q n (x ∷ []) e lt q-is = let le : nat_le n 1 ≡ true = le-leb n 1 (omega arith) in let q-one : p + 1 ≡ q = omega arith in rw (le, q-one) refl
@@ -127,7 +127,7 @@ reading_run lim f fs t p q n (x ∷ y ∷ v) e lt q-is =
     let le : nat_le n 1 ≡ false = grind (arith, nat_tests) in
     rw le (reading_run lim f fs t (p + 1) q (n - 1) (y ∷ v) (omega arith) (omega arith) (omega arith))
 
-pub value_on : (lim : Limits) (f : Frame) (fs : List Frame) (t : Tag) (p q n : ℕ) (v : List ℕ) (zero : Bool) → nat_eq n 0 ≡ zero → length v ≡ n → q ≡ p + n → run lim (begin_value p f fs t n) v ≡ arrive q f fs
+pub value_on : (lim : Limits) (f : Scope) (fs : List Scope) (t : Tag) (p q n : ℕ) (v : List ℕ) (zero : Bool) → nat_eq n 0 ≡ zero → length v ≡ n → q ≡ p + n → run lim (begin_value p f fs t n) v ≡ arrive q f fs
 unfolding begin_value run
 value_on lim f fs t p q n [] true z e q-is = let q-same : p ≡ q = omega (arith, eqb-true n 0 z) in rw (z, q-same) refl
 value_on lim f fs t p q n (x ∷ v) true z e q-is = absurd (omega (arith, eqb-true n 0 z))
@@ -140,7 +140,7 @@ mark_header t = record { tag = t; vr = None; length = 0 }
 
 -- the tag of a delimitation
 abbrev pub IsMark : Tag → Type 0
-IsMark t = IsTag t × ((s : Syntax) → is_plain s t ≡ true) × ((p : ℕ) (f g : Frame) (gs : List Frame) → take_header p f (g ∷ gs) (record { tag = t; vr = None; length = 0 }) ≡ arrive p g gs)
+IsMark t = IsTag t × ((s : Syntax) → is_plain s t ≡ true) × ((p : ℕ) (f g : Scope) (gs : List Scope) → take_header p f (g ∷ gs) (record { tag = t; vr = None; length = 0 }) ≡ arrive p g gs)
 
 pub sequence_end_mark : IsMark sequence_end_tag
 unfolding take_header leave
@@ -150,19 +150,19 @@ pub item_end_mark : IsMark item_end_tag
 unfolding take_header leave
 item_end_mark = ((lit< tt, lit< tt), elim [ Implicit ↦ refl | Explicit ↦ refl ], λ p f g gs. refl)
 
-pub mark_run : (lim : Limits) (t : Tag) (mark : IsMark t) (f g : Frame) (gs : List Frame) (p q : ℕ) → IsOpen f.stop p → q ≡ p + 8
+pub mark_run : (lim : Limits) (t : Tag) (mark : IsMark t) (f g : Scope) (gs : List Scope) (p q : ℕ) → IsOpen f.stop p → q ≡ p + 8
     → Goes (run lim (arrive p f (g ∷ gs)) (delimitation t)) (arrive q g gs)
 mark_run lim t mark f g gs p q room q-is =
     subst (λ z. Goes (run lim (arrive p f (g ∷ gs)) (delimitation t)) z) (mark.2 q f g gs)
     (header_run lim f (g ∷ gs) p q (record { tag = t; vr = None; length = 0 }) (delimitation t) (plain t 0 mark.0 (mark.1 f.syntax) (lit< tt)) room q-is)
 
--- a level, behind its header: what stands in it, and its end
+-- a level, after its header: what stands in it, and its end
 
--- the machine goes over b between these two frames, wherever they stop
-abbrev pub RunsIn : Limits → (Option ℕ → Frame) → (Option ℕ → Frame) → Frame → List Frame → ℕ → List ℕ → Type 0
+-- the machine goes over b between these two scopes, wherever they stop
+abbrev pub RunsIn : Limits → (Option ℕ → Scope) → (Option ℕ → Scope) → Scope → List Scope → ℕ → List ℕ → Type 0
 RunsIn lim g0 g1 f fs p b = (stop : Option ℕ) → Holds stop (p + length b) → Goes (run lim (arrive p (g0 stop) (f ∷ fs)) b) (arrive (p + length b) (g1 stop) (f ∷ fs))
 
-counted_on : (lim : Limits) (g0 g1 : Option ℕ → Frame) (f : Frame) (fs : List Frame) (p q n : ℕ) (b : List ℕ) (zero : Bool) → nat_eq n 0 ≡ zero → ((stop : Option ℕ) → (g1 stop).stop ≡ stop) → RunsIn lim g0 g1 f fs p b
+counted_on : (lim : Limits) (g0 g1 : Option ℕ → Scope) (f : Scope) (fs : List Scope) (p q n : ℕ) (b : List ℕ) (zero : Bool) → nat_eq n 0 ≡ zero → ((stop : Option ℕ) → (g1 stop).stop ≡ stop) → RunsIn lim g0 g1 f fs p b
     → n ≢ undefined_length → length b ≡ n → q ≡ p + n → Goes (run lim (begin_level p (g0 (stop_of p n)) f fs n) b) (arrive q f fs)
 unfolding begin_level run
 counted_on lim g0 g1 f fs p q n [] true z stops in-it defined size q-is = let q-same : p ≡ q = omega (arith, eqb-true n 0 z) in rw (z, q-same) (inl refl)
@@ -175,7 +175,7 @@ counted_on lim g0 g1 f fs p q n b false z stops in-it defined size q-is =
     rw (z, is-defined) (subst (λ z. Goes (run lim (arrive p (g0 (Some (p + n))) (f ∷ fs)) b) z) (ap (λ m. arrive m (g1 (Some (p + n))) (f ∷ fs)) ends ∙ arrive_stopped (p + n) (g1 (Some (p + n))) f fs (stops (Some (p + n))) ∙ ap (λ m. arrive m f fs) q-same)
     (in-it (Some (p + n)) room))
 
-pub level_run : {t : Tag} {n : ℕ} {b c : List ℕ} (lim : Limits) (g0 g1 : Option ℕ → Frame) (f : Frame) (fs : List Frame) (p q : ℕ) → Closed t n b c → IsMark t → ((stop : Option ℕ) → (g1 stop).stop ≡ stop) → RunsIn lim g0 g1 f fs p b
+pub level_run : {t : Tag} {n : ℕ} {b c : List ℕ} (lim : Limits) (g0 g1 : Option ℕ → Scope) (f : Scope) (fs : List Scope) (p q : ℕ) → Ended t n b c → IsMark t → ((stop : Option ℕ) → (g1 stop).stop ≡ stop) → RunsIn lim g0 g1 f fs p b
     → q ≡ p + length c → Goes (run lim (begin_level p (g0 (stop_of p n)) f fs n) c) (arrive q f fs)
 unfolding begin_level
 level_run lim g0 g1 f fs p q (counted {b = b} n defined even size) mark stops in-it q-is =
@@ -184,25 +184,25 @@ level_run {t} lim g0 g1 f fs p q (delimited {b = b}) mark stops in-it q-is =
     goes_then lim (arrive p (g0 None) (f ∷ fs)) (arrive (p + length b) (g1 None) (f ∷ fs)) (arrive q f fs) b (delimitation t) (in-it None tt)
     (mark_run lim t mark (g1 None) f fs (p + length b) q (subst (λ o. IsOpen o (p + length b)) (sym (stops None)) tt) (omega (arith, length-append b (delimitation t))))
 
--- the header and the value of an element, behind which the rest of the data set stands
+-- the header and the value of an element, after which the rest of the data set stands
 
 abbrev pub RunsSet : Limits → Syntax → ℕ → ℕ → List ℕ → Type 0
-RunsSet lim s last end b = (stop : Option ℕ) (fs : List Frame) (p q : ℕ) → Holds stop q → q ≡ p + length b → Goes (run lim (arrive p (set_frame s stop last) fs) b) (arrive q (set_frame s stop end) fs)
+RunsSet lim s last end b = (stop : Option ℕ) (fs : List Scope) (p q : ℕ) → Holds stop q → q ≡ p + length b → Goes (run lim (arrive p (set_scope s stop last) fs) b) (arrive q (set_scope s stop end) fs)
 
 abbrev pub RunsItems : Limits → Syntax → List ℕ → Type 0
-RunsItems lim s b = (stop : Option ℕ) (fs : List Frame) (p q : ℕ) → Holds stop q → q ≡ p + length b → Goes (run lim (arrive p (sequence_frame s stop) fs) b) (arrive q (sequence_frame s stop) fs)
+RunsItems lim s b = (stop : Option ℕ) (fs : List Scope) (p q : ℕ) → Holds stop q → q ≡ p + length b → Goes (run lim (arrive p (sequence_scope s stop) fs) b) (arrive q (sequence_scope s stop) fs)
 
-pub taken_value : (p : ℕ) (s : Syntax) (stop : Option ℕ) (last : ℕ) (fs : List Frame) (h : Header) → is_marker h.tag ≡ false → shape s h ≡ Value
-    → take_header p (set_frame s stop last) fs h ≡ begin_value p (set_frame s stop (number h.tag)) fs h.tag h.length
+pub taken_value : (p : ℕ) (s : Syntax) (stop : Option ℕ) (last : ℕ) (fs : List Scope) (h : Header) → is_marker h.tag ≡ false → shape s h ≡ Value
+    → take_header p (set_scope s stop last) fs h ≡ begin_value p (set_scope s stop (number h.tag)) fs h.tag h.length
 unfolding take_header
 taken_value p s stop last fs h m e = rw (m, e) refl
 
-pub taken_sequence : (p : ℕ) (s : Syntax) (stop : Option ℕ) (last : ℕ) (fs : List Frame) (h : Header) (inner : Syntax) → is_marker h.tag ≡ false → shape s h ≡ Sequence inner
-    → take_header p (set_frame s stop last) fs h ≡ begin_level p (sequence_frame inner (stop_of p h.length)) (set_frame s stop (number h.tag)) fs h.length
+pub taken_sequence : (p : ℕ) (s : Syntax) (stop : Option ℕ) (last : ℕ) (fs : List Scope) (h : Header) (inner : Syntax) → is_marker h.tag ≡ false → shape s h ≡ Sequence inner
+    → take_header p (set_scope s stop last) fs h ≡ begin_level p (sequence_scope inner (stop_of p h.length)) (set_scope s stop (number h.tag)) fs h.length
 unfolding take_header
 taken_sequence p s stop last fs h inner m e = rw (m, e) refl
 
-pub taken_item : (p : ℕ) (f : Frame) (fs : List Frame) (h : Header) → h.tag ≡ item_tag → take_header p f fs h ≡ begin_level p (set_frame f.syntax (stop_of p h.length) 0) f fs h.length
+pub taken_item : (p : ℕ) (f : Scope) (fs : List Scope) (h : Header) → h.tag ≡ item_tag → take_header p f fs h ≡ begin_level p (set_scope f.syntax (stop_of p h.length) 0) f fs h.length
 unfolding take_header
 taken_item p f fs h e = rw e refl
 
@@ -210,37 +210,37 @@ value_step : (lim : Limits) (s : Syntax) (last : ℕ) (h : Header) (hb v b : Lis
 value_step lim s last h hb v b end el sh val rest stop fs p q room q-is =
     let size : q ≡ p + length hb + length v + length b = omega (arith, length-append hb (v ++ b), length-append v b) in
     let long = spelled_long el.spelled in
-    let first : Goes (run lim (arrive p (set_frame s stop last) fs) hb) (begin_value (p + length hb) (set_frame s stop (number h.tag)) fs h.tag h.length) =
-    subst (λ z. Goes (run lim (arrive p (set_frame s stop last) fs) hb) z) (taken_value (p + length hb) s stop last fs h el.no_marker sh)
-    (header_run lim (set_frame s stop last) fs p (p + length hb) h hb el.spelled (open_from_holds stop p (length hb) (holds_less stop (p + length hb) q room (omega arith)) (omega arith)) refl) in
-    let second : Goes (run lim (begin_value (p + length hb) (set_frame s stop (number h.tag)) fs h.tag h.length) v) (arrive (p + length hb + length v) (set_frame s stop (number h.tag)) fs) =
-    inl (value_on lim (set_frame s stop (number h.tag)) fs h.tag (p + length hb) (p + length hb + length v) h.length v (nat_eq h.length 0) refl val.size (omega (arith, val.size))) in
+    let first : Goes (run lim (arrive p (set_scope s stop last) fs) hb) (begin_value (p + length hb) (set_scope s stop (number h.tag)) fs h.tag h.length) =
+    subst (λ z. Goes (run lim (arrive p (set_scope s stop last) fs) hb) z) (taken_value (p + length hb) s stop last fs h el.no_marker sh)
+    (header_run lim (set_scope s stop last) fs p (p + length hb) h hb el.spelled (open_from_holds stop p (length hb) (holds_less stop (p + length hb) q room (omega arith)) (omega arith)) refl) in
+    let second : Goes (run lim (begin_value (p + length hb) (set_scope s stop (number h.tag)) fs h.tag h.length) v) (arrive (p + length hb + length v) (set_scope s stop (number h.tag)) fs) =
+    inl (value_on lim (set_scope s stop (number h.tag)) fs h.tag (p + length hb) (p + length hb + length v) h.length v (nat_eq h.length 0) refl val.size (omega (arith, val.size))) in
     goes_then lim _ _ _ hb (v ++ b) first (goes_then lim _ _ _ v b second (rest stop fs (p + length hb + length v) q room size))
 
-sequence_step : (lim : Limits) (s : Syntax) (last : ℕ) (h : Header) (hb ib cb b : List ℕ) (inner : Syntax) (end : ℕ) → IsElement s last h hb → shape s h ≡ Sequence inner → Closed sequence_end_tag h.length ib cb
+sequence_step : (lim : Limits) (s : Syntax) (last : ℕ) (h : Header) (hb ib cb b : List ℕ) (inner : Syntax) (end : ℕ) → IsElement s last h hb → shape s h ≡ Sequence inner → Ended sequence_end_tag h.length ib cb
     → RunsItems lim inner ib → RunsSet lim s (number h.tag) end b → RunsSet lim s last end (hb ++ (cb ++ b))
 sequence_step lim s last h hb ib cb b inner end el sh closed items rest stop fs p q room q-is =
     let size : q ≡ p + length hb + length cb + length b = omega (arith, length-append hb (cb ++ b), length-append cb b) in
     let long = spelled_long el.spelled in
-    let f : Frame = set_frame s stop (number h.tag) in
-    let first : Goes (run lim (arrive p (set_frame s stop last) fs) hb) (begin_level (p + length hb) (sequence_frame inner (stop_of (p + length hb) h.length)) f fs h.length) =
-    subst (λ z. Goes (run lim (arrive p (set_frame s stop last) fs) hb) z) (taken_sequence (p + length hb) s stop last fs h inner el.no_marker sh)
-    (header_run lim (set_frame s stop last) fs p (p + length hb) h hb el.spelled (open_from_holds stop p (length hb) (holds_less stop (p + length hb) q room (omega arith)) (omega arith)) refl) in
-    let second : Goes (run lim (begin_level (p + length hb) (sequence_frame inner (stop_of (p + length hb) h.length)) f fs h.length) cb) (arrive (p + length hb + length cb) f fs) =
-    level_run lim (sequence_frame inner) (sequence_frame inner) f fs (p + length hb) (p + length hb + length cb) closed sequence_end_mark (λ o. refl) (λ o holds. items o (f ∷ fs) (p + length hb) (p + length hb + length ib) holds refl) refl in
+    let f : Scope = set_scope s stop (number h.tag) in
+    let first : Goes (run lim (arrive p (set_scope s stop last) fs) hb) (begin_level (p + length hb) (sequence_scope inner (stop_of (p + length hb) h.length)) f fs h.length) =
+    subst (λ z. Goes (run lim (arrive p (set_scope s stop last) fs) hb) z) (taken_sequence (p + length hb) s stop last fs h inner el.no_marker sh)
+    (header_run lim (set_scope s stop last) fs p (p + length hb) h hb el.spelled (open_from_holds stop p (length hb) (holds_less stop (p + length hb) q room (omega arith)) (omega arith)) refl) in
+    let second : Goes (run lim (begin_level (p + length hb) (sequence_scope inner (stop_of (p + length hb) h.length)) f fs h.length) cb) (arrive (p + length hb + length cb) f fs) =
+    level_run lim (sequence_scope inner) (sequence_scope inner) f fs (p + length hb) (p + length hb + length cb) closed sequence_end_mark (λ o. refl) (λ o holds. items o (f ∷ fs) (p + length hb) (p + length hb + length ib) holds refl) refl in
     goes_then lim _ _ _ hb (cb ++ b) first (goes_then lim _ _ _ cb b second (rest stop fs (p + length hb + length cb) q room size))
 
-item_step : (lim : Limits) (s : Syntax) (h : Header) (hb eb cb b : List ℕ) (end : ℕ) → IsItem s h hb → Closed item_end_tag h.length eb cb
+item_step : (lim : Limits) (s : Syntax) (h : Header) (hb eb cb b : List ℕ) (end : ℕ) → IsItem s h hb → Ended item_end_tag h.length eb cb
     → RunsSet lim s 0 end eb → RunsItems lim s b → RunsItems lim s (hb ++ (cb ++ b))
 item_step lim s h hb eb cb b end it closed elements rest stop fs p q room q-is =
     let size : q ≡ p + length hb + length cb + length b = omega (arith, length-append hb (cb ++ b), length-append cb b) in
     let long = spelled_long it.spelled in
-    let f : Frame = sequence_frame s stop in
-    let first : Goes (run lim (arrive p f fs) hb) (begin_level (p + length hb) (set_frame s (stop_of (p + length hb) h.length) 0) f fs h.length) =
+    let f : Scope = sequence_scope s stop in
+    let first : Goes (run lim (arrive p f fs) hb) (begin_level (p + length hb) (set_scope s (stop_of (p + length hb) h.length) 0) f fs h.length) =
     subst (λ z. Goes (run lim (arrive p f fs) hb) z) (taken_item (p + length hb) f fs h it.tagged)
     (header_run lim f fs p (p + length hb) h hb it.spelled (open_from_holds stop p (length hb) (holds_less stop (p + length hb) q room (omega arith)) (omega arith)) refl) in
-    let second : Goes (run lim (begin_level (p + length hb) (set_frame s (stop_of (p + length hb) h.length) 0) f fs h.length) cb) (arrive (p + length hb + length cb) f fs) =
-    level_run lim (λ o. set_frame s o 0) (λ o. set_frame s o end) f fs (p + length hb) (p + length hb + length cb) closed item_end_mark (λ o. refl) (λ o holds. elements o (f ∷ fs) (p + length hb) (p + length hb + length eb) holds refl) refl in
+    let second : Goes (run lim (begin_level (p + length hb) (set_scope s (stop_of (p + length hb) h.length) 0) f fs h.length) cb) (arrive (p + length hb + length cb) f fs) =
+    level_run lim (λ o. set_scope s o 0) (λ o. set_scope s o end) f fs (p + length hb) (p + length hb + length cb) closed item_end_mark (λ o. refl) (λ o holds. elements o (f ∷ fs) (p + length hb) (p + length hb + length eb) holds refl) refl in
     goes_then lim _ _ _ hb (cb ++ b) first (goes_then lim _ _ _ cb b second (rest stop fs (p + length hb + length cb) q room size))
 
 nothing_run : (lim : Limits) (s : Syntax) (last : ℕ) → RunsSet lim s last last []

@@ -8,7 +8,7 @@ use Rattle.element.specs.Header.{number, is_marker}
 use Rattle.sequence.specs.Shape.{is_undefined, undefined_length, shape}
 use Rattle.sequence.specs.Tree.{item_tag, item_end_tag, sequence_end_tag}
 use Rattle.sequence.specs.Rules.{broken_tag, broken_header, same_tag, is_not_allowed, is_long_mark, is_too_long, opens, counted_length, passes}
-use Rattle.sequence.specs.Standing.{IsLength}
+use Rattle.sequence.specs.machine.Standing.{IsLength}
 
 pub if_some : {A : Type 0} {y : Option A} (b : Bool) (x : A) → (if b then Some x else y) ≡ None → (b ≡ false) × (y ≡ None)
 if_some true x e = absurd cc

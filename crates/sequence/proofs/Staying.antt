@@ -3,14 +3,14 @@ use Rattle.std.proofs.Common.{◌≡◌, ℕ, ◌≤◌, ◌⊎◌, List, [], �
 use Rattle.element.specs.declared.syntax.Syntax.{Syntax}
 use Rattle.element.specs.declared.tag.Tag.{Tag}
 use Rattle.element.specs.Numbers.{IsBytes}
-use Rattle.sequence.specs.declared.level.Frame.{Frame}
+use Rattle.sequence.specs.declared.level.Scope.{Scope}
 use Rattle.sequence.specs.declared.fault.Fault.{Fault}
 use Rattle.sequence.specs.Rules.{Limits}
 use Rattle.sequence.specs.FirstFault.{FirstFault}
 use Rattle.sequence.specs.Walk.{Told, Tells, going, refused}
-use Rattle.sequence.specs.Machine.{State, at, Mode, Heading, Reading, Stopped, run, start}
-use Rattle.sequence.specs.Keeping.{keeps}
-use Rattle.sequence.specs.Standing.{StandsIn}
+use Rattle.sequence.specs.machine.Machine.{State, at, Mode, Heading, Reading, Stopped, run, start}
+use Rattle.sequence.specs.machine.Keeping.{keeps}
+use Rattle.sequence.specs.machine.Standing.{StandsIn}
 use Rattle.sequence.proofs.Runs.{HasStopped}
 use Rattle.sequence.proofs.Refusals.{StopsAt, breaks_stop}
 use Rattle.sequence.proofs.Tales.{stands, stays_stopped, stops_stopped, stop_first}
@@ -43,14 +43,14 @@ fault_stops s lim b more p u rule tag f = by (breaks_stop s lim p u rule tag f.b
 same_first : (s : Syntax) (lim : Limits) (b more p u before w : List ℕ) (rule rule2 : ℕ) (tag tag2 : Tag) → FirstFault s lim b p u rule tag → FirstFault s lim (b ++ more) before w rule2 tag2 → FirstFault s lim (b ++ more) p u rule tag
 same_first s lim b more p u before w rule rule2 tag tag2 f g =
     let far = g.first p u (f.rest ++ more) rule tag (fault_text more f) f.breaks in
-    let short : length (before ++ w) ≤ length b = omega (arith, far.1, ap length f.text, length-append (p ++ u) f.rest) in
+    let short : length (before ++ w) ≤ length b = omega (arith, far.end, ap length f.text, length-append (p ++ u) f.rest) in
     let front = front_of (before ++ w) b g.rest more (sym g.text) short in
     let near = f.first before w front.rest rule2 tag2 front.text g.breaks in
     record {
       rest = f.rest ++ more;
       text = fault_text more f;
       breaks = f.breaks;
-      first = λ q v rest n t e breaks. let k = g.first q v rest n t e breaks in (omega (arith, near.0, k.0), omega (arith, near.1, k.1));
+      first = λ q v rest n t e breaks. let k = g.first q v rest n t e breaks in record { place = omega (arith, near.place, k.place); end = omega (arith, near.end, k.end) };
     }
 
 pub fault_stays : (s : Syntax) (lim : Limits) (b more p u : List ℕ) (rule : ℕ) (tag : Tag) → IsBytes (b ++ more) → FirstFault s lim b p u rule tag → FirstFault s lim (b ++ more) p u rule tag
@@ -58,7 +58,7 @@ fault_stays s lim b more p u rule tag bytes f =
     let st = run lim (start s) (b ++ more) in
     by st.top st.below st.place st.mode refl (fault_stops s lim b more p u rule tag f) (stands s lim (b ++ more) bytes)
   where
-    by : (g : Frame) (gs : List Frame) (n : ℕ) (m : Mode) → run lim (start s) (b ++ more) ≡ at g gs n m → HasStopped m → StandsIn s lim (keeps lim (start s) [] (b ++ more)) g gs n m (b ++ more) → FirstFault s lim (b ++ more) p u rule tag
+    by : (g : Scope) (gs : List Scope) (n : ℕ) (m : Mode) → run lim (start s) (b ++ more) ≡ at g gs n m → HasStopped m → StandsIn s lim (keeps lim (start s) [] (b ++ more)) g gs n m (b ++ more) → FirstFault s lim (b ++ more) p u rule tag
     by g gs n (Heading begin t) e h k = absurd h
     by g gs n (Reading t left) e h k = absurd h
     by g gs n (Stopped rule2 place tag2) e h k =

@@ -4,15 +4,15 @@ use Rattle.element.specs.declared.syntax.Syntax.{Syntax}
 use Rattle.element.specs.declared.tag.Tag.{Tag}
 use Rattle.element.specs.Header.{number, header_at, is_whole}
 use Rattle.element.proofs.Headers.{tag_read, spelled_long}
-use Rattle.sequence.specs.declared.level.Frame.{Frame}
+use Rattle.sequence.specs.declared.level.Scope.{Scope}
 use Rattle.sequence.specs.declared.spot.Spot.{Spot}
 use Rattle.sequence.specs.Tree.{no_elements, value, IsValue, DataSet, nothing, value_then}
 use Rattle.sequence.specs.Open.{IsUnfinished}
 use Rattle.sequence.specs.Wanted.{Values}
 use Rattle.sequence.specs.Rules.{Limits, Broken, broken_tag, broken}
-use Rattle.sequence.specs.Machine.{set_frame, Mode, Heading, Reading, Stopped, State, at, spot_of, arrive, take_header, headed_by, headed, read, next, next_by}
-use Rattle.sequence.specs.Keeping.{with_value, with_byte, wanted_at, keep_header, keep_headed, keep_read, keep_by, keep}
-use Rattle.sequence.specs.Standing.{IsBytes, Reaches, AreLevels, Unbroken, IsHeading, IsReading, StandsIn, Stands}
+use Rattle.sequence.specs.machine.Machine.{set_scope, Mode, Heading, Reading, Stopped, State, at, spot_of, arrive, take_header, headed_by, headed, read, next, next_by}
+use Rattle.sequence.specs.machine.Keeping.{with_value, with_byte, wanted_at, keep_header, keep_headed, keep_read, keep_by, keep}
+use Rattle.sequence.specs.machine.Standing.{IsBytes, Reaches, AreLevels, Unbroken, IsHeading, IsReading, StandsIn, Stands}
 use Rattle.sequence.proofs.Parts.{whole_spells, unfinished_front}
 use Rattle.sequence.proofs.Sound.{IsSound, is_sound}
 use Rattle.sequence.proofs.Unbroken.{unbroken_is, on_tail}
@@ -41,7 +41,7 @@ more_bytes [] x h lt (suc i) = lit< tt
 more_bytes (y ∷ t) x h lt zero = h zero
 more_bytes (y ∷ t) x h lt (suc i) = more_bytes t x (λ k. h (suc k)) lt i
 
-headed_stands : (s : Syntax) (lim : Limits) (values : Values) (f : Frame) (fs : List Frame) (p begin : ℕ) (t : List ℕ) (x : ℕ) (b : List ℕ) → p + 1 ≡ length (b ++ x ∷ []) → IsHeading s lim values f fs begin t b → x < 256 → (y : Broken) → broken lim (spot_of f fs begin) (t ++ x ∷ []) ≡ y
+headed_stands : (s : Syntax) (lim : Limits) (values : Values) (f : Scope) (fs : List Scope) (p begin : ℕ) (t : List ℕ) (x : ℕ) (b : List ℕ) → p + 1 ≡ length (b ++ x ∷ []) → IsHeading s lim values f fs begin t b → x < 256 → (y : Broken) → broken lim (spot_of f fs begin) (t ++ x ∷ []) ≡ y
     → Stands s lim (headed_by y f fs (p + 1) begin (t ++ x ∷ [])) (keep_headed lim y f fs (t ++ x ∷ []) values) (b ++ x ∷ [])
 headed_stands s lim values f fs p begin t x b p-is h lt (Some y) e =
     let regrouped : b ++ x ∷ [] ≡ h.before ++ (t ++ x ∷ []) = ap (λ z. z ++ x ∷ []) h.text ∙ append_assoc h.before t (x ∷ []) in
@@ -98,7 +98,7 @@ byte_kept true values t v x = last_byte values (t, v) x
     last_byte (a ∷ c ∷ values) one x = ap (λ z. a ∷ z) (last_byte (c ∷ values) one x)
 byte_kept false values t v x = refl
 
-read_stands : (s : Syntax) (lim : Limits) (values : Values) (f : Frame) (fs : List Frame) (p : ℕ) (t : Tag) (n x : ℕ) (b : List ℕ) → p + 1 ≡ length (b ++ x ∷ []) → IsReading s lim values f fs t n b → Stands s lim (read f fs (p + 1) t n) (keep_read lim fs (number t) values x) (b ++ x ∷ [])
+read_stands : (s : Syntax) (lim : Limits) (values : Values) (f : Scope) (fs : List Scope) (p : ℕ) (t : Tag) (n x : ℕ) (b : List ℕ) → p + 1 ≡ length (b ++ x ∷ []) → IsReading s lim values f fs t n b → Stands s lim (read f fs (p + 1) t n) (keep_read lim fs (number t) values x) (b ++ x ∷ [])
 unfolding read
 read_stands s lim values f fs p t n x b p-is r = by (nat_le n 1) refl
   where
@@ -121,7 +121,7 @@ read_stands s lim values f fs p t n x b p-is r = by (nat_le n 1) refl
         let same : r.before ++ (r.hb ++ ((r.v ++ x ∷ []) ++ [])) ≡ b ++ x ∷ [] = ap (λ z. r.before ++ (r.hb ++ z)) (append-nil (r.v ++ x ∷ [])) ∙ sym regrouped in
         let here : length b + n ≡ p + 1 = omega (arith, one, r.more, p-is, more-is) in
         rw kept-is
-        (arrive_stands lim (p + 1) p-is (subst (λ z. Reaches s lim.wanted (with_value lim fs (number r.h.tag) (r.v ++ x ∷ []) r.whole) z fs (b ++ x ∷ [])) (sym r.top) (subst (λ z. Reaches s lim.wanted (with_value lim fs (number r.h.tag) (r.v ++ x ∷ []) r.whole) (set_frame f.syntax f.stop (number r.h.tag)) fs z) same whole))
+        (arrive_stands lim (p + 1) p-is (subst (λ z. Reaches s lim.wanted (with_value lim fs (number r.h.tag) (r.v ++ x ∷ []) r.whole) z fs (b ++ x ∷ [])) (sym r.top) (subst (λ z. Reaches s lim.wanted (with_value lim fs (number r.h.tag) (r.v ++ x ∷ []) r.whole) (set_scope f.syntax f.stop (number r.h.tag)) fs z) same whole))
         (subst (AreLevels lim f fs) here r.levels))
     by false w =
         let lt = leb-false n 1 w in (
@@ -148,7 +148,7 @@ read_stands s lim values f fs p t n x b p-is r = by (nat_le n 1) refl
           },
         )
 
-mode_stands : (s : Syntax) (lim : Limits) (values : Values) (f : Frame) (fs : List Frame) (p : ℕ) (m : Mode) (b : List ℕ) (x : ℕ) → StandsIn s lim values f fs p m b → x < 256 → Stands s lim (next_by lim f fs p m x) (keep_by lim f fs m values x) (b ++ x ∷ [])
+mode_stands : (s : Syntax) (lim : Limits) (values : Values) (f : Scope) (fs : List Scope) (p : ℕ) (m : Mode) (b : List ℕ) (x : ℕ) → StandsIn s lim values f fs p m b → x < 256 → Stands s lim (next_by lim f fs p m x) (keep_by lim f fs m values x) (b ++ x ∷ [])
 unfolding headed
 mode_stands s lim values f fs p (Heading begin t) b x h lt = headed_stands s lim values f fs p begin t x b (omega (arith, h.0, length-append b (x ∷ []))) h.1 lt (broken lim (spot_of f fs begin) (t ++ x ∷ [])) refl
 mode_stands s lim values f fs p (Reading t n) b x h lt = read_stands s lim values f fs p t n x b (omega (arith, h.0, length-append b (x ∷ []))) h.1

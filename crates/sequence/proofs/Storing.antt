@@ -1,10 +1,10 @@
--- Values that are stored one behind the other.
+-- Values that are stored one after the other.
 use Rattle.std.proofs.Common.{◌≡◌, ℕ, zero, suc, ◌+◌, ◌-◌, ◌<◌, ◌≤◌, ◌≢◌, Bool, true, false, ◌&&◌, ◌||◌, List, [], ◌∷◌, ◌++◌, length, take, drop, get_or, slice_set, replicate, Some, None, nat_eq, nat_le, nat_lt, refl, sym, ap, subst, ◌∙◌, arith, eqb-true, false-eqb, eq-eqb, ne_eqb, leb-true, ltb-true, le-leb, length-append, if◌then◌else◌}
 use Rattle.std.proofs.lemmas.List.{take-append-le, drop-append-le, length-drop, length-take-le, take_all}
 use Rattle.sequence.specs.declared.wanted.Want.{Want}
 use Rattle.element.specs.Header.{number}
 use Rattle.sequence.specs.Wanted.{Values, value_of, bytes_of, rooms, room_of, are_rising}
-use Rattle.sequence.specs.Keeping.{with_byte, absent, is_absent, stored, counts, are_stored, all_absent, is_latest, left_at, place_from, but_last, told_values}
+use Rattle.sequence.specs.machine.Keeping.{with_byte, absent, is_absent, stored, counts, are_stored, all_absent, is_latest, left_at, place_from, but_last, told_values}
 
 both : (a b : Bool) → (a && b) ≡ true → (a ≡ true) × (b ≡ true)
 both true b e = (refl, e)
@@ -273,7 +273,7 @@ begun_at i ws ns bytes t last e r s lt long =
     let same : f.at ≡ i = omega (arith, f.i-is) in
     subst (λ z. Begun z ws ns bytes t) same (begun f.at 0 ws ns bytes t last f.place r s lt long)
 
--- the values that are told
+-- the values that are reported
 
 bytes_by : (a : Bool) (n : ℕ) (one : ℕ × List ℕ) (v1 v2 : Values) (c k : ℕ) → (a ≡ true → bytes_of v1 ≡ c) → (a ≡ false → length one.1 + bytes_of v2 ≡ n + c) → bytes_of (if a then v1 else one ∷ v2) ≡ (if a then c else (n + c))
 bytes_by true n one v1 v2 c k e f = e refl

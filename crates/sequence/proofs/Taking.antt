@@ -6,7 +6,7 @@ use Rattle.element.specs.declared.tag.Tag.{Tag}
 use Rattle.element.specs.declared.header.Header.{Header}
 use Rattle.element.specs.Header.{number, is_marker, SpellsHeader}
 use Rattle.dictionary.specs.Tags.{vr_of}
-use Rattle.sequence.specs.declared.level.Frame.{Frame}
+use Rattle.sequence.specs.declared.level.Scope.{Scope}
 use Rattle.sequence.specs.declared.wanted.Want.{Want}
 use Rattle.sequence.specs.declared.shape.Shape.{Shape}
 use Rattle.sequence.specs.declared.shape.Shape.TheVariants.{Value, Sequence, NotAllowed}
@@ -14,9 +14,9 @@ use Rattle.sequence.specs.Shape.{is_undefined, undefined_length, shape, shape_by
 use Rattle.sequence.specs.Tree.{item_tag, item_end_tag, sequence_end_tag, delimitation, no_elements, value, sequence, no_items, item, IsEven, IsElement, IsItem, IsValue, counted, DataSet, nothing, value_then, sequence_then, ItemList, no_more, item_then}
 use Rattle.sequence.specs.Wanted.{Values, room_of}
 use Rattle.sequence.specs.Rules.{Limits, broken_tag, same_tag, is_not_allowed, is_value, is_sequence, passes}
-use Rattle.sequence.specs.Machine.{set_frame, sequence_frame, Reading, at, spot_of, is_none, is_empty, stop_of, arrive, begin_value, begin_level, leave, take_header}
-use Rattle.sequence.specs.Keeping.{with_value, keep_header}
-use Rattle.sequence.specs.Standing.{IsLength, IsFit, Reaches, at_root, into_sequence, into_item, AreLevels, Stands}
+use Rattle.sequence.specs.machine.Machine.{set_scope, sequence_scope, Reading, at, spot_of, is_none, is_empty, stop_of, arrive, begin_value, begin_level, leave, take_header}
+use Rattle.sequence.specs.machine.Keeping.{with_value, keep_header}
+use Rattle.sequence.specs.machine.Standing.{IsLength, IsFit, Reaches, at_root, into_sequence, into_item, AreLevels, Stands}
 use Rattle.sequence.proofs.Parts.{mark_spelled}
 use Rattle.sequence.proofs.Runs.{taken_value, taken_sequence, taken_item}
 use Rattle.sequence.proofs.Sound.{and_false, element_tag, item_end_is, in_sequence_is, IsSound, sound_length, sound_mark}
@@ -54,18 +54,18 @@ value_by Implicit v k u e h = implicit_by k u e h
 value_defined : (s : Syntax) (h : Header) → shape s h ≡ Value → h.length ≢ undefined_length
 value_defined s h e same = value_by s h.vr (vr_of h.tag) (is_undefined h.length) e (eq-eqb h.length undefined_length same)
 
-value_stands : {s s1 : Syntax} {values : Values} {stop : Option ℕ} {last : ℕ} {fs : List Frame} {b hb : List ℕ} {h : Header} (lim : Limits) (p : ℕ) → p ≡ length (b ++ hb) → Reaches s lim.wanted values (set_frame s1 stop last) fs b → IsElement s1 last h hb → shape s1 h ≡ Value → IsEven h.length
-    → IsFit lim.wanted fs (number h.tag) h.length → IsTaken lim (set_frame s1 stop (number h.tag)) fs p h
-    → Stands s lim (begin_value p (set_frame s1 stop (number h.tag)) fs h.tag h.length) (with_value lim fs (number h.tag) [] values) (b ++ hb)
+value_stands : {s s1 : Syntax} {values : Values} {stop : Option ℕ} {last : ℕ} {fs : List Scope} {b hb : List ℕ} {h : Header} (lim : Limits) (p : ℕ) → p ≡ length (b ++ hb) → Reaches s lim.wanted values (set_scope s1 stop last) fs b → IsElement s1 last h hb → shape s1 h ≡ Value → IsEven h.length
+    → IsFit lim.wanted fs (number h.tag) h.length → IsTaken lim (set_scope s1 stop (number h.tag)) fs p h
+    → Stands s lim (begin_value p (set_scope s1 stop (number h.tag)) fs h.tag h.length) (with_value lim fs (number h.tag) [] values) (b ++ hb)
 unfolding begin_value
 value_stands {s = s} {s1 = s1} {values = values} {stop = stop} {last = last} {fs = fs} {b = b} {hb = hb} {h = h} lim p p-is r el sh even fits t = by (nat_eq h.length 0) refl
   where
-    by : (zero : Bool) → nat_eq h.length 0 ≡ zero → Stands s lim (if zero then arrive p (set_frame s1 stop (number h.tag)) fs else at (set_frame s1 stop (number h.tag)) fs p (Reading h.tag h.length)) (with_value lim fs (number h.tag) [] values) (b ++ hb)
+    by : (zero : Bool) → nat_eq h.length 0 ≡ zero → Stands s lim (if zero then arrive p (set_scope s1 stop (number h.tag)) fs else at (set_scope s1 stop (number h.tag)) fs p (Reading h.tag h.length)) (with_value lim fs (number h.tag) [] values) (b ++ hb)
     by true z =
         let none : h.length ≡ 0 = eqb-true h.length 0 z in
         let val : IsValue h.length [] = record { even = even; size = sym none } in
         let text : DataSet s1 last (value h [] no_elements) (hb ++ ([] ++ [])) = value_then el sh val nothing in
-        arrive_stands lim p p-is (subst (λ z. Reaches s lim.wanted (with_value lim fs (number h.tag) [] values) (set_frame s1 stop (number h.tag)) fs (b ++ z)) (append-nil hb) (more_value lim h [] r text (sym none) fits)) t.levels
+        arrive_stands lim p p-is (subst (λ z. Reaches s lim.wanted (with_value lim fs (number h.tag) [] values) (set_scope s1 stop (number h.tag)) fs (b ++ z)) (append-nil hb) (more_value lim h [] r text (sym none) fits)) t.levels
     by false z = (
       p-is,
       record {
@@ -76,7 +76,7 @@ value_stands {s = s} {s1 = s1} {values = values} {stop = stop} {last = last} {fs
         hb = hb;
         v = [];
         reaches = r;
-        levels = subst (λ z. AreLevels lim (set_frame s1 stop (number h.tag)) fs (z + h.length)) p-is (levels_read lim (set_frame s1 stop (number h.tag)) fs p h t (value_defined s1 h sh));
+        levels = subst (λ z. AreLevels lim (set_scope s1 stop (number h.tag)) fs (z + h.length)) p-is (levels_read lim (set_scope s1 stop (number h.tag)) fs p h t (value_defined s1 h sh));
         top = refl;
         element = el;
         shaped = sh;
@@ -91,60 +91,60 @@ value_stands {s = s} {s1 = s1} {values = values} {stop = stop} {last = last} {fs
     )
 
 -- the level that a header opens
-abbrev IsDeep : Limits → List Frame → Header → Type 0
+abbrev IsDeep : Limits → List Scope → Header → Type 0
 IsDeep lim fs h = h.length ≢ 0 → suc (length fs) ≤ lim.depth
 
-sequence_stands : {s s1 : Syntax} {values : Values} {stop : Option ℕ} {last : ℕ} {fs : List Frame} {b hb : List ℕ} {h : Header} {inner : Syntax} (lim : Limits) (p : ℕ) → p ≡ length (b ++ hb) → Reaches s lim.wanted values (set_frame s1 stop last) fs b → IsElement s1 last h hb → shape s1 h ≡ Sequence inner → IsLength h.length
-    → IsDeep lim fs h → IsTaken lim (set_frame s1 stop (number h.tag)) fs p h
-    → Stands s lim (begin_level p (sequence_frame inner (stop_of p h.length)) (set_frame s1 stop (number h.tag)) fs h.length) values (b ++ hb)
+sequence_stands : {s s1 : Syntax} {values : Values} {stop : Option ℕ} {last : ℕ} {fs : List Scope} {b hb : List ℕ} {h : Header} {inner : Syntax} (lim : Limits) (p : ℕ) → p ≡ length (b ++ hb) → Reaches s lim.wanted values (set_scope s1 stop last) fs b → IsElement s1 last h hb → shape s1 h ≡ Sequence inner → IsLength h.length
+    → IsDeep lim fs h → IsTaken lim (set_scope s1 stop (number h.tag)) fs p h
+    → Stands s lim (begin_level p (sequence_scope inner (stop_of p h.length)) (set_scope s1 stop (number h.tag)) fs h.length) values (b ++ hb)
 unfolding begin_level
 sequence_stands {s = s} {s1 = s1} {values = values} {stop = stop} {last = last} {fs = fs} {b = b} {hb = hb} {h = h} {inner = inner} lim p p-is r el sh len deep t = by (nat_eq h.length 0) refl
   where
-    by : (zero : Bool) → nat_eq h.length 0 ≡ zero → Stands s lim (if zero then arrive p (set_frame s1 stop (number h.tag)) fs else arrive p (sequence_frame inner (stop_of p h.length)) (set_frame s1 stop (number h.tag) ∷ fs)) values (b ++ hb)
+    by : (zero : Bool) → nat_eq h.length 0 ≡ zero → Stands s lim (if zero then arrive p (set_scope s1 stop (number h.tag)) fs else arrive p (sequence_scope inner (stop_of p h.length)) (set_scope s1 stop (number h.tag) ∷ fs)) values (b ++ hb)
     by true z =
         let none : h.length ≡ 0 = eqb-true h.length 0 z in
         let defined : h.length ≢ undefined_length = λ same. absurd (omega arith) in
         let text : DataSet s1 last (sequence h no_items no_elements) (hb ++ ([] ++ [])) = sequence_then el sh no_more (counted h.length defined (len defined) (sym none)) nothing in
-        arrive_stands lim p p-is (subst (λ z. Reaches s lim.wanted values (set_frame s1 stop (number h.tag)) fs (b ++ z)) (append-nil hb) (more_sequence h no_items r text)) t.levels
+        arrive_stands lim p p-is (subst (λ z. Reaches s lim.wanted values (set_scope s1 stop (number h.tag)) fs (b ++ z)) (append-nil hb) (more_sequence h no_items r text)) t.levels
     by false z =
         let some = false-eqb h.length 0 (sym z) in
         arrive_stands lim p p-is (into_sequence r el sh len some no_more (ap (λ z. stop_of z h.length) p-is) refl (ap (λ z. b ++ z) (sym (append-nil hb))))
-        (levels_open lim (set_frame s1 stop (number h.tag)) (sequence_frame inner (stop_of p h.length)) fs p h t refl (deep some))
+        (levels_open lim (set_scope s1 stop (number h.tag)) (sequence_scope inner (stop_of p h.length)) fs p h t refl (deep some))
 
-item_stands : {s s1 : Syntax} {values : Values} {stop : Option ℕ} {fs : List Frame} {b hb : List ℕ} {h : Header} (lim : Limits) (p : ℕ) → p ≡ length (b ++ hb) → Reaches s lim.wanted values (sequence_frame s1 stop) fs b → IsItem s1 h hb → IsLength h.length
-    → IsDeep lim fs h → IsTaken lim (sequence_frame s1 stop) fs p h
-    → Stands s lim (begin_level p (set_frame s1 (stop_of p h.length) 0) (sequence_frame s1 stop) fs h.length) values (b ++ hb)
+item_stands : {s s1 : Syntax} {values : Values} {stop : Option ℕ} {fs : List Scope} {b hb : List ℕ} {h : Header} (lim : Limits) (p : ℕ) → p ≡ length (b ++ hb) → Reaches s lim.wanted values (sequence_scope s1 stop) fs b → IsItem s1 h hb → IsLength h.length
+    → IsDeep lim fs h → IsTaken lim (sequence_scope s1 stop) fs p h
+    → Stands s lim (begin_level p (set_scope s1 (stop_of p h.length) 0) (sequence_scope s1 stop) fs h.length) values (b ++ hb)
 unfolding begin_level
 item_stands {s = s} {s1 = s1} {values = values} {stop = stop} {fs = fs} {b = b} {hb = hb} {h = h} lim p p-is r it len deep t = by (nat_eq h.length 0) refl
   where
-    by : (zero : Bool) → nat_eq h.length 0 ≡ zero → Stands s lim (if zero then arrive p (sequence_frame s1 stop) fs else arrive p (set_frame s1 (stop_of p h.length) 0) (sequence_frame s1 stop ∷ fs)) values (b ++ hb)
+    by : (zero : Bool) → nat_eq h.length 0 ≡ zero → Stands s lim (if zero then arrive p (sequence_scope s1 stop) fs else arrive p (set_scope s1 (stop_of p h.length) 0) (sequence_scope s1 stop ∷ fs)) values (b ++ hb)
     by true z =
         let none : h.length ≡ 0 = eqb-true h.length 0 z in
         let defined : h.length ≢ undefined_length = λ same. absurd (omega arith) in
         let text : ItemList s1 (item h no_elements no_items) (hb ++ ([] ++ [])) = item_then it nothing (counted h.length defined (len defined) (sym none)) no_more in
-        arrive_stands lim p p-is (subst (λ z. Reaches s lim.wanted values (sequence_frame s1 stop) fs (b ++ z)) (append-nil hb) (more_items r text)) t.levels
+        arrive_stands lim p p-is (subst (λ z. Reaches s lim.wanted values (sequence_scope s1 stop) fs (b ++ z)) (append-nil hb) (more_items r text)) t.levels
     by false z =
         let some = false-eqb h.length 0 (sym z) in
         arrive_stands lim p p-is (into_item r it len some nothing (ap (λ z. stop_of z h.length) p-is) refl (ap (λ z. b ++ z) (sym (append-nil hb))))
-        (levels_open lim (sequence_frame s1 stop) (set_frame s1 (stop_of p h.length) 0) fs p h t refl (deep some))
+        (levels_open lim (sequence_scope s1 stop) (set_scope s1 (stop_of p h.length) 0) fs p h t refl (deep some))
 
-end_stands : {s : Syntax} {values : Values} {f g : Frame} {gs : List Frame} {b hb : List ℕ} {h : Header} (lim : Limits) (p : ℕ) (t : Tag) → p ≡ length (b ++ hb) → Reaches s lim.wanted values f (g ∷ gs) b → SpellsHeader f.syntax h hb → h.tag ≡ t → is_marker t ≡ true → h.length ≡ 0
+end_stands : {s : Syntax} {values : Values} {f g : Scope} {gs : List Scope} {b hb : List ℕ} {h : Header} (lim : Limits) (p : ℕ) (t : Tag) → p ≡ length (b ++ hb) → Reaches s lim.wanted values f (g ∷ gs) b → SpellsHeader f.syntax h hb → h.tag ≡ t → is_marker t ≡ true → h.length ≡ 0
     → t ≡ (if f.in_sequence then sequence_end_tag else item_end_tag) → f.stop ≡ None → AreLevels lim f (g ∷ gs) p → Stands s lim (arrive p g gs) values (b ++ hb)
 end_stands {s = s} {f = f} {g = g} {gs = gs} {b = b} {hb = hb} lim p t p-is r e same m none which open-ended l =
     arrive_stands lim p p-is (level_ends hb r (inr (open-ended, mark_spelled t e same m none ∙ ap (λ z. delimitation z) which))) (levels_end lim f g gs p l)
 
-taken_sequence_end : (p : ℕ) (f g : Frame) (gs : List Frame) (h : Header) → h.tag ≡ sequence_end_tag → take_header p f (g ∷ gs) h ≡ arrive p g gs
+taken_sequence_end : (p : ℕ) (f g : Scope) (gs : List Scope) (h : Header) → h.tag ≡ sequence_end_tag → take_header p f (g ∷ gs) h ≡ arrive p g gs
 unfolding take_header leave
 taken_sequence_end p f g gs h e = rw e refl
 
-taken_item_end : (p : ℕ) (f g : Frame) (gs : List Frame) (h : Header) → h.tag ≡ item_end_tag → take_header p f (g ∷ gs) h ≡ arrive p g gs
+taken_item_end : (p : ℕ) (f g : Scope) (gs : List Scope) (h : Header) → h.tag ≡ item_end_tag → take_header p f (g ∷ gs) h ≡ arrive p g gs
 unfolding take_header leave
 taken_item_end p f g gs h e = rw e refl
 
-pub set_of : (f : Frame) → f.in_sequence ≡ false → f ≡ set_frame f.syntax f.stop f.last
+pub set_of : (f : Scope) → f.in_sequence ≡ false → f ≡ set_scope f.syntax f.stop f.last
 set_of f e = λ i. record { in_sequence = e i; syntax = f.syntax; stop = f.stop; last = f.last }
 
-pub sequence_of : {s : Syntax} {ws : List Want} {values : Values} {f : Frame} {fs : List Frame} {b : List ℕ} → Reaches s ws values f fs b → f.in_sequence ≡ true → f ≡ sequence_frame f.syntax f.stop
+pub sequence_of : {s : Syntax} {ws : List Want} {values : Values} {f : Scope} {fs : List Scope} {b : List ℕ} → Reaches s ws values f fs b → f.in_sequence ≡ true → f ≡ sequence_scope f.syntax f.stop
 sequence_of (at_root d e k fits) h = absurd cc
 sequence_of (into_sequence r el sh len some items stop-is k-is b-is) h = refl
 sequence_of (into_item r it len some set stop-is last-is b-is) h = absurd cc
@@ -158,30 +158,30 @@ no_end : (o : Option ℕ) → (is_none o && not (is_empty [])) ≡ true → ⊥
 no_end None e = cc
 no_end (Some x) e = cc
 
-end_case : {s : Syntax} {values : Values} (f : Frame) (fs : List Frame) {b hb : List ℕ} {h : Header} (lim : Limits) (p : ℕ) (t : Tag) → p ≡ length (b ++ hb) → Reaches s lim.wanted values f fs b → SpellsHeader f.syntax h hb → h.tag ≡ t → is_marker t ≡ true → h.length ≡ 0
-    → t ≡ (if f.in_sequence then sequence_end_tag else item_end_tag) → (is_none f.stop && not (is_empty fs)) ≡ true → ((g : Frame) (gs : List Frame) → take_header p f (g ∷ gs) h ≡ arrive p g gs) → AreLevels lim f fs p → Stands s lim (take_header p f fs h) values (b ++ hb)
+end_case : {s : Syntax} {values : Values} (f : Scope) (fs : List Scope) {b hb : List ℕ} {h : Header} (lim : Limits) (p : ℕ) (t : Tag) → p ≡ length (b ++ hb) → Reaches s lim.wanted values f fs b → SpellsHeader f.syntax h hb → h.tag ≡ t → is_marker t ≡ true → h.length ≡ 0
+    → t ≡ (if f.in_sequence then sequence_end_tag else item_end_tag) → (is_none f.stop && not (is_empty fs)) ≡ true → ((g : Scope) (gs : List Scope) → take_header p f (g ∷ gs) h ≡ arrive p g gs) → AreLevels lim f fs p → Stands s lim (take_header p f fs h) values (b ++ hb)
 end_case f [] lim p t p-is r e same m none which open-ended taken l = absurd (no_end f.stop open-ended)
 end_case f (g ∷ gs) lim p t p-is r e same m none which open-ended taken l =
     rw (taken g gs) (end_stands lim p t p-is r e same m none which (open_none f.stop (not (is_empty (g ∷ gs))) open-ended) l)
 
-kept_value : (lim : Limits) (f : Frame) (fs : List Frame) (h : Header) (values : Values) → is_marker h.tag ≡ false → shape f.syntax h ≡ Value → keep_header lim f fs h values ≡ with_value lim fs (number h.tag) [] values
+kept_value : (lim : Limits) (f : Scope) (fs : List Scope) (h : Header) (values : Values) → is_marker h.tag ≡ false → shape f.syntax h ≡ Value → keep_header lim f fs h values ≡ with_value lim fs (number h.tag) [] values
 unfolding keep_header
 kept_value lim f fs h values m sh = rw (m, sh) refl
 
-kept_sequence : (lim : Limits) (f : Frame) (fs : List Frame) (h : Header) (inner : Syntax) (values : Values) → is_marker h.tag ≡ false → shape f.syntax h ≡ Sequence inner → keep_header lim f fs h values ≡ values
+kept_sequence : (lim : Limits) (f : Scope) (fs : List Scope) (h : Header) (inner : Syntax) (values : Values) → is_marker h.tag ≡ false → shape f.syntax h ≡ Sequence inner → keep_header lim f fs h values ≡ values
 unfolding keep_header
 kept_sequence lim f fs h inner values m sh = rw (m, sh) refl
 
-kept_marker : (lim : Limits) (f : Frame) (fs : List Frame) (h : Header) (values : Values) → is_marker h.tag ≡ true → keep_header lim f fs h values ≡ values
+kept_marker : (lim : Limits) (f : Scope) (fs : List Scope) (h : Header) (values : Values) → is_marker h.tag ≡ true → keep_header lim f fs h values ≡ values
 unfolding keep_header
 kept_marker lim f fs h values m = rw m refl
 
-fits_by : (ws : List Want) (fs : List Frame) (h : Header) (near : Option ℕ) (a m v : Bool) → is_marker h.tag ≡ m → m ≡ false → v ≡ true → nat_eq (length fs) 0 ≡ a → (((a && not m) && v) && passes (room_of ws (number h.tag)) h.length) ≡ false → IsFit ws fs (number h.tag) h.length
+fits_by : (ws : List Want) (fs : List Scope) (h : Header) (near : Option ℕ) (a m v : Bool) → is_marker h.tag ≡ m → m ≡ false → v ≡ true → nat_eq (length fs) 0 ≡ a → (((a && not m) && v) && passes (room_of ws (number h.tag)) h.length) ≡ false → IsFit ws fs (number h.tag) h.length
 fits_by ws [] h near false m v m-is m-no v-is a-is e = absurd cc
 fits_by ws [] h near true m v m-is m-no v-is a-is e = λ room is. ltb-false room h.length (let k : passes (room_of ws (number h.tag)) h.length ≡ false = rw (m-no, v-is) at e in ap (λ z. passes z h.length) (sym is) ∙ k)
 fits_by ws (f ∷ fs) h near a m v m-is m-no v-is a-is e = tt
 
-deep_by : (lim : Limits) (fs : List Frame) (h : Header) (o : Bool) → o ≡ true → ((o && not (nat_eq h.length 0)) && nat_le lim.depth (length fs)) ≡ false → IsDeep lim fs h
+deep_by : (lim : Limits) (fs : List Scope) (h : Header) (o : Bool) → o ≡ true → ((o && not (nat_eq h.length 0)) && nat_le lim.depth (length fs)) ≡ false → IsDeep lim fs h
 deep_by lim fs h false is e some = absurd cc
 deep_by lim fs h true is e some =
     let n : nat_eq h.length 0 ≡ false = ne_eqb h.length 0 some in
@@ -189,32 +189,32 @@ deep_by lim fs h true is e some =
     let lt = leb-false lim.depth (length fs) k in
     omega (arith, lt)
 
-element_case : {s : Syntax} {values : Values} (f : Frame) (fs : List Frame) {b hb : List ℕ} (h : Header) (lim : Limits) (p : ℕ) → p ≡ length (b ++ hb) → Reaches s lim.wanted values (set_frame f.syntax f.stop f.last) fs b → IsElement f.syntax f.last h hb → IsLength h.length
-    → IsSound lim (spot_of f fs (length b)) (length hb) h → IsTaken lim f fs p h → (sh : Shape) → shape f.syntax h ≡ sh → Stands s lim (take_header p (set_frame f.syntax f.stop f.last) fs h) (keep_header lim (set_frame f.syntax f.stop f.last) fs h values) (b ++ hb)
+element_case : {s : Syntax} {values : Values} (f : Scope) (fs : List Scope) {b hb : List ℕ} (h : Header) (lim : Limits) (p : ℕ) → p ≡ length (b ++ hb) → Reaches s lim.wanted values (set_scope f.syntax f.stop f.last) fs b → IsElement f.syntax f.last h hb → IsLength h.length
+    → IsSound lim (spot_of f fs (length b)) (length hb) h → IsTaken lim f fs p h → (sh : Shape) → shape f.syntax h ≡ sh → Stands s lim (take_header p (set_scope f.syntax f.stop f.last) fs h) (keep_header lim (set_scope f.syntax f.stop f.last) fs h values) (b ++ hb)
 element_case {values = values} f fs {b = b} {hb = hb} h lim p p-is r el len sound t Value sh =
-    rw (taken_value p f.syntax f.stop f.last fs h el.no_marker sh, kept_value lim (set_frame f.syntax f.stop f.last) fs h values el.no_marker sh)
-    (value_stands lim p p-is r el sh (len (value_defined f.syntax h sh)) (fits_by lim.wanted fs h None (nat_eq (length fs) 0) (is_marker h.tag) (is_value (shape f.syntax h)) refl el.no_marker (ap is_value sh) refl sound.fits) (same_taken (set_frame f.syntax f.stop (number h.tag)) refl t))
+    rw (taken_value p f.syntax f.stop f.last fs h el.no_marker sh, kept_value lim (set_scope f.syntax f.stop f.last) fs h values el.no_marker sh)
+    (value_stands lim p p-is r el sh (len (value_defined f.syntax h sh)) (fits_by lim.wanted fs h None (nat_eq (length fs) 0) (is_marker h.tag) (is_value (shape f.syntax h)) refl el.no_marker (ap is_value sh) refl sound.fits) (same_taken (set_scope f.syntax f.stop (number h.tag)) refl t))
 element_case {values = values} f fs h lim p p-is r el len sound t (Sequence inner) sh =
-    rw (taken_sequence p f.syntax f.stop f.last fs h inner el.no_marker sh, kept_sequence lim (set_frame f.syntax f.stop f.last) fs h inner values el.no_marker sh)
-    (sequence_stands lim p p-is r el sh len (deep_by lim fs h (is_marker h.tag || is_sequence (shape f.syntax h)) (ap (λ z. z || is_sequence (shape f.syntax h)) el.no_marker ∙ ap is_sequence sh) sound.shallow) (same_taken (set_frame f.syntax f.stop (number h.tag)) refl t))
+    rw (taken_sequence p f.syntax f.stop f.last fs h inner el.no_marker sh, kept_sequence lim (set_scope f.syntax f.stop f.last) fs h inner values el.no_marker sh)
+    (sequence_stands lim p p-is r el sh len (deep_by lim fs h (is_marker h.tag || is_sequence (shape f.syntax h)) (ap (λ z. z || is_sequence (shape f.syntax h)) el.no_marker ∙ ap is_sequence sh) sound.shallow) (same_taken (set_scope f.syntax f.stop (number h.tag)) refl t))
 element_case f fs h lim p p-is r el len sound t NotAllowed sh =
     absurd (let k : is_not_allowed (shape f.syntax h) ≡ false = and_false (not (is_marker h.tag)) (is_not_allowed (shape f.syntax h)) sound.allowed (ap not el.no_marker) in let g : true ≡ false = sym (ap is_not_allowed sh) ∙ k in cc)
 
-pub header_stands : {s : Syntax} {values : Values} (f : Frame) (fs : List Frame) {b : List ℕ} (hb : List ℕ) (h : Header) (lim : Limits) (p : ℕ) → p ≡ length (b ++ hb) → Reaches s lim.wanted values f fs b → SpellsHeader f.syntax h hb
+pub header_stands : {s : Syntax} {values : Values} (f : Scope) (fs : List Scope) {b : List ℕ} (hb : List ℕ) (h : Header) (lim : Limits) (p : ℕ) → p ≡ length (b ++ hb) → Reaches s lim.wanted values f fs b → SpellsHeader f.syntax h hb
     → broken_tag (spot_of f fs (length b)) h.tag ≡ None → IsSound lim (spot_of f fs (length b)) (length hb) h → IsTaken lim f fs p h → Stands s lim (take_header p f fs h) (keep_header lim f fs h values) (b ++ hb)
 header_stands {s = s} {values = values} f fs {b = b} hb h lim p p-is r sp tag-ok sound t = by f.in_sequence refl (is_marker h.tag) refl
   where
-    an_end : (u : Tag) → h.tag ≡ u → is_marker u ≡ true → same_tag u item_tag ≡ false → u ≡ (if f.in_sequence then sequence_end_tag else item_end_tag) → (is_none f.stop && not (is_empty fs)) ≡ true → ((g : Frame) (gs : List Frame) → take_header p f (g ∷ gs) h ≡ arrive p g gs) → Stands s lim (take_header p f fs h) (keep_header lim f fs h values) (b ++ hb)
+    an_end : (u : Tag) → h.tag ≡ u → is_marker u ≡ true → same_tag u item_tag ≡ false → u ≡ (if f.in_sequence then sequence_end_tag else item_end_tag) → (is_none f.stop && not (is_empty fs)) ≡ true → ((g : Scope) (gs : List Scope) → take_header p f (g ∷ gs) h ≡ arrive p g gs) → Stands s lim (take_header p f fs h) (keep_header lim f fs h values) (b ++ hb)
     an_end u same m other which open-ended gone =
         rw (kept_marker lim f fs h values (ap (λ z. is_marker z) same ∙ m))
         (end_case f fs lim p u p-is r sp same m (sound_mark lim (spot_of f fs (length b)) (length hb) h sound (ap (λ z. is_marker z) same ∙ m) (ap (λ z. same_tag z item_tag) same ∙ other)) which open-ended gone t.levels)
 
     items : (h.tag ≡ item_tag) ⊎ ((h.tag ≡ sequence_end_tag) × ((is_none f.stop && not (is_empty fs)) ≡ true)) → f.in_sequence ≡ true → Stands s lim (take_header p f fs h) (keep_header lim f fs h values) (b ++ hb)
     items (inl same) here =
-        rw (taken_item p f fs h same, kept_marker lim f fs h values (ap (λ z. is_marker z) same)) (let is = sequence_of r here in let r2 : Reaches s lim.wanted values (sequence_frame f.syntax f.stop) fs b = subst (λ z. Reaches s lim.wanted values z fs b) is r in
-        subst (λ z. Stands s lim (begin_level p (set_frame f.syntax (stop_of p h.length) 0) z fs h.length) values (b ++ hb)) (sym is)
+        rw (taken_item p f fs h same, kept_marker lim f fs h values (ap (λ z. is_marker z) same)) (let is = sequence_of r here in let r2 : Reaches s lim.wanted values (sequence_scope f.syntax f.stop) fs b = subst (λ z. Reaches s lim.wanted values z fs b) is r in
+        subst (λ z. Stands s lim (begin_level p (set_scope f.syntax (stop_of p h.length) 0) z fs h.length) values (b ++ hb)) (sym is)
         (item_stands lim p p-is r2 (record { spelled = sp; tagged = same }) (sound_length lim (spot_of f fs (length b)) (length hb) h sound)
-        (deep_by lim fs h (is_marker h.tag || is_sequence (shape f.syntax h)) (ap (λ z. z || is_sequence (shape f.syntax h)) (ap (λ z. is_marker z) same)) sound.shallow) (same_taken (sequence_frame f.syntax f.stop) refl t)))
+        (deep_by lim fs h (is_marker h.tag || is_sequence (shape f.syntax h)) (ap (λ z. z || is_sequence (shape f.syntax h)) (ap (λ z. is_marker z) same)) sound.shallow) (same_taken (sequence_scope f.syntax f.stop) refl t)))
     items (inr both) here = an_end sequence_end_tag both.0 refl refl (rw here refl) both.1 (λ g gs. taken_sequence_end p f g gs h both.0)
 
     by : (q : Bool) → f.in_sequence ≡ q → (m : Bool) → is_marker h.tag ≡ m → Stands s lim (take_header p f fs h) (keep_header lim f fs h values) (b ++ hb)
@@ -222,7 +222,7 @@ header_stands {s = s} {values = values} f fs {b = b} hb h lim p p-is r sp tag-ok
     by false here true marked = let both = item_end_is (spot_of f fs (length b)) h.tag tag-ok here marked in an_end item_end_tag both.0 refl refl (rw here refl) both.1 (λ g gs. taken_item_end p f g gs h both.0)
     by false here false marked =
         let is = set_of f here in
-        let r2 : Reaches s lim.wanted values (set_frame f.syntax f.stop f.last) fs b = subst (λ z. Reaches s lim.wanted values z fs b) is r in
+        let r2 : Reaches s lim.wanted values (set_scope f.syntax f.stop f.last) fs b = subst (λ z. Reaches s lim.wanted values z fs b) is r in
         let u = element_tag (spot_of f fs (length b)) h.tag tag-ok here marked in
         subst (λ z. Stands s lim (take_header p z fs h) (keep_header lim z fs h values) (b ++ hb)) (sym is)
         (element_case f fs h lim p p-is r2 (record { spelled = sp; rising = u.0; no_marker = marked; no_command = u.1; no_file = u.2 }) (sound_length lim (spot_of f fs (length b)) (length hb) h sound) sound t (shape f.syntax h) refl)

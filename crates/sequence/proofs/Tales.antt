@@ -4,19 +4,19 @@ use Rattle.element.specs.declared.syntax.Syntax.{Syntax}
 use Rattle.element.specs.declared.tag.Tag.{Tag}
 use Rattle.element.specs.declared.header.Header.{Header}
 use Rattle.element.specs.Header.{number, is_whole}
-use Rattle.sequence.specs.declared.level.Frame.{Frame}
+use Rattle.sequence.specs.declared.level.Scope.{Scope}
 use Rattle.sequence.specs.declared.spot.Spot.{Spot}
 use Rattle.sequence.specs.declared.fault.Fault.{Fault}
 use Rattle.sequence.specs.declared.wanted.Want.{Want}
 use Rattle.sequence.specs.Tree.{Elements, nothing}
-use Rattle.sequence.specs.Open.{Entry, Tail, in_header, in_value, Open}
+use Rattle.sequence.specs.Open.{PathEntry, Tail, in_header, in_value, Open}
 use Rattle.sequence.specs.Wanted.{Values, is_wanted, kept_of, bytes_of, begun_bytes, held_of}
 use Rattle.sequence.specs.Rules.{Limits, broken}
-use Rattle.sequence.specs.FirstFault.{spot_behind, Breaks, IsUnbroken, FirstFault}
+use Rattle.sequence.specs.FirstFault.{IsNoLater, spot_behind, Breaks, IsUnbroken, FirstFault}
 use Rattle.sequence.specs.Walk.{Told, Tells, going, refused}
-use Rattle.sequence.specs.Machine.{set_frame, spot_of, arrive, due, State, at, Mode, Heading, Reading, Stopped, next, run, start}
-use Rattle.sequence.specs.Keeping.{keep, keeps, with_value, wanted_at, but_last, whole_by}
-use Rattle.sequence.specs.Standing.{IsBytes, at_root, AllHold, IsHeading, IsReading, IsStopped, StandsIn, Stands}
+use Rattle.sequence.specs.machine.Machine.{set_scope, spot_of, arrive, due, State, at, Mode, Heading, Reading, Stopped, next, run, start}
+use Rattle.sequence.specs.machine.Keeping.{keep, keeps, with_value, wanted_at, but_last, whole_by}
+use Rattle.sequence.specs.machine.Standing.{IsBytes, at_root, AllHold, IsHeading, IsReading, IsStopped, StandsIn, Stands}
 use Rattle.sequence.proofs.Runs.{HasStopped, run_append, run_stopped}
 use Rattle.sequence.proofs.Arriving.{arrive_stands}
 use Rattle.sequence.proofs.Steps.{next_stands}
@@ -30,7 +30,7 @@ use Rattle.sequence.proofs.Ends.{all_hold, nearest_holds}
 
 start_stands : (s : Syntax) (lim : Limits) → Stands s lim (start s) [] []
 unfolding arrive due
-start_stands s lim = arrive_stands {s = s} {values = []} {f = set_frame s None 0} {fs = []} {b = []} lim 0 refl (at_root nothing refl refl tt) (record { nested = (tt, tt); hold = (tt, tt); deep = omega arith; short = omega arith })
+start_stands s lim = arrive_stands {s = s} {values = []} {f = set_scope s None 0} {fs = []} {b = []} lim 0 refl (at_root nothing refl refl tt) (record { nested = (tt, tt); hold = (tt, tt); deep = omega arith; short = omega arith })
 
 pub front_bytes : (a c : List ℕ) → IsBytes (a ++ c) → IsBytes a
 front_bytes [] c h i = lit< tt
@@ -63,7 +63,7 @@ stops_stopped n (Reading t k) h = absurd h
 stop_place : (n : ℕ) (rule p : ℕ) (t : Tag) (m : Mode) → m ≡ Stopped rule p t → StopsAt n m → p ≡ n
 stop_place n rule p t m e h = subst (StopsAt n) e h
 
-place_by : (s : Syntax) (lim : Limits) (values : Values) (f : Frame) (fs : List Frame) (p : ℕ) (m : Mode) (b : List ℕ) → StandsIn s lim values f fs p m b → p ≤ length b
+place_by : (s : Syntax) (lim : Limits) (values : Values) (f : Scope) (fs : List Scope) (p : ℕ) (m : Mode) (b : List ℕ) → StandsIn s lim values f fs p m b → p ≤ length b
 place_by s lim values f fs p (Heading begin t) b h = omega (arith, h.0)
 place_by s lim values f fs p (Reading t n) b h = omega (arith, h.0)
 place_by s lim values f fs p (Stopped rule place t) b h = omega (arith, h.came, ap length h.text, length-append (h.before ++ h.u) h.rest)
@@ -85,11 +85,11 @@ goes_unbroken s lim b going-on q v more n t e breaks = by (breaks_stop s lim q v
 
 -- where it stopped, the first fault is
 
-pub spot_is : {s : Syntax} {ws : List Want} {values : Values} {b : List ℕ} {tail : Tail} {f : Frame} {fs : List Frame} (x : IsFront s ws values (length b) b tail f fs) → spot_of f fs (length b) ≡ spot_behind s x.path x.last (length b)
+pub spot_is : {s : Syntax} {ws : List Want} {values : Values} {b : List ℕ} {tail : Tail} {f : Scope} {fs : List Scope} (x : IsFront s ws values (length b) b tail f fs) → spot_of f fs (length b) ≡ spot_behind s x.path x.last (length b)
 spot_is {s = s} {b = b} {f = f} {fs = fs} x =
-    ap (λ z. spot_of z fs (length b)) (sym x.top) ∙ ap (λ z. spot_of (top_over (length b) x.path (set_frame s None x.last)) z (length b)) (sym x.below) ∙ spot_over (length b) x.path s x.last
+    ap (λ z. spot_of z fs (length b)) (sym x.top) ∙ ap (λ z. spot_of (top_over (length b) x.path (set_scope s None x.last)) z (length b)) (sym x.below) ∙ spot_over (length b) x.path s x.last
 
-pub stop_breaks : (s : Syntax) (lim : Limits) (values : Values) (f : Frame) (fs : List Frame) (p rule place : ℕ) (t : Tag) (b : List ℕ) (h : IsStopped s lim values f fs p rule place t b) → Breaks s lim h.before h.u rule t
+pub stop_breaks : (s : Syntax) (lim : Limits) (values : Values) (f : Scope) (fs : List Scope) (p rule place : ℕ) (t : Tag) (b : List ℕ) (h : IsStopped s lim values f fs p rule place t b) → Breaks s lim h.before h.u rule t
 stop_breaks s lim values f fs p rule place t b h =
     let x = open_due s lim values f fs h.before h.due in
     let spot = spot_is x in
@@ -102,7 +102,7 @@ stop_breaks s lim values f fs p rule place t b h =
       breaks = subst (λ z. broken lim z h.u ≡ Some (rule, t)) (ap (λ z. spot_of f fs z) h.place-is ∙ spot) h.breaks;
     }
 
-pub stop_first : (s : Syntax) (lim : Limits) (values : Values) (f : Frame) (fs : List Frame) (p rule place : ℕ) (t : Tag) (b : List ℕ) → IsBytes b → run lim (start s) b ≡ at f fs p (Stopped rule place t) → (h : IsStopped s lim values f fs p rule place t b) → FirstFault s lim b h.before h.u rule t
+pub stop_first : (s : Syntax) (lim : Limits) (values : Values) (f : Scope) (fs : List Scope) (p rule place : ℕ) (t : Tag) (b : List ℕ) → IsBytes b → run lim (start s) b ≡ at f fs p (Stopped rule place t) → (h : IsStopped s lim values f fs p rule place t b) → FirstFault s lim b h.before h.u rule t
 stop_first s lim values f fs p rule place t b bytes state h = record {
   rest = h.rest;
   text = h.text;
@@ -110,20 +110,20 @@ stop_first s lim values f fs p rule place t b bytes state h = record {
   first = λ q v more n u e breaks. by q v more e (breaks_stop s lim q v n u breaks);
 }
   where
-    by : (q v more : List ℕ) → b ≡ (q ++ v) ++ more → HasStopped (run lim (start s) q).mode ⊎ StopsAt (length q) (run lim (start s) (q ++ v)).mode → (length h.before ≤ length q) × (length (h.before ++ h.u) ≤ length (q ++ v))
+    by : (q v more : List ℕ) → b ≡ (q ++ v) ++ more → HasStopped (run lim (start s) q).mode ⊎ StopsAt (length q) (run lim (start s) (q ++ v)).mode → IsNoLater h.before h.u q v
     by q v more e (inl k) =
         let text : b ≡ q ++ (v ++ more) = e ∙ append_assoc q v more in
         let same : run lim (start s) b ≡ run lim (start s) q = ap (run lim (start s)) text ∙ stays_stopped s lim q (v ++ more) k in
         let place-is : p ≡ (run lim (start s) q).place = ap (λ (z : State). z.place) (sym state ∙ same) in
         let far = place_within s lim q (front_bytes q (v ++ more) (subst IsBytes text bytes)) in
-        (omega (arith, far, place-is, h.came, length-append h.before h.u), omega (arith, far, place-is, h.came, length-append q v))
+        record { place = omega (arith, far, place-is, h.came, length-append h.before h.u); end = omega (arith, far, place-is, h.came, length-append q v) }
     by q v more e (inr k) =
         let stopped = stops_stopped (length q) _ k in
         let same : run lim (start s) b ≡ run lim (start s) (q ++ v) = ap (run lim (start s)) e ∙ stays_stopped s lim (q ++ v) more stopped in
         let place-is : p ≡ (run lim (start s) (q ++ v)).place = ap (λ (z : State). z.place) (sym state ∙ same) in
         let far = place_within s lim (q ++ v) (front_bytes (q ++ v) more (subst IsBytes e bytes)) in
         let begin : place ≡ length q = stop_place (length q) rule place t _ (ap (λ (z : State). z.mode) (sym same ∙ state)) k in
-        (omega (arith, begin, h.place-is), omega (arith, far, place-is, h.came))
+        record { place = omega (arith, begin, h.place-is); end = omega (arith, far, place-is, h.came) }
 
 -- what is told
 
@@ -146,28 +146,28 @@ told_in lim st values = record {
   kept = whole_by lim st.below st.mode values;
 }
 
-pub levels_is : {s : Syntax} {ws : List Want} {values : Values} {n : ℕ} {b : List ℕ} {tail : Tail} {f : Frame} {fs : List Frame} (x : IsFront s ws values n b tail f fs) → length x.path ≡ length fs
-levels_is {s = s} {n = n} {fs = fs} x = sym (depth_over n x.path (set_frame s None x.last)) ∙ ap length x.below
+pub levels_is : {s : Syntax} {ws : List Want} {values : Values} {n : ℕ} {b : List ℕ} {tail : Tail} {f : Scope} {fs : List Scope} (x : IsFront s ws values n b tail f fs) → length x.path ≡ length fs
+levels_is {s = s} {n = n} {fs = fs} x = sym (depth_over n x.path (set_scope s None x.last)) ∙ ap length x.below
 
-no_value : (ws : List Want) (path : List Entry) (t : List ℕ) → begun_bytes ws path (in_header t) ≡ 0
+no_value : (ws : List Want) (path : List PathEntry) (t : List ℕ) → begun_bytes ws path (in_header t) ≡ 0
 no_value ws [] t = refl
 no_value ws (e ∷ path) t = refl
 
 -- what is open at the end of the text
-pub record OpenEnd (s : Syntax) (lim : Limits) (values : Values) (b : List ℕ) (tail : Tail) (fs : List Frame) : Type 0 where
+pub record OpenEnd (s : Syntax) (lim : Limits) (values : Values) (b : List ℕ) (tail : Tail) (fs : List Scope) : Type 0 where
   pub elements : Elements
-  pub path : List Entry
+  pub path : List PathEntry
   pub last : ℕ
   pub front : Open s b elements path last tail
   pub kept : values ≡ kept_of lim.wanted elements
   pub levels : length path ≡ length fs
 
 -- what is open at the end of the text, with its levels
-pub record FrontAt (s : Syntax) (ws : List Want) (values : Values) (b : List ℕ) (tail : Tail) (f : Frame) (fs : List Frame) : Type 0 where
+pub record FrontAt (s : Syntax) (ws : List Want) (values : Values) (b : List ℕ) (tail : Tail) (f : Scope) (fs : List Scope) : Type 0 where
   pub front : IsFront s ws values (length b) b tail f fs
   pub is_open : Open s b front.elements front.path front.last tail
 
-pub heading_at : (s : Syntax) (lim : Limits) (values : Values) (f : Frame) (fs : List Frame) (begin : ℕ) (t b : List ℕ) → IsHeading s lim values f fs begin t b → FrontAt s lim.wanted values b (in_header t) f fs
+pub heading_at : (s : Syntax) (lim : Limits) (values : Values) (f : Scope) (fs : List Scope) (begin : ℕ) (t b : List ℕ) → IsHeading s lim values f fs begin t b → FrontAt s lim.wanted values b (in_header t) f fs
 heading_at s lim values f fs begin t b h =
     let near = nearest_holds (length h.before) (f ∷ fs) h.due.levels.hold in
     let spot : spot_of f fs begin ≡ spot_of f fs (length h.before) = ap (λ z. spot_of f fs z) h.place in
@@ -180,19 +180,19 @@ heading_at s lim values f fs begin t b h =
     let x = subst (λ z. IsFront s lim.wanted values (length b) z (in_header t) f fs) (sym h.text) (front_heading s lim.wanted values f fs h.before t (length b) h.due.reaches h.tail (less_all (f ∷ fs) (length b) (length b + 1) past2 (omega arith)) n) in
     record { front = x; is_open = open_of x h.due.levels.nested (past_stays f.stop (length b) past2.0) }
 
-pub heading_front : (s : Syntax) (lim : Limits) (values : Values) (f : Frame) (fs : List Frame) (begin : ℕ) (t b : List ℕ) → IsHeading s lim values f fs begin t b → OpenEnd s lim values b (in_header t) fs
+pub heading_front : (s : Syntax) (lim : Limits) (values : Values) (f : Scope) (fs : List Scope) (begin : ℕ) (t b : List ℕ) → IsHeading s lim values f fs begin t b → OpenEnd s lim values b (in_header t) fs
 heading_front s lim values f fs begin t b h =
     let y = heading_at s lim values f fs begin t b h in
     let x = y.front in
     record { elements = x.elements; path = x.path; last = x.last; front = y.is_open; kept = x.kept; levels = levels_is x }
 
-heading_tells : (s : Syntax) (lim : Limits) (values : Values) (f : Frame) (fs : List Frame) (p begin : ℕ) (t b : List ℕ) → IsUnbroken s lim b → (p ≡ length b) × IsHeading s lim values f fs begin t b → Tells s lim b (told_in lim (at f fs p (Heading begin t)) values)
+heading_tells : (s : Syntax) (lim : Limits) (values : Values) (f : Scope) (fs : List Scope) (p begin : ℕ) (t b : List ℕ) → IsUnbroken s lim b → (p ≡ length b) × IsHeading s lim values f fs begin t b → Tells s lim b (told_in lim (at f fs p (Heading begin t)) values)
 heading_tells s lim values f fs p begin t b ok both =
     let x = heading_front s lim values f fs begin t b both.1 in
     let held : held_of lim.wanted x.elements x.path (in_header t) ≡ length t + bytes_of values + 16 * length fs = omega (arith, no_value lim.wanted x.path t, x.levels, ap bytes_of x.kept) in
     subst (Tells s lim b) (λ i. record { fault = None; levels = x.levels i; place = sym both.0 i; held = held i; kept = sym x.kept i }) (going ok x.front)
 
-value_held : (lim : Limits) (fs : List Frame) (path : List Entry) (h : Header) (v : List ℕ) (whole : Values) → length path ≡ length fs → bytes_of (with_value lim fs (number h.tag) v whole) ≡ bytes_of whole + begun_bytes lim.wanted path (in_value h v)
+value_held : (lim : Limits) (fs : List Scope) (path : List PathEntry) (h : Header) (v : List ℕ) (whole : Values) → length path ≡ length fs → bytes_of (with_value lim fs (number h.tag) v whole) ≡ bytes_of whole + begun_bytes lim.wanted path (in_value h v)
 value_held lim [] (e ∷ path) h v whole same = absurd (omega arith)
 value_held lim (f ∷ fs) [] h v whole same = absurd (omega arith)
 value_held lim (f ∷ fs) (e ∷ path) h v whole same = omega arith
@@ -206,7 +206,7 @@ value_held lim [] [] h v whole same = by (is_wanted lim.wanted (number h.tag))
     by true = sum whole (number h.tag, v)
     by false = omega arith
 
-value_whole : (lim : Limits) (fs : List Frame) (t : ℕ) (v : List ℕ) (whole : Values) → (if wanted_at lim fs t then but_last (with_value lim fs t v whole) else with_value lim fs t v whole) ≡ whole
+value_whole : (lim : Limits) (fs : List Scope) (t : ℕ) (v : List ℕ) (whole : Values) → (if wanted_at lim fs t then but_last (with_value lim fs t v whole) else with_value lim fs t v whole) ≡ whole
 value_whole lim fs t v whole = by (wanted_at lim fs t)
   where
     cut : (values : Values) (one : ℕ × List ℕ) → but_last (values ++ one ∷ []) ≡ values
@@ -218,21 +218,21 @@ value_whole lim fs t v whole = by (wanted_at lim fs t)
     by true = cut whole (t, v)
     by false = refl
 
-pub reading_at : (s : Syntax) (lim : Limits) (values : Values) (f : Frame) (fs : List Frame) (t : Tag) (n : ℕ) (b : List ℕ) (r : IsReading s lim values f fs t n b) → FrontAt s lim.wanted r.whole b (in_value r.h r.v) (set_frame f.syntax f.stop r.last) fs
+pub reading_at : (s : Syntax) (lim : Limits) (values : Values) (f : Scope) (fs : List Scope) (t : Tag) (n : ℕ) (b : List ℕ) (r : IsReading s lim values f fs t n b) → FrontAt s lim.wanted r.whole b (in_value r.h r.v) (set_scope f.syntax f.stop r.last) fs
 reading_at s lim values f fs t n b r =
     let place : length b ≡ length (r.before ++ (r.hb ++ r.v)) = ap length r.text in
     let past = less_all (f ∷ fs) (length b + 1) (length b + n) r.levels.hold (omega (arith, r.more)) in
     let here = less_all (f ∷ fs) (length b) (length b + 1) past (omega arith) in
-    let x = subst (λ z. IsFront s lim.wanted r.whole (length b) z (in_value r.h r.v) (set_frame f.syntax f.stop r.last) fs) (sym r.text) (front_reading r.h r.hb r.v (length b) r.reaches r.element r.shaped (omega (arith, r.size, r.more)) here.0 here.1 place) in
+    let x = subst (λ z. IsFront s lim.wanted r.whole (length b) z (in_value r.h r.v) (set_scope f.syntax f.stop r.last) fs) (sym r.text) (front_reading r.h r.hb r.v (length b) r.reaches r.element r.shaped (omega (arith, r.size, r.more)) here.0 here.1 place) in
     record { front = x; is_open = open_of x r.levels.nested (past_stays f.stop (length b) past.0) }
 
-pub reading_front : (s : Syntax) (lim : Limits) (values : Values) (f : Frame) (fs : List Frame) (t : Tag) (n : ℕ) (b : List ℕ) (r : IsReading s lim values f fs t n b) → OpenEnd s lim r.whole b (in_value r.h r.v) fs
+pub reading_front : (s : Syntax) (lim : Limits) (values : Values) (f : Scope) (fs : List Scope) (t : Tag) (n : ℕ) (b : List ℕ) (r : IsReading s lim values f fs t n b) → OpenEnd s lim r.whole b (in_value r.h r.v) fs
 reading_front s lim values f fs t n b r =
     let y = reading_at s lim values f fs t n b r in
     let x = y.front in
     record { elements = x.elements; path = x.path; last = x.last; front = y.is_open; kept = x.kept; levels = levels_is x }
 
-reading_tells : (s : Syntax) (lim : Limits) (values : Values) (f : Frame) (fs : List Frame) (p : ℕ) (t : Tag) (n : ℕ) (b : List ℕ) → IsUnbroken s lim b → (p ≡ length b) × IsReading s lim values f fs t n b → Tells s lim b (told_in lim (at f fs p (Reading t n)) values)
+reading_tells : (s : Syntax) (lim : Limits) (values : Values) (f : Scope) (fs : List Scope) (p : ℕ) (t : Tag) (n : ℕ) (b : List ℕ) → IsUnbroken s lim b → (p ≡ length b) × IsReading s lim values f fs t n b → Tells s lim b (told_in lim (at f fs p (Reading t n)) values)
 reading_tells s lim values f fs p t n b ok both =
     let r = both.1 in
     let x = reading_front s lim values f fs t n b r in
@@ -242,7 +242,7 @@ reading_tells s lim values f fs p t n b ok both =
     ap (λ z. if wanted_at lim fs (number z) then but_last values else values) r.tagged ∙ ap (λ z. if wanted_at lim fs (number r.h.tag) then but_last z else z) r.kept ∙ value_whole lim fs (number r.h.tag) r.v r.whole in
     subst (Tells s lim b) (λ i. record { fault = None; levels = x.levels i; place = sym both.0 i; held = held i; kept = sym (whole ∙ x.kept) i }) (going ok x.front)
 
-stopped_tells : (s : Syntax) (lim : Limits) (values : Values) (f : Frame) (fs : List Frame) (p rule place : ℕ) (t : Tag) (b : List ℕ) → IsBytes b → run lim (start s) b ≡ at f fs p (Stopped rule place t) → IsStopped s lim values f fs p rule place t b → Tells s lim b (told_in lim (at f fs p (Stopped rule place t)) values)
+stopped_tells : (s : Syntax) (lim : Limits) (values : Values) (f : Scope) (fs : List Scope) (p rule place : ℕ) (t : Tag) (b : List ℕ) → IsBytes b → run lim (start s) b ≡ at f fs p (Stopped rule place t) → IsStopped s lim values f fs p rule place t b → Tells s lim b (told_in lim (at f fs p (Stopped rule place t)) values)
 stopped_tells s lim values f fs p rule place t b bytes state h =
     let x = open_due s lim values f fs h.before h.due in
     let o = due_open s lim values f fs h.before h.due in
@@ -251,7 +251,7 @@ stopped_tells s lim values f fs p rule place t b bytes state h =
     subst (Tells s lim b) (λ i. record { fault = Some (record { number = rule; place = sym h.place-is i; tag = t }); levels = levels i; place = sym h.came i; held = held i; kept = sym x.kept i })
     (refused (stop_first s lim values f fs p rule place t b bytes state h) o)
 
-tells_by : (s : Syntax) (lim : Limits) (values : Values) (f : Frame) (fs : List Frame) (p : ℕ) (m : Mode) (b : List ℕ) → IsBytes b → run lim (start s) b ≡ at f fs p m → StandsIn s lim values f fs p m b → Tells s lim b (told_in lim (at f fs p m) values)
+tells_by : (s : Syntax) (lim : Limits) (values : Values) (f : Scope) (fs : List Scope) (p : ℕ) (m : Mode) (b : List ℕ) → IsBytes b → run lim (start s) b ≡ at f fs p m → StandsIn s lim values f fs p m b → Tells s lim b (told_in lim (at f fs p m) values)
 tells_by s lim values f fs p (Heading begin t) b bytes state h = heading_tells s lim values f fs p begin t b (goes_unbroken s lim b (λ k. subst (λ (z : State). HasStopped z.mode) state k)) h
 tells_by s lim values f fs p (Reading t n) b bytes state h = reading_tells s lim values f fs p t n b (goes_unbroken s lim b (λ k. subst (λ (z : State). HasStopped z.mode) state k)) h
 tells_by s lim values f fs p (Stopped rule place t) b bytes state h = stopped_tells s lim values f fs p rule place t b bytes state h

@@ -7,27 +7,27 @@ use Rattle.element.specs.declared.size.Need.{Need}
 use Rattle.element.specs.declared.size.Need.TheVariants.{Size, BadVr}
 use Rattle.element.specs.Header.{number, tag_at, need, is_whole, has_size}
 use Rattle.element.proofs.Headers.{NeedIs, few, plain_eight, no_vr, refused, short_eight, long_twelve, need_is}
-use Rattle.sequence.specs.declared.level.Frame.{Frame}
+use Rattle.sequence.specs.declared.level.Scope.{Scope}
 use Rattle.sequence.specs.declared.spot.Spot.{Spot}
 use Rattle.sequence.specs.declared.wanted.Want.{Want}
 use Rattle.sequence.specs.declared.shape.Shape.TheVariants.{Value}
 use Rattle.sequence.specs.Shape.{shape}
 use Rattle.sequence.specs.Tree.{IsElement}
-use Rattle.sequence.specs.Open.{Entry, Tail, in_header, in_value, header_tail, value_tail, IsUnfinished, IsLeft, AreLeft, IsInnermost, Nested, at_elements, in_sequence_of, Open, sequence_entry}
+use Rattle.sequence.specs.Open.{PathEntry, Tail, in_header, in_value, header_tail, value_tail, IsUnfinished, IsLeft, AreLeft, IsInnermost, Nested, at_elements, in_sequence_of, Open, sequence_entry}
 use Rattle.sequence.specs.Wanted.{Values}
 use Rattle.sequence.specs.Rules.{Limits, broken, passes, broken_need}
-use Rattle.sequence.specs.Machine.{set_frame, stops_at, less}
-use Rattle.sequence.specs.Standing.{Reaches, at_root, into_sequence, into_item, AreNested, Holds, AllHold, IsDue}
+use Rattle.sequence.specs.machine.Machine.{set_scope, stops_at, less}
+use Rattle.sequence.specs.machine.Standing.{Reaches, at_root, into_sequence, into_item, AreNested, Holds, AllHold, IsDue}
 use Rattle.sequence.proofs.Sound.{if_some}
 use Rattle.sequence.proofs.Unbroken.{BreaksNone, unbroken_is}
 use Rattle.sequence.proofs.Fronts.{stop_at, top_over, below_over}
-use Rattle.sequence.proofs.Plug.{IsFront, plug, level_is, entry_frame}
+use Rattle.sequence.proofs.Plug.{IsFront, plug, level_is, entry_scope}
 use Rattle.sequence.proofs.Taking.{set_of}
 use Rattle.sequence.proofs.Arriving.{no_header}
 
 -- a path from its levels
 
-abbrev pub all_over : ℕ → List Entry → Frame → List Frame
+abbrev pub all_over : ℕ → List PathEntry → Scope → List Scope
 all_over n path f = top_over n path f ∷ below_over n path f []
 
 left_of_by : (n : ℕ) (left near : Option ℕ) → IsLeft (stop_at n left) (stop_at n near) → IsLeft left near
@@ -39,7 +39,7 @@ over_some : (n : ℕ) (a c : Option ℕ) → (if is_some (stop_at n a) then stop
 over_some n None c = refl
 over_some n (Some a) c = refl
 
-pub paths_left : (n : ℕ) (near : Option ℕ) (path : List Entry) (f : Frame) → AreNested (stop_at n near) (all_over n path f) → AreLeft near path
+pub paths_left : (n : ℕ) (near : Option ℕ) (path : List PathEntry) (f : Scope) → AreNested (stop_at n near) (all_over n path f) → AreLeft near path
 paths_left n near [] f h = tt
 paths_left n near (e ∷ path) f h =
     (left_of_by n e.left near h.0, paths_left n (if is_some e.left then e.left else near) path f (subst (λ z. AreNested z (all_over n path f)) (over_some n e.left near) h.1))
@@ -48,24 +48,24 @@ zero_stops : (n : ℕ) (o : Option ℕ) → o ≡ Some 0 → stops_at (stop_at n
 zero_stops n None e h = cc
 zero_stops n (Some a) e h = let z : a ≡ 0 = cc in let s : n + a ≡ n = omega (arith, z) in let k : true ≡ false = sym (eq-eqb (n + a) n s) ∙ h in cc
 
-pub paths_inside : (n : ℕ) (path : List Entry) (f : Frame) → stops_at (top_over n path f).stop n ≡ false → IsInnermost path
+pub paths_inside : (n : ℕ) (path : List PathEntry) (f : Scope) → stops_at (top_over n path f).stop n ≡ false → IsInnermost path
 paths_inside n [] f h = tt
 paths_inside n (e ∷ path) f h = λ z. zero_stops n e.left z h
 
-pub all_is : (n : ℕ) (path : List Entry) (r f : Frame) (fs : List Frame) → top_over n path r ≡ f → below_over n path r [] ≡ fs → all_over n path r ≡ f ∷ fs
+pub all_is : (n : ℕ) (path : List PathEntry) (r f : Scope) (fs : List Scope) → top_over n path r ≡ f → below_over n path r [] ≡ fs → all_over n path r ≡ f ∷ fs
 all_is n path r f fs t d = λ i. t i ∷ d i
 
 -- a front is open, where its levels are nested and none ends there
-pub open_of : {s : Syntax} {ws : List Want} {values : Values} {n : ℕ} {b : List ℕ} {tail : Tail} {f : Frame} {fs : List Frame} (x : IsFront s ws values n b tail f fs) → AreNested None (f ∷ fs) → stops_at f.stop n ≡ false → Open s b x.elements x.path x.last tail
+pub open_of : {s : Syntax} {ws : List Want} {values : Values} {n : ℕ} {b : List ℕ} {tail : Tail} {f : Scope} {fs : List Scope} (x : IsFront s ws values n b tail f fs) → AreNested None (f ∷ fs) → stops_at f.stop n ≡ false → Open s b x.elements x.path x.last tail
 open_of {s = s} {n = n} {f = f} {fs = fs} x nested stays = record {
   nested = x.nested;
-  left = paths_left n None x.path (set_frame s None x.last) (subst (λ z. AreNested None z) (sym (all_is n x.path (set_frame s None x.last) f fs x.top x.below)) nested);
-  innermost = paths_inside n x.path (set_frame s None x.last) (ap (λ z. stops_at z.stop n) x.top ∙ stays);
+  left = paths_left n None x.path (set_scope s None x.last) (subst (λ z. AreNested None z) (sym (all_is n x.path (set_scope s None x.last) f fs x.top x.below)) nested);
+  innermost = paths_inside n x.path (set_scope s None x.last) (ap (λ z. stops_at z.stop n) x.top ∙ stays);
 }
 
 -- where a header is due or begun
 
-front_sequence : {s : Syntax} {ws : List Want} {values : Values} {f : Frame} {fs : List Frame} {before : List ℕ} (t : List ℕ) (n : ℕ) → Reaches s ws values f fs before → f.in_sequence ≡ true → IsUnfinished f.syntax t → AllHold (f ∷ fs) n → n ≡ length (before ++ t) → IsFront s ws values n (before ++ t) (in_header t) f fs
+front_sequence : {s : Syntax} {ws : List Want} {values : Values} {f : Scope} {fs : List Scope} {before : List ℕ} (t : List ℕ) (n : ℕ) → Reaches s ws values f fs before → f.in_sequence ≡ true → IsUnfinished f.syntax t → AllHold (f ∷ fs) n → n ≡ length (before ++ t) → IsFront s ws values n (before ++ t) (in_header t) f fs
 front_sequence t n (at_root d e k fits) here tail hold n-is = absurd cc
 front_sequence t n (into_item r it len some set stop-is last-is b-is) here tail hold n-is = absurd cc
 front_sequence {s = s} {ws = ws} {values = values} t n (into_sequence {s1 = s1} {stop = stop} {out = out} {last = last} {fs = fs} {q = q} {h = h} {hb = hb} {inner = inner} {is = is} {ib = ib} {b = b} {k = k} r el sh len some items stop-is k-is b-is) here tail hold n-is =
@@ -73,25 +73,25 @@ front_sequence {s = s} {ws = ws} {values = values} t n (into_sequence {s1 = s1} 
     let n0 : n ≡ length (q ++ (hb ++ (ib ++ t))) = n-is ∙ ap length (sym text) in
     let n1 : n ≡ length (q ++ hb) + length (ib ++ t) = n0 ∙ omega (arith, length-append q (hb ++ (ib ++ t)), length-append hb (ib ++ t), length-append q hb) in
     let level = level_is stop (q ++ hb) (ib ++ t) n h.length n1 some stop-is hold.0 in
-    let seq : Entry = sequence_entry inner h.length (length (ib ++ t)) in
-    let front = plug (hb ++ (ib ++ t)) (in_header t) (seq ∷ []) (number h.tag) n r n0 hold.1.0 hold.1.1 (λ es eb set e. in_sequence_of set (subst (λ z. IsElement s1 z h hb) e el) sh level items tail) in
-    let frame = entry_frame true inner stop 0 (length (q ++ hb)) n h.length (length (ib ++ t)) n1 level stop-is in
+    let seq : PathEntry = sequence_entry inner h.length (length (ib ++ t)) in
+    let front = plug (hb ++ (ib ++ t)) (in_header t) (seq ∷ []) (number h.tag) n r n0 hold.1.0 hold.1.1 (λ es eb set e. in_sequence_of (record { elements = es; before = eb; header = h; spelling = hb; inner = inner; items = is; item_bytes = ib; elements-are = set; header-is = subst (λ z. IsElement s1 z h hb) e el; shaped = sh; items-are = items }) level tail) in
+    let scope = entry_scope true inner stop 0 (length (q ++ hb)) n h.length (length (ib ++ t)) n1 level stop-is in
     record {
       elements = front.elements;
       path = front.path;
       last = front.last;
       nested = subst (λ z. Nested s z front.elements front.path front.last (in_header t)) text front.nested;
-      top = front.top ∙ frame;
-      below = front.below ∙ ap (λ z. set_frame s1 out z ∷ fs) (sym k-is);
+      top = front.top ∙ scope;
+      below = front.below ∙ ap (λ z. set_scope s1 out z ∷ fs) (sym k-is);
       kept = front.kept;
       fits = front.fits;
     }
 
-front_elements : {s : Syntax} {ws : List Want} {values : Values} {s1 : Syntax} {stop : Option ℕ} {last : ℕ} {fs : List Frame} {before : List ℕ} (t : List ℕ) (n : ℕ) → Reaches s ws values (set_frame s1 stop last) fs before → IsUnfinished s1 t → Holds stop n → AllHold fs n → n ≡ length (before ++ t) → IsFront s ws values n (before ++ t) (in_header t) (set_frame s1 stop last) fs
+front_elements : {s : Syntax} {ws : List Want} {values : Values} {s1 : Syntax} {stop : Option ℕ} {last : ℕ} {fs : List Scope} {before : List ℕ} (t : List ℕ) (n : ℕ) → Reaches s ws values (set_scope s1 stop last) fs before → IsUnfinished s1 t → Holds stop n → AllHold fs n → n ≡ length (before ++ t) → IsFront s ws values n (before ++ t) (in_header t) (set_scope s1 stop last) fs
 front_elements {s1 = s1} {last = last} t n r tail hold all n-is =
     plug t (in_header t) [] last n r n-is hold all (λ es eb set e. subst (λ z. Nested s1 (eb ++ t) es [] z (in_header t)) (sym e) (at_elements set (header_tail tail)))
 
-pub front_heading : (s : Syntax) (ws : List Want) (values : Values) (f : Frame) (fs : List Frame) (before t : List ℕ) (n : ℕ) → Reaches s ws values f fs before → IsUnfinished f.syntax t → AllHold (f ∷ fs) n → n ≡ length (before ++ t) → IsFront s ws values n (before ++ t) (in_header t) f fs
+pub front_heading : (s : Syntax) (ws : List Want) (values : Values) (f : Scope) (fs : List Scope) (before t : List ℕ) (n : ℕ) → Reaches s ws values f fs before → IsUnfinished f.syntax t → AllHold (f ∷ fs) n → n ≡ length (before ++ t) → IsFront s ws values n (before ++ t) (in_header t) f fs
 front_heading s ws values f fs before t n r tail hold n-is = by f.in_sequence refl
   where
     by : (q : Bool) → f.in_sequence ≡ q → IsFront s ws values n (before ++ t) (in_header t) f fs
@@ -100,8 +100,8 @@ front_heading s ws values f fs before t n r tail hold n-is = by f.in_sequence re
         let is = set_of f here in
         subst (λ z. IsFront s ws values n (before ++ t) (in_header t) z fs) (sym is) (front_elements t n (subst (λ z. Reaches s ws values z fs before) is r) tail hold.0 hold.1 n-is)
 
-pub front_reading : {s : Syntax} {ws : List Want} {values : Values} {s1 : Syntax} {stop : Option ℕ} {last : ℕ} {fs : List Frame} {before : List ℕ} (h : Header) (hb v : List ℕ) (n : ℕ) → Reaches s ws values (set_frame s1 stop last) fs before → IsElement s1 last h hb → shape s1 h ≡ Value → length v < h.length → Holds stop n → AllHold fs n → n ≡ length (before ++ (hb ++ v))
-    → IsFront s ws values n (before ++ (hb ++ v)) (in_value h v) (set_frame s1 stop last) fs
+pub front_reading : {s : Syntax} {ws : List Want} {values : Values} {s1 : Syntax} {stop : Option ℕ} {last : ℕ} {fs : List Scope} {before : List ℕ} (h : Header) (hb v : List ℕ) (n : ℕ) → Reaches s ws values (set_scope s1 stop last) fs before → IsElement s1 last h hb → shape s1 h ≡ Value → length v < h.length → Holds stop n → AllHold fs n → n ≡ length (before ++ (hb ++ v))
+    → IsFront s ws values n (before ++ (hb ++ v)) (in_value h v) (set_scope s1 stop last) fs
 front_reading {s1 = s1} {last = last} h hb v n r el sh lt hold all n-is =
     plug (hb ++ v) (in_value h v) [] last n r n-is hold all (λ es eb set e. subst (λ z. Nested s1 (eb ++ (hb ++ v)) es [] z (in_value h v)) (sym e) (at_elements set (value_tail v (subst (λ z. IsElement s1 z h hb) e el) sh lt)))
 
@@ -133,7 +133,7 @@ pub holds_after : (o : Option ℕ) (p n : ℕ) → Holds o p → passes (less o 
 holds_after None p n h e = tt
 holds_after (Some e) p n h g = let f = ltb-false (e - p) n g in omega (arith, f, h)
 
-pub less_all : (fs : List Frame) (m n : ℕ) → AllHold fs n → m ≤ n → AllHold fs m
+pub less_all : (fs : List Scope) (m n : ℕ) → AllHold fs n → m ≤ n → AllHold fs m
 less_all [] m n h le = tt
 less_all (f ∷ fs) m n h le = (by f.stop h.0, less_all fs m n h.1 le)
   where
@@ -145,11 +145,11 @@ pub past_stays : (o : Option ℕ) (n : ℕ) → Holds o (n + 1) → stops_at o n
 past_stays None n h = refl
 past_stays (Some e) n h = ne_eqb e n (λ same. absurd (omega (arith, h, same)))
 
--- behind a text a header is due
-pub open_due : (s : Syntax) (lim : Limits) (values : Values) (f : Frame) (fs : List Frame) (b : List ℕ) → IsDue s lim values f fs b → IsFront s lim.wanted values (length b) b (in_header []) f fs
+-- after a text a header is due
+pub open_due : (s : Syntax) (lim : Limits) (values : Values) (f : Scope) (fs : List Scope) (b : List ℕ) → IsDue s lim values f fs b → IsFront s lim.wanted values (length b) b (in_header []) f fs
 open_due s lim values f fs b d =
     let n : length b ≡ length (b ++ []) = ap length (sym (append-nil b)) in
     subst (λ z. IsFront s lim.wanted values (length b) z (in_header []) f fs) (append-nil b) (front_heading s lim.wanted values f fs b [] (length b) d.reaches (no_header f.syntax) d.levels.hold n)
 
-pub due_open : (s : Syntax) (lim : Limits) (values : Values) (f : Frame) (fs : List Frame) (b : List ℕ) (d : IsDue s lim values f fs b) → Open s b (open_due s lim values f fs b d).elements (open_due s lim values f fs b d).path (open_due s lim values f fs b d).last (in_header [])
+pub due_open : (s : Syntax) (lim : Limits) (values : Values) (f : Scope) (fs : List Scope) (b : List ℕ) (d : IsDue s lim values f fs b) → Open s b (open_due s lim values f fs b d).elements (open_due s lim values f fs b d).path (open_due s lim values f fs b d).last (in_header [])
 due_open s lim values f fs b d = open_of (open_due s lim values f fs b d) d.levels.nested d.stays

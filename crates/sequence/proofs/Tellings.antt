@@ -9,8 +9,8 @@ use Rattle.sequence.specs.Rules.{Limits, Broken, broken}
 use Rattle.sequence.specs.FirstFault.{spot_behind, Breaks, FirstFault}
 use Rattle.sequence.specs.Walk.{Told, Tells, going, refused}
 use Rattle.sequence.proofs.Readings.{same_front}
-use Rattle.sequence.specs.Machine.{run, start}
-use Rattle.sequence.specs.Keeping.{keeps}
+use Rattle.sequence.specs.machine.Machine.{run, start}
+use Rattle.sequence.specs.machine.Keeping.{keeps}
 use Rattle.sequence.proofs.Tales.{told_in, tells}
 use Rattle.sequence.proofs.Once.{one_path}
 
@@ -27,8 +27,8 @@ pub one_fault : (s : Syntax) (lim : Limits) (b p p2 u u2 : List ℕ) (rule rule2
 one_fault s lim b p p2 u u2 rule rule2 tag tag2 f g =
     let near = f.first p2 u2 g.rest rule2 tag2 g.text g.breaks in
     let far = g.first p u f.rest rule tag f.text f.breaks in
-    let fronts = same_front (p ++ u) (p2 ++ u2) f.rest g.rest (sym f.text ∙ g.text) (omega (arith, near.1, far.1)) in
-    let parts = same_front p p2 u u2 fronts.0 (omega (arith, near.0, far.0)) in
+    let fronts = same_front (p ++ u) (p2 ++ u2) f.rest g.rest (sym f.text ∙ g.text) (omega (arith, near.end, far.end)) in
+    let parts = same_front p p2 u u2 fronts.0 (omega (arith, near.place, far.place)) in
     let there : Breaks s lim p u rule2 tag2 = subst (λ z. Breaks s lim z u rule2 tag2) (sym parts.0) (subst (λ z. Breaks s lim p2 z rule2 tag2) (sym parts.1) g.breaks) in
     let rules = breaks_once s lim p u rule rule2 tag tag2 f.breaks there in
     (parts.0, parts.1, rules.0, rules.1)

@@ -10,11 +10,11 @@ use Rattle.sequence.proofs.Sound.{and_not}
 
 -- no rule is broken at all
 
-none_first : (x y : Broken) → (x or_else y) ≡ None → (x ≡ None) × (y ≡ None)
+pub none_first : (x y : Broken) → (x or_else y) ≡ None → (x ≡ None) × (y ≡ None)
 none_first (Some z) y e = absurd cc
 none_first None y e = (refl, e)
 
-when_none : (b : Bool) (x : Broken) → when b x ≡ None → b ≡ true → x ≡ None
+pub when_none : (b : Bool) (x : Broken) → when b x ≡ None → b ≡ true → x ≡ None
 when_none true x e t = e
 when_none false x e t = absurd cc
 

@@ -8,12 +8,12 @@ use Rattle.element.specs.declared.syntax.Syntax.{Syntax}
 use Rattle.element.specs.Header.{is_marker, is_plain, tag_at, need, is_whole, header_at, SpellsHeader}
 use Rattle.element.specs.Vr.{is_capital}
 use Rattle.element.proofs.Headers.{NeedIs, refused, need_is, is_need, need_on, need_spelled, plain_on, vr_on, tag_on, tag_read, read_spelled, whole_spelled, front_spelled, spelled_long}
-use Rattle.sequence.specs.declared.level.Frame.{Frame}
+use Rattle.sequence.specs.declared.level.Scope.{Scope}
 use Rattle.sequence.specs.declared.spot.Spot.{Spot}
 use Rattle.sequence.specs.Shape.{is_undefined, undefined_length, shape}
 use Rattle.sequence.specs.Rules.{Limits, Broken, broken_due, broken_tag, broken_need, broken_header, broken, passes, is_long_mark, is_not_allowed, is_too_long, opens, counted_length, ◌or_else◌, when}
-use Rattle.sequence.specs.Machine.{nearest, less, spot_of, at, due, due_by, arrive, headed, headed_by, take_header, Heading, run}
-use Rattle.sequence.specs.Standing.{IsLength, Holds, AllHold, Unbroken}
+use Rattle.sequence.specs.machine.Machine.{nearest, less, spot_of, at, due, due_by, arrive, headed, headed_by, take_header, Heading, run}
+use Rattle.sequence.specs.machine.Standing.{IsLength, Holds, AllHold, Unbroken}
 use Rattle.sequence.proofs.Sound.{IsSound}
 use Rattle.sequence.proofs.Runs.{IsOpen, arrive_open}
 use Rattle.sequence.proofs.Ends.{nearest_holds}
@@ -82,7 +82,7 @@ keeps_rules lim spot h hb sp ok u v same =
         ap (λ z. broken_header lim spot (length z) (header_at spot.syntax z)) all ∙ ap (broken_header lim spot (length hb)) (read_spelled sp) ∙ sound_header lim spot (length hb) h ok.sound
     whole_ok (x ∷ v) e w = absurd (let k : true ≡ false = sym w ∙ front_spelled u x v (subst (SpellsHeader spot.syntax h) e sp) in cc)
 
--- a header that has room, before ends at q or behind it
+-- a header that has room, before ends at q or after it
 
 room_by : (o : Option ℕ) (p n : ℕ) → Holds o (p + n) → passes (less o p) n ≡ false
 room_by None p n h = refl
@@ -91,17 +91,17 @@ room_by (Some e) p n h = fits (omega (arith, h))
     fits : n ≤ e - p → nat_lt (e - p) n ≡ false
     fits le = grind (arith, nat_tests)
 
-room_before : (f : Frame) (fs : List Frame) (p q n : ℕ) → AllHold (f ∷ fs) q → p + n ≤ q → passes (less (nearest (f ∷ fs)) p) n ≡ false
+room_before : (f : Scope) (fs : List Scope) (p q n : ℕ) → AllHold (f ∷ fs) q → p + n ≤ q → passes (less (nearest (f ∷ fs)) p) n ≡ false
 room_before f fs p q n hold le = room_by (nearest (f ∷ fs)) p n (nearest_holds (p + n) (f ∷ fs) (less_all (f ∷ fs) (p + n) q hold le))
 
--- the ends are at q or behind it, and so are the bytes that the header counts
-pub record HasRoom (lim : Limits) (f : Frame) (fs : List Frame) (p q size : ℕ) (h : Header) : Type 0 where
+-- the ends are at q or after it, and so are the bytes that the header counts
+pub record HasRoom (lim : Limits) (f : Scope) (fs : List Scope) (p q size : ℕ) (h : Header) : Type 0 where
   pub hold : AllHold (f ∷ fs) q
   pub short : q ≤ lim.bytes
   pub counts : p + (size + counted_length h.length) ≤ q
   pub even : IsLength h.length
 
-pub keeps : (lim : Limits) (f : Frame) (fs : List Frame) (p q size : ℕ) (h : Header) → HasRoom lim f fs p q size h → broken_tag (spot_of f fs p) h.tag ≡ None → is_long_mark h ≡ false → (not (is_marker h.tag) && is_not_allowed (shape f.syntax h)) ≡ false → is_too_long lim (spot_of f fs p) h ≡ false
+pub keeps : (lim : Limits) (f : Scope) (fs : List Scope) (p q size : ℕ) (h : Header) → HasRoom lim f fs p q size h → broken_tag (spot_of f fs p) h.tag ≡ None → is_long_mark h ≡ false → (not (is_marker h.tag) && is_not_allowed (shape f.syntax h)) ≡ false → is_too_long lim (spot_of f fs p) h ≡ false
     → (opens (spot_of f fs p) h && nat_le lim.depth (length fs)) ≡ false → KeepsRules lim (spot_of f fs p) size h
 keeps lim f fs p q size h room tagged mark allowed fits shallow =
     let counts = room.counts in
@@ -127,7 +127,7 @@ keeps lim f fs p q size h room tagged mark allowed fits shallow =
 
 -- the machine goes over it
 
-heading_goes : (lim : Limits) (f : Frame) (fs : List Frame) (p q start : ℕ) (t : List ℕ) (h : Header) (x : ℕ) (b : List ℕ) → SpellsHeader f.syntax h (t ++ x ∷ b) → Unbroken lim (spot_of f fs start) (t ++ x ∷ b) → q ≡ p + suc (length b)
+heading_goes : (lim : Limits) (f : Scope) (fs : List Scope) (p q start : ℕ) (t : List ℕ) (h : Header) (x : ℕ) (b : List ℕ) → SpellsHeader f.syntax h (t ++ x ∷ b) → Unbroken lim (spot_of f fs start) (t ++ x ∷ b) → q ≡ p + suc (length b)
     → run lim (at f fs p (Heading start t)) (x ∷ b) ≡ take_header q f fs h
 unfolding run headed
 heading_goes lim f fs p q start t h x [] sp ok q-is =
@@ -146,13 +146,13 @@ open_before : (o : Option ℕ) (p q : ℕ) → Holds o q → p < q → IsOpen o 
 open_before None p q h lt = tt
 open_before (Some e) p q h lt = omega (arith, h, lt)
 
-due_goes : (lim : Limits) (f : Frame) (fs : List Frame) (p q : ℕ) (h : Header) (hb : List ℕ) → SpellsHeader f.syntax h hb → Unbroken lim (spot_of f fs p) hb → broken_due (spot_of f fs p) ≡ None → 8 ≤ length hb → q ≡ p + length hb
+due_goes : (lim : Limits) (f : Scope) (fs : List Scope) (p q : ℕ) (h : Header) (hb : List ℕ) → SpellsHeader f.syntax h hb → Unbroken lim (spot_of f fs p) hb → broken_due (spot_of f fs p) ≡ None → 8 ≤ length hb → q ≡ p + length hb
     → run lim (due f fs p) hb ≡ take_header q f fs h
 unfolding due
 due_goes lim f fs p q h [] sp ok none le q-is = absurd (omega (arith, le))
 due_goes lim f fs p q h (x ∷ hb) sp ok none le q-is = ap (λ z. run lim (due_by z f fs p) (x ∷ hb)) none ∙ heading_goes lim f fs p q p [] h x hb sp ok q-is
 
-pub header_goes : (lim : Limits) (f : Frame) (fs : List Frame) (p q : ℕ) (h : Header) (hb : List ℕ) → SpellsHeader f.syntax h hb → KeepsRules lim (spot_of f fs p) (length hb) h → Holds f.stop (p + length hb) → q ≡ p + length hb
+pub header_goes : (lim : Limits) (f : Scope) (fs : List Scope) (p q : ℕ) (h : Header) (hb : List ℕ) → SpellsHeader f.syntax h hb → KeepsRules lim (spot_of f fs p) (length hb) h → Holds f.stop (p + length hb) → q ≡ p + length hb
     → run lim (arrive p f fs) hb ≡ take_header q f fs h
 header_goes lim f fs p q h hb sp ok hold q-is =
     let long = spelled_long sp in

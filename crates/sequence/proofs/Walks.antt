@@ -1,48 +1,42 @@
 -- The walker's state after its calls.
-use Rattle.std.proofs.Common.{◌≡◌, ℕ, ◌+◌, ◌-◌, ◌<◌, ◌≤◌, Bool, true, false, not, ◌&&◌, List, [], ◌∷◌, ◌++◌, length, Some, None, refl, sym, ap, ◌∙◌, inl, inr, ◌⊎◌, arith, nat_le, nat_lt, nat_eq, eq-eqb, le-leb, ltb-false, length-append, if◌then◌else◌}
-use Rattle.std.proofs.lemmas.Bool.Decides.{nat_tests}
+use Rattle.std.proofs.Common.{◌≡◌, ℕ, ◌+◌, ◌-◌, ◌<◌, ◌≤◌, Bool, true, false, not, ◌&&◌, List, [], ◌∷◌, ◌++◌, length, Some, None, refl, sym, ap, ◌∙◌, inl, inr, ◌⊎◌, arith, nat_lt, nat_eq, eq-eqb, ltb-false, if◌then◌else◌}
 use Rattle.element.specs.declared.syntax.Syntax.{Syntax}
-use Rattle.element.specs.declared.tag.Tag.{Tag}
 use Rattle.element.specs.declared.header.Header.{Header}
 use Rattle.element.specs.Header.{number, is_marker, header_at, is_whole}
 use Rattle.element.proofs.Headers.{tag_read, whole_eight}
-use Rattle.sequence.specs.declared.level.Frame.{Frame}
+use Rattle.sequence.specs.declared.level.Scope.{Scope}
 use Rattle.sequence.specs.declared.level.Level.{Level}
 use Rattle.sequence.specs.declared.spot.Spot.{Spot}
 use Rattle.sequence.specs.declared.wanted.Want.{Want}
 use Rattle.sequence.specs.declared.stage.Stage.{Stage}
-use Rattle.sequence.specs.declared.stage.Stage.TheVariants as stages
 use Rattle.sequence.specs.declared.shape.Shape.{Shape}
 use Rattle.sequence.specs.declared.shape.Shape.TheVariants.{Value, Sequence, NotAllowed}
 use Rattle.sequence.specs.Shape.{shape}
 use Rattle.sequence.specs.Tree.{item_tag, sequence_end_tag}
 use Rattle.sequence.specs.Wanted.{Values}
 use Rattle.sequence.specs.Rules.{Limits, Broken, broken_due, broken_tag, broken, same_tag, counted_length, is_value, passes}
-use Rattle.sequence.specs.Machine.{at, arrive, due, due_by, spot_of, Heading, stop_of, set_frame, sequence_frame, begin_level, begin_value, leave, begun, take_element, take_header, headed, headed_by, read, next_by, Reading, Stopped}
-use Rattle.sequence.specs.Frames.{top_of, below_of}
-use Rattle.sequence.specs.Keeping.{keep_shaped, keep_header, keep_headed, keep_by, wanted_at, with_byte, with_value}
-use Rattle.sequence.specs.Made.{made_headed, made_by}
-use Rattle.sequence.specs.Spare.{stage_by}
-use Rattle.sequence.specs.State.{mode_of, has_room, fits_wanted}
+use Rattle.sequence.specs.machine.Machine.{at, arrive, due, due_by, spot_of, Heading, stop_of, set_scope, sequence_scope, begin_level, begin_value, leave, begun, take_element, take_header}
+use Rattle.sequence.specs.machine.Scopes.{top_of, below_of}
+use Rattle.sequence.specs.machine.Keeping.{keep_shaped, keep_header, wanted_at, with_value}
+use Rattle.sequence.specs.machine.Spare.{stage_by}
+use Rattle.sequence.specs.machine.State.{mode_of, has_room, fits_wanted}
 use Rattle.sequence.specs.Wanted.{is_wanted, room_of}
-use Rattle.sequence.specs.Spare.{is_kept, is_wanted_in}
 use Rattle.sequence.proofs.Tops.{below_empty}
-use Rattle.sequence.proofs.Parts.{part_short}
 use Rattle.sequence.proofs.Sound.{is_sound, element_tag, in_sequence_is}
-use Rattle.sequence.proofs.Unbroken.{unbroken_is, on_tail}
+use Rattle.sequence.proofs.Unbroken.{unbroken_is}
 
 not_true : (a : Bool) → not a ≡ true → a ≡ false
 not_true true e = absurd cc
 not_true false e = refl
 
-due_is : (f : Frame) (fs : List Frame) (place : ℕ) (x : Broken) → at f fs place (mode_of (stage_by x place) place []) ≡ due_by x f fs place
+due_is : (f : Scope) (fs : List Scope) (place : ℕ) (x : Broken) → at f fs place (mode_of (stage_by x place) place []) ≡ due_by x f fs place
 due_is f fs place None = ap (λ n. at f fs place (Heading n [])) same
   where
     same : place - 0 ≡ place
     same = omega arith
 due_is f fs place (Some x) = refl
 
-pub arrived : (root : Frame) (old new : List Level) (place : ℕ) (spot : Spot) (x : Broken) (stage : Stage) (header : List ℕ) → arrive place (top_of root old) (below_of root [] old) ≡ due (top_of root new) (below_of root [] new) place
+pub arrived : (root : Scope) (old new : List Level) (place : ℕ) (spot : Spot) (x : Broken) (stage : Stage) (header : List ℕ) → arrive place (top_of root old) (below_of root [] old) ≡ due (top_of root new) (below_of root [] new) place
     → spot ≡ spot_of (top_of root new) (below_of root [] new) place → x ≡ broken_due spot → stage ≡ stage_by x place → header ≡ []
     → at (top_of root new) (below_of root [] new) place (mode_of stage place header) ≡ arrive place (top_of root old) (below_of root [] old)
 unfolding due
@@ -62,32 +56,32 @@ if_false : {A : Type 0} (b : Bool) (x y : A) → b ≡ false → (if b then x el
 if_false true x y e = absurd cc
 if_false false x y e = refl
 
-pub item_header : (p : ℕ) (f : Frame) (fs : List Frame) (h : Header) (top g : Frame) → is_marker h.tag ≡ true → same_tag h.tag item_tag ≡ true → g ≡ set_frame top.syntax (stop_of p h.length) 0 → top ≡ f
+pub item_header : (p : ℕ) (f : Scope) (fs : List Scope) (h : Header) (top g : Scope) → is_marker h.tag ≡ true → same_tag h.tag item_tag ≡ true → g ≡ set_scope top.syntax (stop_of p h.length) 0 → top ≡ f
     → begin_level p g f fs h.length ≡ take_header p f fs h
 unfolding take_header
 item_header p f fs h top g m t g-is top-is =
-    ap (λ z. begin_level p z f fs h.length) (g-is ∙ ap (λ z. set_frame z.syntax (stop_of p h.length) 0) top-is)
+    ap (λ z. begin_level p z f fs h.length) (g-is ∙ ap (λ z. set_scope z.syntax (stop_of p h.length) 0) top-is)
     ∙ sym (if_true (is_marker h.tag) _ _ m ∙ if_true (same_tag h.tag item_tag) _ _ t)
 
-pub mark_header : (p : ℕ) (f : Frame) (fs : List Frame) (h : Header) → is_marker h.tag ≡ true → same_tag h.tag item_tag ≡ false → leave p f fs ≡ take_header p f fs h
+pub mark_header : (p : ℕ) (f : Scope) (fs : List Scope) (h : Header) → is_marker h.tag ≡ true → same_tag h.tag item_tag ≡ false → leave p f fs ≡ take_header p f fs h
 unfolding take_header
 mark_header p f fs h m t = sym (if_true (is_marker h.tag) _ _ m ∙ if_false (same_tag h.tag item_tag) _ _ t)
 
-element_header : (p : ℕ) (f : Frame) (fs : List Frame) (h : Header) (top : Frame) (sh : Shape) → is_marker h.tag ≡ false → sh ≡ shape top.syntax h → top ≡ f → take_element p f fs h sh ≡ take_header p f fs h
+element_header : (p : ℕ) (f : Scope) (fs : List Scope) (h : Header) (top : Scope) (sh : Shape) → is_marker h.tag ≡ false → sh ≡ shape top.syntax h → top ≡ f → take_element p f fs h sh ≡ take_header p f fs h
 unfolding take_header
 element_header p f fs h top sh m sh-is top-is = ap (λ z. take_element p f fs h z) (sh-is ∙ ap (λ z. shape z.syntax h) top-is) ∙ sym (if_false (is_marker h.tag) _ _ m)
 
-pub value_header : (p : ℕ) (f : Frame) (fs : List Frame) (h : Header) (top f2 : Frame) (fs2 : List Frame) → is_marker h.tag ≡ false → Value ≡ shape top.syntax h → top ≡ f → f2 ≡ begun f h.tag → fs2 ≡ fs
+pub value_header : (p : ℕ) (f : Scope) (fs : List Scope) (h : Header) (top f2 : Scope) (fs2 : List Scope) → is_marker h.tag ≡ false → Value ≡ shape top.syntax h → top ≡ f → f2 ≡ begun f h.tag → fs2 ≡ fs
     → begin_value p f2 fs2 h.tag h.length ≡ take_header p f fs h
 value_header p f fs h top f2 fs2 m sh top-is f-is fs-is = ap (λ z. begin_value p z fs2 h.tag h.length) f-is ∙ ap (λ z. begin_value p (begun f h.tag) z h.tag h.length) fs-is ∙ element_header p f fs h top Value m sh top-is
 
-pub sequence_header : (p : ℕ) (f : Frame) (fs : List Frame) (h : Header) (top f2 g : Frame) (fs2 : List Frame) (inner : Syntax) → is_marker h.tag ≡ false → Sequence inner ≡ shape top.syntax h → top ≡ f → f2 ≡ begun f h.tag → fs2 ≡ fs
-    → g ≡ sequence_frame inner (stop_of p h.length) → begin_level p g f2 fs2 h.length ≡ take_header p f fs h
+pub sequence_header : (p : ℕ) (f : Scope) (fs : List Scope) (h : Header) (top f2 g : Scope) (fs2 : List Scope) (inner : Syntax) → is_marker h.tag ≡ false → Sequence inner ≡ shape top.syntax h → top ≡ f → f2 ≡ begun f h.tag → fs2 ≡ fs
+    → g ≡ sequence_scope inner (stop_of p h.length) → begin_level p g f2 fs2 h.length ≡ take_header p f fs h
 sequence_header p f fs h top f2 g fs2 inner m sh top-is f-is fs-is g-is =
-    ap (λ z. begin_level p z f2 fs2 h.length) g-is ∙ ap (λ z. begin_level p (sequence_frame inner (stop_of p h.length)) z fs2 h.length) f-is ∙ ap (λ z. begin_level p (sequence_frame inner (stop_of p h.length)) (begun f h.tag) z h.length) fs-is
+    ap (λ z. begin_level p z f2 fs2 h.length) g-is ∙ ap (λ z. begin_level p (sequence_scope inner (stop_of p h.length)) z fs2 h.length) f-is ∙ ap (λ z. begin_level p (sequence_scope inner (stop_of p h.length)) (begun f h.tag) z h.length) fs-is
     ∙ element_header p f fs h top (Sequence inner) m sh top-is
 
-pub no_header : (p : ℕ) (f : Frame) (fs : List Frame) (h : Header) (top : Frame) → is_marker h.tag ≡ false → NotAllowed ≡ shape top.syntax h → top ≡ f → arrive p f fs ≡ take_header p f fs h
+pub no_header : (p : ℕ) (f : Scope) (fs : List Scope) (h : Header) (top : Scope) → is_marker h.tag ≡ false → NotAllowed ≡ shape top.syntax h → top ≡ f → arrive p f fs ≡ take_header p f fs h
 no_header p f fs h top m sh top-is = element_header p f fs h top NotAllowed m sh top-is
 
 -- a byte of a header
@@ -97,72 +91,6 @@ within_limit lim spot t ok w = ltb-false _ _ (is_sound lim spot (length t) (head
 
 pub has_room_left : (lim : Limits) (spot : Spot) (t : List ℕ) → broken lim spot t ≡ None → is_whole spot.syntax t ≡ true → has_room lim.depth spot.depth spot.syntax (header_at spot.syntax t) ≡ true
 has_room_left lim spot t ok w = ap not (is_sound lim spot (length t) (header_at spot.syntax t) ((unbroken_is lim spot t ok).whole_ok w)).shallow
-
-pub goes_on_short : (lim : Limits) (spot : Spot) (t : List ℕ) → broken lim spot t ≡ None → is_whole spot.syntax t ≡ false → length t < 12
-goes_on_short lim spot t ok w = part_short spot.syntax t (on_tail lim spot t ok w)
-
-pub next_heading : (lim : Limits) (f : Frame) (fs : List Frame) (place : ℕ) (stage : Stage) (header : List ℕ) (byte : ℕ) → stage ≡ stages.Heading → headed lim f fs (place + 1) (place - length header) (header ++ byte ∷ []) ≡ next_by lim f fs place (mode_of stage place header) byte
-next_heading lim f fs place stage header byte e = ap (λ z. next_by lim f fs place (mode_of z place header) byte) (sym e)
-
-headed_is : (lim : Limits) (f : Frame) (fs : List Frame) (p begin : ℕ) (t : List ℕ) (x : Broken) → broken lim (spot_of f fs begin) t ≡ x → headed_by x f fs p begin t ≡ headed lim f fs p begin t
-unfolding headed
-headed_is lim f fs p begin t x e = ap (λ z. headed_by z f fs p begin t) (sym e)
-
-module _ (lim : Limits) (f : Frame) (fs : List Frame) (place byte begin : ℕ) (header t : List ℕ) (spot : Spot) (t-is : t ≡ header ++ byte ∷ []) (begin-is : begin ≡ place - length header) (spot-is : spot ≡ spot_of f fs begin) where
-  same_spot : spot ≡ spot_of f fs (place - length header)
-  same_spot = spot-is ∙ ap (spot_of f fs) begin-is
-
-  judged : (x : Broken) → broken lim spot t ≡ x → broken lim (spot_of f fs (place - length header)) (header ++ byte ∷ []) ≡ x
-  judged x e = ap (λ z. broken lim z (header ++ byte ∷ [])) (sym same_spot) ∙ ap (broken lim spot) (sym t-is) ∙ e
-
-  whole : (w : Bool) → is_whole spot.syntax t ≡ w → is_whole f.syntax (header ++ byte ∷ []) ≡ w
-  whole w e = ap (λ z. is_whole z.syntax (header ++ byte ∷ [])) (sym same_spot) ∙ ap (is_whole spot.syntax) (sym t-is) ∙ e
-
-  pub header_taken : (h : Header) → broken lim spot t ≡ None → is_whole spot.syntax t ≡ true → h ≡ header_at spot.syntax t → take_header (place + 1) f fs h ≡ headed lim f fs (place + 1) (place - length header) (header ++ byte ∷ [])
-  header_taken h ok w h-is =
-      let same : h ≡ header_at f.syntax (header ++ byte ∷ []) = h-is ∙ ap (header_at spot.syntax) t-is ∙ ap (λ z. header_at z.syntax (header ++ byte ∷ [])) same_spot in
-      ap (take_header (place + 1) f fs) same ∙ sym (if_true (is_whole f.syntax (header ++ byte ∷ [])) _ _ (whole true w)) ∙ headed_is lim f fs (place + 1) (place - length header) (header ++ byte ∷ []) None (judged None ok)
-
-  pub header_goes_on : broken lim spot t ≡ None → is_whole spot.syntax t ≡ false → at f fs (place + 1) (Heading (place + 1 - length t) t) ≡ headed lim f fs (place + 1) (place - length header) (header ++ byte ∷ [])
-  header_goes_on ok w =
-      let same : place + 1 - length t ≡ place - length header = omega (arith, ap length t-is, length-append header (byte ∷ [])) in
-      ap (λ z. at f fs (place + 1) (Heading z t)) same ∙ ap (λ z. at f fs (place + 1) (Heading (place - length header) z)) t-is ∙ sym (if_false (is_whole f.syntax (header ++ byte ∷ [])) _ _ (whole false w)) ∙ headed_is lim f fs (place + 1) (place - length header) (header ++ byte ∷ []) None (judged None ok)
-
-  pub header_stops : (number : ℕ) (tag : Tag) → broken lim spot t ≡ Some (number, tag) → at f fs (place + 1) (Stopped number begin tag) ≡ headed lim f fs (place + 1) (place - length header) (header ++ byte ∷ [])
-  header_stops number tag e = ap (λ z. at f fs (place + 1) (Stopped number z tag)) begin-is ∙ headed_is lim f fs (place + 1) (place - length header) (header ++ byte ∷ []) (Some (number, tag)) (judged (Some (number, tag)) e)
-
-  -- what is kept and made known by it
-
-  pub kept_whole : (h : Header) (values : Values) → broken lim spot t ≡ None → is_whole spot.syntax t ≡ true → h ≡ header_at spot.syntax t → keep_header lim f fs h values ≡ keep_headed lim (broken lim (spot_of f fs (place - length header)) (header ++ byte ∷ [])) f fs (header ++ byte ∷ []) values
-  kept_whole h values ok w h-is =
-      let same : h ≡ header_at f.syntax (header ++ byte ∷ []) = h-is ∙ ap (header_at spot.syntax) t-is ∙ ap (λ z. header_at z.syntax (header ++ byte ∷ [])) same_spot in
-      ap (λ z. keep_header lim f fs z values) same ∙ sym (if_true (is_whole f.syntax (header ++ byte ∷ [])) _ _ (whole true w)) ∙ ap (λ z. keep_headed lim z f fs (header ++ byte ∷ []) values) (sym (judged None ok))
-
-  pub kept_part : (values : Values) → broken lim spot t ≡ None → is_whole spot.syntax t ≡ false → values ≡ keep_headed lim (broken lim (spot_of f fs (place - length header)) (header ++ byte ∷ [])) f fs (header ++ byte ∷ []) values
-  kept_part values ok w = sym (if_false (is_whole f.syntax (header ++ byte ∷ [])) _ _ (whole false w)) ∙ ap (λ z. keep_headed lim z f fs (header ++ byte ∷ []) values) (sym (judged None ok))
-
-  pub kept_refused : (values : Values) (x : ℕ × Tag) → broken lim spot t ≡ Some x → values ≡ keep_headed lim (broken lim (spot_of f fs (place - length header)) (header ++ byte ∷ [])) f fs (header ++ byte ∷ []) values
-  kept_refused values x e = ap (λ z. keep_headed lim z f fs (header ++ byte ∷ []) values) (sym (judged (Some x) e))
-
-  pub made_whole : (h : Header) → broken lim spot t ≡ None → is_whole spot.syntax t ≡ true → h ≡ header_at spot.syntax t → Some h ≡ made_headed (broken lim (spot_of f fs (place - length header)) (header ++ byte ∷ [])) f (header ++ byte ∷ [])
-  made_whole h ok w h-is =
-      let same : h ≡ header_at f.syntax (header ++ byte ∷ []) = h-is ∙ ap (header_at spot.syntax) t-is ∙ ap (λ z. header_at z.syntax (header ++ byte ∷ [])) same_spot in
-      ap Some same ∙ sym (if_true (is_whole f.syntax (header ++ byte ∷ [])) _ _ (whole true w)) ∙ ap (λ z. made_headed z f (header ++ byte ∷ [])) (sym (judged None ok))
-
-  pub made_part : broken lim spot t ≡ None → is_whole spot.syntax t ≡ false → None ≡ made_headed (broken lim (spot_of f fs (place - length header)) (header ++ byte ∷ [])) f (header ++ byte ∷ [])
-  made_part ok w = sym (if_false (is_whole f.syntax (header ++ byte ∷ [])) _ _ (whole false w)) ∙ ap (λ z. made_headed z f (header ++ byte ∷ [])) (sym (judged None ok))
-
-  pub made_refused : (x : ℕ × Tag) → broken lim spot t ≡ Some x → None ≡ made_headed (broken lim (spot_of f fs (place - length header)) (header ++ byte ∷ [])) f (header ++ byte ∷ [])
-  made_refused x e = ap (λ z. made_headed z f (header ++ byte ∷ [])) (sym (judged (Some x) e))
-
-pub keep_heading : (lim : Limits) (f : Frame) (fs : List Frame) (place : ℕ) (stage : Stage) (header : List ℕ) (values : Values) (byte : ℕ) → stage ≡ stages.Heading → keep_headed lim (broken lim (spot_of f fs (place - length header)) (header ++ byte ∷ [])) f fs (header ++ byte ∷ []) values ≡ keep_by lim f fs (mode_of stage place header) values byte
-keep_heading lim f fs place stage header values byte e = ap (λ z. keep_by lim f fs (mode_of z place header) values byte) (sym e)
-
-pub made_heading : (lim : Limits) (f : Frame) (fs : List Frame) (place : ℕ) (stage : Stage) (header : List ℕ) (byte : ℕ) → stage ≡ stages.Heading → made_headed (broken lim (spot_of f fs (place - length header)) (header ++ byte ∷ [])) f (header ++ byte ∷ []) ≡ made_by lim f fs (mode_of stage place header) byte
-made_heading lim f fs place stage header byte e = ap (λ z. made_by lim f fs (mode_of z place header) byte) (sym e)
-
-pub judged_is : (lim lim2 : Limits) (spot : Spot) (t t2 : List ℕ) (x y : Broken) → lim2 ≡ lim → t2 ≡ t → y ≡ broken lim2 spot t2 → y ≡ x → broken lim spot t ≡ x
-judged_is lim lim2 spot t t2 x y lim-is t-is y-is x-is = ap (λ z. broken z spot t) (sym lim-is) ∙ ap (broken lim2 spot) (sym t-is) ∙ sym y-is ∙ x-is
 
 -- an element's tag is above the last one
 pub rises : (lim : Limits) (spot : Spot) (t : List ℕ) → broken lim spot t ≡ None → is_whole spot.syntax t ≡ true → is_marker (header_at spot.syntax t).tag ≡ false → spot.last < number (header_at spot.syntax t).tag
@@ -179,44 +107,34 @@ rises lim spot t ok w m = by spot.in_sequence refl
         out (inr e) = let k : true ≡ false = sym (ap (λ z. is_marker z) e.0) ∙ m in cc
     by false here = (element_tag spot (header_at spot.syntax t).tag ok2 here m).0
 
--- a byte of a value
-
-pub value_ends : (f : Frame) (fs : List Frame) (lim : Limits) (place : ℕ) (stage : Stage) (header : List ℕ) (tag : Tag) (left : ℕ) (kept : Bool) (byte : ℕ) → stage ≡ stages.Value tag left kept → left ≤ 1 → arrive (place + 1) f fs ≡ next_by lim f fs place (mode_of stage place header) byte
-unfolding read
-value_ends f fs lim place stage header tag left kept byte e le = sym (if_true (nat_le left 1) _ _ (le-leb left 1 le)) ∙ ap (λ z. next_by lim f fs place (mode_of z place header) byte) (sym e)
-
-pub value_goes_on : (f : Frame) (fs : List Frame) (lim : Limits) (place : ℕ) (stage : Stage) (header : List ℕ) (tag : Tag) (left : ℕ) (kept : Bool) (byte : ℕ) → stage ≡ stages.Value tag left kept → 1 < left → at f fs (place + 1) (Reading tag (left - 1)) ≡ next_by lim f fs place (mode_of stage place header) byte
-unfolding read
-value_goes_on f fs lim place stage header tag left kept byte e lt = let g : nat_le left 1 ≡ false = grind (arith, nat_tests) in sym (if_false (nat_le left 1) _ _ g) ∙ ap (λ z. next_by lim f fs place (mode_of z place header) byte) (sym e)
-
 -- a wanted value has room, and an element's tag is above the last one
 pub fits_left : (lim : Limits) (spot : Spot) (t : List ℕ) → broken lim spot t ≡ None → is_whole spot.syntax t ≡ true → fits_wanted lim.wanted spot.depth spot.syntax (header_at spot.syntax t) ≡ true
 fits_left lim spot t ok w = ap not (is_sound lim spot (length t) (header_at spot.syntax t) ((unbroken_is lim spot t ok).whole_ok w)).fits
 
 -- what is kept
 
-pub wanted_is : (lim : Limits) (root : Frame) (levels : List Level) (t : ℕ) → (nat_eq (length levels) 0 && is_wanted lim.wanted t) ≡ wanted_at lim (below_of root [] levels) t
+pub wanted_is : (lim : Limits) (root : Scope) (levels : List Level) (t : ℕ) → (nat_eq (length levels) 0 && is_wanted lim.wanted t) ≡ wanted_at lim (below_of root [] levels) t
 wanted_is lim root levels t = ap (λ z. z && is_wanted lim.wanted t) (sym (below_empty root levels))
 
-pub kept_begun : (lim : Limits) (root : Frame) (levels : List Level) (t u : ℕ) (values new : Values) → u ≡ t → new ≡ (if (nat_eq (length levels) 0 && is_wanted lim.wanted u) then values ++ (u, []) ∷ [] else values) → new ≡ with_value lim (below_of root [] levels) t [] values
+pub kept_begun : (lim : Limits) (root : Scope) (levels : List Level) (t u : ℕ) (values new : Values) → u ≡ t → new ≡ (if (nat_eq (length levels) 0 && is_wanted lim.wanted u) then values ++ (u, []) ∷ [] else values) → new ≡ with_value lim (below_of root [] levels) t [] values
 kept_begun lim root levels t u values new same e =
     e ∙ ap (λ z. if (nat_eq (length levels) 0 && is_wanted lim.wanted z) then values ++ (z, []) ∷ [] else values) same ∙ ap (λ z. if z then values ++ (t, []) ∷ [] else values) (wanted_is lim root levels t)
 
-pub keep_marker : (lim : Limits) (f : Frame) (fs : List Frame) (h : Header) (values : Values) → is_marker h.tag ≡ true → values ≡ keep_header lim f fs h values
+pub keep_marker : (lim : Limits) (f : Scope) (fs : List Scope) (h : Header) (values : Values) → is_marker h.tag ≡ true → values ≡ keep_header lim f fs h values
 unfolding keep_header
 keep_marker lim f fs h values m = rw m refl
 
-keep_element : (lim : Limits) (f : Frame) (fs : List Frame) (h : Header) (top : Frame) (sh : Shape) (values : Values) → is_marker h.tag ≡ false → sh ≡ shape top.syntax h → top ≡ f → keep_shaped lim fs h sh values ≡ keep_header lim f fs h values
+keep_element : (lim : Limits) (f : Scope) (fs : List Scope) (h : Header) (top : Scope) (sh : Shape) (values : Values) → is_marker h.tag ≡ false → sh ≡ shape top.syntax h → top ≡ f → keep_shaped lim fs h sh values ≡ keep_header lim f fs h values
 unfolding keep_header
 keep_element lim f fs h top sh values m sh-is top-is = ap (λ z. keep_shaped lim fs h z values) (sh-is ∙ ap (λ z. shape z.syntax h) top-is) ∙ sym (if_false (is_marker h.tag) _ _ m)
 
-pub keep_value : (lim : Limits) (f : Frame) (fs : List Frame) (h : Header) (top : Frame) (fs2 : List Frame) (values : Values) → is_marker h.tag ≡ false → Value ≡ shape top.syntax h → top ≡ f → fs2 ≡ fs → with_value lim fs2 (number h.tag) [] values ≡ keep_header lim f fs h values
+pub keep_value : (lim : Limits) (f : Scope) (fs : List Scope) (h : Header) (top : Scope) (fs2 : List Scope) (values : Values) → is_marker h.tag ≡ false → Value ≡ shape top.syntax h → top ≡ f → fs2 ≡ fs → with_value lim fs2 (number h.tag) [] values ≡ keep_header lim f fs h values
 keep_value lim f fs h top fs2 values m sh top-is fs-is = ap (λ z. with_value lim z (number h.tag) [] values) fs-is ∙ keep_element lim f fs h top Value values m sh top-is
 
-pub keep_sequence : (lim : Limits) (f : Frame) (fs : List Frame) (h : Header) (top : Frame) (inner : Syntax) (values : Values) → is_marker h.tag ≡ false → Sequence inner ≡ shape top.syntax h → top ≡ f → values ≡ keep_header lim f fs h values
+pub keep_sequence : (lim : Limits) (f : Scope) (fs : List Scope) (h : Header) (top : Scope) (inner : Syntax) (values : Values) → is_marker h.tag ≡ false → Sequence inner ≡ shape top.syntax h → top ≡ f → values ≡ keep_header lim f fs h values
 keep_sequence lim f fs h top inner values m sh top-is = keep_element lim f fs h top (Sequence inner) values m sh top-is
 
-pub keep_none : (lim : Limits) (f : Frame) (fs : List Frame) (h : Header) (top : Frame) (values : Values) → is_marker h.tag ≡ false → NotAllowed ≡ shape top.syntax h → top ≡ f → values ≡ keep_header lim f fs h values
+pub keep_none : (lim : Limits) (f : Scope) (fs : List Scope) (h : Header) (top : Scope) (values : Values) → is_marker h.tag ≡ false → NotAllowed ≡ shape top.syntax h → top ≡ f → values ≡ keep_header lim f fs h values
 keep_none lim f fs h top values m sh top-is = keep_element lim f fs h top NotAllowed values m sh top-is
 
 -- a wanted value fits its room
@@ -228,10 +146,3 @@ fits_room ws depth s h room ok none m sh wanted = by ok
 
     by : fits_wanted ws depth s h ≡ true → h.length ≤ room
     by ok = ltb-false room h.length (not_true (nat_lt room h.length) (ap not (ap (λ z. z && nat_lt room h.length) (sym (ap (λ z. (z && not (is_marker h.tag)) && is_value (shape s h)) zero_depth ∙ ap (λ z. not z && is_value (shape s h)) m ∙ ap is_value (sym sh))) ∙ ap (λ z. ((nat_eq depth 0 && not (is_marker h.tag)) && is_value (shape s h)) && passes z h.length) (sym wanted)) ∙ ok))
-
-pub value_kept : (lim : Limits) (f root : Frame) (levels : List Level) (stage : Stage) (tag : Tag) (left : ℕ) (kept : Bool) (place : ℕ) (header : List ℕ) (values new : Values) (x : ℕ)
-    → stage ≡ stages.Value tag left kept → is_kept stage ≡ is_wanted_in lim.wanted levels stage → new ≡ (if kept then with_byte values x else values)
-    → new ≡ keep_by lim f (below_of root [] levels) (mode_of stage place header) values x
-value_kept lim f root levels stage tag left kept place header values new x e flag new-is =
-    let same : kept ≡ wanted_at lim (below_of root [] levels) (number tag) = ap is_kept (sym e) ∙ flag ∙ ap (is_wanted_in lim.wanted levels) e ∙ wanted_is lim root levels (number tag) in
-    new-is ∙ ap (λ z. if z then with_byte values x else values) same ∙ ap (λ z. keep_by lim f (below_of root [] levels) (mode_of z place header) values x) (sym e)

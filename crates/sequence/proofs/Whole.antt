@@ -5,17 +5,17 @@ use Rattle.element.specs.declared.syntax.Syntax.{Syntax}
 use Rattle.element.specs.declared.tag.Tag.{Tag}
 use Rattle.element.specs.declared.header.Header.{Header}
 use Rattle.element.specs.Header.{number, is_marker, plain}
-use Rattle.sequence.specs.declared.level.Frame.{Frame}
+use Rattle.sequence.specs.declared.level.Scope.{Scope}
 use Rattle.sequence.specs.declared.wanted.Want.{Want}
 use Rattle.sequence.specs.declared.shape.Shape.TheVariants.{Value, Sequence}
 use Rattle.sequence.specs.Shape.{is_undefined, undefined_length, shape}
-use Rattle.sequence.specs.Tree.{item_tag, item_end_tag, sequence_end_tag, delimitation, Elements, no_elements, value, sequence, Items, no_items, item, IsElement, IsItem, IsValue, Closed, counted, delimited, DataSet, nothing, value_then, sequence_then, ItemList, no_more, item_then}
+use Rattle.sequence.specs.Tree.{item_tag, item_end_tag, sequence_end_tag, delimitation, Elements, no_elements, value, sequence, Items, no_items, item, IsElement, IsItem, IsValue, Ended, counted, delimited, DataSet, nothing, value_then, sequence_then, ItemList, no_more, item_then}
 use Rattle.sequence.specs.Open.{last_of}
 use Rattle.sequence.specs.Wanted.{room_of}
 use Rattle.sequence.specs.Rules.{Limits, broken_tag, same_tag, passes, is_value, is_sequence, is_not_allowed, is_long_mark, is_too_long, counted_length}
 use Rattle.sequence.specs.Ending.{IsWhole, breaks_rule, ends_early, WholeBreaksNoRule, WholeHasNoFault}
-use Rattle.sequence.specs.Machine.{set_frame, sequence_frame, spot_of, stop_of, State, at, Heading, start, due, arrive, begin_level, run}
-use Rattle.sequence.specs.Standing.{at_root, into_sequence, into_item, Holds, AllHold}
+use Rattle.sequence.specs.machine.Machine.{set_scope, sequence_scope, spot_of, stop_of, State, at, Heading, start, due, arrive, begin_level, run}
+use Rattle.sequence.specs.machine.Standing.{at_root, into_sequence, into_item, Holds, AllHold}
 use Rattle.sequence.proofs.Runs.{HasStopped, run_append, arrive_stopped, value_on, IsMark, sequence_end_mark, item_end_mark, taken_value, taken_sequence, taken_item}
 use Rattle.sequence.proofs.Nesting.{FitIn, more_elements, more_sequence, more_items}
 use Rattle.sequence.proofs.Telling.{less_all}
@@ -29,7 +29,7 @@ then_run lim st mid want a b e g = run_append lim st a b ∙ ap (λ z. run lim z
 
 -- tags that are in place
 
-element_tagged : (s : Syntax) (stop : Option ℕ) (last p : ℕ) (fs : List Frame) (h : Header) (hb : List ℕ) → IsElement s last h hb → broken_tag (spot_of (set_frame s stop last) fs p) h.tag ≡ None
+element_tagged : (s : Syntax) (stop : Option ℕ) (last p : ℕ) (fs : List Scope) (h : Header) (hb : List ℕ) → IsElement s last h hb → broken_tag (spot_of (set_scope s stop last) fs p) h.tag ≡ None
 unfolding broken_tag
 element_tagged s stop last p fs h hb el = else_none (is_marker h.tag) _ _ el.no_marker (else_none (nat_eq h.tag.0 0 || nat_eq h.tag.0 2) _ _ groups (else_none (nat_le (number h.tag) last) _ _ (rises el.rising) refl))
   where
@@ -39,15 +39,15 @@ element_tagged s stop last p fs h hb el = else_none (is_marker h.tag) _ _ el.no_
     rises : last < number h.tag → nat_le (number h.tag) last ≡ false
     rises lt = grind (arith, nat_tests)
 
-item_tagged : (s : Syntax) (stop : Option ℕ) (p : ℕ) (fs : List Frame) (t : Tag) → t ≡ item_tag → broken_tag (spot_of (sequence_frame s stop) fs p) t ≡ None
+item_tagged : (s : Syntax) (stop : Option ℕ) (p : ℕ) (fs : List Scope) (t : Tag) → t ≡ item_tag → broken_tag (spot_of (sequence_scope s stop) fs p) t ≡ None
 unfolding broken_tag
-item_tagged s stop p fs t e = ap (broken_tag (spot_of (sequence_frame s stop) fs p)) e
+item_tagged s stop p fs t e = ap (broken_tag (spot_of (sequence_scope s stop) fs p)) e
 
-sequence_end_tagged : (s : Syntax) (p : ℕ) (f : Frame) (fs : List Frame) → broken_tag (spot_of (sequence_frame s None) (f ∷ fs) p) sequence_end_tag ≡ None
+sequence_end_tagged : (s : Syntax) (p : ℕ) (f : Scope) (fs : List Scope) → broken_tag (spot_of (sequence_scope s None) (f ∷ fs) p) sequence_end_tag ≡ None
 unfolding broken_tag
 sequence_end_tagged s p f fs = refl
 
-item_end_tagged : (s : Syntax) (last p : ℕ) (f : Frame) (fs : List Frame) → broken_tag (spot_of (set_frame s None last) (f ∷ fs) p) item_end_tag ≡ None
+item_end_tagged : (s : Syntax) (last p : ℕ) (f : Scope) (fs : List Scope) → broken_tag (spot_of (set_scope s None last) (f ∷ fs) p) item_end_tag ≡ None
 unfolding broken_tag
 item_end_tagged s last p f fs = refl
 
@@ -61,7 +61,7 @@ no_mark : (h : Header) → is_marker h.tag ≡ false → is_long_mark h ≡ fals
 no_mark h m = ap (λ z. (z && not (same_tag h.tag item_tag)) && not (nat_eq h.length 0)) m
 
 -- a level that the header opens has room
-opens_room : (a : Bool) (n : ℕ) (lim : Limits) (fs : List Frame) → (n ≢ 0 → suc (length fs) ≤ lim.depth) → ((a && not (nat_eq n 0)) && nat_le lim.depth (length fs)) ≡ false
+opens_room : (a : Bool) (n : ℕ) (lim : Limits) (fs : List Scope) → (n ≢ 0 → suc (length fs) ≤ lim.depth) → ((a && not (nat_eq n 0)) && nat_le lim.depth (length fs)) ≡ false
 opens_room a n lim fs deep = by (nat_eq n 0) refl
   where
     less : suc (length fs) ≤ lim.depth → nat_le lim.depth (length fs) ≡ false
@@ -79,7 +79,7 @@ counted_less n k le = by (is_undefined n)
     by false = le
 
 -- a wanted value has room
-fits_room : (lim : Limits) (s : Syntax) (stop : Option ℕ) (last p : ℕ) (fs : List Frame) (h : Header) (v : List ℕ) (es : Elements) → length v ≡ h.length → FitIn lim.wanted fs (value h v es) → is_too_long lim (spot_of (set_frame s stop last) fs p) h ≡ false
+fits_room : (lim : Limits) (s : Syntax) (stop : Option ℕ) (last p : ℕ) (fs : List Scope) (h : Header) (v : List ℕ) (es : Elements) → length v ≡ h.length → FitIn lim.wanted fs (value h v es) → is_too_long lim (spot_of (set_scope s stop last) fs p) h ≡ false
 fits_room lim s stop last p (f ∷ fs) h v es size fit = ap (λ z. ((z && not (is_marker h.tag)) && is_value (shape s h)) && passes (room_of lim.wanted (number h.tag)) h.length) (ne_eqb (suc (length fs)) 0 (omega arith))
 fits_room lim s stop last p [] h v es size fit = ap (λ z. (not (is_marker h.tag) && is_value (shape s h)) && z) (by (room_of lim.wanted (number h.tag)) refl) ∙ and_false (not (is_marker h.tag) && is_value (shape s h))
   where
@@ -90,21 +90,21 @@ fits_room lim s stop last p [] h v es size fit = ap (λ z. (not (is_marker h.tag
     by None e = refl
     by (Some room) e = less room (fit.0 room e)
 
-fit_one : (ws : List Want) (fs : List Frame) (h : Header) (v : List ℕ) (es : Elements) → FitIn ws fs (value h v es) → FitIn ws fs (value h v no_elements)
+fit_one : (ws : List Want) (fs : List Scope) (h : Header) (v : List ℕ) (es : Elements) → FitIn ws fs (value h v es) → FitIn ws fs (value h v no_elements)
 fit_one ws [] h v es fit = (fit.0, tt)
 fit_one ws (f ∷ fs) h v es fit = tt
 
-fit_rest : (ws : List Want) (fs : List Frame) (h : Header) (v : List ℕ) (es : Elements) → FitIn ws fs (value h v es) → FitIn ws fs es
+fit_rest : (ws : List Want) (fs : List Scope) (h : Header) (v : List ℕ) (es : Elements) → FitIn ws fs (value h v es) → FitIn ws fs es
 fit_rest ws [] h v es fit = fit.1
 fit_rest ws (f ∷ fs) h v es fit = tt
 
-fit_behind : (ws : List Want) (fs : List Frame) (h : Header) (is : Items) (es : Elements) → FitIn ws fs (sequence h is es) → FitIn ws fs es
+fit_behind : (ws : List Want) (fs : List Scope) (h : Header) (is : Items) (es : Elements) → FitIn ws fs (sequence h is es) → FitIn ws fs es
 fit_behind ws [] h is es fit = fit
 fit_behind ws (f ∷ fs) h is es fit = tt
 
--- a level, behind its header
+-- a level, after its header
 
-mark_goes : (lim : Limits) (t : Tag) (mark : IsMark t) (g f : Frame) (fs : List Frame) (p q : ℕ) → broken_tag (spot_of g (f ∷ fs) p) t ≡ None → is_marker t ≡ true → g.stop ≡ None → AllHold (f ∷ fs) q → q ≤ lim.bytes → q ≡ p + 8
+mark_goes : (lim : Limits) (t : Tag) (mark : IsMark t) (g f : Scope) (fs : List Scope) (p q : ℕ) → broken_tag (spot_of g (f ∷ fs) p) t ≡ None → is_marker t ≡ true → g.stop ≡ None → AllHold (f ∷ fs) q → q ≤ lim.bytes → q ≡ p + 8
     → run lim (arrive p g (f ∷ fs)) (delimitation t) ≡ arrive q f fs
 mark_goes lim t mark g f fs p q tagged marked none hold short q-is =
     let h : Header = record { tag = t; vr = None; length = 0 } in
@@ -115,7 +115,7 @@ mark_goes lim t mark g f fs p q tagged marked none hold short q-is =
     (opens_room (is_marker t || is_sequence (shape g.syntax (record { tag = t; vr = None; length = 0 }))) 0 lim (f ∷ fs) (λ some. absurd (some refl))) in
     header_goes lim g (f ∷ fs) p q (record { tag = t; vr = None; length = 0 }) (delimitation t) (plain t 0 mark.0 (mark.1 g.syntax) (lit< tt)) ok (subst (λ o. Holds o (p + 8)) (sym none) tt) q-is ∙ mark.2 q g f fs
 
-counted_goes : (lim : Limits) (g0 g1 : Option ℕ → Frame) (f : Frame) (fs : List Frame) (p q n : ℕ) (b : List ℕ) (none : Bool) → nat_eq n 0 ≡ none → ((stop : Option ℕ) → (g1 stop).stop ≡ stop) → n ≢ undefined_length → length b ≡ n → q ≡ p + n
+counted_goes : (lim : Limits) (g0 g1 : Option ℕ → Scope) (f : Scope) (fs : List Scope) (p q n : ℕ) (b : List ℕ) (none : Bool) → nat_eq n 0 ≡ none → ((stop : Option ℕ) → (g1 stop).stop ≡ stop) → n ≢ undefined_length → length b ≡ n → q ≡ p + n
     → (n ≢ 0 → run lim (arrive p (g0 (stop_of p n)) (f ∷ fs)) b ≡ arrive (p + length b) (g1 (stop_of p n)) (f ∷ fs)) → run lim (begin_level p (g0 (stop_of p n)) f fs n) b ≡ arrive q f fs
 unfolding begin_level run
 counted_goes lim g0 g1 f fs p q n [] true z stops defined size q-is in-it = let same : p ≡ q = omega (arith, q-is, eqb-true n 0 z) in rw (z, same) refl
@@ -126,7 +126,7 @@ counted_goes lim g0 g1 f fs p q n b false z stops defined size q-is in-it =
     let stop : stop_of p n ≡ Some q = rw d (ap Some (sym q-is)) in
     rw z (in-it (false-eqb n 0 (sym z)) ∙ ap (λ m. arrive m (g1 (stop_of p n)) (f ∷ fs)) ends ∙ arrive_stopped q (g1 (stop_of p n)) f fs (stops (stop_of p n) ∙ stop))
 
-level_goes : {t : Tag} {n : ℕ} {b c : List ℕ} (lim : Limits) (g0 g1 : Option ℕ → Frame) (f : Frame) (fs : List Frame) (p q : ℕ) → Closed t n b c → IsMark t → is_marker t ≡ true → broken_tag (spot_of (g1 None) (f ∷ fs) (p + length b)) t ≡ None → ((stop : Option ℕ) → (g1 stop).stop ≡ stop)
+level_goes : {t : Tag} {n : ℕ} {b c : List ℕ} (lim : Limits) (g0 g1 : Option ℕ → Scope) (f : Scope) (fs : List Scope) (p q : ℕ) → Ended t n b c → IsMark t → is_marker t ≡ true → broken_tag (spot_of (g1 None) (f ∷ fs) (p + length b)) t ≡ None → ((stop : Option ℕ) → (g1 stop).stop ≡ stop)
     → AllHold (f ∷ fs) q → q ≤ lim.bytes → q ≡ p + length c → (n ≢ 0 → run lim (arrive p (g0 (stop_of p n)) (f ∷ fs)) b ≡ arrive (p + length b) (g1 (stop_of p n)) (f ∷ fs))
     → run lim (begin_level p (g0 (stop_of p n)) f fs n) c ≡ arrive q f fs
 unfolding begin_level
@@ -140,55 +140,55 @@ level_goes {t} lim g0 g1 f fs p q (delimited {b = b}) mark marked tagged stops h
 
 module _ (s : Syntax) (lim : Limits) (whole : List ℕ) (short : length whole ≤ lim.bytes) (shallow : IsShallow s lim whole) where
   abbrev GoesSet : Syntax → ℕ → Elements → List ℕ → Type 0
-  GoesSet s1 last es b = (stop : Option ℕ) (fs : List Frame) (before : List ℕ) (p q : ℕ) → IsBefore s lim whole (set_frame s1 stop last) fs before b p q → FitIn lim.wanted fs es
-      → run lim (arrive p (set_frame s1 stop last) fs) b ≡ arrive q (set_frame s1 stop (last_of last es)) fs
+  GoesSet s1 last es b = (stop : Option ℕ) (fs : List Scope) (before : List ℕ) (p q : ℕ) → IsBefore s lim whole (set_scope s1 stop last) fs before b p q → FitIn lim.wanted fs es
+      → run lim (arrive p (set_scope s1 stop last) fs) b ≡ arrive q (set_scope s1 stop (last_of last es)) fs
 
   abbrev GoesItems : Syntax → List ℕ → Type 0
-  GoesItems s1 b = (stop : Option ℕ) (fs : List Frame) (before : List ℕ) (p q : ℕ) → IsBefore s lim whole (sequence_frame s1 stop) fs before b p q
-      → run lim (arrive p (sequence_frame s1 stop) fs) b ≡ arrive q (sequence_frame s1 stop) fs
+  GoesItems s1 b = (stop : Option ℕ) (fs : List Scope) (before : List ℕ) (p q : ℕ) → IsBefore s lim whole (sequence_scope s1 stop) fs before b p q
+      → run lim (arrive p (sequence_scope s1 stop) fs) b ≡ arrive q (sequence_scope s1 stop) fs
 
   value_goes : (s1 : Syntax) (last : ℕ) (h : Header) (hb v b : List ℕ) (es : Elements) → IsElement s1 last h hb → shape s1 h ≡ Value → IsValue h.length v → GoesSet s1 (number h.tag) es b → GoesSet s1 last (value h v es) (hb ++ (v ++ b))
   value_goes s1 last h hb v b es el sh val rest stop fs before p q here fit =
       let size : q ≡ p + length hb + length v + length b = omega (arith, here.size, length-append hb (v ++ b), length-append v b) in
       let far = ends_within here in
       let counts : counted_length h.length ≤ length v = counted_less h.length (length v) (omega (arith, val.size)) in
-      let room : HasRoom lim (set_frame s1 stop last) fs p q (length hb) h = record { hold = here.hold; short = omega (arith, far, short); counts = omega (arith, counts, size); even = λ d. val.even } in
-      let ok = keeps lim (set_frame s1 stop last) fs p q (length hb) h room (element_tagged s1 stop last p fs h hb el) (no_mark h el.no_marker) (ap (λ z. not (is_marker h.tag) && is_not_allowed z) sh ∙ and_false (not (is_marker h.tag)))
+      let room : HasRoom lim (set_scope s1 stop last) fs p q (length hb) h = record { hold = here.hold; short = omega (arith, far, short); counts = omega (arith, counts, size); even = λ d. val.even } in
+      let ok = keeps lim (set_scope s1 stop last) fs p q (length hb) h room (element_tagged s1 stop last p fs h hb el) (no_mark h el.no_marker) (ap (λ z. not (is_marker h.tag) && is_not_allowed z) sh ∙ and_false (not (is_marker h.tag)))
       (fits_room lim s1 stop last p fs h v es val.size fit)
       (ap (λ z. ((z || is_sequence (shape s1 h)) && not (nat_eq h.length 0)) && nat_le lim.depth (length fs)) el.no_marker ∙ ap (λ z. (is_sequence z && not (nat_eq h.length 0)) && nat_le lim.depth (length fs)) sh) in
-      let first = header_goes lim (set_frame s1 stop last) fs p (p + length hb) h hb el.spelled ok (less_all (set_frame s1 stop last ∷ fs) (p + length hb) q here.hold (omega (arith, size))).0 refl ∙ taken_value (p + length hb) s1 stop last fs h el.no_marker sh in
-      let second = value_on lim (set_frame s1 stop (number h.tag)) fs h.tag (p + length hb) (p + length hb + length v) h.length v (nat_eq h.length 0) refl val.size (omega (arith, val.size)) in
+      let first = header_goes lim (set_scope s1 stop last) fs p (p + length hb) h hb el.spelled ok (less_all (set_scope s1 stop last ∷ fs) (p + length hb) q here.hold (omega (arith, size))).0 refl ∙ taken_value (p + length hb) s1 stop last fs h el.no_marker sh in
+      let second = value_on lim (set_scope s1 stop (number h.tag)) fs h.tag (p + length hb) (p + length hb + length v) h.length v (nat_eq h.length 0) refl val.size (omega (arith, val.size)) in
       let one : DataSet s1 last (value h v no_elements) (hb ++ v) = subst (λ z. DataSet s1 last (value h v no_elements) (hb ++ z)) (append-nil v) (value_then el sh val nothing) in
-      let grouped = subst (λ z. IsBefore s lim whole (set_frame s1 stop last) fs before z p q) (sym (append_assoc hb v b)) here in
+      let grouped = subst (λ z. IsBefore s lim whole (set_scope s1 stop last) fs before z p q) (sym (append_assoc hb v b)) here in
       let next = behind (hb ++ v) b _ grouped here.nested here.hold (more_elements here.reaches one (fit_one lim.wanted fs h v es fit)) in
       let place : p + length (hb ++ v) ≡ p + length hb + length v = omega (arith, length-append hb v) in
-      then_run lim _ _ _ hb (v ++ b) first (then_run lim _ _ _ v b second (rest stop fs (before ++ (hb ++ v)) (p + length hb + length v) q (subst (λ z. IsBefore s lim whole (set_frame s1 stop (number h.tag)) fs (before ++ (hb ++ v)) b z q) place next) (fit_rest lim.wanted fs h v es fit)))
+      then_run lim _ _ _ hb (v ++ b) first (then_run lim _ _ _ v b second (rest stop fs (before ++ (hb ++ v)) (p + length hb + length v) q (subst (λ z. IsBefore s lim whole (set_scope s1 stop (number h.tag)) fs (before ++ (hb ++ v)) b z q) place next) (fit_rest lim.wanted fs h v es fit)))
 
-  sequence_goes : (s1 : Syntax) (last : ℕ) (h : Header) (hb ib cb b : List ℕ) (inner : Syntax) (is : Items) (es : Elements) → IsElement s1 last h hb → shape s1 h ≡ Sequence inner → ItemList inner is ib → Closed sequence_end_tag h.length ib cb
+  sequence_goes : (s1 : Syntax) (last : ℕ) (h : Header) (hb ib cb b : List ℕ) (inner : Syntax) (is : Items) (es : Elements) → IsElement s1 last h hb → shape s1 h ≡ Sequence inner → ItemList inner is ib → Ended sequence_end_tag h.length ib cb
       → GoesItems inner ib → GoesSet s1 (number h.tag) es b → GoesSet s1 last (sequence h is es) (hb ++ (cb ++ b))
   sequence_goes s1 last h hb ib cb b inner is es el sh items closed in-it rest stop fs before p q here fit =
       let size : q ≡ p + length hb + length cb + length b = omega (arith, here.size, length-append hb (cb ++ b), length-append cb b) in
       let far = ends_within here in
       let c = closed_is closed in
       let counts = c.counts in
-      let in-place : h.length ≢ 0 → IsBefore s lim whole (sequence_frame inner (stop_of (p + length hb) h.length)) (set_frame s1 stop (number h.tag) ∷ fs) (before ++ hb) ib (p + length hb) (p + length hb + length ib) =
-      λ some. inside hb ib cb b (sequence_frame inner (stop_of (p + length hb) h.length)) (set_frame s1 stop (number h.tag)) here c here.nested here.hold refl
+      let in-place : h.length ≢ 0 → IsBefore s lim whole (sequence_scope inner (stop_of (p + length hb) h.length)) (set_scope s1 stop (number h.tag) ∷ fs) (before ++ hb) ib (p + length hb) (p + length hb + length ib) =
+      λ some. inside hb ib cb b (sequence_scope inner (stop_of (p + length hb) h.length)) (set_scope s1 stop (number h.tag)) here c here.nested here.hold refl
       (into_sequence here.reaches el sh c.even some no_more (ap (λ z. stop_of z h.length) (omega (arith, here.place, length-append before hb))) refl (ap (λ z. before ++ z) (sym (append-nil hb)))) in
-      let room : HasRoom lim (set_frame s1 stop last) fs p q (length hb) h = record { hold = here.hold; short = omega (arith, far, short); counts = omega (arith, counts, size); even = c.even } in
-      let ok = keeps lim (set_frame s1 stop last) fs p q (length hb) h room (element_tagged s1 stop last p fs h hb el) (no_mark h el.no_marker) (ap (λ z. not (is_marker h.tag) && is_not_allowed z) sh ∙ and_false (not (is_marker h.tag)))
+      let room : HasRoom lim (set_scope s1 stop last) fs p q (length hb) h = record { hold = here.hold; short = omega (arith, far, short); counts = omega (arith, counts, size); even = c.even } in
+      let ok = keeps lim (set_scope s1 stop last) fs p q (length hb) h room (element_tagged s1 stop last p fs h hb el) (no_mark h el.no_marker) (ap (λ z. not (is_marker h.tag) && is_not_allowed z) sh ∙ and_false (not (is_marker h.tag)))
       (ap (λ z. ((nat_eq (length fs) 0 && not (is_marker h.tag)) && is_value z) && passes (room_of lim.wanted (number h.tag)) h.length) sh ∙ ap (λ z. z && passes (room_of lim.wanted (number h.tag)) h.length) (and_false (nat_eq (length fs) 0 && not (is_marker h.tag))))
       (opens_room (is_marker h.tag || is_sequence (shape s1 h)) h.length lim fs (λ some. deep_at shallow (in-place some) (opened_stays (p + length hb) h.length some))) in
-      let first = header_goes lim (set_frame s1 stop last) fs p (p + length hb) h hb el.spelled ok (less_all (set_frame s1 stop last ∷ fs) (p + length hb) q here.hold (omega (arith, size))).0 refl ∙ taken_sequence (p + length hb) s1 stop last fs h inner el.no_marker sh in
-      let second = level_goes lim (sequence_frame inner) (sequence_frame inner) (set_frame s1 stop (number h.tag)) fs (p + length hb) (p + length hb + length cb) closed sequence_end_mark refl (sequence_end_tagged inner (p + length hb + length ib) (set_frame s1 stop (number h.tag)) fs) (λ o. refl)
-      (less_all (set_frame s1 stop last ∷ fs) (p + length hb + length cb) q here.hold (omega (arith, size))) (omega (arith, size, far, short)) refl
-      (λ some. in-it (stop_of (p + length hb) h.length) (set_frame s1 stop (number h.tag) ∷ fs) (before ++ hb) (p + length hb) (p + length hb + length ib) (in-place some)) in
+      let first = header_goes lim (set_scope s1 stop last) fs p (p + length hb) h hb el.spelled ok (less_all (set_scope s1 stop last ∷ fs) (p + length hb) q here.hold (omega (arith, size))).0 refl ∙ taken_sequence (p + length hb) s1 stop last fs h inner el.no_marker sh in
+      let second = level_goes lim (sequence_scope inner) (sequence_scope inner) (set_scope s1 stop (number h.tag)) fs (p + length hb) (p + length hb + length cb) closed sequence_end_mark refl (sequence_end_tagged inner (p + length hb + length ib) (set_scope s1 stop (number h.tag)) fs) (λ o. refl)
+      (less_all (set_scope s1 stop last ∷ fs) (p + length hb + length cb) q here.hold (omega (arith, size))) (omega (arith, size, far, short)) refl
+      (λ some. in-it (stop_of (p + length hb) h.length) (set_scope s1 stop (number h.tag) ∷ fs) (before ++ hb) (p + length hb) (p + length hb + length ib) (in-place some)) in
       let one : DataSet s1 last (sequence h is no_elements) (hb ++ cb) = subst (λ z. DataSet s1 last (sequence h is no_elements) (hb ++ z)) (append-nil cb) (sequence_then el sh items closed nothing) in
-      let grouped = subst (λ z. IsBefore s lim whole (set_frame s1 stop last) fs before z p q) (sym (append_assoc hb cb b)) here in
+      let grouped = subst (λ z. IsBefore s lim whole (set_scope s1 stop last) fs before z p q) (sym (append_assoc hb cb b)) here in
       let next = behind (hb ++ cb) b _ grouped here.nested here.hold (more_sequence h is here.reaches one) in
       let place : p + length (hb ++ cb) ≡ p + length hb + length cb = omega (arith, length-append hb cb) in
-      then_run lim _ _ _ hb (cb ++ b) first (then_run lim _ _ _ cb b second (rest stop fs (before ++ (hb ++ cb)) (p + length hb + length cb) q (subst (λ z. IsBefore s lim whole (set_frame s1 stop (number h.tag)) fs (before ++ (hb ++ cb)) b z q) place next) (fit_behind lim.wanted fs h is es fit)))
+      then_run lim _ _ _ hb (cb ++ b) first (then_run lim _ _ _ cb b second (rest stop fs (before ++ (hb ++ cb)) (p + length hb + length cb) q (subst (λ z. IsBefore s lim whole (set_scope s1 stop (number h.tag)) fs (before ++ (hb ++ cb)) b z q) place next) (fit_behind lim.wanted fs h is es fit)))
 
-  item_goes : (s1 : Syntax) (h : Header) (hb eb cb b : List ℕ) (es : Elements) → IsItem s1 h hb → DataSet s1 0 es eb → Closed item_end_tag h.length eb cb
+  item_goes : (s1 : Syntax) (h : Header) (hb eb cb b : List ℕ) (es : Elements) → IsItem s1 h hb → DataSet s1 0 es eb → Ended item_end_tag h.length eb cb
       → GoesSet s1 0 es eb → GoesItems s1 b → GoesItems s1 (hb ++ (cb ++ b))
   item_goes s1 h hb eb cb b es it set closed in-it rest stop fs before p q here =
       let size : q ≡ p + length hb + length cb + length b = omega (arith, here.size, length-append hb (cb ++ b), length-append cb b) in
@@ -196,32 +196,32 @@ module _ (s : Syntax) (lim : Limits) (whole : List ℕ) (short : length whole �
       let c = closed_is closed in
       let counts = c.counts in
       let marked : is_marker h.tag ≡ true = ap (λ z. is_marker z) it.tagged in
-      let in-place : h.length ≢ 0 → IsBefore s lim whole (set_frame s1 (stop_of (p + length hb) h.length) 0) (sequence_frame s1 stop ∷ fs) (before ++ hb) eb (p + length hb) (p + length hb + length eb) =
-      λ some. inside hb eb cb b (set_frame s1 (stop_of (p + length hb) h.length) 0) (sequence_frame s1 stop) here c here.nested here.hold refl
+      let in-place : h.length ≢ 0 → IsBefore s lim whole (set_scope s1 (stop_of (p + length hb) h.length) 0) (sequence_scope s1 stop ∷ fs) (before ++ hb) eb (p + length hb) (p + length hb + length eb) =
+      λ some. inside hb eb cb b (set_scope s1 (stop_of (p + length hb) h.length) 0) (sequence_scope s1 stop) here c here.nested here.hold refl
       (into_item here.reaches it c.even some nothing (ap (λ z. stop_of z h.length) (omega (arith, here.place, length-append before hb))) refl (ap (λ z. before ++ z) (sym (append-nil hb)))) in
-      let room : HasRoom lim (sequence_frame s1 stop) fs p q (length hb) h = record { hold = here.hold; short = omega (arith, far, short); counts = omega (arith, counts, size); even = c.even } in
-      let ok = keeps lim (sequence_frame s1 stop) fs p q (length hb) h room (item_tagged s1 stop p fs h.tag it.tagged)
+      let room : HasRoom lim (sequence_scope s1 stop) fs p q (length hb) h = record { hold = here.hold; short = omega (arith, far, short); counts = omega (arith, counts, size); even = c.even } in
+      let ok = keeps lim (sequence_scope s1 stop) fs p q (length hb) h room (item_tagged s1 stop p fs h.tag it.tagged)
       (ap (λ z. (is_marker z && not (same_tag z item_tag)) && not (nat_eq h.length 0)) it.tagged)
       (ap (λ z. not z && is_not_allowed (shape s1 h)) marked)
       (ap (λ z. ((nat_eq (length fs) 0 && not z) && is_value (shape s1 h)) && passes (room_of lim.wanted (number h.tag)) h.length) marked ∙ ap (λ z. (z && is_value (shape s1 h)) && passes (room_of lim.wanted (number h.tag)) h.length) (and_false (nat_eq (length fs) 0)))
       (opens_room (is_marker h.tag || is_sequence (shape s1 h)) h.length lim fs (λ some. deep_at shallow (in-place some) (opened_stays (p + length hb) h.length some))) in
-      let first = header_goes lim (sequence_frame s1 stop) fs p (p + length hb) h hb it.spelled ok (less_all (sequence_frame s1 stop ∷ fs) (p + length hb) q here.hold (omega (arith, size))).0 refl ∙ taken_item (p + length hb) (sequence_frame s1 stop) fs h it.tagged in
-      let second = level_goes lim (λ o. set_frame s1 o 0) (λ o. set_frame s1 o (last_of 0 es)) (sequence_frame s1 stop) fs (p + length hb) (p + length hb + length cb) closed item_end_mark refl (item_end_tagged s1 (last_of 0 es) (p + length hb + length eb) (sequence_frame s1 stop) fs) (λ o. refl)
-      (less_all (sequence_frame s1 stop ∷ fs) (p + length hb + length cb) q here.hold (omega (arith, size))) (omega (arith, size, far, short)) refl
-      (λ some. in-it (stop_of (p + length hb) h.length) (sequence_frame s1 stop ∷ fs) (before ++ hb) (p + length hb) (p + length hb + length eb) (in-place some) tt) in
+      let first = header_goes lim (sequence_scope s1 stop) fs p (p + length hb) h hb it.spelled ok (less_all (sequence_scope s1 stop ∷ fs) (p + length hb) q here.hold (omega (arith, size))).0 refl ∙ taken_item (p + length hb) (sequence_scope s1 stop) fs h it.tagged in
+      let second = level_goes lim (λ o. set_scope s1 o 0) (λ o. set_scope s1 o (last_of 0 es)) (sequence_scope s1 stop) fs (p + length hb) (p + length hb + length cb) closed item_end_mark refl (item_end_tagged s1 (last_of 0 es) (p + length hb + length eb) (sequence_scope s1 stop) fs) (λ o. refl)
+      (less_all (sequence_scope s1 stop ∷ fs) (p + length hb + length cb) q here.hold (omega (arith, size))) (omega (arith, size, far, short)) refl
+      (λ some. in-it (stop_of (p + length hb) h.length) (sequence_scope s1 stop ∷ fs) (before ++ hb) (p + length hb) (p + length hb + length eb) (in-place some) tt) in
       let one : ItemList s1 (item h es no_items) (hb ++ cb) = subst (λ z. ItemList s1 (item h es no_items) (hb ++ z)) (append-nil cb) (item_then it set closed no_more) in
-      let grouped = subst (λ z. IsBefore s lim whole (sequence_frame s1 stop) fs before z p q) (sym (append_assoc hb cb b)) here in
+      let grouped = subst (λ z. IsBefore s lim whole (sequence_scope s1 stop) fs before z p q) (sym (append_assoc hb cb b)) here in
       let next = behind (hb ++ cb) b _ grouped here.nested here.hold (more_items here.reaches one) in
       let place : p + length (hb ++ cb) ≡ p + length hb + length cb = omega (arith, length-append hb cb) in
-      then_run lim _ _ _ hb (cb ++ b) first (then_run lim _ _ _ cb b second (rest stop fs (before ++ (hb ++ cb)) (p + length hb + length cb) q (subst (λ z. IsBefore s lim whole (sequence_frame s1 stop) fs (before ++ (hb ++ cb)) b z q) place next)))
+      then_run lim _ _ _ hb (cb ++ b) first (then_run lim _ _ _ cb b second (rest stop fs (before ++ (hb ++ cb)) (p + length hb + length cb) q (subst (λ z. IsBefore s lim whole (sequence_scope s1 stop) fs (before ++ (hb ++ cb)) b z q) place next)))
 
   nothing_goes : (s1 : Syntax) (last : ℕ) → GoesSet s1 last no_elements []
   unfolding run
-  nothing_goes s1 last stop fs before p q here fit = let same : p ≡ q = omega (arith, here.size) in ap (λ z. arrive z (set_frame s1 stop last) fs) same
+  nothing_goes s1 last stop fs before p q here fit = let same : p ≡ q = omega (arith, here.size) in ap (λ z. arrive z (set_scope s1 stop last) fs) same
 
   no_items_goes : (s1 : Syntax) → GoesItems s1 []
   unfolding run
-  no_items_goes s1 stop fs before p q here = let same : p ≡ q = omega (arith, here.size) in ap (λ z. arrive z (sequence_frame s1 stop) fs) same
+  no_items_goes s1 stop fs before p q here = let same : p ≡ q = omega (arith, here.size) in ap (λ z. arrive z (sequence_scope s1 stop) fs) same
 
   mutual
     elements_go : {s1 : Syntax} {last : ℕ} {es : Elements} {b : List ℕ} → DataSet s1 last es b → GoesSet s1 last es b
@@ -235,7 +235,7 @@ module _ (s : Syntax) (lim : Limits) (whole : List ℕ) (short : length whole �
 
 -- the law
 
-start_goes : (s : Syntax) (lim : Limits) (b : List ℕ) (w : IsWhole s lim b) → run lim (start s) b ≡ at (set_frame s None (last_of 0 w.elements)) [] (length b) (Heading (length b) [])
+start_goes : (s : Syntax) (lim : Limits) (b : List ℕ) (w : IsWhole s lim b) → run lim (start s) b ≡ at (set_scope s None (last_of 0 w.elements)) [] (length b) (Heading (length b) [])
 unfolding arrive due
 start_goes s lim b w =
     elements_go s lim b w.within.bytes w.within.depth w.text None [] [] 0 (length b)

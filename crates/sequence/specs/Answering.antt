@@ -1,4 +1,4 @@
--- What a step tells of the bytes that it took (this product's own profile).
+-- What a step reports of the bytes that it took (this product's own profile).
 use Rattle.std.specs.Prelude.{◌≡◌, ℕ, ◌+◌, ◌<◌, ◌≤◌, true, false, List, [], ◌++◌, length}
 use Rattle.element.specs.declared.syntax.Syntax.{Syntax}
 use Rattle.element.specs.declared.tag.Tag.{Tag}
@@ -7,28 +7,30 @@ use Rattle.element.specs.Header.{is_marker, SpellsHeader}
 use Rattle.sequence.specs.declared.step.Step.{Step}
 use Rattle.sequence.specs.declared.step.Step.TheVariants.{More, Element, Run, Opened, Closed, Refused}
 use Rattle.sequence.specs.Tree.{Elements}
-use Rattle.sequence.specs.Open.{Entry, in_header, in_value, Open}
+use Rattle.sequence.specs.Open.{PathEntry, in_header, in_value, Open}
 use Rattle.sequence.specs.Rules.{Limits, same_tag}
 use Rattle.sequence.specs.Tree.{item_tag}
 use Rattle.sequence.specs.FirstFault.{spot_behind, IsUnbroken, FirstFault}
 
 -- c ends with a whole header h, of an element, an item or a delimitation
-pub record EndsHeader (s : Syntax) (c : List ℕ) (h : Header) : Type 0 where
+pub record EndsHeader (s : Syntax) (c taken : List ℕ) (h : Header) : Type 0 where
   pub before : List ℕ
   pub bytes : List ℕ
   pub text : c ≡ before ++ bytes
   pub elements : Elements
-  pub path : List Entry
+  pub path : List PathEntry
   pub last : ℕ
   pub due : Open s before elements path last (in_header [])
   pub spelled : SpellsHeader (spot_behind s path last (length before)).syntax h bytes
+  pub some : 0 < length taken
+  pub own : length taken ≤ length bytes
 
 -- c ends with the bytes `taken` of one value
 pub record EndsRun (s : Syntax) (c taken : List ℕ) : Type 0 where
   pub before : List ℕ
   pub text : c ≡ before ++ taken
   pub elements : Elements
-  pub path : List Entry
+  pub path : List PathEntry
   pub last : ℕ
   pub header : Header
   pub value : List ℕ
@@ -37,12 +39,14 @@ pub record EndsRun (s : Syntax) (c taken : List ℕ) : Type 0 where
   pub within : length value + length taken ≤ header.length
 
 -- c ends with the beginning of a header
-pub record EndsPart (s : Syntax) (c : List ℕ) : Type 0 where
+pub record EndsPart (s : Syntax) (c taken : List ℕ) : Type 0 where
   pub elements : Elements
-  pub path : List Entry
+  pub path : List PathEntry
   pub last : ℕ
   pub begun : List ℕ
   pub front : Open s c elements path last (in_header begun)
+  pub some : 0 < length taken
+  pub own : length taken ≤ length begun
 
 -- the step lends these bytes
 abbrev pub IsRun : List ℕ → Step → Type 0
@@ -53,13 +57,29 @@ IsRun bytes (Opened h) = ⊥
 IsRun bytes (Closed h) = ⊥
 IsRun bytes (Refused fault) = ⊥
 
--- the text c so far, of which the step took the bytes `taken`
-pub data Answers (s : Syntax) (lim : Limits) (c taken : List ℕ) : Step → Type 0 where
-  -- a refusal comes before everything else
-  refuses : {p u : List ℕ} {rule : ℕ} {tag : Tag} → FirstFault s lim c p u rule tag → Answers s lim c taken (Refused (record { number = rule; place = length p; tag = tag }))
-  nothing_taken : taken ≡ [] → Answers s lim c taken More
-  goes_on : IsUnbroken s lim c → EndsPart s c → Answers s lim c taken More
-  element : {h : Header} → IsUnbroken s lim c → EndsHeader s c h → is_marker h.tag ≡ false → Answers s lim c taken (Element h)
-  opened : {h : Header} → IsUnbroken s lim c → EndsHeader s c h → is_marker h.tag ≡ true → same_tag h.tag item_tag ≡ true → Answers s lim c taken (Opened h)
-  closed : {h : Header} → IsUnbroken s lim c → EndsHeader s c h → is_marker h.tag ≡ true → same_tag h.tag item_tag ≡ false → Answers s lim c taken (Closed h)
-  runs : {step : Step} → IsUnbroken s lim c → EndsRun s c taken → IsRun taken step → Answers s lim c taken step
+-- the bytes `taken` are the last ones of the header or of the value that ends where p ends
+pub data EndsWith (s : Syntax) (p taken : List ℕ) : Type 0 where
+  of_header : {h : Header} → EndsHeader s p taken h → EndsWith s p taken
+  of_value : EndsRun s p taken → EndsWith s p taken
+
+-- a step that refuses takes bytes of one header or one value: of the faulty header u that is due after p, or, where
+-- nothing fits after p, of the header or the value that ends with p
+pub data RefusesAt (s : Syntax) (p u taken : List ℕ) : Type 0 where
+  in_header_of_fault : 0 < length taken → length taken ≤ length u → RefusesAt s p u taken
+  at_end : u ≡ [] → EndsWith s p taken → RefusesAt s p u taken
+
+-- after the text b, a step that takes these bytes of the piece returns this
+pub data Answers (s : Syntax) (lim : Limits) (b piece taken : List ℕ) : Step → Type 0 where
+  -- the piece is empty
+  no_piece : IsUnbroken s lim b → piece ≡ [] → taken ≡ [] → Answers s lim b piece taken More
+  -- the header goes on after the piece
+  goes_on : IsUnbroken s lim (b ++ taken) → EndsPart s (b ++ taken) taken → taken ≡ piece → Answers s lim b piece taken More
+  element : {h : Header} → IsUnbroken s lim (b ++ taken) → EndsHeader s (b ++ taken) taken h → is_marker h.tag ≡ false → Answers s lim b piece taken (Element h)
+  opened : {h : Header} → IsUnbroken s lim (b ++ taken) → EndsHeader s (b ++ taken) taken h → is_marker h.tag ≡ true → same_tag h.tag item_tag ≡ true → Answers s lim b piece taken (Opened h)
+  closed : {h : Header} → IsUnbroken s lim (b ++ taken) → EndsHeader s (b ++ taken) taken h → is_marker h.tag ≡ true → same_tag h.tag item_tag ≡ false → Answers s lim b piece taken (Closed h)
+  runs : {step : Step} → IsUnbroken s lim (b ++ taken) → EndsRun s (b ++ taken) taken → IsRun taken step → Answers s lim b piece taken step
+  -- a rule is broken by these bytes, and none is taken after the shortest faulty front
+  refuses : {p u : List ℕ} {rule : ℕ} {tag : Tag} → IsUnbroken s lim b → FirstFault s lim (b ++ taken) p u rule tag → b ++ taken ≡ p ++ u → RefusesAt s p u taken
+      → Answers s lim b piece taken (Refused (record { number = rule; place = length p; tag = tag }))
+  -- a rule was broken before
+  stays : {p u : List ℕ} {rule : ℕ} {tag : Tag} → FirstFault s lim b p u rule tag → taken ≡ [] → Answers s lim b piece taken (Refused (record { number = rule; place = length p; tag = tag }))

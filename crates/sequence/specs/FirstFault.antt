@@ -5,23 +5,23 @@ use Rattle.element.specs.declared.tag.Tag.{Tag}
 use Rattle.element.specs.Header.{tag_at, is_whole}
 use Rattle.sequence.specs.declared.spot.Spot.{Spot}
 use Rattle.sequence.specs.Tree.{Elements, DataSet}
-use Rattle.sequence.specs.Open.{Entry, Tail, in_header, in_value, Open}
+use Rattle.sequence.specs.Open.{PathEntry, Tail, in_header, in_value, Open}
 use Rattle.sequence.specs.Rules.{Limits, broken, no_tag}
 
 -- the bytes left before the nearest end
-abbrev pub near_of : List Entry → Option ℕ
+abbrev pub near_of : List PathEntry → Option ℕ
 near_of [] = None
 near_of (e ∷ path) = if is_some e.left then e.left else near_of path
 
--- where a header is due behind a text of that many bytes with this path and last tag
-abbrev pub spot_behind : Syntax → List Entry → ℕ → ℕ → Spot
+-- where a header is due after a text of that many bytes with this path and last tag
+abbrev pub spot_behind : Syntax → List PathEntry → ℕ → ℕ → Spot
 spot_behind s [] last place = record { syntax = s; in_sequence = false; open_ended = false; near = None; last = last; depth = 0; place = place }
 spot_behind s (e ∷ path) last place = record { syntax = e.syntax; in_sequence = e.in_sequence; open_ended = is_none e.left; near = near_of (e ∷ path); last = e.last; depth = length (e ∷ path); place = place }
 
--- behind p a header is due, and its beginning u breaks a rule
+-- after p a header is due, and its beginning u breaks a rule
 pub record Breaks (s : Syntax) (lim : Limits) (p u : List ℕ) (rule : ℕ) (tag : Tag) : Type 0 where
   pub elements : Elements
-  pub path : List Entry
+  pub path : List PathEntry
   pub last : ℕ
   pub due : Open s p elements path last (in_header [])
   -- u goes on no farther than one header
@@ -32,12 +32,17 @@ pub record Breaks (s : Syntax) (lim : Limits) (p u : List ℕ) (rule : ℕ) (tag
 abbrev pub IsUnbroken : Syntax → Limits → List ℕ → Type 0
 IsUnbroken s lim b = (q v more : List ℕ) (n : ℕ) (t : Tag) → b ≡ (q ++ v) ++ more → Breaks s lim q v n t → ⊥
 
--- of the fronts of b that break a rule, p ++ u is the shortest; behind a header that breaks one, none is due
+-- the front p ++ u, whose header is due after p, is no longer than q ++ v, nor is p longer than q
+pub record IsNoLater (p u q v : List ℕ) : Type 0 where
+  pub place : length p ≤ length q
+  pub end : length (p ++ u) ≤ length (q ++ v)
+
+-- of the fronts of b that break a rule, p ++ u is the shortest; after a header that breaks one, none is due
 pub record FirstFault (s : Syntax) (lim : Limits) (b p u : List ℕ) (rule : ℕ) (tag : Tag) : Type 0 where
   pub rest : List ℕ
   pub text : b ≡ (p ++ u) ++ rest
   pub breaks : Breaks s lim p u rule tag
-  pub first : (q v more : List ℕ) (n : ℕ) (t : Tag) → b ≡ (q ++ v) ++ more → Breaks s lim q v n t → (length p ≤ length q) × (length (p ++ u) ≤ length (q ++ v))
+  pub first : (q v more : List ℕ) (n : ℕ) (t : Tag) → b ≡ (q ++ v) ++ more → Breaks s lim q v n t → IsNoLater p u q v
 
 -- the tag of a text that ends too early: of a begun value, or of a header of which four bytes came
 abbrev pub tag_of_tail : Tail → Tag
@@ -48,7 +53,7 @@ tag_of_tail (in_value h v) = h.tag
 pub record EndFault (s : Syntax) (lim : Limits) (b : List ℕ) (tag : Tag) : Type 0 where
   pub unbroken : IsUnbroken s lim b
   pub elements : Elements
-  pub path : List Entry
+  pub path : List PathEntry
   pub last : ℕ
   pub tail : Tail
   pub front : Open s b elements path last tail

@@ -2,36 +2,36 @@
 use Rattle.std.specs.Prelude.{◌≡◌, ℕ, ◌+◌, false, List, [], ◌∷◌, ◌++◌, length, Option, Some, None, if◌then◌else◌}
 use Rattle.element.specs.declared.syntax.Syntax.{Syntax}
 use Rattle.element.specs.Header.{number}
-use Rattle.sequence.specs.declared.level.Frame.{Frame}
+use Rattle.sequence.specs.declared.level.Scope.{Scope}
 use Rattle.sequence.specs.declared.wanted.Want.{Want}
 use Rattle.sequence.specs.declared.stage.Stage.{Stage}
 use Rattle.sequence.specs.declared.stage.Stage.TheVariants as stages
 use Rattle.sequence.specs.Tree.{Elements}
-use Rattle.sequence.specs.Open.{Entry, Tail, in_header, in_value}
+use Rattle.sequence.specs.Open.{PathEntry, Tail, in_header, in_value}
 use Rattle.sequence.specs.Wanted.{Values, is_wanted, kept_of}
 
--- where a level ends that lacks so much behind n bytes
+-- where a level ends that lacks so much after n bytes
 abbrev pub stop_at : ℕ → Option ℕ → Option ℕ
 stop_at n None = None
 stop_at n (Some left) = Some (n + left)
 
--- the level of an entry behind n bytes
-abbrev pub frame_at : ℕ → Entry → Frame
-frame_at n e = record { in_sequence = e.in_sequence; syntax = e.syntax; stop = stop_at n e.left; last = e.last }
+-- the level of an entry after n bytes
+abbrev pub scope_at : ℕ → PathEntry → Scope
+scope_at n e = record { in_sequence = e.in_sequence; syntax = e.syntax; stop = stop_at n e.left; last = e.last }
 
 -- the levels of a path, the innermost first, and round them the data set itself
-abbrev pub levels_at : ℕ → List Entry → Syntax → ℕ → List Frame
+abbrev pub levels_at : ℕ → List PathEntry → Syntax → ℕ → List Scope
 levels_at n [] s last = record { in_sequence = false; syntax = s; stop = None; last = last } ∷ []
-levels_at n (e ∷ path) s last = frame_at n e ∷ levels_at n path s last
+levels_at n (e ∷ path) s last = scope_at n e ∷ levels_at n path s last
 
 -- a value that is begun is the last element of the innermost data set
-abbrev pub with_begun : Tail → List Frame → List Frame
+abbrev pub with_begun : Tail → List Scope → List Scope
 with_begun (in_header t) levels = levels
 with_begun (in_value h v) [] = []
 with_begun (in_value h v) (f ∷ levels) = record f { last = number h.tag } ∷ levels
 
 -- the wanted values of the data set itself, with what came of one that is begun
-abbrev pub values_at : List Want → Elements → List Entry → Tail → Values
+abbrev pub values_at : List Want → Elements → List PathEntry → Tail → Values
 values_at ws es path (in_header t) = kept_of ws es
 values_at ws es [] (in_value h v) = if is_wanted ws (number h.tag) then kept_of ws es ++ (number h.tag, v) ∷ [] else kept_of ws es
 values_at ws es (e ∷ path) (in_value h v) = kept_of ws es

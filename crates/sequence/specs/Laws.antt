@@ -5,7 +5,7 @@ use Rattle.element.specs.declared.tag.Tag.{Tag}
 use Rattle.element.specs.Numbers.{IsBytes}
 use Rattle.sequence.specs.declared.fault.Fault.{Fault}
 use Rattle.sequence.specs.Tree.{Elements, DataSet}
-use Rattle.sequence.specs.Open.{Entry, Tail, Open}
+use Rattle.sequence.specs.Open.{PathEntry, Tail, Open}
 use Rattle.sequence.specs.Rules.{Limits}
 use Rattle.sequence.specs.FirstFault.{FirstFault}
 use Rattle.sequence.specs.Walk.{Told, Tells}
@@ -14,7 +14,7 @@ use Rattle.sequence.specs.Walk.{Told, Tells}
 abbrev pub FaultStays : Type 0
 FaultStays = (s : Syntax) (lim : Limits) (b more p u : List ℕ) (rule : ℕ) (tag : Tag) → IsBytes (b ++ more) → FirstFault s lim b p u rule tag → FirstFault s lim (b ++ more) p u rule tag
 
--- what is told after a refusal is told for good
+-- what is reported after a refusal is reported for good
 abbrev pub RefusalStays : Type 0
 RefusalStays = (s : Syntax) (lim : Limits) (b more : List ℕ) (told : Told) (fault : Fault) → IsBytes (b ++ more) → told.fault ≡ Some fault → Tells s lim b told → Tells s lim (b ++ more) told
 
@@ -25,34 +25,34 @@ OneTree = (s : Syntax) (last : ℕ) (es es2 : Elements) (b : List ℕ) → DataS
 -- a text has one list of whole elements, one path, one last tag and one tail at most
 abbrev pub OnePath : Type 0
 OnePath =
-    (s : Syntax) (b : List ℕ) (es es2 : Elements) (path path2 : List Entry) (last last2 : ℕ) (tail tail2 : Tail)
+    (s : Syntax) (b : List ℕ) (es es2 : Elements) (path path2 : List PathEntry) (last last2 : ℕ) (tail tail2 : Tail)
     → Open s b es path last tail → Open s b es2 path2 last2 tail2 → (es ≡ es2) × (path ≡ path2) × (last ≡ last2) × (tail ≡ tail2)
 
 -- a defined entry lacks no less than any defined entry inside it
 abbrev pub EndsAreNested : Type 0
 EndsAreNested =
-    (s : Syntax) (b : List ℕ) (es : Elements) (path inside between around : List Entry) (inner outer : Entry) (last n k : ℕ) (tail : Tail)
+    (s : Syntax) (b : List ℕ) (es : Elements) (path inside between around : List PathEntry) (inner outer : PathEntry) (last n k : ℕ) (tail : Tail)
     → Open s b es path last tail → path ≡ inside ++ inner ∷ (between ++ outer ∷ around) → inner.left ≡ Some n → outer.left ≡ Some k → n ≤ k
 
 -- some entry is of undefined length
-pub data HasOpenEnded : List Entry → Type 0 where
-  this_one : {e : Entry} {path : List Entry} → e.left ≡ None → HasOpenEnded (e ∷ path)
-  one_round : {e : Entry} {path : List Entry} → HasOpenEnded path → HasOpenEnded (e ∷ path)
+pub data HasOpenEnded : List PathEntry → Type 0 where
+  this_one : {e : PathEntry} {path : List PathEntry} → e.left ≡ None → HasOpenEnded (e ∷ path)
+  one_round : {e : PathEntry} {path : List PathEntry} → HasOpenEnded path → HasOpenEnded (e ∷ path)
 
 -- a defined entry that lacks nothing has an entry of undefined length inside it
 abbrev pub WholeHasOpenInside : Type 0
 WholeHasOpenInside =
-    (s : Syntax) (b : List ℕ) (es : Elements) (path inside around : List Entry) (e : Entry) (last : ℕ) (tail : Tail)
+    (s : Syntax) (b : List ℕ) (es : Elements) (path inside around : List PathEntry) (e : PathEntry) (last : ℕ) (tail : Tail)
     → Open s b es path last tail → path ≡ inside ++ e ∷ around → e.left ≡ Some 0 → HasOpenEnded inside
 
 -- a text has one first fault at most
 abbrev pub OneFault : Type 0
 OneFault = (s : Syntax) (lim : Limits) (b p p2 u u2 : List ℕ) (rule rule2 : ℕ) (tag tag2 : Tag) → FirstFault s lim b p u rule tag → FirstFault s lim b p2 u2 rule2 tag2 → (p ≡ p2) × (u ≡ u2) × (rule ≡ rule2) × (tag ≡ tag2)
 
--- one thing at most is to be told after a text
+-- there is at most one report after a text
 abbrev pub OneTelling : Type 0
 OneTelling = (s : Syntax) (lim : Limits) (b : List ℕ) (told told2 : Told) → Tells s lim b told → Tells s lim b told2 → told ≡ told2
 
--- something is to be told after every text of bytes
+-- there is a report after every text of bytes
 abbrev pub SomeTelling : Type 0
 SomeTelling = (s : Syntax) (lim : Limits) (b : List ℕ) → IsBytes b → (told : Told) × Tells s lim b told

@@ -1,4 +1,4 @@
--- What a front of a data set is: its whole elements, and what is open behind them (PS3.5 section 7.5).
+-- What a front of a data set is: its whole elements, and what is open after them (PS3.5 section 7.5).
 use Rattle.std.specs.Prelude.{◌≡◌, ℕ, ◌-◌, ◌<◌, ◌≤◌, ◌≢◌, is_some, Bool, true, false, List, [], ◌∷◌, ◌++◌, length, Option, Some, None, if◌then◌else◌}
 use Rattle.element.specs.declared.syntax.Syntax.{Syntax}
 use Rattle.element.specs.declared.header.Header.{Header}
@@ -15,7 +15,7 @@ last_of last (value h v es) = last_of (number h.tag) es
 last_of last (sequence h is es) = last_of (number h.tag) es
 
 -- a level that is open: a sequence or an item
-pub record Entry : Type 0 where
+pub record PathEntry : Type 0 where
   pub in_sequence : Bool
   -- the syntax of its items or elements
   pub syntax : Syntax
@@ -28,17 +28,17 @@ pub record Entry : Type 0 where
 abbrev pub left_of : ℕ → ℕ → Option ℕ
 left_of n came = if is_undefined n then None else Some (n - came)
 
-abbrev pub sequence_entry : Syntax → ℕ → ℕ → Entry
+abbrev pub sequence_entry : Syntax → ℕ → ℕ → PathEntry
 sequence_entry s n came = record { in_sequence = true; syntax = s; left = left_of n came; last = 0 }
 
-abbrev pub item_entry : Syntax → ℕ → ℕ → ℕ → Entry
+abbrev pub item_entry : Syntax → ℕ → ℕ → ℕ → PathEntry
 item_entry s n came last = record { in_sequence = false; syntax = s; left = left_of n came; last = last }
 
--- what stands behind the whole elements and items
+-- what stands after the whole elements and items
 pub data Tail : Type 0 where
   -- nothing, or the beginning of a header
   in_header : List ℕ → Tail
-  -- behind the header of a value, what came of it
+  -- after the header of a value, what came of it
   in_value : Header → List ℕ → Tail
 
 -- t is nothing, or the beginning of a header
@@ -51,25 +51,53 @@ pub data IsTail (s : Syntax) (last : ℕ) : Tail → List ℕ → Type 0 where
   header_tail : {t : List ℕ} → IsUnfinished s t → IsTail s last (in_header t) t
   value_tail : {h : Header} {hb : List ℕ} (v : List ℕ) → IsElement s last h hb → shape s h ≡ Value → length v < h.length → IsTail s last (in_value h v) (hb ++ v)
 
--- behind the header of a level that is open, so many bytes came: its length is not 0, and they are not more
+-- after the header of a level that is open, so many bytes came: its length is not 0, and they are not more
 pub record IsOpenLevel (n came : ℕ) : Type 0 where
   pub some : n ≢ 0
   pub within : n ≢ undefined_length → came ≤ n
 
--- b is the whole elements es, and what is open behind them: the path with its innermost entry first, the tag of
+-- a sequence that is open in a data set of syntax s: whole elements, a sequence's header, and the whole items after it
+pub record OpenSequence (s : Syntax) : Type 0 where
+  pub elements : Elements
+  -- the bytes of these elements
+  pub before : List ℕ
+  pub header : Header
+  pub spelling : List ℕ
+  -- the syntax of the items
+  pub inner : Syntax
+  pub items : Items
+  pub item_bytes : List ℕ
+  pub elements-are : DataSet s 0 elements before
+  pub header-is : IsElement s (last_of 0 elements) header spelling
+  pub shaped : shape s header ≡ Sequence inner
+  pub items-are : ItemList inner items item_bytes
+
+-- what came of the sequence after its header, where the bytes t stand after its whole items
+abbrev pub came_of : {s : Syntax} → OpenSequence s → List ℕ → List ℕ
+came_of q t = q.item_bytes ++ t
+
+-- the text that leads to the bytes t after its whole items
+abbrev pub text_of : {s : Syntax} → OpenSequence s → List ℕ → List ℕ
+text_of q t = q.before ++ (q.spelling ++ came_of q t)
+
+-- its entry in the path
+abbrev pub entry_of : {s : Syntax} → OpenSequence s → List ℕ → PathEntry
+entry_of q t = sequence_entry q.inner q.header.length (length (came_of q t))
+
+-- b is the whole elements es, and what is open after them: the path with its innermost entry first, the tag of
 -- the last element that began in b itself, and the tail
-pub data Nested : Syntax → List ℕ → Elements → List Entry → ℕ → Tail → Type 0 where
+pub data Nested : Syntax → List ℕ → Elements → List PathEntry → ℕ → Tail → Type 0 where
   at_elements : {s : Syntax} {es : Elements} {b t : List ℕ} {tail : Tail}
       → DataSet s 0 es b → IsTail s (last_of 0 es) tail t
       → Nested s (b ++ t) es [] (last_of 0 es) tail
-  in_sequence_of : {s : Syntax} {es : Elements} {b : List ℕ} {h : Header} {hb : List ℕ} {inner : Syntax} {is : Items} {ib t : List ℕ}
-      → DataSet s 0 es b → IsElement s (last_of 0 es) h hb → shape s h ≡ Sequence inner → IsOpenLevel h.length (length (ib ++ t))
-      → ItemList inner is ib → IsUnfinished inner t
-      → Nested s (b ++ (hb ++ (ib ++ t))) es (sequence_entry inner h.length (length (ib ++ t)) ∷ []) (number h.tag) (in_header t)
-  in_item_of : {s : Syntax} {es : Elements} {b : List ℕ} {h : Header} {hb : List ℕ} {inner : Syntax} {is : Items} {ib : List ℕ} {k : Header} {kb b2 : List ℕ} {es2 : Elements} {path : List Entry} {last : ℕ} {tail : Tail}
-      → DataSet s 0 es b → IsElement s (last_of 0 es) h hb → shape s h ≡ Sequence inner → IsOpenLevel h.length (length (ib ++ (kb ++ b2)))
-      → ItemList inner is ib → IsItem inner k kb → IsOpenLevel k.length (length b2) → Nested inner b2 es2 path last tail
-      → Nested s (b ++ (hb ++ (ib ++ (kb ++ b2)))) es (path ++ (item_entry inner k.length (length b2) last ∷ sequence_entry inner h.length (length (ib ++ (kb ++ b2))) ∷ [])) (number h.tag) tail
+  -- after the whole items of a sequence stands the beginning of a header, or nothing
+  in_sequence_of : {s : Syntax} (q : OpenSequence s) {t : List ℕ}
+      → IsOpenLevel q.header.length (length (came_of q t)) → IsUnfinished q.inner t
+      → Nested s (text_of q t) q.elements (entry_of q t ∷ []) (number q.header.tag) (in_header t)
+  -- or the header k of an item, and after it a front b2 of a data set
+  in_item_of : {s : Syntax} (q : OpenSequence s) {k : Header} {kb b2 : List ℕ} {es : Elements} {path : List PathEntry} {last : ℕ} {tail : Tail}
+      → IsOpenLevel q.header.length (length (came_of q (kb ++ b2))) → IsItem q.inner k kb → IsOpenLevel k.length (length b2) → Nested q.inner b2 es path last tail
+      → Nested s (text_of q (kb ++ b2)) q.elements (path ++ (item_entry q.inner k.length (length b2) last ∷ entry_of q (kb ++ b2) ∷ [])) (number q.header.tag) tail
 
 -- a defined entry lacks no less than a defined entry inside it
 abbrev pub IsLeft : Option ℕ → Option ℕ → Type 0
@@ -78,18 +106,18 @@ IsLeft (Some left) None = Unit {0}
 IsLeft (Some left) (Some n) = n ≤ left
 
 -- the same of a path; `near` is what the nearest defined entry inside lacks
-abbrev pub AreLeft : Option ℕ → List Entry → Type 0
+abbrev pub AreLeft : Option ℕ → List PathEntry → Type 0
 AreLeft near [] = Unit {0}
 AreLeft near (e ∷ path) = IsLeft e.left near × AreLeft (if is_some e.left then e.left else near) path
 
 -- the innermost entry is not whole
-abbrev pub IsInnermost : List Entry → Type 0
+abbrev pub IsInnermost : List PathEntry → Type 0
 IsInnermost [] = Unit {0}
 IsInnermost (e ∷ path) = e.left ≢ Some 0
 
 -- b is a front of a data set: its whole elements, the path, the last tag and the tail. A defined entry of the
 -- path lacks at least one byte, or none where an undefined entry stands inside it
-pub record Open (s : Syntax) (b : List ℕ) (es : Elements) (path : List Entry) (last : ℕ) (tail : Tail) : Type 0 where
+pub record Open (s : Syntax) (b : List ℕ) (es : Elements) (path : List PathEntry) (last : ℕ) (tail : Tail) : Type 0 where
   pub nested : Nested s b es path last tail
   pub left : AreLeft None path
   pub innermost : IsInnermost path

@@ -20,7 +20,57 @@ pub record Limits : Type 0 where
   pub depth : ℕ
   pub bytes : ℕ
 
--- a broken rule's number and the tag that it is told with
+-- the rules, each with its number
+
+-- no two capital letters where a VR is due
+abbrev pub bad_vr : ℕ
+bad_vr = 10
+
+-- a defined length that is odd
+abbrev pub odd_length : ℕ
+odd_length = 11
+
+-- a tag that is not above the last one of its data set
+abbrev pub not_rising : ℕ
+not_rising = 12
+
+-- group 0000 or 0002
+abbrev pub bad_group : ℕ
+bad_group = 13
+
+-- an undefined length that the element may not have
+abbrev pub undefined_not_allowed : ℕ
+undefined_not_allowed = 14
+
+-- an item or a delimitation out of place, or something else where one is due
+abbrev pub unexpected_tag : ℕ
+unexpected_tag = 15
+
+-- a delimitation whose length is not 0
+abbrev pub delimiter_length : ℕ
+delimiter_length = 16
+
+-- past the end of a level of defined length
+abbrev pub overrun : ℕ
+overrun = 17
+
+-- more open levels than the limit
+abbrev pub too_deep : ℕ
+too_deep = 18
+
+-- more bytes than the limit
+abbrev pub too_long : ℕ
+too_long = 19
+
+-- the text ends inside a header, a value or a level
+abbrev pub truncated : ℕ
+truncated = 20
+
+-- a wanted value longer than its room
+abbrev pub kept_too_long : ℕ
+kept_too_long = 21
+
+-- a broken rule's number and the tag of its fault
 abbrev pub Broken : Type 0
 Broken = Option (ℕ × Tag)
 
@@ -37,24 +87,24 @@ passes (Some left) n = nat_lt left n
 
 -- as soon as a header is due: none fits before the nearest end of a defined level (17)
 abbrev pub broken_due : Spot → Broken
-broken_due spot = if passes spot.near 8 then Some (17, no_tag) else None
+broken_due spot = if passes spot.near 8 then Some (overrun, no_tag) else None
 
 -- at four bytes: an item or a delimitation out of place (15), a group that no data set has (13), a tag that does
 -- not rise (12)
 unfoldable pub broken_tag : Spot → Tag → Broken
 broken_tag spot t =
     if spot.in_sequence
-    then (if same_tag t item_tag || (same_tag t sequence_end_tag && spot.open_ended) then None else Some (15, t))
-    else (if is_marker t then (if same_tag t item_end_tag && spot.open_ended then None else Some (15, t))
-    else (if nat_eq t.0 0 || nat_eq t.0 2 then Some (13, t)
-    else (if nat_le (number t) spot.last then Some (12, t)
+    then (if same_tag t item_tag || (same_tag t sequence_end_tag && spot.open_ended) then None else Some (unexpected_tag, t))
+    else (if is_marker t then (if same_tag t item_end_tag && spot.open_ended then None else Some (unexpected_tag, t))
+    else (if nat_eq t.0 0 || nat_eq t.0 2 then Some (bad_group, t)
+    else (if nat_le (number t) spot.last then Some (not_rising, t)
     else None)))
 
 -- at six bytes, where the header has a VR: no two capital letters (10), or no room for the header (17)
 abbrev pub broken_need : Spot → Need → Tag → Broken
 broken_need spot More t = None
-broken_need spot BadVr t = Some (10, t)
-broken_need spot (Size n) t = if passes spot.near n then Some (17, t) else None
+broken_need spot BadVr t = Some (bad_vr, t)
+broken_need spot (Size n) t = if passes spot.near n then Some (overrun, t) else None
 
 abbrev pub is_value : Shape → Bool
 is_value Value = true
@@ -92,13 +142,13 @@ opens spot h = (is_marker h.tag || is_sequence (shape spot.syntax h)) && not (na
 -- a level more than the limit (18)
 unfoldable pub broken_header : Limits → Spot → ℕ → Header → Broken
 broken_header lim spot size h =
-    if is_long_mark h then Some (16, h.tag)
-    else (if not (is_marker h.tag) && is_not_allowed (shape spot.syntax h) then Some (14, h.tag)
-    else (if not (is_undefined h.length) && nat_eq (h.length % 2) 1 then Some (11, h.tag)
-    else (if not (is_undefined h.length) && passes spot.near (size + h.length) then Some (17, h.tag)
-    else (if nat_lt lim.bytes (spot.place + size + counted_length h.length) then Some (19, h.tag)
-    else (if is_too_long lim spot h then Some (21, h.tag)
-    else (if opens spot h && nat_le lim.depth spot.depth then Some (18, h.tag)
+    if is_long_mark h then Some (delimiter_length, h.tag)
+    else (if not (is_marker h.tag) && is_not_allowed (shape spot.syntax h) then Some (undefined_not_allowed, h.tag)
+    else (if not (is_undefined h.length) && nat_eq (h.length % 2) 1 then Some (odd_length, h.tag)
+    else (if not (is_undefined h.length) && passes spot.near (size + h.length) then Some (overrun, h.tag)
+    else (if nat_lt lim.bytes (spot.place + size + counted_length h.length) then Some (too_long, h.tag)
+    else (if is_too_long lim spot h then Some (kept_too_long, h.tag)
+    else (if opens spot h && nat_le lim.depth spot.depth then Some (too_deep, h.tag)
     else None))))))
 
 infixr 20 ◌or_else◌

@@ -54,9 +54,9 @@ pub record IsValue (length-is : ℕ) (v : List ℕ) : Type 0 where
   pub size : length v ≡ length-is
 
 -- c is b with its end: of a defined length b has that length, and else c is b and a delimitation
-pub data Closed (mark : Tag) : ℕ → List ℕ → List ℕ → Type 0 where
-  counted : {b : List ℕ} (n : ℕ) → n ≢ undefined_length → IsEven n → length b ≡ n → Closed mark n b b
-  delimited : {b : List ℕ} → Closed mark undefined_length b (b ++ delimitation mark)
+pub data Ended (mark : Tag) : ℕ → List ℕ → List ℕ → Type 0 where
+  counted : {b : List ℕ} (n : ℕ) → n ≢ undefined_length → IsEven n → length b ≡ n → Ended mark n b b
+  delimited : {b : List ℕ} → Ended mark undefined_length b (b ++ delimitation mark)
 
 mutual
   -- b spells these elements, whose tags rise and are above `last`
@@ -67,7 +67,7 @@ mutual
         → DataSet s (number h.tag) es b
         → DataSet s last (value h v es) (hb ++ (v ++ b))
     sequence_then : {s : Syntax} {last : ℕ} {h : Header} {hb : List ℕ} {inner : Syntax} {is : Items} {ib cb : List ℕ} {es : Elements} {b : List ℕ}
-        → IsElement s last h hb → shape s h ≡ Sequence inner → ItemList inner is ib → Closed sequence_end_tag h.length ib cb
+        → IsElement s last h hb → shape s h ≡ Sequence inner → ItemList inner is ib → Ended sequence_end_tag h.length ib cb
         → DataSet s (number h.tag) es b
         → DataSet s last (sequence h is es) (hb ++ (cb ++ b))
 
@@ -75,6 +75,6 @@ mutual
   pub data ItemList : Syntax → Items → List ℕ → Type 0 where
     no_more : {s : Syntax} → ItemList s no_items []
     item_then : {s : Syntax} {h : Header} {hb : List ℕ} {es : Elements} {eb cb : List ℕ} {is : Items} {b : List ℕ}
-        → IsItem s h hb → DataSet s 0 es eb → Closed item_end_tag h.length eb cb
+        → IsItem s h hb → DataSet s 0 es eb → Ended item_end_tag h.length eb cb
         → ItemList s is b
         → ItemList s (item h es is) (hb ++ (cb ++ b))

@@ -1,10 +1,10 @@
--- What a walker tells after the bytes that it took (this product's own profile).
+-- What a walker reports after the bytes that it took (this product's own profile).
 use Rattle.std.specs.Prelude.{ℕ, List, [], ◌++◌, length, Option, Some, None}
 use Rattle.element.specs.declared.syntax.Syntax.{Syntax}
 use Rattle.element.specs.declared.tag.Tag.{Tag}
 use Rattle.sequence.specs.declared.fault.Fault.{Fault}
 use Rattle.sequence.specs.Tree.{Elements}
-use Rattle.sequence.specs.Open.{Entry, Tail, in_header, Open}
+use Rattle.sequence.specs.Open.{PathEntry, Tail, in_header, Open}
 use Rattle.sequence.specs.Wanted.{Values, kept_of, held_of}
 use Rattle.sequence.specs.Rules.{Limits}
 use Rattle.sequence.specs.FirstFault.{IsUnbroken, FirstFault}
@@ -21,13 +21,13 @@ pub record Told : Type 0 where
   -- the wanted values that came whole
   pub kept : Values
 
--- what is told after the bytes b
+-- what is reported after the bytes b
 pub data Tells (s : Syntax) (lim : Limits) (b : List ℕ) : Told → Type 0 where
-  -- where b breaks no rule, it is told of b
-  going : {es : Elements} {path : List Entry} {last : ℕ} {tail : Tail}
+  -- where b breaks no rule, the report is of b
+  going : {es : Elements} {path : List PathEntry} {last : ℕ} {tail : Tail}
       → IsUnbroken s lim b → Open s b es path last tail
       → Tells s lim b (record { fault = None; levels = length path; place = length b; held = held_of lim.wanted es path tail; kept = kept_of lim.wanted es })
-  -- where its front p ++ u is the first that breaks a rule, the refusal is told, and the rest of p
-  refused : {p u : List ℕ} {rule : ℕ} {tag : Tag} {es : Elements} {path : List Entry} {last : ℕ}
+  -- where its front p ++ u is the first that breaks a rule, the refusal is reported, and the rest is that of p
+  refused : {p u : List ℕ} {rule : ℕ} {tag : Tag} {es : Elements} {path : List PathEntry} {last : ℕ}
       → FirstFault s lim b p u rule tag → Open s p es path last (in_header [])
       → Tells s lim b (record { fault = Some (record { number = rule; place = length p; tag = tag }); levels = length path; place = length (p ++ u); held = held_of lim.wanted es path (in_header []); kept = kept_of lim.wanted es })

@@ -4,7 +4,7 @@ use Rattle.element.specs.declared.syntax.Syntax.{Syntax}
 use Rattle.element.specs.Header.{number}
 use Rattle.sequence.specs.declared.wanted.Want.{Want}
 use Rattle.sequence.specs.Tree.{Elements, no_elements, value, sequence}
-use Rattle.sequence.specs.Open.{Entry, Tail, in_header, in_value, Open}
+use Rattle.sequence.specs.Open.{PathEntry, Tail, in_header, in_value, Open}
 
 -- the room for the value of a tag, by its number, where the tag is wanted
 abbrev pub room_of : List Want → ℕ → Option ℕ
@@ -24,7 +24,7 @@ abbrev pub rooms : List Want → ℕ
 rooms [] = 0
 rooms (w ∷ ws) = w.room + rooms ws
 
--- values, each behind its tag's number
+-- values, each after its tag's number
 abbrev pub Values : Type 0
 Values = List (ℕ × List ℕ)
 
@@ -46,23 +46,23 @@ kept_of ws (sequence h is es) = kept_of ws es
 -- the values of the wanted tags among the whole elements of the front b
 pub record Kept (s : Syntax) (ws : List Want) (b : List ℕ) (values : Values) : Type 0 where
   pub elements : Elements
-  pub path : List Entry
+  pub path : List PathEntry
   pub last : ℕ
   pub tail : Tail
   pub front : Open s b elements path last tail
   pub kept : values ≡ kept_of ws elements
 
 -- what came of a wanted value of the data set itself that is not whole
-abbrev pub begun_bytes : List Want → List Entry → Tail → ℕ
+abbrev pub begun_bytes : List Want → List PathEntry → Tail → ℕ
 begun_bytes ws [] (in_value h v) = if is_wanted ws (number h.tag) then length v else 0
 begun_bytes ws [] (in_header t) = 0
 begun_bytes ws (e ∷ path) tail = 0
 
-abbrev pub header_bytes : Tail → ℕ
-header_bytes (in_header t) = length t
-header_bytes (in_value h v) = 0
+abbrev pub unfinished_bytes : Tail → ℕ
+unfinished_bytes (in_header t) = length t
+unfinished_bytes (in_value h v) = 0
 
 -- the bytes that a walk holds of a front: its unfinished header, the wanted values with what came of a begun one,
 -- and 16 for each open level
-abbrev pub held_of : List Want → Elements → List Entry → Tail → ℕ
-held_of ws es path tail = header_bytes tail + (bytes_of (kept_of ws es) + begun_bytes ws path tail) + 16 * length path
+abbrev pub held_of : List Want → Elements → List PathEntry → Tail → ℕ
+held_of ws es path tail = unfinished_bytes tail + (bytes_of (kept_of ws es) + begun_bytes ws path tail) + 16 * length path

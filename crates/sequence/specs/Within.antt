@@ -4,7 +4,7 @@ use Rattle.element.specs.declared.syntax.Syntax.{Syntax}
 use Rattle.element.specs.Header.{number}
 use Rattle.sequence.specs.declared.wanted.Want.{Want}
 use Rattle.sequence.specs.Tree.{Elements, no_elements, value, sequence}
-use Rattle.sequence.specs.Open.{Entry, Tail, Open}
+use Rattle.sequence.specs.Open.{PathEntry, Tail, Open}
 use Rattle.sequence.specs.Wanted.{room_of}
 use Rattle.sequence.specs.Rules.{Limits}
 
@@ -18,5 +18,5 @@ FitRooms ws (sequence h is es) = FitRooms ws es
 -- wanted values fit their rooms
 pub record Within (s : Syntax) (lim : Limits) (es : Elements) (b : List ℕ) : Type 0 where
   pub bytes : length b ≤ lim.bytes
-  pub depth : (p rest : List ℕ) (some : Elements) (path : List Entry) (last : ℕ) (tail : Tail) → b ≡ p ++ rest → Open s p some path last tail → length path ≤ lim.depth
+  pub depth : (p rest : List ℕ) (some : Elements) (path : List PathEntry) (last : ℕ) (tail : Tail) → b ≡ p ++ rest → Open s p some path last tail → length path ≤ lim.depth
   pub rooms : FitRooms lim.wanted es

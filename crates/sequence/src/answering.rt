@@ -1,13 +1,13 @@
-//! What a step tells.
+//! What a step reports.
 ghost use Rattle.std.specs.Prelude.{◌≡◌};
-ghost use Rattle.sequence.specs.Made.{header_told, made_told, value_told};
+ghost use Rattle.sequence.specs.machine.Made.{header_told, made_told, value_told};
 
 use crate::broken::same_tag;
 use crate::stage::Stage;
 use crate::step::Step;
 use element::{Header, Tag};
 
-/// What a step tells that took a byte of a header.
+/// Returns what a step reports that took bytes of a header.
 pub fn header_step<'p>(stage: Stage, made: Option<Header>) -> Step<'p>
     ensures { result ≡ header_told stage made }
 {
@@ -18,7 +18,7 @@ pub fn header_step<'p>(stage: Stage, made: Option<Header>) -> Step<'p>
     }
 }
 
-/// What it tells of the header that it made whole.
+/// Returns what it reports of the header that it made whole.
 fn made_step<'p>(made: Option<Header>) -> Step<'p>
     ensures { result ≡ made_told made }
 {
@@ -36,7 +36,7 @@ fn made_step<'p>(made: Option<Header>) -> Step<'p>
     }
 }
 
-/// What a step tells that took a byte of a value.
+/// Returns what a step reports that took bytes of a value.
 pub fn value_step<'p>(stage: Stage, run: &'p [u8]) -> Step<'p>
     ensures { value_told stage run.now result }
 {

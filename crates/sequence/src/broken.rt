@@ -1,12 +1,15 @@
 //! Which rules a header, or its beginning, breaks.
-ghost use Rattle.std.specs.Prelude.{◌≡◌, ℕ, ◌<◌, ◌≤◌, ◌^◌, ◌+◌, ◌%◌, length, nat_le, nat_lt, nat_eq, ◌&&◌, not};
+ghost use Rattle.std.specs.Prelude.{◌≡◌, ℕ, ◌<◌, ◌≤◌, ◌^◌, ◌+◌, ◌%◌, length, nat_le, nat_lt, nat_eq, ◌&&◌, not, None, IsTrue};
 ghost use Rattle.element.specs.Header.{is_marker};
-ghost use Rattle.sequence.specs.Shape.{is_undefined, shape};
+ghost use Rattle.sequence.specs.Shape.{is_undefined};
+ghost use Rattle.sequence.specs.Shape as shapes;
 ghost use Rattle.element.specs.Header.{tag_at, is_plain, need, is_whole, header_at};
 ghost use Rattle.sequence.specs.Rules as rules;
-ghost use Rattle.sequence.specs.Judging.{limits_by};
+ghost use Rattle.sequence.specs.machine.Heading.{broken_whole};
+ghost use Rattle.sequence.specs.machine.Judging.{limits_by};
 
-use crate::reading::{is_plain, is_whole};
+use crate::fault::Fault;
+use crate::reading::{Front, is_plain, is_whole};
 use crate::shape::{Shape, UNDEFINED, shape_of};
 use crate::spot::{Bounds, Spot};
 use crate::wanted::Wanted;
@@ -31,7 +34,7 @@ pub fn broken_due(spot: &Spot) -> Option<(u8, Tag)>
     ensures { result ≡ rules.broken_due spot.now }
 {
     if passes(spot.near, 8) {
-        Some((17, Tag(0, 0)))
+        Some((Fault::OVERRUN, Tag(0, 0)))
     } else {
         None
     }
@@ -47,18 +50,18 @@ pub fn broken_tag(spot: &Spot, tag: Tag) -> Option<(u8, Tag)>
         {
             None
         } else {
-            Some((15, tag))
+            Some((Fault::UNEXPECTED_TAG, tag))
         }
     } else if tag.is_marker() {
         if same_tag(tag, Tag::ITEM_DELIMITATION) && spot.open_ended {
             None
         } else {
-            Some((15, tag))
+            Some((Fault::UNEXPECTED_TAG, tag))
         }
     } else if tag.0 == 0 || tag.0 == 2 {
-        Some((13, tag))
+        Some((Fault::BAD_GROUP, tag))
     } else if tag.number() <= spot.last {
-        Some((12, tag))
+        Some((Fault::NOT_RISING, tag))
     } else {
         None
     }
@@ -69,10 +72,10 @@ pub fn broken_need(spot: &Spot, need: Need, tag: Tag) -> Option<(u8, Tag)>
 {
     match need {
         Need::More => None,
-        Need::BadVr => Some((10, tag)),
+        Need::BadVr => Some((Fault::BAD_VR, tag)),
         Need::Size(size) => {
             if passes(spot.near, size as u64) {
-                Some((17, tag))
+                Some((Fault::OVERRUN, tag))
             } else {
                 None
             }
@@ -98,13 +101,14 @@ fn is_value(shape: Shape) -> bool
     matches!(shape, Shape::Value)
 }
 
-/// Whether it is the header of a wanted value that is longer than its room.
-fn is_too_long(wanted: &Wanted, bounds: &Bounds, spot: &Spot, header: &Header) -> bool
+/// Whether it is the header, of this shape, of a wanted value that is longer than its room.
+fn is_too_long(wanted: &Wanted, bounds: &Bounds, spot: &Spot, header: &Header, shape: Shape) -> bool
+    requires { shape ≡ shapes.shape spot.now.syntax header.now }
     ensures { result ≡ rules.is_too_long (limits_by wanted.now.list.items bounds.now) spot.now header.now }
 {
     spot.depth == 0
         && !header.tag.is_marker()
-        && is_value(shape_of(spot.syntax, header))
+        && is_value(shape)
         && passes(wanted.room(header.tag.number()), header.length as u64)
 }
 
@@ -116,10 +120,10 @@ fn is_long_mark(header: &Header) -> bool
 }
 
 /// Whether it is the header of an element that may not have undefined length, and has.
-fn is_forbidden(spot: &Spot, header: &Header) -> bool
-    ensures { result ≡ (not (is_marker header.now.tag) && rules.is_not_allowed (shape spot.now.syntax header.now)) }
+fn is_forbidden(header: &Header, shape: Shape) -> bool
+    ensures { result ≡ (not (is_marker header.now.tag) && rules.is_not_allowed shape) }
 {
-    !header.tag.is_marker() && is_not_allowed(shape_of(spot.syntax, header))
+    !header.tag.is_marker() && is_not_allowed(shape)
 }
 
 /// Whether its length is defined and odd.
@@ -159,17 +163,19 @@ fn is_beyond(bounds: &Bounds, spot: &Spot, size: usize, header: &Header) -> bool
 }
 
 /// Whether it opens a level.
-fn opens(spot: &Spot, header: &Header) -> bool
+fn opens(spot: &Spot, header: &Header, shape: Shape) -> bool
+    requires { shape ≡ shapes.shape spot.now.syntax header.now }
     ensures { result ≡ rules.opens spot.now header.now }
 {
-    (header.tag.is_marker() || is_sequence(shape_of(spot.syntax, header))) && header.length != 0
+    (header.tag.is_marker() || is_sequence(shape)) && header.length != 0
 }
 
 /// Whether it opens a level more than the limit.
-fn is_too_deep(bounds: &Bounds, spot: &Spot, header: &Header) -> bool
+fn is_too_deep(bounds: &Bounds, spot: &Spot, header: &Header, shape: Shape) -> bool
+    requires { shape ≡ shapes.shape spot.now.syntax header.now }
     ensures { result ≡ (rules.opens spot.now header.now && nat_le bounds.now.depth spot.now.depth) }
 {
-    opens(spot, header) && bounds.depth <= spot.depth
+    opens(spot, header, shape) && bounds.depth <= spot.depth
 }
 
 /// The first rule that the whole header breaks.
@@ -186,32 +192,23 @@ pub fn broken_header(
     ensures { result ≡ rules.broken_header (limits_by wanted.now.list.items bounds.now) spot.now size header.now }
 {
     let tag = header.tag;
+    let shape = shape_of(spot.syntax, header);
     if is_long_mark(header) {
-        Some((16, tag))
-    } else if is_forbidden(spot, header) {
-        Some((14, tag))
+        Some((Fault::DELIMITER_LENGTH, tag))
+    } else if is_forbidden(header, shape) {
+        Some((Fault::UNDEFINED_NOT_ALLOWED, tag))
     } else if is_odd(header) {
-        Some((11, tag))
+        Some((Fault::ODD_LENGTH, tag))
     } else if is_overrun(spot, size, header) {
-        Some((17, tag))
+        Some((Fault::OVERRUN, tag))
     } else if is_beyond(bounds, spot, size, header) {
-        Some((19, tag))
-    } else if is_too_long(wanted, bounds, spot, header) {
-        Some((21, tag))
-    } else if is_too_deep(bounds, spot, header) {
-        Some((18, tag))
+        Some((Fault::TOO_LONG, tag))
+    } else if is_too_long(wanted, bounds, spot, header, shape) {
+        Some((Fault::KEPT_TOO_LONG, tag))
+    } else if is_too_deep(bounds, spot, header, shape) {
+        Some((Fault::TOO_DEEP, tag))
     } else {
         None
-    }
-}
-
-/// The first of two rules that is broken.
-fn first(one: Option<(u8, Tag)>, other: Option<(u8, Tag)>) -> Option<(u8, Tag)>
-    ensures { result ≡ rules.◌or_else◌ one other }
-{
-    match one {
-        Some(rule) => Some(rule),
-        None => other,
     }
 }
 
@@ -260,8 +257,36 @@ pub fn broken(wanted: &Wanted, bounds: &Bounds, spot: &Spot, bytes: &[u8]) -> Op
     requires size { length bytes.now ≤ 12 }
     ensures { result ≡ rules.broken (limits_by wanted.now.list.items bounds.now) spot.now bytes.now }
 {
-    let end = at_end(wanted, bounds, spot, bytes);
-    let vr = first(at_vr(spot, bytes), end);
-    let tag = first(at_tag(spot, bytes), vr);
-    first(broken_due(spot), tag)
+    if let Some(rule) = broken_due(spot) {
+        return Some(rule);
+    }
+    if let Some(rule) = at_tag(spot, bytes) {
+        return Some(rule);
+    }
+    if let Some(rule) = at_vr(spot, bytes) {
+        return Some(rule);
+    }
+    at_end(wanted, bounds, spot, bytes)
+}
+
+/// Whether the whole header breaks no rule. What its length counts ends past the nearest end if the header does, or if no
+/// header fits before that end, so that this is tested once.
+#[tactic(auto, using(crate::proofs::Fitting::is_fitting))]
+pub fn is_unbroken(wanted: &Wanted, bounds: &Bounds, spot: &Spot, front: &Front) -> bool
+    requires place { spot.now.place < 2 ^ 49 }
+    requires least { 8 ≤ front.now.size }
+    requires size { front.now.size ≤ 12 }
+    requires shape { front.now.shape ≡ shapes.shape spot.now.syntax front.now.header }
+    ensures { IsTrue result → broken_whole (limits_by wanted.now.list.items bounds.now) spot.now front.now.size front.now.header ≡ None }
+{
+    let header = &front.header;
+    let end = front.size as u64 + counted_length(header.length);
+    broken_tag(spot, header.tag).is_none()
+        && !passes(spot.near, end)
+        && spot.place + end <= bounds.bytes
+        && !is_long_mark(header)
+        && !is_forbidden(header, front.shape)
+        && !is_odd(header)
+        && !is_too_long(wanted, bounds, spot, header, front.shape)
+        && !is_too_deep(bounds, spot, header, front.shape)
 }

@@ -4,16 +4,49 @@ use element::Tag;
 /// A rule that a data set breaks. After it a walker refuses everything.
 #[derive(Clone, Copy, Debug, PartialEq, Eq)]
 pub struct Fault {
-    /// 10 BadVr: no two capital letters where a VR is due. 11 OddLength: a defined length that is odd. 12 Order: a
-    /// tag not above the last one of its data set. 13 BadGroup: group 0000 or 0002. 14 UndefinedLength: not allowed
-    /// for this element. 15 UnexpectedTag: an item or a delimitation out of place, or something else where one is
-    /// due. 16 DelimiterLength: a delimitation whose length is not 0. 17 Overrun: past the end of a level of defined
-    /// length. 18 TooDeep: more open levels than the limit. 19 TooLong: more bytes than the limit. 20 Truncated: the
-    /// text ends inside a header, a value or a level. 21 KeptTooLong: a wanted value longer than its room.
+    /// Which rule, by the constants of this type.
     pub number: u8,
     /// The first byte of the header that it concerns, counted from the data set's first byte; for 20, how many bytes
     /// came.
     pub place: u64,
     /// The tag of that header; (0000,0000) where none is known.
     pub tag: Tag,
+}
+
+impl Fault {
+    /// No two capital letters where a VR is due.
+    pub const BAD_VR: u8 = 10;
+
+    /// A defined length that is odd.
+    pub const ODD_LENGTH: u8 = 11;
+
+    /// A tag that is not above the last one of its data set.
+    pub const NOT_RISING: u8 = 12;
+
+    /// Group 0000 or 0002.
+    pub const BAD_GROUP: u8 = 13;
+
+    /// An undefined length that the element may not have.
+    pub const UNDEFINED_NOT_ALLOWED: u8 = 14;
+
+    /// An item or a delimitation out of place, or something else where one is due.
+    pub const UNEXPECTED_TAG: u8 = 15;
+
+    /// A delimitation whose length is not 0.
+    pub const DELIMITER_LENGTH: u8 = 16;
+
+    /// Past the end of a level of defined length.
+    pub const OVERRUN: u8 = 17;
+
+    /// More open levels than the limit.
+    pub const TOO_DEEP: u8 = 18;
+
+    /// More bytes than the limit.
+    pub const TOO_LONG: u8 = 19;
+
+    /// The text ends inside a header, a value or a level.
+    pub const TRUNCATED: u8 = 20;
+
+    /// A wanted value longer than its room.
+    pub const KEPT_TOO_LONG: u8 = 21;
 }

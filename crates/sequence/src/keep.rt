@@ -1,8 +1,9 @@
-//! The values that are kept, one behind the other in a fixed room.
+//! The values that are kept, one after the other in a fixed room.
 ghost use Rattle.std.specs.Prelude.{◌≡◌, ◌≤◌, ◌<◌, ◌^◌, ◌+◌, ◌-◌, ◌++◌, ◌∷◌, [], IsTrue, IfSome, length, if◌then◌else◌, slice_set, true, option_map};
 ghost use Rattle.arrayvec.specs.ArrayVec.{array_vec_len};
 ghost use Rattle.sequence.specs.Wanted.{rooms, is_wanted, room_of, value_of};
-ghost use Rattle.sequence.specs.Keeping.{stored, counts, absent, are_stored, is_latest, left_at, with_byte, told_values};
+ghost use Rattle.sequence.specs.machine.Keeping.{stored, counts, absent, are_stored, is_latest, left_at, told_values};
+ghost use Rattle.sequence.specs.machine.Steps.{with_bytes};
 ghost use Rattle.sequence.specs.Wanted.{bytes_of};
 
 use crate::wanted::{Want, Wanted};
@@ -11,7 +12,7 @@ use arrayvec::ArrayVec;
 /// The length of a value that did not come.
 const ABSENT: u32 = 0xffff_ffff;
 
-/// The lengths of the values that are told: that of the last one is left out where it is begun.
+/// The lengths of the values that are reported: that of the last one is left out where it is begun.
 fn told_lengths(lengths: &[u32; 16], slot: usize, begun: bool) -> [u32; 16]
     requires { begun ≡ true → slot < 16 }
     ensures { result ≡ (if begun then slice_set lengths.now slot absent else lengths.now) }
@@ -23,7 +24,7 @@ fn told_lengths(lengths: &[u32; 16], slot: usize, begun: bool) -> [u32; 16]
     told
 }
 
-/// The value of this tag, among those of these lengths that stand one behind the other.
+/// The value of this tag, among those of these lengths that stand one after the other.
 #[tactic(auto, using(crate::proofs::Storing::look_absent, crate::proofs::Storing::look_here, crate::proofs::Storing::look_on, crate::proofs::Storing::look_end, crate::proofs::Storing::size_absent, crate::proofs::Storing::size_on))]
 fn find_value<'a>(list: &[Want], lengths: &[u32; 16], bytes: &'a [u8], tag: u32) -> Option<&'a [u8]>
     requires few { length list.now ≤ 16 }
@@ -57,6 +58,7 @@ pub struct Keep<const V: usize> {
     last: u32,
     ghost greatest: { V ≤ 2 ^ 24 },
     ghost fit: { rooms wanted.list.items + 12 ≤ V },
+    ghost short: { array_vec_len bytes + 12 ≤ V },
     ghost stored: { IsTrue (are_stored wanted.list.items lengths last) },
     ghost counted: { counts wanted.list.items lengths ≡ array_vec_len bytes },
     ghost latest: { IsTrue (is_latest slot wanted.list.items lengths) },
@@ -65,7 +67,7 @@ pub struct Keep<const V: usize> {
 impl<const V: usize> Keep<V> {
     ghost use Rattle.std.specs.Prelude.{◌≡◌, ◌≤◌, ◌<◌, ◌^◌, ◌+◌, ◌-◌, ◌++◌, ◌∷◌, [], IsTrue, IfSome, IsSome, ◌↔◌, length, if◌then◌else◌, is_some, option_map, true};
     ghost use Rattle.sequence.specs.Wanted.{is_wanted, room_of, value_of, bytes_of};
-    ghost use Rattle.sequence.specs.Stored.{values_of, wants_of, left_of_keep};
+    ghost use Rattle.sequence.specs.machine.Stored.{values_of, wants_of, left_of_keep};
 
     /// Room for the values of the wanted tags.
     pub fn new(wanted: Wanted) -> Keep<V>
@@ -104,34 +106,37 @@ impl<const V: usize> Keep<V> {
         }
     }
 
-    /// Adds a byte to the value that came last, which has room left.
-    pub fn push(&mut self, byte: u8)
-        requires { 0 < left_of_keep self.old }
-        ensures values { values_of self.new ≡ with_byte (values_of self.old) byte }
-        ensures left { left_of_keep self.new ≡ left_of_keep self.old - 1 }
+    /// Adds bytes to the value that came last, which has room left for them.
+    pub fn extend(&mut self, bytes: &[u8])
+        requires some { 0 < length bytes.now }
+        requires room { length bytes.now ≤ left_of_keep self.old }
+        ensures values { values_of self.new ≡ with_bytes (values_of self.old) bytes.now }
+        ensures left { left_of_keep self.new ≡ left_of_keep self.old - length bytes.now }
         ensures wants { wants_of self.new ≡ wants_of self.old }
         ensures last { self.new.last ≡ self.old.last }
     {
-        self.lengths[self.slot] += 1;
-        self.bytes.push(byte);
+        self.lengths[self.slot] += bytes.len() as u32;
+        let _fits = self.bytes.try_extend_from_slice(bytes);
     }
 
-    /// Adds a byte to the value that came last, where it is kept.
-    pub fn push_if(&mut self, kept: bool, byte: u8)
-        requires { kept ≡ true → 0 < left_of_keep self.old }
-        ensures values { values_of self.new ≡ (if kept then with_byte (values_of self.old) byte else values_of self.old) }
-        ensures left { kept ≡ true → left_of_keep self.new ≡ left_of_keep self.old - 1 }
+    /// Adds bytes to the value that came last, where it is kept.
+    pub fn extend_if(&mut self, kept: bool, bytes: &[u8])
+        requires some { 0 < length bytes.now }
+        requires room { kept ≡ true → length bytes.now ≤ left_of_keep self.old }
+        ensures values { values_of self.new ≡ (if kept then with_bytes (values_of self.old) bytes.now else values_of self.old) }
+        ensures left { kept ≡ true → left_of_keep self.new ≡ left_of_keep self.old - length bytes.now }
         ensures wants { wants_of self.new ≡ wants_of self.old }
         ensures last { self.new.last ≡ self.old.last }
     {
         if kept {
-            self.push(byte);
+            self.extend(bytes);
         }
     }
 
     /// How many bytes are kept.
     pub fn len(&self) -> usize
         ensures value { result ≡ bytes_of (values_of self.now) }
+        ensures all { result ≡ array_vec_len self.now.bytes }
         ensures small { result ≤ 2 ^ 24 }
     {
         self.bytes.len()

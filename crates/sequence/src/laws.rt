@@ -1,8 +1,32 @@
 //! What follows from the definitions, and the texts on which they are tried: each the contract of a function that does
 //! nothing.
-ghost use Rattle.sequence.specs.Ending.{WholeBreaksNoRule, WholeHasNoFault};
+ghost use Rattle.std.specs.Prelude.{◌≡◌, ◌∷◌, []};
+ghost use Rattle.sequence.specs.Rules.{bad_vr, odd_length, not_rising, bad_group, undefined_not_allowed, unexpected_tag, delimiter_length, overrun, too_deep, too_long, truncated, kept_too_long};
+ghost use Rattle.sequence.specs.Ending.{WholeBreaksNoRule, WholeHasNoFault, FaultIsFinal};
 ghost use Rattle.sequence.specs.Laws.{FaultStays, RefusalStays, OneTree, OnePath, EndsAreNested, WholeHasOpenInside, OneFault, OneTelling, SomeTelling};
-ghost use Rattle.sequence.specs.Tried.{TwoOpenLevels, FourLevels, PastItsItem, TooDeep, UnknownContent};
+ghost use Rattle.sequence.specs.Examples.{TwoOpenLevels, FourLevels, PastItsItem, TooDeep, UnknownContent, AlongOneStore, AlongFourLevels};
+
+use crate::fault::Fault;
+
+/// The numbers of the rules.
+pub fn rule_numbers() -> [u8; 12]
+    ensures { result ≡ bad_vr ∷ odd_length ∷ not_rising ∷ bad_group ∷ undefined_not_allowed ∷ unexpected_tag ∷ delimiter_length ∷ overrun ∷ too_deep ∷ too_long ∷ truncated ∷ kept_too_long ∷ [] }
+{
+    [
+        Fault::BAD_VR,
+        Fault::ODD_LENGTH,
+        Fault::NOT_RISING,
+        Fault::BAD_GROUP,
+        Fault::UNDEFINED_NOT_ALLOWED,
+        Fault::UNEXPECTED_TAG,
+        Fault::DELIMITER_LENGTH,
+        Fault::OVERRUN,
+        Fault::TOO_DEEP,
+        Fault::TOO_LONG,
+        Fault::TRUNCATED,
+        Fault::KEPT_TOO_LONG,
+    ]
+}
 
 /// A sequence and an item of undefined length, and three bytes of a header.
 pub fn two_open_levels()
@@ -29,12 +53,22 @@ pub fn unknown_content()
     ensures { UnknownContent }
 {}
 
+/// What a step returns along the data set of one CT store.
+pub fn along_one_store()
+    ensures { AlongOneStore }
+{}
+
+/// What a step returns along four levels.
+pub fn along_four_levels()
+    ensures { AlongFourLevels }
+{}
+
 /// The first fault of a text is that of every text that goes on from it.
 pub fn a_fault_stays()
     ensures { FaultStays }
 {}
 
-/// What is told after a refusal is told for good.
+/// What is reported after a refusal is reported for good.
 pub fn a_refusal_stays()
     ensures { RefusalStays }
 {}
@@ -64,12 +98,12 @@ pub fn one_fault()
     ensures { OneFault }
 {}
 
-/// One thing at most is to be told after a text.
+/// There is at most one report after a text.
 pub fn one_telling()
     ensures { OneTelling }
 {}
 
-/// Something is to be told after every text of bytes.
+/// There is a report after every text of bytes.
 pub fn some_telling()
     ensures { SomeTelling }
 {}
@@ -82,4 +116,9 @@ pub fn whole_breaks_no_rule()
 /// No text is both a whole data set within its limits and faulty.
 pub fn whole_has_no_fault()
     ensures { WholeHasNoFault }
+{}
+
+/// A fault comes only where no text that goes on is a data set within its limits.
+pub fn a_fault_is_final()
+    ensures { FaultIsFinal }
 {}

@@ -5,7 +5,7 @@ use element::Syntax;
 
 /// A level, or the data set itself, which has no end.
 #[derive(Clone, Copy, Debug)]
-pub struct Frame {
+pub struct Scope {
     pub in_sequence: bool,
     pub syntax: Syntax,
     pub stop: Option<u64>,
@@ -24,13 +24,13 @@ pub struct Level {
 
 impl Level {
     ghost use Rattle.std.specs.Prelude.{◌≡◌, ℕ, ◌<◌, ◌≤◌, ◌^◌, ◌+◌, ◌-◌, length, IfSome};
-    ghost use Rattle.sequence.specs.Frames.{frame_of};
-    ghost use Rattle.sequence.specs.Machine.{stops_at};
+    ghost use Rattle.sequence.specs.machine.Scopes.{scope_of};
+    ghost use Rattle.sequence.specs.machine.Machine.{stops_at};
 
-    pub fn frame(self) -> Frame
-        ensures { result ≡ frame_of self }
+    pub fn scope(self) -> Scope
+        ensures { result ≡ scope_of self }
     {
-        Frame {
+        Scope {
             in_sequence: self.kind == 1,
             syntax: if self.implicit == 1 {
                 Syntax::Implicit
@@ -46,18 +46,18 @@ impl Level {
         }
     }
 
-    pub fn new(frame: Frame) -> Level
-        requires { IfSome frame.stop (λ end. end < 2 ^ 64 - 1) }
-        ensures { frame_of result ≡ frame }
+    pub fn new(scope: Scope) -> Level
+        requires { IfSome scope.stop (λ end. end < 2 ^ 64 - 1) }
+        ensures { scope_of result ≡ scope }
     {
         Level {
-            end: match frame.stop {
+            end: match scope.stop {
                 None => u64::MAX,
                 Some(end) => end,
             },
-            last: frame.last,
-            kind: if frame.in_sequence { 1 } else { 0 },
-            implicit: match frame.syntax {
+            last: scope.last,
+            kind: if scope.in_sequence { 1 } else { 0 },
+            implicit: match scope.syntax {
                 Syntax::Implicit => 1,
                 Syntax::Explicit => 0,
             },
@@ -67,15 +67,15 @@ impl Level {
     /// Whether the level ends here.
     pub fn ends_at(&self, place: u64) -> bool
         requires { place < 2 ^ 64 - 1 }
-        ensures { result ≡ stops_at (frame_of self.now).stop place }
+        ensures { result ≡ stops_at (scope_of self.now).stop place }
     {
         self.end == place
     }
 
-    /// The level with this last tag.
-    pub fn with_last(self, last: u32) -> Level
-        ensures { frame_of result ≡ record (frame_of self) { last = last } }
+    /// Notes the tag of the last element that began in the level.
+    pub fn set_last(&mut self, last: u32)
+        ensures { scope_of self.new ≡ record (scope_of self.old) { last = last } }
     {
-        Level { last, ..self }
+        self.last = last;
     }
 }

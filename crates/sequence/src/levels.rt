@@ -2,11 +2,11 @@
 ghost use Rattle.std.specs.Prelude.{◌≡◌, ℕ, ◌<◌, ◌≤◌, ◌^◌, ◌+◌, ◌-◌, ◌&&◌, not, nat_eq, None, [], length, get_or, IsTrue, IfSome};
 ghost use Rattle.element.specs.Header.{number};
 ghost use Rattle.arrayvec.specs.ArrayVec.{array_vec_len};
-ghost use Rattle.sequence.specs.Machine.{arrive, due, leave, stops_at, spot_of, less, is_none, begun, stop_of, set_frame, sequence_frame};
-ghost use Rattle.sequence.specs.declared.level.Frame.{Frame};
-ghost use Rattle.sequence.specs.Frames.{top_of, below_of, frame_of, nearest_from};
+ghost use Rattle.sequence.specs.machine.Machine.{arrive, due, leave, stops_at, spot_of, less, is_none, begun, stop_of, set_scope, sequence_scope};
+ghost use Rattle.sequence.specs.declared.level.Scope.{Scope};
+ghost use Rattle.sequence.specs.machine.Scopes.{top_of, below_of, scope_of, nearest_from};
 
-use crate::level::{Frame, Level};
+use crate::level::{Level, Scope};
 use crate::shape::UNDEFINED;
 use crate::spot::Spot;
 use arrayvec::ArrayVec;
@@ -16,7 +16,7 @@ use element::{Syntax, Tag};
 pub fn ends_here<const D: usize>(levels: &ArrayVec<Level, D>, place: u64) -> bool
     requires { place < 2 ^ 64 - 1 }
     ensures some { IsTrue result → 0 < array_vec_len levels.now }
-    ensures ends { (root : Frame) → root.stop ≡ None → result ≡ stops_at (top_of root levels.now.items).stop place }
+    ensures ends { (root : Scope) → root.stop ≡ None → result ≡ stops_at (top_of root levels.now.items).stop place }
 {
     match levels.as_slice() {
         [] => false,
@@ -27,27 +27,28 @@ pub fn ends_here<const D: usize>(levels: &ArrayVec<Level, D>, place: u64) -> boo
 /// Leaves the levels that end here.
 pub fn leave_ended<const D: usize>(levels: &mut ArrayVec<Level, D>, place: u64)
     requires { place < 2 ^ 64 - 1 }
-    ensures { (root : Frame) → root.stop ≡ None → arrive place (top_of root levels.old.items) (below_of root [] levels.old.items) ≡ due (top_of root levels.new.items) (below_of root [] levels.new.items) place }
+    ensures { (root : Scope) → root.stop ≡ None → arrive place (top_of root levels.old.items) (below_of root [] levels.old.items) ≡ due (top_of root levels.new.items) (below_of root [] levels.new.items) place }
 {
     while ends_here(levels, place) {
         levels.pop();
     }
 }
 
-/// The nearest end of a defined level.
+/// The nearest end of a defined level, from the innermost one outwards.
 pub fn nearest(levels: &[Level]) -> Option<u64>
     ensures { result ≡ nearest_from None levels.now }
 {
-    let mut near = None;
-    for level in levels {
-        if let Some(stop) = level.frame().stop {
-            near = Some(stop);
+    let mut open = levels.len();
+    while 0 < open {
+        open -= 1;
+        if let Some(stop) = levels[open].scope().stop {
+            return Some(stop);
         }
     }
-    near
+    None
 }
 
-/// What is left of it behind `place` bytes.
+/// What is left of it after `place` bytes.
 pub fn left_before(near: Option<u64>, place: u64) -> Option<u64>
     ensures { result ≡ less near place }
 {
@@ -57,29 +58,29 @@ pub fn left_before(near: Option<u64>, place: u64) -> Option<u64>
     }
 }
 
-/// The innermost frame.
-pub fn top_frame(root: Frame, levels: &[Level]) -> Frame
+/// The innermost scope.
+pub fn top_scope(root: Scope, levels: &[Level]) -> Scope
     ensures { result ≡ top_of root levels.now }
 {
     match levels {
         [] => root,
-        [.., level] => level.frame(),
+        [.., level] => level.scope(),
     }
 }
 
-pub fn is_open_ended(top: Frame, levels: &[Level]) -> bool
+pub fn is_open_ended(top: Scope, levels: &[Level]) -> bool
     ensures { result ≡ (is_none top.stop && not (nat_eq (length levels.now) 0)) }
 {
     top.stop.is_none() && !levels.is_empty()
 }
 
-/// Where a header is due behind `place` bytes.
-pub fn spot_at(root: Frame, levels: &[Level], place: u64) -> Spot
+/// Where a header is due after `place` bytes.
+pub fn spot_at(root: Scope, levels: &[Level], place: u64) -> Spot
     requires { root.stop ≡ None }
     ensures { result ≡ spot_of (top_of root levels.now) (below_of root [] levels.now) place }
 {
     let near = left_before(nearest(levels), place);
-    let top = top_frame(root, levels);
+    let top = top_scope(root, levels);
     let open_ended = is_open_ended(top, levels);
     Spot {
         syntax: top.syntax,
@@ -93,7 +94,7 @@ pub fn spot_at(root: Frame, levels: &[Level], place: u64) -> Spot
 }
 
 /// The element with this tag is the last one of its data set.
-pub fn set_last<const D: usize>(root: &mut Frame, levels: &mut ArrayVec<Level, D>, tag: Tag)
+pub fn set_last<const D: usize>(root: &mut Scope, levels: &mut ArrayVec<Level, D>, tag: Tag)
     ensures top { top_of root.new levels.new.items ≡ begun (top_of root.old levels.old.items) tag }
     ensures below { below_of root.new [] levels.new.items ≡ below_of root.old [] levels.old.items }
     ensures stop { root.new.stop ≡ root.old.stop }
@@ -102,14 +103,13 @@ pub fn set_last<const D: usize>(root: &mut Frame, levels: &mut ArrayVec<Level, D
     ensures last { array_vec_len levels.old ≡ 0 → root.new.last ≡ number tag }
     ensures root { 0 < array_vec_len levels.old → root.new ≡ root.old }
 {
-    let _room = levels.len();
-    match levels.pop() {
-        None => root.last = tag.number(),
-        Some(level) => levels.push(level.with_last(tag.number())),
+    match levels.as_mut_slice() {
+        [] => root.last = tag.number(),
+        [.., level] => level.set_last(tag.number()),
     }
 }
 
-/// Where a level ends behind its header.
+/// Where a level ends after its header.
 fn stop_at(place: u64, length: u32) -> Option<u64>
     requires { place < 2 ^ 49 }
     ensures stop { result ≡ stop_of place length }
@@ -122,13 +122,13 @@ fn stop_at(place: u64, length: u32) -> Option<u64>
     }
 }
 
-/// The level that an item opens behind its header.
-pub fn item_frame(syntax: Syntax, place: u64, length: u32) -> Frame
+/// The level that an item opens after its header.
+pub fn item_scope(syntax: Syntax, place: u64, length: u32) -> Scope
     requires { place < 2 ^ 49 }
-    ensures frame { result ≡ set_frame syntax (stop_of place length) 0 }
+    ensures scope { result ≡ set_scope syntax (stop_of place length) 0 }
     ensures small { IfSome result.stop (λ end. end < 2 ^ 64 - 1) }
 {
-    Frame {
+    Scope {
         in_sequence: false,
         syntax,
         stop: stop_at(place, length),
@@ -136,13 +136,13 @@ pub fn item_frame(syntax: Syntax, place: u64, length: u32) -> Frame
     }
 }
 
-/// The level that a sequence opens behind its header.
-pub fn sequence_frame(syntax: Syntax, place: u64, length: u32) -> Frame
+/// The level that a sequence opens after its header.
+pub fn sequence_scope(syntax: Syntax, place: u64, length: u32) -> Scope
     requires { place < 2 ^ 49 }
-    ensures frame { result ≡ sequence_frame syntax (stop_of place length) }
+    ensures scope { result ≡ sequence_scope syntax (stop_of place length) }
     ensures small { IfSome result.stop (λ end. end < 2 ^ 64 - 1) }
 {
-    Frame {
+    Scope {
         in_sequence: true,
         syntax,
         stop: stop_at(place, length),

@@ -4,6 +4,7 @@
 mod answering;
 mod broken;
 mod fault;
+mod heading;
 mod keep;
 pub mod laws;
 mod level;
@@ -13,8 +14,6 @@ mod shape;
 mod spot;
 mod stage;
 mod step;
-#[cfg(test)]
-mod tests;
 mod walker;
 mod wanted;
 

@@ -1,8 +1,12 @@
 //! Reads the beginning of a header.
-ghost use Rattle.std.specs.Prelude.{◌≡◌};
+ghost use Rattle.std.specs.Prelude.{◌≡◌, ◌≤◌, length, true, Some, IfSome};
 ghost use Rattle.element.specs.Header as spelling;
+ghost use Rattle.sequence.specs.machine.Heading.{IsFront};
+ghost use Rattle.sequence.specs.Shape.{explicit_shape, is_undefined};
 
-use element::{Need, Syntax, Tag, need};
+use crate::shape::{Shape, named_shape, plain_shape};
+use byteorder::{ByteOrder, LittleEndian};
+use element::{Header, Need, Syntax, Tag, Vr, need, read_tag};
 
 /// Whether a header with this tag has no VR.
 pub fn is_plain(syntax: Syntax, tag: Tag) -> bool
@@ -23,5 +27,74 @@ pub fn is_whole(syntax: Syntax, bytes: &[u8]) -> bool
         Need::Size(size) => size <= bytes.len(),
         Need::More => false,
         Need::BadVr => false,
+    }
+}
+
+/// A whole header.
+#[derive(Clone, Copy, Debug)]
+pub struct Front {
+    /// How many bytes it takes.
+    pub size: usize,
+    pub header: Header,
+    /// What follows it.
+    pub shape: Shape,
+}
+
+/// Reads the header of eight bytes without a VR.
+#[tactic(auto, unfolding(element::specs::Header::need, element::specs::Header::header_at))]
+fn plain_front(syntax: Syntax, tag: Tag, bytes: &[u8]) -> Front
+    requires size { 8 ≤ length bytes.now }
+    requires tag { tag ≡ spelling.tag_at bytes.now }
+    requires plain { spelling.is_plain syntax tag ≡ true }
+    ensures { IsFront syntax bytes.now result }
+{
+    let length = LittleEndian::read_u32(&bytes[4..]);
+    Front {
+        size: 8,
+        header: Header {
+            tag,
+            vr: None,
+            length,
+        },
+        shape: plain_shape(syntax, tag, length),
+    }
+}
+
+/// A header of Explicit with a VR.
+fn named_front(size: usize, tag: Tag, vr: Vr, length: u32) -> Front
+    ensures { result ≡ record { size = size; header = record { tag = tag; vr = Some vr; length = length }; shape = explicit_shape vr (is_undefined length) } }
+{
+    Front {
+        size,
+        header: Header {
+            tag,
+            vr: Some(vr),
+            length,
+        },
+        shape: named_shape(vr, length),
+    }
+}
+
+/// Reads the header at the front of the bytes, where it is whole.
+#[tactic(auto, unfolding(element::specs::Header::need, element::specs::Header::header_at))]
+pub fn read_front(syntax: Syntax, bytes: &[u8]) -> Option<Front>
+    ensures { IfSome result (λ front. IsFront syntax bytes.now front) }
+{
+    if bytes.len() < 8 {
+        return None;
+    }
+    let tag = read_tag(bytes);
+    if is_plain(syntax, tag) {
+        return Some(plain_front(syntax, tag, bytes));
+    }
+    let vr = Vr::read([bytes[4], bytes[5]])?;
+    if !vr.is_long() {
+        let length = u32::from(LittleEndian::read_u16(&bytes[6..]));
+        Some(named_front(8, tag, vr, length))
+    } else if bytes.len() < 12 {
+        None
+    } else {
+        let length = LittleEndian::read_u32(&bytes[8..]);
+        Some(named_front(12, tag, vr, length))
     }
 }

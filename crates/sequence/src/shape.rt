@@ -1,9 +1,10 @@
 //! What follows the header of an element (PS3.5 sections 6.2.2 and 7.5).
-ghost use Rattle.std.specs.Prelude.{◌≡◌};
+ghost use Rattle.std.specs.Prelude.{◌≡◌, None};
+ghost use Rattle.dictionary.specs.Tags as known;
 ghost use Rattle.sequence.specs.Shape as shapes;
 
 use dictionary::vr_of;
-use element::{Header, Syntax, Vr};
+use element::{Header, Syntax, Tag, Vr};
 
 /// FFFFFFFFH, undefined length.
 pub const UNDEFINED: u32 = 0xffff_ffff;
@@ -75,4 +76,21 @@ pub fn shape_of(syntax: Syntax, header: &Header) -> Shape
             None => Shape::NotAllowed,
         },
     }
+}
+
+/// The shape of the element with this header without a VR.
+pub fn plain_shape(syntax: Syntax, tag: Tag, length: u32) -> Shape
+    ensures { result ≡ shapes.shape_by syntax None (known.vr_of tag) (shapes.is_undefined length) }
+{
+    match syntax {
+        Syntax::Implicit => implicit_shape(vr_of(tag), length == UNDEFINED),
+        Syntax::Explicit => Shape::NotAllowed,
+    }
+}
+
+/// The shape of the element with this VR in Explicit.
+pub fn named_shape(vr: Vr, length: u32) -> Shape
+    ensures { result ≡ shapes.explicit_shape vr (shapes.is_undefined length) }
+{
+    explicit_shape(vr, length == UNDEFINED)
 }

@@ -1,6 +1,6 @@
 //! What a walk is in the middle of.
 ghost use Rattle.std.specs.Prelude.{◌≡◌};
-ghost use Rattle.sequence.specs.Spare.{stage_by};
+ghost use Rattle.sequence.specs.machine.Spare.{stage_by};
 
 use crate::fault::Fault;
 use element::Tag;

@@ -1,26 +1,28 @@
 //! The walker.
-ghost use Rattle.std.specs.Prelude.{◌≡◌, ℕ, ◌<◌, ◌≤◌, ◌^◌, ◌+◌, ◌-◌, ◌&&◌, ◌++◌, ◌∷◌, [], None, Some, length, IsTrue, IfSome, nat_eq, true, if◌then◌else◌};
+ghost use Rattle.std.specs.Prelude.{◌≡◌, ℕ, ◌<◌, ◌≤◌, ◌^◌, ◌+◌, ◌-◌, ◌&&◌, ◌++◌, ◌∷◌, [], None, Some, length, take, IsTrue, IfSome, nat_eq, true, if◌then◌else◌};
 ghost use Rattle.arrayvec.specs.ArrayVec.{array_vec_len};
-ghost use Rattle.sequence.specs.Spare.{owed, spare, head_room, due_of, due_kept, is_kept, is_wanted_in};
-ghost use Rattle.sequence.specs.Stored.{wants_of, values_of, left_of_keep};
+ghost use Rattle.sequence.specs.machine.Spare.{owed, spare, head_room, due_of, due_kept, is_kept, is_wanted_in};
+ghost use Rattle.sequence.specs.machine.Stored.{wants_of, values_of, left_of_keep};
 ghost use Rattle.sequence.specs.Wanted.{is_wanted, room_of};
 ghost use Rattle.sequence.specs.Open.{in_header};
+ghost use Rattle.sequence.specs.machine.Scopes.{top_of, below_of};
+ghost use Rattle.sequence.specs.machine.Heading.{is_begun};
 ghost use Rattle.sequence.specs.FirstFault.{tag_of_tail};
 
 use crate::answering::{header_step, value_step};
-use crate::broken::{broken, broken_due, same_tag};
+use crate::broken::{broken_due, same_tag};
 use crate::fault::Fault;
+use crate::heading::{End, header_end};
 use crate::keep::Keep;
-use crate::level::{Frame, Level};
-use crate::levels::{item_frame, leave_ended, sequence_frame, set_last, spot_at, top_frame};
-use crate::reading::is_whole;
-use crate::shape::{Shape, shape_of};
+use crate::level::{Level, Scope};
+use crate::levels::{item_scope, leave_ended, sequence_scope, set_last, spot_at, top_scope};
+use crate::shape::Shape;
 use crate::spot::Bounds;
 use crate::stage::{Stage, stage_at};
 use crate::step::Step;
 use crate::wanted::Wanted;
 use arrayvec::ArrayVec;
-use element::{Header, Syntax, Tag, read_header, read_tag};
+use element::{Header, Syntax, Tag, read_tag};
 
 mod told;
 
@@ -56,11 +58,22 @@ fn begun_tag(header: &[u8]) -> Tag
     }
 }
 
+/// The first bytes of a piece, at most so many.
+fn front(piece: &[u8], most: u32) -> &[u8]
+    ensures { result.now ≡ take most piece.now }
+{
+    if piece.len() <= most as usize {
+        piece
+    } else {
+        &piece[..most as usize]
+    }
+}
+
 /// Walks one data set, in pieces of any size. It holds at most one unfinished header, the wanted values and 16 bytes
 /// for each open level.
 #[derive(Drop)]
 pub struct Walker<const V: usize, const D: usize> {
-    root: Frame,
+    root: Scope,
     limit: u64,
     place: u64,
     header: ArrayVec<u8, 12>,
@@ -71,6 +84,8 @@ pub struct Walker<const V: usize, const D: usize> {
     ghost greatest_d: { D ≤ 2 ^ 24 },
     ghost no_end: { root.stop ≡ None },
     ghost few: { array_vec_len header ≤ head_room stage },
+    ghost together: { array_vec_len header + array_vec_len kept.bytes ≤ V },
+    ghost begun: { is_begun (record { wanted = wants_of kept; depth = D; bytes = limit }) (top_of root levels.items) (below_of root [] levels.items) place header.items ≡ true },
     ghost behind: { array_vec_len header ≤ place },
     ghost due: { 0 < due_of stage },
     ghost small: { limit ≤ 2 ^ 48 },
@@ -83,19 +98,21 @@ pub struct Walker<const V: usize, const D: usize> {
 impl<const V: usize, const D: usize> Walker<V, D> {
     ghost use Rattle.std.specs.Prelude.{◌++◌, take, List, ◌≡◌, ℕ, ◌<◌, ◌≤◌, ◌^◌, ◌+◌, ◌-◌, [], None, Some, length, IsTrue, IfSome, IsOk, IfErr, true, false, nat_eq, ◌&&◌, option_map};
     ghost use Rattle.element.specs.Header.{number, is_marker};
-    ghost use Rattle.sequence.specs.Machine.{arrive, begin_level, begin_value, leave, take_header, next};
-    ghost use Rattle.sequence.specs.Keeping.{wanted_at, with_value, keep_header, keep};
+    ghost use Rattle.sequence.specs.machine.Machine.{arrive, begin_level, begin_value, leave, take_header, run};
+    ghost use Rattle.sequence.specs.machine.Keeping.{wanted_at, with_value, keep_header, keeps};
     ghost use Rattle.sequence.specs.Rules.{counted_length};
+    ghost use Rattle.sequence.specs.Shape as shapes;
     ghost use Rattle.sequence.specs.Wanted.{room_of, rooms, value_of};
-    ghost use Rattle.sequence.specs.Stored.{wanted_tags};
+    ghost use Rattle.sequence.specs.machine.Stored.{wanted_tags};
     ghost use Rattle.sequence.specs.declared.fault.Fault.{Fault};
-    ghost use Rattle.sequence.specs.State.{state_of, kept_values, top, below, IsSameWalk, has_room, fits_wanted};
+    ghost use Rattle.sequence.specs.machine.State.{state_of, kept_values, top, below, IsSameWalk, has_room, fits_wanted};
     ghost use Rattle.sequence.specs.Taken.{limits_of, syntax_of, fault_of, StandsAt};
-    ghost use Rattle.sequence.specs.Made.{made};
     ghost use Rattle.sequence.specs.Ending.{IsWhole, Fails};
     ghost use Rattle.sequence.specs.Answering.{Answers};
+    ghost use Rattle.sequence.specs.Pieces.{TakesMost};
+    ghost use Rattle.sequence.specs.machine.Steps.{IsTaken};
 
-    /// Leaves the levels that end here, behind which a header is due.
+    /// Leaves the levels that end here, after which a header is due.
     fn arrive(&mut self)
         requires place { self.old.place ≤ self.old.limit }
         requires header { self.old.header.items ≡ [] }
@@ -109,26 +126,26 @@ impl<const V: usize, const D: usize> Walker<V, D> {
         self.stage = stage_at(broken_due(&spot), self.place);
     }
 
-    /// Opens a level behind its header, where its length is not 0.
-    fn begin_level(&mut self, frame: Frame, length: u32)
+    /// Opens a level after its header, where its length is not 0.
+    fn begin_level(&mut self, scope: Scope, length: u32)
         requires place { self.old.place ≤ self.old.limit }
         requires header { self.old.header.items ≡ [] }
         requires stage { self.old.stage ≡ Stage.Heading }
         requires room { 0 < length → array_vec_len self.old.levels < D }
-        requires stop { IfSome frame.stop (λ end. end < 2 ^ 64 - 1) }
-        ensures state { state_of self.new ≡ begin_level self.old.place frame (top self.old) (below self.old) length }
+        requires stop { IfSome scope.stop (λ end. end < 2 ^ 64 - 1) }
+        ensures state { state_of self.new ≡ begin_level self.old.place scope (top self.old) (below self.old) length }
         ensures same { IsSameWalk self.old self.new }
         ensures values { kept_values self.new ≡ kept_values self.old }
     {
         if length == 0 {
             self.arrive();
         } else {
-            self.levels.push(Level::new(frame));
+            self.levels.push(Level::new(scope));
             self.arrive();
         }
     }
 
-    /// Begins a value behind its header, where its length is not 0.
+    /// Begins a value after its header, where its length is not 0.
     fn begin_value(&mut self, tag: Tag, length: u32)
         requires place { self.old.place + length ≤ self.old.limit }
         requires header { self.old.header.items ≡ [] }
@@ -152,7 +169,7 @@ impl<const V: usize, const D: usize> Walker<V, D> {
         }
     }
 
-    /// Leaves the innermost level behind its delimitation.
+    /// Leaves the innermost level after its delimitation.
     fn leave(&mut self)
         requires place { self.old.place ≤ self.old.limit }
         requires header { self.old.header.items ≡ [] }
@@ -165,8 +182,9 @@ impl<const V: usize, const D: usize> Walker<V, D> {
         self.arrive();
     }
 
-    /// Goes on behind the whole header.
-    fn take_header(&mut self, header: &Header)
+    /// Goes on after the whole header.
+    fn take_header(&mut self, header: &Header, shape: Shape)
+        requires shape { shape ≡ shapes.shape (top self.old).syntax header.now }
         requires header { self.old.header.items ≡ [] }
         requires stage { self.old.stage ≡ Stage.Heading }
         requires place { self.old.place + counted_length header.now.length ≤ self.old.limit }
@@ -177,18 +195,18 @@ impl<const V: usize, const D: usize> Walker<V, D> {
         ensures same { IsSameWalk self.old self.new }
         ensures values { kept_values self.new ≡ keep_header (limits_of self.old) (top self.old) (below self.old) header.now (kept_values self.old) }
     {
-        let top = top_frame(self.root, self.levels.as_slice());
+        let top = top_scope(self.root, self.levels.as_slice());
         if header.tag.is_marker() {
             if same_tag(header.tag, Tag::ITEM) {
                 self.begin_level(
-                    item_frame(top.syntax, self.place, header.length),
+                    item_scope(top.syntax, self.place, header.length),
                     header.length,
                 );
             } else {
                 self.leave();
             }
         } else {
-            match shape_of(top.syntax, header) {
+            match shape {
                 Shape::Value => {
                     set_last(&mut self.root, &mut self.levels, header.tag);
                     self.begin_value(header.tag, header.length);
@@ -196,7 +214,7 @@ impl<const V: usize, const D: usize> Walker<V, D> {
                 Shape::Sequence(inner) => {
                     set_last(&mut self.root, &mut self.levels, header.tag);
                     self.begin_level(
-                        sequence_frame(inner, self.place, header.length),
+                        sequence_scope(inner, self.place, header.length),
                         header.length,
                     );
                 }
@@ -205,63 +223,71 @@ impl<const V: usize, const D: usize> Walker<V, D> {
         }
     }
 
-    /// Takes one more byte of a header; the header that it makes whole.
-    fn advance_header(&mut self, byte: u8) -> Option<Header>
+    /// Takes bytes of a header up to its end, or to a refusal; how many, and the header that they make whole.
+    fn advance_heading(&mut self, piece: &[u8]) -> (usize, Option<Header>)
         requires { self.old.stage ≡ Stage.Heading }
-        ensures state { state_of self.new ≡ next (limits_of self.old) (state_of self.old) byte }
+        ensures taken { result.0 ≤ length piece.now }
+        ensures some { 0 < length piece.now → 0 < result.0 }
+        ensures state { state_of self.new ≡ run (limits_of self.old) (state_of self.old) (take result.0 piece.now) }
         ensures same { IsSameWalk self.old self.new }
-        ensures values { kept_values self.new ≡ keep (limits_of self.old) (state_of self.old) (kept_values self.old) byte }
-        ensures made { result ≡ made (limits_of self.old) (state_of self.old) byte }
+        ensures values { kept_values self.new ≡ keeps (limits_of self.old) (state_of self.old) (kept_values self.old) (take result.0 piece.now) }
+        ensures place { self.new.place ≡ self.old.place + result.0 }
+        ensures told { IsTaken (top self.old).syntax self.old.header.items piece.now self.old.place result.0 self.new.stage self.new.header.items result.1 }
     {
-        self.header.push(byte);
-        self.place += 1;
-        let start = self.place - self.header.len() as u64;
+        if piece.is_empty() {
+            return (0, None);
+        }
+        let begun = self.header.len();
+        let start = self.place - begun as u64;
         let spot = spot_at(self.root, self.levels.as_slice(), start);
         let bounds = Bounds {
             depth: D,
             bytes: self.limit,
         };
-        match broken(self.kept.wanted(), &bounds, &spot, self.header.as_slice()) {
-            Some((number, tag)) => {
-                self.header.clear();
+        match header_end(self.kept.wanted(), &bounds, &spot, &mut self.header, piece) {
+            End::Refused(count, number, tag) => {
+                self.place = start + count as u64;
                 self.stage = Stage::Stopped(Fault {
                     number,
                     place: start,
                     tag,
                 });
-                None
+                (count - begun, None)
             }
-            None => {
-                if is_whole(spot.syntax, self.header.as_slice()) {
-                    let header = read_header(spot.syntax, self.header.as_slice());
-                    self.header.clear();
-                    self.take_header(&header);
-                    Some(header)
-                } else {
-                    None
-                }
+            End::Whole(count, header, shape) => {
+                self.place = start + count as u64;
+                self.take_header(&header, shape);
+                (count - begun, Some(header))
+            }
+            End::Part => {
+                self.place += piece.len() as u64;
+                (piece.len(), None)
             }
         }
     }
 
-    /// Takes one more byte of a value.
-    fn advance_value(&mut self, byte: u8, tag: Tag, left: u32, kept: bool)
-        requires { self.old.stage ≡ Stage.Value tag left kept }
-        ensures state { state_of self.new ≡ next (limits_of self.old) (state_of self.old) byte }
+    /// Takes bytes of a value, no more than are due.
+    fn advance_value(&mut self, bytes: &[u8], tag: Tag, left: u32, kept: bool)
+        requires stage { self.old.stage ≡ Stage.Value tag left kept }
+        requires some { 0 < length bytes.now }
+        requires within { length bytes.now ≤ left }
+        ensures state { state_of self.new ≡ run (limits_of self.old) (state_of self.old) bytes.now }
         ensures same { IsSameWalk self.old self.new }
-        ensures values { kept_values self.new ≡ keep (limits_of self.old) (state_of self.old) (kept_values self.old) byte }
+        ensures values { kept_values self.new ≡ keeps (limits_of self.old) (state_of self.old) (kept_values self.old) bytes.now }
+        ensures place { self.new.place ≡ self.old.place + length bytes.now }
     {
-        self.place += 1;
-        if left <= 1 {
+        let rest = left - bytes.len() as u32;
+        self.place += bytes.len() as u64;
+        if rest == 0 {
             self.stage = Stage::Heading;
-            self.kept.push_if(kept, byte);
+            self.kept.extend_if(kept, bytes);
             self.arrive();
         } else {
             self.stage = Stage::Heading;
-            self.kept.push_if(kept, byte);
+            self.kept.extend_if(kept, bytes);
             self.stage = Stage::Value {
                 tag,
-                left: left - 1,
+                left: rest,
                 kept,
             };
         }
@@ -280,7 +306,7 @@ impl<const V: usize, const D: usize> Walker<V, D> {
         ensures limits { limits_of result ≡ record { wanted = wanted_tags wanted; depth = D; bytes = limit } }
     {
         Walker {
-            root: Frame {
+            root: Scope {
                 in_sequence: false,
                 syntax,
                 stop: None,
@@ -300,27 +326,27 @@ impl<const V: usize, const D: usize> Walker<V, D> {
         ensures taken { result.0 ≤ length piece.now }
         ensures some { fault_of self.old ≡ None → 0 < length piece.now → 0 < result.0 }
         ensures stands { (b : List ℕ) → StandsAt self.old b → StandsAt self.new (b ++ take result.0 piece.now) }
-        ensures answers { (b : List ℕ) → StandsAt self.old b → Answers (syntax_of self.new) (limits_of self.new) (b ++ take result.0 piece.now) (take result.0 piece.now) result.1 }
+        ensures answers { (b : List ℕ) → StandsAt self.old b → Answers (syntax_of self.old) (limits_of self.old) b piece.now (take result.0 piece.now) result.1 }
+        ensures longest { (b : List ℕ) → StandsAt self.old b → fault_of self.old ≡ None → TakesMost (syntax_of self.old) (limits_of self.old) b piece.now result.0 }
         ensures syntax { syntax_of self.new ≡ syntax_of self.old }
         ensures limits { limits_of self.new ≡ limits_of self.old }
         ensures refused { (fault : Fault) → fault_of self.old ≡ Some fault → (result ≡ (0, Step.Refused fault)) × (self.new ≡ self.old) }
     {
         match self.stage {
             Stage::Stopped(fault) => (0, Step::Refused(fault)),
-            Stage::Heading => match piece {
-                [] => (0, Step::More),
-                [byte, ..] => {
-                    let made = self.advance_header(*byte);
-                    (1, header_step(self.stage, made))
+            Stage::Heading => {
+                let (count, made) = self.advance_heading(piece);
+                (count, header_step(self.stage, made))
+            }
+            Stage::Value { tag, left, kept } => {
+                if piece.is_empty() {
+                    (0, Step::More)
+                } else {
+                    let run = front(piece, left);
+                    self.advance_value(run, tag, left, kept);
+                    (run.len(), value_step(self.stage, run))
                 }
-            },
-            Stage::Value { tag, left, kept } => match piece {
-                [] => (0, Step::More),
-                [byte, ..] => {
-                    self.advance_value(*byte, tag, left, kept);
-                    (1, value_step(self.stage, &piece[..1]))
-                }
-            },
+            }
         }
     }
 
@@ -340,7 +366,7 @@ impl<const V: usize, const D: usize> Walker<V, D> {
         match self.stage {
             Stage::Stopped(fault) => Err(fault),
             Stage::Value { tag, .. } => Err(Fault {
-                number: 20,
+                number: Fault::TRUNCATED,
                 place: self.place,
                 tag,
             }),
@@ -349,7 +375,7 @@ impl<const V: usize, const D: usize> Walker<V, D> {
                     Ok(())
                 } else {
                     Err(Fault {
-                        number: 20,
+                        number: Fault::TRUNCATED,
                         place: self.place,
                         tag: begun_tag(self.header.as_slice()),
                     })

@@ -2,7 +2,7 @@
 ghost use Rattle.std.specs.Prelude.{◌≡◌, ◌≤◌, ◌<◌, get_or, ◌∷◌, [], ◌↔◌, IsTrue, IsSome, IsNone, IfSome, ◌⊎◌, false, length};
 ghost use Rattle.sequence.specs.Wanted as spelling;
 ghost use Rattle.element.specs.Header.{number};
-ghost use Rattle.sequence.specs.Keeping.{place_from};
+ghost use Rattle.sequence.specs.machine.Keeping.{place_from};
 
 use arrayvec::ArrayVec;
 use element::Tag;
@@ -47,7 +47,7 @@ pub struct Wanted {
 }
 
 impl Wanted {
-    ghost use Rattle.sequence.specs.Stored.{wanted_tags};
+    ghost use Rattle.sequence.specs.machine.Stored.{wanted_tags};
 
     /// No tag is wanted.
     pub fn none() -> Wanted
@@ -74,7 +74,7 @@ impl Wanted {
     }
 
     /// Where the tag with this number stands in the list.
-    pub fn find(&self, number: u32) -> Option<usize>
+    pub(crate) fn find(&self, number: u32) -> Option<usize>
         ensures { result ≡ place_from 0 self.now.list.items number }
     {
         let list = self.as_slice();
@@ -89,7 +89,7 @@ impl Wanted {
     }
 
     /// The room for the value of the tag with this number, if it is wanted.
-    pub fn room(&self, number: u32) -> Option<u64>
+    pub(crate) fn room(&self, number: u32) -> Option<u64>
         ensures { result ≡ spelling.room_of self.now.list.items number }
     {
         for want in self.as_slice() {
@@ -101,14 +101,14 @@ impl Wanted {
     }
 
     /// How many tags are wanted.
-    pub fn len(&self) -> usize
+    pub(crate) fn len(&self) -> usize
         ensures { result ≡ length self.now.list.items }
     {
         self.list.len()
     }
 
     /// The wanted tags, rising.
-    pub fn as_slice(&self) -> &[Want]
+    pub(crate) fn as_slice(&self) -> &[Want]
         ensures { result.now ≡ self.now.list.items }
     {
         self.list.as_slice()

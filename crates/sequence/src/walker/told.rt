@@ -1,6 +1,6 @@
-//! What a walker tells of the bytes that it took.
+//! What a walker reports of the bytes that it took.
 ghost use Rattle.std.specs.Prelude.{◌≡◌};
-ghost use Rattle.sequence.specs.Spare.{is_kept};
+ghost use Rattle.sequence.specs.machine.Spare.{is_kept};
 
 use super::Walker;
 use crate::stage::Stage;
@@ -18,7 +18,7 @@ fn is_kept(stage: Stage) -> bool
 }
 
 impl<const V: usize, const D: usize> Walker<V, D> {
-    ghost use Rattle.std.specs.Prelude.{◌≡◌, option_map};
+    ghost use Rattle.std.specs.Prelude.{◌≡◌, ◌≤◌, ◌+◌, ◌*◌, option_map};
     ghost use Rattle.element.specs.Header.{number};
     ghost use Rattle.sequence.specs.Wanted.{value_of};
     ghost use Rattle.sequence.specs.Taken.{told_by};
@@ -39,7 +39,8 @@ impl<const V: usize, const D: usize> Walker<V, D> {
 
     /// How many bytes are held: of an unfinished header, of kept values, and 16 for each open level.
     pub fn held(&self) -> usize
-        ensures { result ≡ (told_by self.now).held }
+        ensures value { result ≡ (told_by self.now).held }
+        ensures bound { result ≤ V + 16 * D }
     {
         self.header.len() + self.kept.len() + 16 * self.levels.len()
     }

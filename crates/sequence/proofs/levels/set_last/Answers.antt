@@ -1,12 +1,11 @@
-use Rattle.std.proofs.Common.{◌∙◌, ap}
-use Rattle.sequence.specs.Frames.{frame_of}
-use Rattle.sequence.proofs.Tops.{last_set}
+use Rattle.std.proofs.Common.{arith}
+use Rattle.sequence.proofs.Tops.{last_changed}
 use Rattle.sequence.proofs.levels.set_last.Goals as goal
 
-pub returns-in-Some-clause-top : goal.returns-in-Some-clause-top
-returns-in-Some-clause-top g c =
-    (last_set c.args.root.now c.args.levels.now.items c.pop.new.self.items c.push.new.self.items c.in-Some.level c.with_last.result c.args.tag c.in-Some.ensures.items c.push.ensures.items (c.with_last.ensures ∙ ap (λ n. record (frame_of c.in-Some.level) { last = n }) c.number.ensures)).0
+pub returns-in-len1-up-clause-top : goal.returns-in-len1-up-clause-top
+returns-in-len1-up-clause-top g c =
+    (last_changed c.args.root.now c.args.levels.now.items c.as_mut_slice.result.now (record { end = 0; last = 0; kind = 0; implicit = 0 }) c.set_last.new.self c.args.tag c.number.result c.as_mut_slice.ensures.value (omega (arith, c.in-len1-up.len_at_least)) c.set_last.ensures c.number.ensures).0
 
-pub returns-in-Some-clause-below : goal.returns-in-Some-clause-below
-returns-in-Some-clause-below g c =
-    (last_set c.args.root.now c.args.levels.now.items c.pop.new.self.items c.push.new.self.items c.in-Some.level c.with_last.result c.args.tag c.in-Some.ensures.items c.push.ensures.items (c.with_last.ensures ∙ ap (λ n. record (frame_of c.in-Some.level) { last = n }) c.number.ensures)).1
+pub returns-in-len1-up-clause-below : goal.returns-in-len1-up-clause-below
+returns-in-len1-up-clause-below g c =
+    (last_changed c.args.root.now c.args.levels.now.items c.as_mut_slice.result.now (record { end = 0; last = 0; kind = 0; implicit = 0 }) c.set_last.new.self c.args.tag c.number.result c.as_mut_slice.ensures.value (omega (arith, c.in-len1-up.len_at_least)) c.set_last.ensures c.number.ensures).1

@@ -21,7 +21,7 @@ invariant_of-self g c =
     let k = c.args.self.now in
     let long : length k.lengths ≡ 16 = search rules in
     let f = begun_at c.in-Some.slot k.wanted.list.items k.lengths k.bytes.items c.args.tag k.last (sym c.find.ensures ∙ c.in-Some.is) k.wanted.rising k.stored c.requires (omega (arith, long, k.wanted.few)) in
-    record { greatest = k.greatest; fit = k.fit; stored = f.fit; counted = f.size ∙ k.counted; latest = f.latest }
+    record { greatest = k.greatest; fit = k.fit; short = k.short; stored = f.fit; counted = f.size ∙ k.counted; latest = f.latest }
 
 pub returns-in-None-clause-wanted : goal.returns-in-None-clause-wanted
 returns-in-None-clause-wanted g c = let n = not_found 0 c.args.self.now.wanted.list.items c.args.tag (sym c.find.ensures ∙ c.in-None.is) in rw n refl

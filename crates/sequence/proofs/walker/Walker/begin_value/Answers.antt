@@ -1,6 +1,6 @@
 use Rattle.std.proofs.Common.{◌∙◌}
 use Rattle.element.specs.Header.{number}
-use Rattle.sequence.specs.State.{top, below, limits_of, kept_values}
+use Rattle.sequence.specs.machine.State.{top, below, limits_of, kept_values}
 use Rattle.sequence.proofs.Tops.{value_empty, value_begun}
 use Rattle.sequence.proofs.Walks.{kept_begun}
 use Rattle.sequence.proofs.walker.Walker.begin_value.Goals as goal

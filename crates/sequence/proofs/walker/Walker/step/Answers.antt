@@ -1,45 +1,87 @@
-use Rattle.std.proofs.Common.{◌++◌, ◌∷◌, [], take, get_or, sym, subst, refl, arith}
-use Rattle.sequence.specs.State.{syntax_of, limits_of, StandsAt}
-use Rattle.sequence.specs.Answering.{Answers, nothing_taken}
-use Rattle.sequence.proofs.Standings.{piece_stands, same_limits, first_is, none_stands}
+use Rattle.std.proofs.Common.{◌≡◌, ◌++◌, length, take, eqb-true, ap, sym, subst, ◌∙◌, refl, arith}
+use Rattle.sequence.specs.machine.Machine.{ArrivesAt}
+use Rattle.sequence.specs.machine.State.{syntax_of, limits_of, mode_of, fault_by, StandsAt}
+use Rattle.sequence.specs.machine.Standing.{IsBytes}
+use Rattle.sequence.specs.Answering.{Answers, no_piece}
 use Rattle.sequence.proofs.Holding.{walks}
-use Rattle.sequence.proofs.Answered.{stopped_answers, header_answers, value_answers}
+use Rattle.sequence.proofs.Standings.{same_limits, none_stands}
+use Rattle.sequence.proofs.Answered.{stopped_answers, value_unbroken}
+use Rattle.sequence.proofs.Gathered.{no_items}
+use Rattle.sequence.proofs.Stepping.{taken_stands, value_came, value_arrives, some_bytes, heading_answered, value_answered, heading_most, value_most, front_size, front_again, empty_size, some_size}
 use Rattle.sequence.proofs.walker.Walker.step.Goals as goal
 
-pub returns-in-len1-up-clause-stands : goal.returns-in-len1-up-clause-stands
-returns-in-len1-up-clause-stands g c b h =
-    let made = c.advance_header-made.ensures in
-    piece_stands c.args.self.now c.advance_header-made.new.self b c.args.piece.now h made.state made.values made.same c.in-len1-up.len_at_least (omega (arith, c.type_inv.piece 0))
-
-pub returns-in-len1-up-piece-clause-stands : goal.returns-in-len1-up-piece-clause-stands
-returns-in-len1-up-piece-clause-stands g c b h =
-    let made = c.advance_value.ensures in
-    piece_stands c.args.self.now c.advance_value.new.self b c.args.piece.now h made.state made.values made.same c.in-len1-up-piece.len_at_least (omega (arith, c.type_inv.piece 0))
-
 pub returns-in-Stopped-clause-answers : goal.returns-in-Stopped-clause-answers
-returns-in-Stopped-clause-answers g c b h = stopped_answers c.args.self.now (b ++ []) (walks c.args.self.now (b ++ []) (none_stands c.args.self.now b h)) [] c.in-Stopped.fault c.in-Stopped.is
+returns-in-Stopped-clause-answers g c b h = stopped_answers c.args.self.now b (walks c.args.self.now b h) c.args.piece.now c.in-Stopped.fault c.in-Stopped.is
 
-pub returns-in-len1-up-clause-answers : goal.returns-in-len1-up-clause-answers
-returns-in-len1-up-clause-answers g c b h =
-    let made = c.advance_header-made.ensures in
-    let first = first_is c.args.piece.now c.in-len1-up.len_at_least in
-    let new = c.advance_header-made.new.self in
-    let k : StandsAt c.advance_header-made.new.self (b ++ take 1 c.args.piece.now) = piece_stands c.args.self.now new b c.args.piece.now h made.state made.values made.same c.in-len1-up.len_at_least (omega (arith, c.type_inv.piece 0)) in
-    subst (λ z. Answers (syntax_of c.advance_header-made.new.self) (limits_of c.advance_header-made.new.self) (b ++ z) z c.header_step.result) (sym first)
-    (subst (λ z. Answers (syntax_of c.advance_header-made.new.self) (limits_of c.advance_header-made.new.self) (b ++ get_or c.args.piece.now 0 0 ∷ []) (get_or c.args.piece.now 0 0 ∷ []) z) (sym c.header_step.ensures)
-    (header_answers c.args.self.now new b (get_or c.args.piece.now 0 0) (walks c.args.self.now b h) (walks new (b ++ get_or c.args.piece.now 0 0 ∷ []) (subst (λ z. StandsAt c.advance_header-made.new.self (b ++ z)) first k)) new.stage c.advance_header-made.result refl c.in-Heading.is (omega (arith, c.type_inv.piece 0)) made.same.syntax (same_limits c.args.self.now new made.same) made.state made.made))
+pub returns-in-Heading-clause-stands : goal.returns-in-Heading-clause-stands
+returns-in-Heading-clause-stands g c b h =
+    let m = c.advance_heading-count.ensures in
+    let n = c.advance_heading-count.result.0 in
+    taken_stands c.args.self.now c.advance_heading-count.new.self b (take n c.args.piece.now) h m.state m.values m.same (some_bytes n c.args.piece.now (λ i. omega (arith, c.type_inv.piece i)))
 
-pub returns-in-len1-up-piece-clause-answers : goal.returns-in-len1-up-piece-clause-answers
-returns-in-len1-up-piece-clause-answers g c b h =
-    let made = c.advance_value.ensures in
-    let first = first_is c.args.piece.now c.in-len1-up-piece.len_at_least in
+pub returns-in-Heading-clause-answers : goal.returns-in-Heading-clause-answers
+returns-in-Heading-clause-answers g c b h =
+    let m = c.advance_heading-count.ensures in
+    let n = c.advance_heading-count.result.0 in
+    let old = c.args.self.now in
+    let new = c.advance_heading-count.new.self in
+    let bytes : IsBytes (take n c.args.piece.now) = some_bytes n c.args.piece.now (λ i. omega (arith, c.type_inv.piece i)) in
+    let k = taken_stands old new b (take n c.args.piece.now) h m.state m.values m.same bytes in
+    subst (λ z. Answers (syntax_of c.args.self.now) (limits_of c.args.self.now) b c.args.piece.now (take c.advance_heading-count.result.0 c.args.piece.now) z) (sym c.header_step.ensures)
+    (heading_answered old new b c.args.piece.now n (walks old b h) (walks new (b ++ take n c.args.piece.now) k) bytes m.same.syntax (same_limits old new m.same) h k m.place m.taken c.in-Heading.is c.advance_heading-count.result.1 m.told)
+
+pub returns-in-Heading-clause-longest : goal.returns-in-Heading-clause-longest
+returns-in-Heading-clause-longest g c b h none =
+    let m = c.advance_heading-count.ensures in
+    let n = c.advance_heading-count.result.0 in
+    let old = c.args.self.now in
+    let new = c.advance_heading-count.new.self in
+    let bytes : IsBytes (take n c.args.piece.now) = some_bytes n c.args.piece.now (λ i. omega (arith, c.type_inv.piece i)) in
+    let k = taken_stands old new b (take n c.args.piece.now) h m.state m.values m.same bytes in
+    heading_most old new b c.args.piece.now n h none m.same.syntax (same_limits old new m.same) k m.place m.taken c.advance_heading-count.result.1 c.in-Heading.is m.told
+
+pub returns-then-is_empty-clause-answers : goal.returns-then-is_empty-clause-answers
+returns-then-is_empty-clause-answers g c b h =
+    no_piece (value_unbroken c.args.self.now b (walks c.args.self.now b h) c.in-Value.tag c.in-Value.left c.in-Value.kept c.in-Value.is) (no_items c.args.piece.now (eqb-true (length c.args.piece.now) 0 (sym c.is_empty.ensures ∙ c.if-is_empty.true))) refl
+
+pub returns-then-is_empty-clause-longest : goal.returns-then-is_empty-clause-longest
+returns-then-is_empty-clause-longest g c b h none =
+    value_most c.args.self.now c.args.self.now b c.args.piece.now 0 h none refl refl (none_stands c.args.self.now b h) (omega arith) (omega arith) c.in-Value.tag c.in-Value.left c.in-Value.kept c.in-Value.is (empty_size c.args.piece.now c.in-Value.left c.is_empty.result c.is_empty.ensures c.if-is_empty.true)
+    (subst (λ z. ArrivesAt (mode_of z c.args.self.now.place c.args.self.now.header.items) c.args.self.now.place) (sym c.in-Value.is) tt)
+
+pub returns-else-is_empty-clause-stands : goal.returns-else-is_empty-clause-stands
+returns-else-is_empty-clause-stands g c b h =
+    let m = c.advance_value.ensures in
+    let run = c.front-run.result.now in
+    let same : take (length c.front-run.result.now) c.args.piece.now ≡ c.front-run.result.now = front_again c.in-Value.left c.args.piece.now run c.front-run.ensures in
+    subst (λ z. StandsAt c.advance_value.new.self (b ++ z)) (sym same)
+    (taken_stands c.args.self.now c.advance_value.new.self b run h m.state m.values m.same (subst IsBytes (sym c.front-run.ensures) (some_bytes c.in-Value.left c.args.piece.now (λ i. omega (arith, c.type_inv.piece i)))))
+
+pub returns-else-is_empty-clause-answers : goal.returns-else-is_empty-clause-answers
+returns-else-is_empty-clause-answers g c b h =
+    let m = c.advance_value.ensures in
+    let run = c.front-run.result.now in
+    let old = c.args.self.now in
     let new = c.advance_value.new.self in
-    let k : StandsAt c.advance_value.new.self (b ++ take 1 c.args.piece.now) = piece_stands c.args.self.now new b c.args.piece.now h made.state made.values made.same c.in-len1-up-piece.len_at_least (omega (arith, c.type_inv.piece 0)) in
-    subst (λ z. Answers (syntax_of c.advance_value.new.self) (limits_of c.advance_value.new.self) (b ++ z) z c.value_step.result) (sym first)
-    (value_answers c.args.self.now new b (get_or c.args.piece.now 0 0) (walks c.args.self.now b h) (walks new (b ++ get_or c.args.piece.now 0 0 ∷ []) (subst (λ z. StandsAt c.advance_value.new.self (b ++ z)) first k)) new.stage c.in-Value.tag c.in-Value.left c.in-Value.kept (take 1 c.args.piece.now) c.value_step.result refl c.in-Value.is made.same.syntax first c.value_step.ensures)
+    let same : take (length c.front-run.result.now) c.args.piece.now ≡ c.front-run.result.now = front_again c.in-Value.left c.args.piece.now run c.front-run.ensures in
+    let bytes : IsBytes c.front-run.result.now = subst IsBytes (sym c.front-run.ensures) (some_bytes c.in-Value.left c.args.piece.now (λ i. omega (arith, c.type_inv.piece i))) in
+    let k = taken_stands old new b run h m.state m.values m.same bytes in
+    let size = front_size c.in-Value.left c.args.piece.now run c.front-run.ensures in
+    let some = some_size c.args.piece.now c.in-Value.left c.args.self.now.stage c.in-Value.tag c.in-Value.kept c.is_empty.result c.is_empty.ensures c.if-is_empty.false c.in-Value.is c.args.self.now.due in
+    let came = value_came old new b run h (ap fault_by c.in-Value.is) m.place in
+    subst (λ z. Answers (syntax_of c.args.self.now) (limits_of c.args.self.now) b c.args.piece.now z c.value_step.result) (sym same)
+    (value_answered old new b c.args.piece.now run (walks old b h) (walks new (b ++ run) k) bytes m.same.syntax (same_limits old new m.same) k came c.in-Value.tag c.in-Value.left c.in-Value.kept c.value_step.result c.in-Value.is m.state m.place (omega (arith, size, some)) (omega (arith, size)) c.value_step.ensures)
 
-pub returns-in-empty-clause-answers : goal.returns-in-empty-clause-answers
-returns-in-empty-clause-answers g c b h = nothing_taken refl
-
-pub returns-in-empty-piece-clause-answers : goal.returns-in-empty-piece-clause-answers
-returns-in-empty-piece-clause-answers g c b h = nothing_taken refl
+pub returns-else-is_empty-clause-longest : goal.returns-else-is_empty-clause-longest
+returns-else-is_empty-clause-longest g c b h none =
+    let m = c.advance_value.ensures in
+    let run = c.front-run.result.now in
+    let old = c.args.self.now in
+    let new = c.advance_value.new.self in
+    let same : take (length c.front-run.result.now) c.args.piece.now ≡ c.front-run.result.now = front_again c.in-Value.left c.args.piece.now run c.front-run.ensures in
+    let size = front_size c.in-Value.left c.args.piece.now run c.front-run.ensures in
+    let bytes : IsBytes c.front-run.result.now = subst IsBytes (sym c.front-run.ensures) (some_bytes c.in-Value.left c.args.piece.now (λ i. omega (arith, c.type_inv.piece i))) in
+    let k = subst (λ z. StandsAt c.advance_value.new.self (b ++ z)) (sym same) (taken_stands old new b run h m.state m.values m.same bytes) in
+    let some = some_size c.args.piece.now c.in-Value.left c.args.self.now.stage c.in-Value.tag c.in-Value.kept c.is_empty.result c.is_empty.ensures c.if-is_empty.false c.in-Value.is c.args.self.now.due in
+    let arrives = value_arrives old new run c.in-Value.tag c.in-Value.left c.in-Value.kept c.in-Value.is m.state m.place (omega (arith, size, some)) (omega (arith, size)) in
+    value_most old new b c.args.piece.now (length run) h none m.same.syntax (same_limits old new m.same) k m.place (omega (arith, size)) c.in-Value.tag c.in-Value.left c.in-Value.kept c.in-Value.is size arrives

@@ -1,5 +1,5 @@
 use Rattle.std.proofs.Common.{◌≡◌, ◌≤◌, ◌-◌, length, drop}
-use Rattle.sequence.specs.Keeping.{place_from}
+use Rattle.sequence.specs.machine.Keeping.{place_from}
 use Rattle.sequence.proofs.wanted.Wanted.find.Given as goal
 
 abbrev pub invariant-loop-at : goal.invariant-loop-at

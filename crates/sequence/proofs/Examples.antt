@@ -1,0 +1,60 @@
+-- The texts on which the definitions of data sets are tried.
+use Rattle.std.proofs.Common.{◌≡◌, ℕ, zero, suc, ◌&&◌, Bool, true, false, List, [], ◌∷◌, nat_lt, take, refl, lit<, ltb-true}
+use Rattle.std.specs.List.{list_all}
+use Rattle.element.specs.declared.syntax.Syntax.TheVariants.{Implicit, Explicit}
+use Rattle.element.specs.Header.{need, is_whole, header_at}
+use Rattle.element.specs.Vr.{is_short}
+use Rattle.dictionary.specs.Tags.{row_of}
+use Rattle.sequence.specs.Rules.{broken_tag, broken_header, broken}
+use Rattle.sequence.specs.machine.Machine.{due, arrive, begin_value, begin_level, leave, take_header, headed, read, run}
+use Rattle.sequence.specs.machine.Keeping.{keep_header, keeps}
+use Rattle.sequence.specs.machine.Standing.{IsBytes}
+use Rattle.sequence.specs.Examples.{levels_of, two_levels, four_levels, past_item, level_past_item, third_level, empty_third, unknown, pixels, TwoOpenLevels, FourLevels, PastItsItem, TooDeep, UnknownContent}
+use Rattle.sequence.proofs.Tales.{tells}
+
+both_left : (a b : Bool) → (a && b) ≡ true → a ≡ true
+both_left true b e = refl
+both_left false b e = e
+
+both_right : (a b : Bool) → (a && b) ≡ true → b ≡ true
+both_right true b e = e
+both_right false b e = absurd cc
+
+pub bytes_by : (b : List ℕ) → list_all (λ x. nat_lt x 256) b ≡ true → IsBytes b
+bytes_by [] e i = lit< tt
+bytes_by (x ∷ b) e zero = ltb-true x 256 (both_left _ _ e)
+bytes_by (x ∷ b) e (suc i) = bytes_by b (both_right _ _ e) i
+
+pub two_open_levels : TwoOpenLevels
+unfolding need is_whole header_at is_short row_of broken_tag broken_header broken due arrive begin_value begin_level leave take_header headed read run keep_header keeps
+two_open_levels = tells Implicit (levels_of 64) two_levels (bytes_by two_levels refl)
+
+pub four_levels_that_end_together : FourLevels
+unfolding need is_whole header_at is_short row_of broken_tag broken_header broken due arrive begin_value begin_level leave take_header headed read run keep_header keeps
+four_levels_that_end_together = (
+  tells Implicit (levels_of 64) (take 41 four_levels) (bytes_by (take 41 four_levels) refl),
+  tells Implicit (levels_of 64) (take 42 four_levels) (bytes_by (take 42 four_levels) refl),
+  tells Implicit (levels_of 64) four_levels (bytes_by four_levels refl),
+)
+
+pub a_header_past_its_item : PastItsItem
+unfolding need is_whole header_at is_short row_of broken_tag broken_header broken due arrive begin_value begin_level leave take_header headed read run keep_header keeps
+a_header_past_its_item = (
+  tells Implicit (levels_of 64) past_item (bytes_by past_item refl),
+  tells Implicit (levels_of 64) (take 25 past_item) (bytes_by (take 25 past_item) refl),
+  tells Implicit (levels_of 64) level_past_item (bytes_by level_past_item refl),
+)
+
+pub deeper_than_the_limit : TooDeep
+unfolding need is_whole header_at is_short row_of broken_tag broken_header broken due arrive begin_value begin_level leave take_header headed read run keep_header keeps
+deeper_than_the_limit = (
+  tells Implicit (levels_of 2) third_level (bytes_by third_level refl),
+  tells Implicit (levels_of 2) empty_third (bytes_by empty_third refl),
+)
+
+pub unknown_content : UnknownContent
+unfolding need is_whole header_at is_short row_of broken_tag broken_header broken due arrive begin_value begin_level leave take_header headed read run keep_header keeps
+unknown_content = (
+  tells Explicit (levels_of 64) unknown (bytes_by unknown refl),
+  tells Explicit (levels_of 64) pixels (bytes_by pixels refl),
+)

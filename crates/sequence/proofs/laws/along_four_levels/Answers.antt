@@ -1,0 +1,5 @@
+use Rattle.sequence.proofs.Along.{along_four_levels}
+use Rattle.sequence.proofs.laws.along_four_levels.Goals as goal
+
+pub returns : goal.returns
+returns c = along_four_levels

@@ -1,0 +1,5 @@
+use Rattle.sequence.proofs.Along.{along_one_store}
+use Rattle.sequence.proofs.laws.along_one_store.Goals as goal
+
+pub returns : goal.returns
+returns c = along_one_store

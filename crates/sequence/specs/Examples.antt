@@ -1,0 +1,129 @@
+-- Texts on which the definitions of data sets are tried (PS3.5 section 7.5), each beside one that comes out otherwise.
+use Rattle.std.specs.Prelude.{ℕ, ◌^◌, List, [], ◌∷◌, take, drop, Some, None, codes}
+use Rattle.element.specs.declared.syntax.Syntax.{Syntax}
+use Rattle.element.specs.declared.header.Header.{Header}
+use Rattle.sequence.specs.declared.step.Step.{Step}
+use Rattle.sequence.specs.declared.step.Step.TheVariants.{Element, Opened, Closed}
+use Rattle.sequence.specs.Answering.{Answers, IsRun}
+use Rattle.element.specs.declared.syntax.Syntax.TheVariants.{Implicit, Explicit}
+use Rattle.element.specs.declared.tag.Tag.{Tag}
+use Rattle.sequence.specs.Rules.{Limits, no_tag}
+use Rattle.sequence.specs.Walk.{Told, Tells}
+
+-- no tag is wanted, and so many levels may be open
+abbrev pub levels_of : ℕ → Limits
+levels_of depth = record { wanted = []; depth = depth; bytes = 2 ^ 40 }
+
+-- no rule is broken: so many levels are open after so many bytes, and as much is held
+abbrev pub going_on : ℕ → ℕ → ℕ → Told
+going_on levels place held = record { fault = None; levels = levels; place = place; held = held; kept = [] }
+
+-- the rule of this number is broken by the header at this place, after which so many levels are open
+abbrev pub faulty : ℕ → ℕ → Tag → ℕ → ℕ → ℕ → Told
+faulty number at tag levels place held = record { fault = Some (record { number = number; place = at; tag = tag }); levels = levels; place = place; held = held; kept = [] }
+
+abbrev pub two_levels : List ℕ
+two_levels =
+    64 ∷ 0 ∷ 117 ∷ 2 ∷ 255 ∷ 255 ∷ 255 ∷ 255 ∷ 254 ∷ 255 ∷ 0 ∷ 224 ∷ 255 ∷ 255 ∷ 255 ∷ 255 ∷ 8 ∷ 0 ∷ 96 ∷ []
+
+abbrev pub four_levels : List ℕ
+four_levels =
+    64 ∷ 0 ∷ 117 ∷ 2 ∷ 255 ∷ 255 ∷ 255 ∷ 255 ∷ 254 ∷ 255 ∷ 0 ∷ 224 ∷ 26 ∷ 0 ∷ 0 ∷ 0 ∷ 64 ∷ 0 ∷ 48 ∷ 167 ∷ 18 ∷ 0 ∷ 0 ∷ 0
+    ∷ 254 ∷ 255 ∷ 0 ∷ 224 ∷ 10 ∷ 0 ∷ 0 ∷ 0 ∷ 8 ∷ 0 ∷ 4 ∷ 1 ∷ 2 ∷ 0 ∷ 0 ∷ 0 ∷ 65 ∷ 66 ∷ 254 ∷ 255 ∷ 221 ∷ 224 ∷ 0 ∷ 0
+    ∷ 0 ∷ 0 ∷ 224 ∷ 127 ∷ 16 ∷ 0 ∷ 2 ∷ 0 ∷ 0 ∷ 0 ∷ 0 ∷ 0 ∷ []
+
+abbrev pub past_item : List ℕ
+past_item =
+    64 ∷ 0 ∷ 117 ∷ 2 ∷ 255 ∷ 255 ∷ 255 ∷ 255 ∷ 254 ∷ 255 ∷ 0 ∷ 224 ∷ 14 ∷ 0 ∷ 0 ∷ 0 ∷ 8 ∷ 0 ∷ 96 ∷ 0 ∷ 2 ∷ 0 ∷ 0 ∷ 0
+    ∷ 67 ∷ 84 ∷ []
+
+abbrev pub level_past_item : List ℕ
+level_past_item =
+    64 ∷ 0 ∷ 117 ∷ 2 ∷ 255 ∷ 255 ∷ 255 ∷ 255 ∷ 254 ∷ 255 ∷ 0 ∷ 224 ∷ 8 ∷ 0 ∷ 0 ∷ 0 ∷ 64 ∷ 0 ∷ 48 ∷ 167 ∷ 255 ∷ 255 ∷ 255 ∷ 255 ∷ []
+
+abbrev pub third_level : List ℕ
+third_level =
+    64 ∷ 0 ∷ 117 ∷ 2 ∷ 255 ∷ 255 ∷ 255 ∷ 255 ∷ 254 ∷ 255 ∷ 0 ∷ 224 ∷ 255 ∷ 255 ∷ 255 ∷ 255 ∷ 64 ∷ 0 ∷ 48 ∷ 167 ∷ 255 ∷ 255 ∷ 255 ∷ 255 ∷ []
+
+abbrev pub empty_third : List ℕ
+empty_third =
+    64 ∷ 0 ∷ 117 ∷ 2 ∷ 255 ∷ 255 ∷ 255 ∷ 255 ∷ 254 ∷ 255 ∷ 0 ∷ 224 ∷ 255 ∷ 255 ∷ 255 ∷ 255 ∷ 64 ∷ 0 ∷ 48 ∷ 167 ∷ 0 ∷ 0 ∷ 0 ∷ 0 ∷ []
+
+abbrev pub unknown : List ℕ
+unknown =
+    9 ∷ 0 ∷ 1 ∷ 16 ∷ 85 ∷ 78 ∷ 0 ∷ 0 ∷ 255 ∷ 255 ∷ 255 ∷ 255 ∷ 254 ∷ 255 ∷ 0 ∷ 224 ∷ 10 ∷ 0 ∷ 0 ∷ 0 ∷ 8 ∷ 0 ∷ 96 ∷ 0
+    ∷ 2 ∷ 0 ∷ 0 ∷ 0 ∷ 67 ∷ 84 ∷ 254 ∷ 255 ∷ 221 ∷ 224 ∷ 0 ∷ 0 ∷ 0 ∷ 0 ∷ []
+
+abbrev pub pixels : List ℕ
+pixels =
+    224 ∷ 127 ∷ 16 ∷ 0 ∷ 79 ∷ 66 ∷ 0 ∷ 0 ∷ 255 ∷ 255 ∷ 255 ∷ 255 ∷ []
+
+-- the two identifiers of a CT image
+abbrev pub one_store : List ℕ
+one_store =
+    8 ∷ 0 ∷ 22 ∷ 0 ∷ 85 ∷ 73 ∷ 26 ∷ 0 ∷ 49 ∷ 46 ∷ 50 ∷ 46 ∷ 56 ∷ 52 ∷ 48 ∷ 46 ∷ 49 ∷ 48 ∷ 48 ∷ 48 ∷ 56 ∷ 46 ∷ 53 ∷ 46 ∷ 49 ∷ 46 ∷ 52 ∷ 46 ∷ 49 ∷ 46 ∷ 49 ∷ 46 ∷ 50 ∷ 0 ∷ 8 ∷ 0 ∷ 24 ∷ 0 ∷ 85 ∷ 73 ∷ 6 ∷ 0 ∷ 49 ∷ 46 ∷ 50 ∷ 46 ∷ 51 ∷ 0 ∷ []
+
+-- a sequence and an item of undefined length, and three bytes of a header
+abbrev pub TwoOpenLevels : Type 0
+TwoOpenLevels = Tells Implicit (levels_of 64) two_levels (going_on 2 19 35)
+
+-- four levels that end together: all are open before their last byte, and one after it; then nothing is open
+abbrev pub FourLevels : Type 0
+FourLevels =
+    Tells Implicit (levels_of 64) (take 41 four_levels) (going_on 4 41 64)
+    × Tells Implicit (levels_of 64) (take 42 four_levels) (going_on 1 42 16)
+    × Tells Implicit (levels_of 64) four_levels (going_on 0 60 0)
+
+-- an item that ends where no header fits, in an item and in a sequence inside it; a byte earlier nothing is wrong
+abbrev pub PastItsItem : Type 0
+PastItsItem =
+    Tells Implicit (levels_of 64) past_item (faulty 17 26 no_tag 2 26 32)
+    × Tells Implicit (levels_of 64) (take 25 past_item) (going_on 2 25 32)
+    × Tells Implicit (levels_of 64) level_past_item (faulty 17 24 no_tag 3 24 48)
+
+-- a third level where two may be open; an empty one opens none
+abbrev pub TooDeep : Type 0
+TooDeep =
+    Tells Implicit (levels_of 2) third_level (faulty 18 16 (record { 0 = 0x0040; 1 = 0xa730 }) 2 24 32)
+    × Tells Implicit (levels_of 2) empty_third (going_on 2 24 32)
+
+-- unknown content of undefined length has items in Implicit; pixel data of undefined length is not allowed
+abbrev pub UnknownContent : Type 0
+UnknownContent =
+    Tells Explicit (levels_of 64) unknown (going_on 0 38 0)
+    × Tells Explicit (levels_of 64) pixels (faulty 14 0 (record { 0 = 0x7fe0; 1 = 0x0010 }) 0 12 0)
+
+-- after the first `from` bytes of the text, a step takes `size` bytes and returns this
+abbrev pub Steps : Syntax → ℕ → List ℕ → ℕ → ℕ → Step → Type 0
+Steps s depth text from size step = Answers s (levels_of depth) (take from text) (drop from text) (take size (drop from text)) step
+
+-- it lends these bytes of a value
+abbrev pub StepsRun : Syntax → ℕ → List ℕ → ℕ → ℕ → Type 0
+StepsRun s depth text from size = (step : Step) → IsRun (take size (drop from text)) step → Steps s depth text from size step
+
+abbrev pub plain_header : ℕ → ℕ → ℕ → Header
+plain_header group number length = record { tag = record { 0 = group; 1 = number }; vr = None; length = length }
+
+abbrev pub identifier_header : ℕ → ℕ → Header
+identifier_header number length = record { tag = record { 0 = 0x0008; 1 = number }; vr = Some (codes "UI"); length = length }
+
+-- along the data set of one CT store: a header, a value, a header, a value
+abbrev pub AlongOneStore : Type 0
+AlongOneStore =
+    Steps Explicit 64 one_store 0 8 (Element (identifier_header 0x0016 26))
+    × StepsRun Explicit 64 one_store 8 26
+    × Steps Explicit 64 one_store 34 8 (Element (identifier_header 0x0018 6))
+    × StepsRun Explicit 64 one_store 42 6
+
+-- along four levels, of which three end with the value and one by a delimitation
+abbrev pub AlongFourLevels : Type 0
+AlongFourLevels =
+    Steps Implicit 64 four_levels 0 8 (Element (plain_header 0x0040 0x0275 0xffffffff))
+    × Steps Implicit 64 four_levels 8 8 (Opened (plain_header 0xfffe 0xe000 26))
+    × Steps Implicit 64 four_levels 16 8 (Element (plain_header 0x0040 0xa730 18))
+    × Steps Implicit 64 four_levels 24 8 (Opened (plain_header 0xfffe 0xe000 10))
+    × Steps Implicit 64 four_levels 32 8 (Element (plain_header 0x0008 0x0104 2))
+    × StepsRun Implicit 64 four_levels 40 2
+    × Steps Implicit 64 four_levels 42 8 (Closed (plain_header 0xfffe 0xe0dd 0))
+    × Steps Implicit 64 four_levels 50 8 (Element (plain_header 0x7fe0 0x0010 2))
+    × StepsRun Implicit 64 four_levels 58 2

@@ -1,0 +1,86 @@
+-- Where a header ends.
+use Rattle.std.specs.Prelude.{◌≡◌, ℕ, ◌-◌, ◌<◌, ◌≤◌, Bool, true, false, not, ◌&&◌, List, [], ◌∷◌, length, take, Some, None, is_none}
+use Rattle.element.specs.declared.tag.Tag.{Tag}
+use Rattle.element.specs.declared.header.Header.{Header}
+use Rattle.element.specs.declared.syntax.Syntax.{Syntax}
+use Rattle.element.specs.declared.size.Need.TheVariants.{Size}
+use Rattle.element.specs.Header.{is_plain, need, is_whole, header_at}
+use Rattle.sequence.specs.declared.level.Scope.{Scope}
+use Rattle.sequence.specs.declared.spot.Spot.{Spot}
+use Rattle.sequence.specs.declared.shape.Shape.{Shape}
+use Rattle.sequence.specs.Shape.{shape}
+use Rattle.sequence.specs.declared.reading.Front.{Front}
+use Rattle.sequence.specs.declared.heading.End.{End}
+use Rattle.sequence.specs.declared.heading.End.TheVariants as ends
+use Rattle.sequence.specs.Rules.{Limits, Broken, broken_due, broken_tag, broken_need, broken_header, broken, ◌or_else◌, when}
+use Rattle.sequence.specs.machine.Machine.{spot_of}
+
+abbrev pub is_part : End → Bool
+is_part (ends.Refused n number tag) = false
+is_part (ends.Whole n h sh) = false
+is_part ends.Part = true
+
+abbrev pub is_end : End → Bool
+is_end (ends.Refused n number tag) = false
+is_end (ends.Whole n h sh) = true
+is_end ends.Part = false
+
+-- the bytes t of a header break no rule, and it is not whole
+pub record IsQuiet (lim : Limits) (spot : Spot) (t : List ℕ) : Type 0 where
+  pub fine : broken lim spot t ≡ None
+  pub part : is_whole spot.syntax t ≡ false
+
+-- the bytes t of a header break this rule
+abbrev pub IsRefused : Limits → Spot → List ℕ → ℕ → Tag → Type 0
+IsRefused lim spot t number tag = broken lim spot t ≡ Some (number, tag)
+
+-- the bytes t are the header h, which breaks no rule, and this follows it
+pub record IsRead (lim : Limits) (spot : Spot) (t : List ℕ) (h : Header) (sh : Shape) : Type 0 where
+  pub fine : broken lim spot t ≡ None
+  pub whole : is_whole spot.syntax t ≡ true
+  pub read : h ≡ header_at spot.syntax t
+  pub shaped : sh ≡ shape spot.syntax h
+
+-- more than a, and at most c or 12
+pub record IsCount (a n c : ℕ) : Type 0 where
+  pub more : a < n
+  pub some : n ≤ c
+  pub short : n ≤ 12
+
+-- what the first `count` bytes come to, where they are there and more than `begun`
+abbrev pub IsExamined : Limits → Spot → List ℕ → ℕ → ℕ → End → Type 0
+IsExamined lim spot bytes begun count (ends.Refused n number tag) = IsCount begun n (length bytes) × (n ≡ count) × IsRefused lim spot (take n bytes) number tag
+IsExamined lim spot bytes begun count (ends.Whole n h sh) = IsCount begun n (length bytes) × (n ≡ count) × IsRead lim spot (take n bytes) h sh
+IsExamined lim spot bytes begun count ends.Part = begun < count → count ≤ length bytes → IsQuiet lim spot (take count bytes)
+
+-- the first beginning of the bytes, longer than `begun`, that breaks a rule or is whole
+abbrev pub IsEnd : Limits → Spot → List ℕ → ℕ → End → Type 0
+IsEnd lim spot bytes begun (ends.Refused n number tag) = IsCount begun n (length bytes) × IsRefused lim spot (take n bytes) number tag × ((m : ℕ) → begun < m → m < n → IsQuiet lim spot (take m bytes))
+IsEnd lim spot bytes begun (ends.Whole n h sh) = IsCount begun n (length bytes) × IsRead lim spot (take n bytes) h sh × ((m : ℕ) → begun < m → m < n → IsQuiet lim spot (take m bytes))
+IsEnd lim spot bytes begun ends.Part = (m : ℕ) → begun < m → m ≤ length bytes → IsQuiet lim spot (take m bytes)
+
+-- the bytes of a header that are kept: all of one that goes on
+abbrev pub kept_by : End → List ℕ → List ℕ
+kept_by (ends.Refused n number tag) bytes = []
+kept_by (ends.Whole n h sh) bytes = []
+kept_by ends.Part bytes = bytes
+
+-- the whole header that stands at the front of the bytes
+pub record IsFront (s : Syntax) (bytes : List ℕ) (front : Front) : Type 0 where
+  pub size-is : need s bytes ≡ Size front.size
+  pub within : front.size ≤ length bytes
+  pub read : front.header ≡ header_at s bytes
+  pub shaped : front.shape ≡ shape s front.header
+
+-- which rule the whole header h of so many bytes breaks
+unfoldable pub broken_whole : Limits → Spot → ℕ → Header → Broken
+broken_whole lim spot size h =
+    broken_due spot
+    or_else broken_tag spot h.tag
+    or_else when (not (is_plain spot.syntax h.tag)) (broken_need spot (Size size) h.tag)
+    or_else broken_header lim spot size h
+
+-- the bytes t of a header that came before the place p, if any came, break no rule, and it is not whole
+abbrev pub is_begun : Limits → Scope → List Scope → ℕ → List ℕ → Bool
+is_begun lim f fs p [] = true
+is_begun lim f fs p (x ∷ t) = is_none (broken lim (spot_of f fs (p - length (x ∷ t))) (x ∷ t)) && not (is_whole f.syntax (x ∷ t))

@@ -1,0 +1,149 @@
+-- The walk as a machine that takes one byte after another: levels by where they end, the innermost first.
+use Rattle.std.specs.Prelude.{◌≡◌, ℕ, ◌+◌, ◌-◌, Bool, true, false, not, ◌&&◌, List, [], ◌∷◌, ◌++◌, length, Option, Some, None, nat_eq, nat_le, if◌then◌else◌}
+use Rattle.element.specs.declared.syntax.Syntax.{Syntax}
+use Rattle.element.specs.declared.tag.Tag.{Tag}
+use Rattle.element.specs.declared.header.Header.{Header}
+use Rattle.sequence.specs.declared.level.Scope.{Scope}
+use Rattle.sequence.specs.declared.spot.Spot.{Spot}
+use Rattle.element.specs.Header.{number, is_marker, is_whole, header_at}
+use Rattle.sequence.specs.Shape.{is_undefined, shape}
+use Rattle.sequence.specs.declared.shape.Shape.{Shape}
+use Rattle.sequence.specs.declared.shape.Shape.TheVariants.{Value, Sequence, NotAllowed}
+use Rattle.sequence.specs.Tree.{item_tag}
+use Rattle.sequence.specs.Rules.{Limits, Broken, broken_due, broken, same_tag}
+
+abbrev pub set_scope : Syntax → Option ℕ → ℕ → Scope
+set_scope s stop last = record { in_sequence = false; syntax = s; stop = stop; last = last }
+
+abbrev pub sequence_scope : Syntax → Option ℕ → Scope
+sequence_scope s stop = record { in_sequence = true; syntax = s; stop = stop; last = 0 }
+
+pub data Mode : Type 0 where
+  -- of a header, that began at this place, these bytes came
+  Heading : ℕ → List ℕ → Mode
+  -- of the value of this tag, so many bytes are due
+  Reading : Tag → ℕ → Mode
+  -- a fault: its number, its place and its tag
+  Stopped : ℕ → ℕ → Tag → Mode
+
+pub record State : Type 0 where
+  pub top : Scope
+  pub below : List Scope
+  pub place : ℕ
+  pub mode : Mode
+
+abbrev pub at : Scope → List Scope → ℕ → Mode → State
+at f fs p m = record { top = f; below = fs; place = p; mode = m }
+
+abbrev pub nearer : Option ℕ → Option ℕ → Option ℕ
+nearer (Some e) o = Some e
+nearer None o = o
+
+-- the nearest end
+abbrev pub nearest : List Scope → Option ℕ
+nearest [] = None
+nearest (f ∷ fs) = nearer f.stop (nearest fs)
+
+abbrev pub less : Option ℕ → ℕ → Option ℕ
+less None p = None
+less (Some e) p = Some (e - p)
+
+abbrev pub is_none : Option ℕ → Bool
+is_none None = true
+is_none (Some e) = false
+
+abbrev pub is_empty : List Scope → Bool
+is_empty [] = true
+is_empty (f ∷ fs) = false
+
+abbrev pub spot_of : Scope → List Scope → ℕ → Spot
+spot_of f fs p = record {
+  syntax = f.syntax;
+  in_sequence = f.in_sequence;
+  open_ended = is_none f.stop && not (is_empty fs);
+  near = less (nearer f.stop (nearest fs)) p;
+  last = f.last;
+  depth = length fs;
+  place = p;
+}
+
+abbrev pub stops_at : Option ℕ → ℕ → Bool
+stops_at None p = false
+stops_at (Some e) p = nat_eq e p
+
+abbrev pub due_by : Broken → Scope → List Scope → ℕ → State
+due_by None f fs p = at f fs p (Heading p [])
+due_by (Some x) f fs p = at f fs p (Stopped x.0 p x.1)
+
+-- a header is due
+unfoldable pub due : Scope → List Scope → ℕ → State
+due f fs p = due_by (broken_due (spot_of f fs p)) f fs p
+
+-- the levels that end here are left, and a header is due
+unfoldable pub arrive : ℕ → Scope → List Scope → State
+arrive p f [] = due f [] p
+arrive p f (g ∷ gs) = if stops_at f.stop p then arrive p g gs else due f (g ∷ gs) p
+
+abbrev pub stop_of : ℕ → ℕ → Option ℕ
+stop_of p n = if is_undefined n then None else Some (p + n)
+
+-- after the header of a value
+unfoldable pub begin_value : ℕ → Scope → List Scope → Tag → ℕ → State
+begin_value p f fs t n = if nat_eq n 0 then arrive p f fs else at f fs p (Reading t n)
+
+-- after the header of a sequence or an item
+unfoldable pub begin_level : ℕ → Scope → Scope → List Scope → ℕ → State
+begin_level p g f fs n = if nat_eq n 0 then arrive p f fs else arrive p g (f ∷ fs)
+
+-- after a delimitation
+unfoldable pub leave : ℕ → Scope → List Scope → State
+leave p f [] = arrive p f []
+leave p f (g ∷ gs) = arrive p g gs
+
+abbrev pub begun : Scope → Tag → Scope
+begun f t = record f { last = number t }
+
+abbrev pub take_element : ℕ → Scope → List Scope → Header → Shape → State
+take_element p f fs h Value = begin_value p (begun f h.tag) fs h.tag h.length
+take_element p f fs h (Sequence inner) = begin_level p (sequence_scope inner (stop_of p h.length)) (begun f h.tag) fs h.length
+take_element p f fs h NotAllowed = arrive p f fs
+
+-- after the whole header h
+unfoldable pub take_header : ℕ → Scope → List Scope → Header → State
+take_header p f fs h =
+    if is_marker h.tag
+    then (if same_tag h.tag item_tag then begin_level p (set_scope f.syntax (stop_of p h.length) 0) f fs h.length else leave p f fs)
+    else take_element p f fs h (shape f.syntax h)
+
+abbrev pub headed_by : Broken → Scope → List Scope → ℕ → ℕ → List ℕ → State
+headed_by (Some x) f fs p start t = at f fs p (Stopped x.0 start x.1)
+headed_by None f fs p start t = if is_whole f.syntax t then take_header p f fs (header_at f.syntax t) else at f fs p (Heading start t)
+
+-- t came of a header
+unfoldable pub headed : Limits → Scope → List Scope → ℕ → ℕ → List ℕ → State
+headed lim f fs p start t = headed_by (broken lim (spot_of f fs start) t) f fs p start t
+
+unfoldable pub read : Scope → List Scope → ℕ → Tag → ℕ → State
+read f fs p t n = if nat_le n 1 then arrive p f fs else at f fs p (Reading t (n - 1))
+
+abbrev pub next_by : Limits → Scope → List Scope → ℕ → Mode → ℕ → State
+next_by lim f fs p (Heading start t) x = headed lim f fs (p + 1) start (t ++ x ∷ [])
+next_by lim f fs p (Reading t n) x = read f fs (p + 1) t n
+next_by lim f fs p (Stopped n place t) x = at f fs p (Stopped n place t)
+
+-- one more byte
+abbrev pub next : Limits → State → ℕ → State
+next lim st x = next_by lim st.top st.below st.place st.mode x
+
+unfoldable pub run : Limits → State → List ℕ → State
+run lim st [] = st
+run lim st (x ∷ xs) = run lim (next lim st x) xs
+
+abbrev pub start : Syntax → State
+start s = at (set_scope s None 0) [] 0 (Heading 0 [])
+
+-- where a mode is taken up after so many bytes: no byte of a header came, and a fault is at this place
+abbrev pub ArrivesAt : Mode → ℕ → Type 0
+ArrivesAt (Heading begin t) p = t ≡ []
+ArrivesAt (Reading t n) p = Unit {0}
+ArrivesAt (Stopped n place t) p = place ≡ p

@@ -1,0 +1,125 @@
+-- The text at which the machine stands.
+use Rattle.std.specs.Prelude.{◌≡◌, ℕ, ◌+◌, ◌<◌, ◌≤◌, ◌≢◌, false, is_some, if◌then◌else◌, List, [], ◌∷◌, ◌++◌, length, Option, Some, None}
+use Rattle.element.specs.declared.syntax.Syntax.{Syntax}
+use Rattle.element.specs.declared.tag.Tag.{Tag}
+use Rattle.element.specs.declared.header.Header.{Header}
+pub use Rattle.element.specs.Numbers.{IsBytes}
+use Rattle.element.specs.Header.{number}
+use Rattle.sequence.specs.declared.level.Scope.{Scope}
+use Rattle.sequence.specs.declared.spot.Spot.{Spot}
+use Rattle.sequence.specs.declared.wanted.Want.{Want}
+use Rattle.sequence.specs.declared.shape.Shape.TheVariants.{Value, Sequence}
+use Rattle.sequence.specs.Shape.{undefined_length, shape}
+use Rattle.sequence.specs.Tree.{Elements, Items, IsEven, IsElement, IsItem, DataSet, ItemList}
+use Rattle.sequence.specs.Open.{last_of, IsUnfinished, IsLeft}
+use Rattle.sequence.specs.Wanted.{Values, room_of, kept_of}
+use Rattle.sequence.specs.Within.{FitRooms}
+use Rattle.sequence.specs.Rules.{Limits, broken}
+use Rattle.sequence.specs.machine.Machine.{set_scope, sequence_scope, stop_of, stops_at, spot_of, Mode, Heading, Reading, Stopped, State}
+use Rattle.sequence.specs.machine.Keeping.{with_value}
+
+-- a length that is defined is even
+abbrev pub IsLength : ℕ → Type 0
+IsLength n = n ≢ undefined_length → IsEven n
+
+-- in a data set of syntax s the text leads to these levels, the innermost first, and has these wanted values
+pub data Reaches (s : Syntax) (ws : List Want) : Values → Scope → List Scope → List ℕ → Type 0 where
+  at_root : {es : Elements} {b : List ℕ} {last : ℕ} {values : Values} → DataSet s 0 es b → last ≡ last_of 0 es → values ≡ kept_of ws es → FitRooms ws es → Reaches s ws values (set_scope s None last) [] b
+  into_sequence : {s1 : Syntax} {stop out : Option ℕ} {last : ℕ} {fs : List Scope} {q : List ℕ} {h : Header} {hb : List ℕ} {inner : Syntax} {is : Items} {ib b : List ℕ} {k : ℕ} {values : Values}
+      → Reaches s ws values (set_scope s1 out last) fs q → IsElement s1 last h hb → shape s1 h ≡ Sequence inner → IsLength h.length → h.length ≢ 0 → ItemList inner is ib
+      → stop ≡ stop_of (length (q ++ hb)) h.length → k ≡ number h.tag → b ≡ q ++ (hb ++ ib)
+      → Reaches s ws values (sequence_scope inner stop) (set_scope s1 out k ∷ fs) b
+  into_item : {s1 : Syntax} {stop out : Option ℕ} {last : ℕ} {fs : List Scope} {q : List ℕ} {h : Header} {hb : List ℕ} {es : Elements} {eb b : List ℕ} {values : Values}
+      → Reaches s ws values (sequence_scope s1 out) fs q → IsItem s1 h hb → IsLength h.length → h.length ≢ 0 → DataSet s1 0 es eb
+      → stop ≡ stop_of (length (q ++ hb)) h.length → last ≡ last_of 0 es → b ≡ q ++ (hb ++ eb)
+      → Reaches s ws values (set_scope s1 stop last) (sequence_scope s1 out ∷ fs) b
+
+-- no defined end is before a defined end inside it
+abbrev pub AreNested : Option ℕ → List Scope → Type 0
+AreNested near [] = Unit {0}
+AreNested near (f ∷ fs) = IsLeft f.stop near × AreNested (if is_some f.stop then f.stop else near) fs
+
+-- the scope does not end before n
+abbrev pub Holds : Option ℕ → ℕ → Type 0
+Holds None n = Unit {0}
+Holds (Some e) n = n ≤ e
+
+abbrev pub AllHold : List Scope → ℕ → Type 0
+AllHold [] n = Unit {0}
+AllHold (f ∷ fs) n = Holds f.stop n × AllHold fs n
+
+-- the levels keep their limits up to the place n
+pub record AreLevels (lim : Limits) (f : Scope) (fs : List Scope) (n : ℕ) : Type 0 where
+  pub nested : AreNested None (f ∷ fs)
+  pub hold : AllHold (f ∷ fs) n
+  pub deep : length fs ≤ lim.depth
+  pub short : n ≤ lim.bytes
+
+-- after the text `before` a header is due
+pub record IsDue (s : Syntax) (lim : Limits) (values : Values) (f : Scope) (fs : List Scope) (before : List ℕ) : Type 0 where
+  pub reaches : Reaches s lim.wanted values f fs before
+  pub levels : AreLevels lim f fs (length before)
+  pub stays : stops_at f.stop (length before) ≡ false
+
+-- no front of t breaks a rule
+abbrev pub Unbroken : Limits → Spot → List ℕ → Type 0
+Unbroken lim spot t = (u v : List ℕ) → t ≡ u ++ v → broken lim spot u ≡ None
+
+-- of a header that is due after the text `before`, the bytes t came
+pub record IsHeading (s : Syntax) (lim : Limits) (values : Values) (f : Scope) (fs : List Scope) (begin : ℕ) (t b : List ℕ) : Type 0 where
+  pub before : List ℕ
+  pub due : IsDue s lim values f fs before
+  pub place : begin ≡ length before
+  pub text : b ≡ before ++ t
+  pub tail : IsUnfinished f.syntax t
+  pub unbroken : Unbroken lim (spot_of f fs begin) t
+  pub bytes : IsBytes t
+
+-- the value of a wanted element of the data set itself fits its room
+abbrev pub IsFit : List Want → List Scope → ℕ → ℕ → Type 0
+IsFit ws [] t n = (room : ℕ) → room_of ws t ≡ Some room → n ≤ room
+IsFit ws (f ∷ fs) t n = Unit {0}
+
+-- of the value after the header h, n bytes are due
+pub record IsReading (s : Syntax) (lim : Limits) (values : Values) (f : Scope) (fs : List Scope) (t : Tag) (n : ℕ) (b : List ℕ) : Type 0 where
+  pub before : List ℕ
+  pub whole : Values
+  pub last : ℕ
+  pub h : Header
+  pub hb : List ℕ
+  pub v : List ℕ
+  pub reaches : Reaches s lim.wanted whole (set_scope f.syntax f.stop last) fs before
+  pub levels : AreLevels lim f fs (length (b) + n)
+  pub top : f ≡ set_scope f.syntax f.stop (number h.tag)
+  pub element : IsElement f.syntax last h hb
+  pub shaped : shape f.syntax h ≡ Value
+  pub even : IsEven h.length
+  pub fits : IsFit lim.wanted fs (number h.tag) h.length
+  pub size : length v + n ≡ h.length
+  pub more : 0 < n
+  pub tagged : t ≡ h.tag
+  pub text : b ≡ before ++ (hb ++ v)
+  pub kept : values ≡ with_value lim fs (number h.tag) v whole
+
+-- the bytes u of a header broke a rule
+pub record IsStopped (s : Syntax) (lim : Limits) (values : Values) (f : Scope) (fs : List Scope) (p rule place : ℕ) (t : Tag) (b : List ℕ) : Type 0 where
+  pub before : List ℕ
+  pub u : List ℕ
+  pub rest : List ℕ
+  pub due : IsDue s lim values f fs before
+  pub place-is : place ≡ length before
+  pub came : p ≡ length (before ++ u)
+  pub text : b ≡ (before ++ u) ++ rest
+  pub breaks : broken lim (spot_of f fs place) u ≡ Some (rule, t)
+  pub unbroken : (w : List ℕ) (x : ℕ) (z : List ℕ) → u ≡ w ++ x ∷ z → broken lim (spot_of f fs place) w ≡ None
+  -- and goes on no farther than one header
+  pub one_header : (w : List ℕ) (x : ℕ) (z : List ℕ) → u ≡ w ++ x ∷ z → IsUnfinished f.syntax w
+
+abbrev pub StandsIn : Syntax → Limits → Values → Scope → List Scope → ℕ → Mode → List ℕ → Type 0
+StandsIn s lim values f fs p (Heading begin t) b = (p ≡ length b) × IsHeading s lim values f fs begin t b
+StandsIn s lim values f fs p (Reading t n) b = (p ≡ length b) × IsReading s lim values f fs t n b
+StandsIn s lim values f fs p (Stopped rule place t) b = IsStopped s lim values f fs p rule place t b
+
+-- the machine stands at b, with these wanted values
+abbrev pub Stands : Syntax → Limits → State → Values → List ℕ → Type 0
+Stands s lim st values b = StandsIn s lim values st.top st.below st.place st.mode b

@@ -1,0 +1,48 @@
+-- The machine's state that a walker keeps.
+use Rattle.std.specs.Prelude.{◌≡◌, ℕ, ◌-◌, List, [], length, Bool, not, ◌&&◌, ◌||◌, nat_eq, nat_le}
+use Rattle.element.specs.declared.syntax.Syntax.{Syntax}
+use Rattle.element.specs.declared.header.Header.{Header}
+use Rattle.element.specs.Header.{number, is_marker}
+use Rattle.sequence.specs.declared.level.Scope.{Scope}
+use Rattle.sequence.specs.declared.wanted.Want.{Want}
+use Rattle.sequence.specs.declared.stage.Stage.{Stage}
+use Rattle.sequence.specs.declared.stage.Stage.TheVariants as stages
+use Rattle.sequence.specs.declared.walker.Walker.{Walker}
+use Rattle.sequence.specs.Shape.{shape}
+use Rattle.sequence.specs.Wanted.{Values, room_of}
+use Rattle.sequence.specs.Rules.{is_sequence, is_value, passes}
+use Rattle.sequence.specs.machine.Machine.{State, at, Mode, Heading, Reading, Stopped}
+use Rattle.sequence.specs.machine.Scopes.{top_of, below_of}
+use Rattle.sequence.specs.machine.Stored.{wants_of, values_of}
+pub use Rattle.sequence.specs.Taken.{limits_of, syntax_of, fault_by, fault_of, told_by, HoldsFront, StandsAt}
+
+abbrev pub mode_of : Stage → ℕ → List ℕ → Mode
+mode_of stages.Heading place header = Heading (place - length header) header
+mode_of (stages.Value tag left kept) place header = Reading tag left
+mode_of (stages.Stopped fault) place header = Stopped fault.number fault.place fault.tag
+
+abbrev pub top : {V D : ℕ} → Walker V D → Scope
+top w = top_of w.root w.levels.items
+
+abbrev pub below : {V D : ℕ} → Walker V D → List Scope
+below w = below_of w.root [] w.levels.items
+
+abbrev pub state_of : {V D : ℕ} → Walker V D → State
+state_of w = at (top w) (below w) w.place (mode_of w.stage w.place w.header.items)
+
+abbrev pub kept_values : {V D : ℕ} → Walker V D → Values
+kept_values w = values_of w.kept
+
+-- what no step changes
+pub record IsSameWalk {V D : ℕ} (old new : Walker V D) : Type 0 where
+  pub syntax : new.root.syntax ≡ old.root.syntax
+  pub limit : new.limit ≡ old.limit
+  pub wanted : wants_of new.kept ≡ wants_of old.kept
+
+-- a level that the header opens has room
+abbrev pub has_room : ℕ → ℕ → Syntax → Header → Bool
+has_room limit depth s h = not (((is_marker h.tag || is_sequence (shape s h)) && not (nat_eq h.length 0)) && nat_le limit depth)
+
+-- a wanted value that it begins has room
+abbrev pub fits_wanted : List Want → ℕ → Syntax → Header → Bool
+fits_wanted ws depth s h = not (((nat_eq depth 0 && not (is_marker h.tag)) && is_value (shape s h)) && passes (room_of ws (number h.tag)) h.length)

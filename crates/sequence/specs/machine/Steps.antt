@@ -1,0 +1,34 @@
+-- What a step took of a header, and the bytes of a value that are kept.
+use Rattle.std.specs.Prelude.{◌≡◌, ℕ, ◌+◌, ◌<◌, true, List, [], ◌∷◌, ◌++◌, length, take, Option, Some, None}
+use Rattle.element.specs.declared.syntax.Syntax.{Syntax}
+use Rattle.element.specs.declared.header.Header.{Header}
+use Rattle.element.specs.Header.{is_whole, header_at}
+use Rattle.sequence.specs.declared.stage.Stage.{Stage}
+use Rattle.sequence.specs.declared.stage.Stage.TheVariants as stages
+use Rattle.sequence.specs.Open.{IsUnfinished}
+use Rattle.sequence.specs.Wanted.{Values}
+use Rattle.sequence.specs.machine.Keeping.{with_byte}
+
+-- with more bytes of the last value
+abbrev pub with_bytes : Values → List ℕ → Values
+with_bytes values [] = values
+with_bytes values (x ∷ xs) = with_bytes (with_byte values x) xs
+
+-- the bytes `taken` after t, the beginning of a header in syntax s, are all up to the end of the header h
+pub record IsMade (s : Syntax) (t taken : List ℕ) (h : Header) : Type 0 where
+  pub front : List ℕ
+  pub byte : ℕ
+  pub text : taken ≡ front ++ byte ∷ []
+  pub part : IsUnfinished s (t ++ front)
+  pub whole : is_whole s (t ++ taken) ≡ true
+  pub read : header_at s (t ++ taken) ≡ h
+
+-- after t, the beginning of a header in syntax s that ends at this place, n bytes of the piece are taken: all up to a
+-- refusal or the end of the header, and else the piece
+abbrev pub IsTaken : Syntax → List ℕ → List ℕ → ℕ → ℕ → Stage → List ℕ → Option Header → Type 0
+IsTaken s t piece place n (stages.Stopped fault) header (Some h) = IsMade s t (take n piece) h × (fault.place ≡ place + n)
+IsTaken s t piece place n (stages.Stopped fault) header None = (fault.place + length t ≡ place) × (0 < n)
+IsTaken s t piece place n stages.Heading header (Some h) = IsMade s t (take n piece) h × (header ≡ [])
+IsTaken s t piece place n (stages.Value tag left kept) header (Some h) = IsMade s t (take n piece) h
+IsTaken s t piece place n stages.Heading header None = (n ≡ length piece) × (header ≡ t ++ piece) × IsUnfinished s (t ++ piece)
+IsTaken s t piece place n (stages.Value tag left kept) header None = ⊥
