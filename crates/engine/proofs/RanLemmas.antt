@@ -1,24 +1,28 @@
 -- One turn after another.
-use Rattle.std.proofs.Common.{◌≡◌, ℕ, zero, suc, ◌+◌, false, List, [], ◌∷◌, ◌++◌, length, Option, Some, None, refl, sym, ap, subst, ◌∙◌, arith}
-use Rattle.std.proofs.lemmas.List.{length-append}
-use Rattle.std.specs.Io.KnownBytes.{append_known}
-use Rattle.acceptor.specs.declared.state.State.{State}
-use Rattle.pdu.proofs.SentLemmas.{known_then, known_nothing}
-use Rattle.part10.specs.Shelf.{Shelf}
+use Rattle.std.proofs.Common.{◌≡◌, ◌≢◌, ℕ, zero, suc, ◌+◌, ◌≤◌, Bool, false, List, [], ◌∷◌, ◌++◌, length, take, drop, option_map, Option, Some, None, refl, sym, ap, subst, ◌∙◌, arith, inl, inr}
+use Rattle.std.proofs.lemmas.Bool.{cases_lt}
+use Rattle.std.proofs.lemmas.List.{length-append, length-map, take-append-drop, take-append-le, take_all}
+use Rattle.acceptor.specs.declared.state.State.TheVariants.{Sta1}
+use Rattle.part10.specs.Store.{Shelf, Store, told_after, without_draft, stepped}
 use Rattle.negotiate.specs.Settings.{Settings}
 use Rattle.engine.specs.declared.source.Input.{Input}
 use Rattle.engine.specs.declared.report.Report.{Report}
-use Rattle.engine.specs.Inputs.{Received, first_of, others_of, first_inputs, input_of, Gives}
-use Rattle.engine.specs.Timeline.{Happened}
-use Rattle.engine.specs.Progress.{start}
-use Rattle.engine.specs.Run.{Rooms, progress_of, sent_of}
-use Rattle.engine.specs.Stands.{Seen, Stands}
-use Rattle.engine.proofs.InputLemmas.{those_before}
-use Rattle.engine.specs.Echoes.{AreEchoes}
+use Rattle.engine.specs.Covered.{IsCovered}
+use Rattle.engine.specs.Devices.{Devices, with_files, filed}
+use Rattle.engine.specs.Held.{Held}
+use Rattle.engine.specs.Inputs.{Received, first_of, others_of, first_inputs, input_of, stream_of, Gives}
 use Rattle.engine.specs.Moves.{Moved}
-use Rattle.engine.specs.Ran.{inputs_after, Follows, Stood, Running, standing_of, Answered}
-use Rattle.engine.proofs.MoveLemmas.{shows}
-use Rattle.engine.proofs.StoryLemmas.{sent_then, files_then, failures_then}
+use Rattle.engine.specs.Progress.{start}
+use Rattle.engine.specs.Ran.{inputs_after, story_after, EndsLast, Leaves, standing_of, Answered}
+use Rattle.engine.specs.Reached.{reached}
+use Rattle.engine.specs.Run.{Rooms, progress_of, sent_of, files_of}
+use Rattle.engine.specs.Stands.{Stands}
+use Rattle.engine.specs.machine.Shows.{Fields}
+use Rattle.engine.specs.Timeline.{Happened, Entry, entries, entries_of}
+use Rattle.engine.specs.machine.Running.{Follows, Stood, Running}
+use Rattle.engine.proofs.MovedLemmas.{covered_before}
+use Rattle.engine.proofs.StoryLemmas.{gains_nothing, gains_then}
+use Rattle.engine.proofs.TimelineLemmas.{entries_append}
 
 -- ---- the inputs of a source
 
@@ -43,56 +47,120 @@ follows_start : (source : Option (List Received)) → Follows source source []
 follows_start None = refl
 follows_start (Some all) = (refl, refl)
 
-pub follows_all : (old now : Option (List Received)) (taken all : List Received) → Follows old now taken → old ≡ Some all → taken ≡ first_inputs (length taken) all
-follows_all old now taken all f e = let g : Follows (Some all) now taken = subst (λ (x : Option (List Received)). Follows x now taken) e f in g.0
+pub follows_all : (old now : Option (List Received)) (taken all : List Received) → Follows old now taken → old ≡ Some all → Leaves taken all now
+follows_all old now taken all f e = let g : Follows (Some all) now taken = subst (λ (x : Option (List Received)). Follows x now taken) e f in record { first = g.0; others = g.1 }
 
--- ---- one turn more
+-- ---- the story of a front of the inputs
 
-module _ (rooms : Rooms) (s : Settings) (told : Option Shelf) where
-  pub running_start : (seen : Seen) (source : Option (List Received)) (so : Option (List ℕ)) (co : ℕ) → Stands rooms s [] [] false seen told → Running rooms s 0 source source seen told so so co co
-  running_start seen source so co h = record {
+length_take : (n : ℕ) (xs ys : List Received) → n ≤ length xs → take n (xs ++ ys) ≡ take n xs
+length_take n xs ys h = take-append-le n xs ys h
+
+-- the timeline of a front is no longer than that of all
+few_entries : (n : ℕ) (taken : List Received) → n ≤ length taken → length (entries [] (take n taken)) ≤ length (entries [] taken)
+few_entries n taken h =
+    let front = take n taken in
+    let parts : entries [] taken ≡ entries [] front ++ entries (stream_of front) (drop n taken) = sym (ap (entries []) (take-append-drop n taken)) ∙ entries_append front (drop n taken) in
+    omega (arith, ap length parts, length-append (entries [] front) (entries (stream_of front) (drop n taken)))
+
+story_length : (story : List Happened) (es : List Entry) → entries_of story ≡ es → length story ≡ length es
+story_length story es e = sym (length-map story (λ (h : Happened). h.0)) ∙ ap length e
+
+-- with one input more, and its part of the story, it is as before
+story_before : (n : ℕ) (taken : List Received) (x : Received) (story more : List Happened) → entries_of story ≡ entries [] taken → n ≤ length taken
+    → story_after n (taken ++ x ∷ []) (story ++ more) ≡ story_after n taken story
+story_before n taken x story more told h =
+    let same : take n (taken ++ x ∷ []) ≡ take n taken = length_take n taken (x ∷ []) h in
+    let k = length (entries [] (take n taken)) in
+    ap (λ (xs : List Received). take (length (entries [] xs)) (story ++ more)) same
+    ∙ take-append-le k story more (omega (arith, few_entries n taken h, story_length story (entries [] taken) told))
+
+story_whole : (taken : List Received) (story : List Happened) → entries_of story ≡ entries [] taken → story_after (length taken) taken story ≡ story
+story_whole taken story told =
+    ap (λ (xs : List Received). take (length (entries [] xs)) story) (take_all (length taken) taken (omega arith))
+    ∙ take_all (length (entries [] taken)) story (omega (arith, story_length story (entries [] taken) told))
+
+module _ (rooms : Rooms) (s : Settings) where
+  ends_last_start : EndsLast rooms s [] []
+  ends_last_start n h = absurd (omega (arith, h))
+
+  -- the inputs so far did not end the association
+  ends_last_more : (taken : List Received) (x : Received) (story more : List Happened) → entries_of story ≡ entries [] taken → (progress_of rooms s start story).state ≢ Sta1 → EndsLast rooms s taken story
+      → EndsLast rooms s (taken ++ x ∷ []) (story ++ more)
+  ends_last_more taken x story more told open_still last n h e =
+      let within : n ≤ length taken = omega (arith, h, length-append taken (x ∷ [])) in
+      let state : (progress_of rooms s start (story_after n taken story)).state ≡ Sta1 =
+      ap (λ (t : List Happened). (progress_of rooms s start t).state) (sym (story_before n taken x story more told within)) ∙ e in
+      elim (cases_lt n (length taken)) [
+        | inl lt ↦ last n lt state
+        | inr le ↦ open_still (ap (λ (t : List Happened). (progress_of rooms s start t).state)
+            (sym (ap (λ (k : ℕ). story_after k taken story) (omega (arith, le, within)) ∙ story_whole taken story told)) ∙ state)
+      ]
+
+  -- ---- one turn more
+
+  pub running_start : (seen : Fields) (source : Option (List Received)) (d : Devices) → Stands rooms s [] [] false seen d.store → Running rooms s 0 source source seen d d
+  running_start seen source d h = record {
     taken = [];
     number = refl;
     follows = follows_start source;
-    stood = λ are. record { story = []; stands = h; files = refl; sent = sym (known_nothing so); count = omega arith };
+    stood = λ are. record { story = []; failed = false; stands = h; last = ends_last_start; gains = gains_nothing rooms s start d };
   }
 
   -- what an association that is set so does with an input
-  abbrev OnInput : Seen → Seen → Option (List ℕ) → Option (List ℕ) → ℕ → ℕ → Received → Settings → Type 0
-  OnInput seen seen_new sm sn cm cn x set = (inputs : List Received) (story : List Happened) (t : Option Shelf) → Stands rooms set inputs story false seen t → AreEchoes rooms.request rooms.command set (inputs ++ x ∷ [])
-      → Moved rooms set inputs story x seen_new t sm sn cm cn
+  abbrev OnInput : Fields → Fields → Devices → Devices → Received → Settings → Type 0
+  OnInput seen seen_new now new x set = (inputs : List Received) (story : List Happened) (failed : Bool) → Stands rooms set inputs story failed seen now.store → IsCovered rooms set (inputs ++ x ∷ [])
+      → Moved rooms set inputs story failed x seen seen_new now new
 
-  pub running_more : (seen seen_new : Seen) (old now next : Option (List Received)) (turns : ℕ) (so sm sn : Option (List ℕ)) (co cm cn : ℕ) (bytes : List ℕ) (kind : Input) (set : Settings) → set ≡ s → (r : Running rooms s turns old now seen told so sm co cm)
-      → Gives now next bytes kind → OnInput seen seen_new sm sn cm cn (input_of kind bytes) set → Running rooms s (turns + 1) old next seen_new told so sn co cn
-  running_more seen seen_new old now next turns so sm sn co cm cn bytes kind set is r g k = record {
+  pub running_more : (seen seen_new : Fields) (source now next : Option (List Received)) (turns : ℕ) (old mid new : Devices) (bytes : List ℕ) (kind : Input) (set : Settings) → set ≡ s → seen.kept.state ≢ Sta1 → (r : Running rooms s turns source now seen old mid)
+      → Gives now next bytes kind → OnInput seen seen_new mid new (input_of kind bytes) set → Running rooms s (turns + 1) source next seen_new old new
+  running_more seen seen_new source now next turns old mid new bytes kind set is open_still r g k = record {
     taken = r.taken ++ input_of kind bytes ∷ [];
     number = omega (arith, r.number, length-append r.taken (input_of kind bytes ∷ []));
-    follows = follows_more old now next r.taken bytes kind r.follows g;
+    follows = follows_more source now next r.taken bytes kind r.follows g;
     stood = λ are.
-        let before = r.stood (those_before rooms.request rooms.command s r.taken (input_of kind bytes) are) in
-        let m = subst (OnInput seen seen_new sm sn cm cn (input_of kind bytes)) is k r.taken before.story told before.stands are in
+        let before = r.stood (covered_before rooms s r.taken (input_of kind bytes) are) in
+        let m = subst (OnInput seen seen_new mid new (input_of kind bytes)) is k r.taken before.story before.failed before.stands are in
         record {
           story = before.story ++ m.more;
+          failed = m.failed_then;
           stands = m.stands;
-          files = files_then rooms s start before.story m.more ∙ rw (before.files, m.files) refl;
-          sent = rw (sent_then rooms s start before.story m.more) (m.sent ∙ ap (λ (t : Option (List ℕ)). append_known t (sent_of rooms s (progress_of rooms s start before.story) m.more)) before.sent ∙ known_then so _ _);
-          count = omega (arith, before.count, m.count, failures_then before.story m.more);
+          last = ends_last_more r.taken (input_of kind bytes) before.story m.more before.stands.story_is.told
+              (λ e. open_still (before.stands.shows.frame.pends.state_is ∙ e)) before.last;
+          gains = gains_then rooms s start before.story m.more false before.failed m.failed_then old mid new before.gains m.gains;
         };
   }
 
-  pub answered_by : (taken : List Received) (report : Report) (st : State) (rq : List ℕ) (so sn : Option (List ℕ)) (co cn : ℕ)
-      → (AreEchoes rooms.request rooms.command s taken → Stood rooms s taken (shows st rq) told so sn co cn)
-      → report.standing ≡ standing_of st → report.held ≡ length rq → AreEchoes rooms.request rooms.command s taken → Answered rooms s taken report so sn co cn
-  answered_by taken report st rq so sn co cn stood e f are =
+  -- ---- the end
+
+  -- the draft is dropped
+  told_filed : (old now : Option Shelf) (files : List (List ℕ)) → option_map (λ shelf. shelf.files) now ≡ with_files files (option_map (λ shelf. shelf.files) old)
+      → told_after without_draft now ≡ told_after (filed files) old
+  told_filed None None files e = refl
+  told_filed None (Some shelf) files e = absurd cc
+  told_filed (Some old) None files e = absurd cc
+  told_filed (Some old) (Some now) files e =
+      let same : now.files ≡ old.files ++ files = cc in
+      ap (λ (fs : List (List ℕ)). Some (record { files = fs; draft = [] })) same
+
+  pub answered_by : (taken : List Received) (report : Report) (seen : Fields) (old now new : Devices)
+      → (IsCovered rooms s taken → Stood rooms s taken seen old now)
+      → report.standing ≡ standing_of seen.kept.state
+      → ((story : List Happened) (failed : Bool) → Stands rooms s taken story failed seen now.store → IsCovered rooms s taken → Held rooms s (reached rooms s taken story failed) report.held)
+      → new.line ≡ now.line → new.store ≡ stepped without_draft false now.store
+      → IsCovered rooms s taken → Answered rooms s taken report old new
+  answered_by taken report seen old now new stood e held line store are =
       let h = stood are in
-      let stands = h.stands in
       record {
         story = h.story;
-        text = sent_of rooms s start h.story;
-        state = st;
-        run = record { told = stands.entries_told; verdicts = stands.verdicts; sent_is = refl; files_are = sym h.files; state_is = stands.state };
+        failed = h.failed;
+        sent = sent_of rooms s start h.story;
+        files = files_of rooms s start h.story;
+        state = seen.kept.state;
+        run = record { story_is = h.stands.story_is; sent_is = refl; files_are = refl; state_is = h.stands.shows.frame.pends.state_is };
+        last = h.last;
         standing = e;
-        held = rw f stands.held;
-        sent = h.sent;
-        count = h.count;
+        held = held h.story h.failed h.stands are;
+        line = line ∙ h.gains.line;
+        told = ap (λ (x : Store). x.told) store ∙ told_filed old.store.told now.store.told (files_of rooms s start h.story) h.gains.files;
+        count = omega (arith, ap (λ (x : Store). x.failures) store, h.gains.count);
       }

@@ -47,12 +47,12 @@ abbrev pub out_of_place : State → ℕ → HeadEvent
 out_of_place state kind = if is_abort (table state (event_of kind)).0 then AtOnce (event_of kind) 2 else NoEvent
 
 -- a request's length: above the room it is rejected, below the fixed part it is invalid
-abbrev pub at_request : ℕ → ℕ → HeadEvent
-at_request room n = if nat_lt room n then TooLong else (if nat_lt n 68 then AtOnce event.Invalid 6 else NoEvent)
+abbrev pub request_length : ℕ → ℕ → HeadEvent
+request_length room n = if nat_lt room n then TooLong else (if nat_lt n 68 then AtOnce event.Invalid 6 else NoEvent)
 
 -- a P-DATA's length: one PDV at least, and no more than was announced
-abbrev pub at_data : ℕ → ℕ → HeadEvent
-at_data most n = if nat_lt most n || nat_lt n 6 then AtOnce event.Invalid 6 else NoEvent
+abbrev pub data_length : ℕ → ℕ → HeadEvent
+data_length most n = if nat_lt most n || nat_lt n 6 then AtOnce event.Invalid 6 else NoEvent
 
 -- what the head of a PDU of this type and length brings, where a request's body has `room` bytes at most, and a
 -- P-DATA's `most`
@@ -60,6 +60,6 @@ abbrev pub head_event : ℕ → ℕ → State → ℕ → ℕ → HeadEvent
 head_event room most state kind n =
     if not (is_known kind) then AtOnce event.Invalid 1
     else (if is_short kind && not (nat_eq n 4) then AtOnce event.Invalid 6
-    else (if is_due state && nat_eq kind 1 then at_request room n
-    else (if is_established state && nat_eq kind 4 then at_data most n
+    else (if is_due state && nat_eq kind 1 then request_length room n
+    else (if is_established state && nat_eq kind 4 then data_length most n
     else out_of_place state kind)))

@@ -1,12 +1,12 @@
 -- How many received bytes an association holds (this product's own profile).
-use Rattle.std.specs.Prelude.{◌≡◌, ℕ, ◌+◌, ◌-◌, Bool, true, false, not, ◌&&◌, List, [], length, Some, Ok, nat_eq, nat_lt, if◌then◌else◌}
+use Rattle.std.specs.Prelude.{◌≡◌, ℕ, ◌+◌, ◌-◌, ◌*◌, Bool, true, false, not, ◌&&◌, List, [], length, Some, Ok, nat_eq, nat_lt, if◌then◌else◌}
 use Rattle.acceptor.specs.declared.state.State.{State}
 use Rattle.acceptor.specs.declared.state.State.TheVariants.{Sta1}
 use Rattle.element.specs.declared.syntax.Syntax.{Syntax}
 use Rattle.element.specs.declared.tag.Tag.{Tag}
-use Rattle.pdu.specs.Frames.{rest_of}
 use Rattle.pdu.specs.Marks.{frame_kind}
 use Rattle.pdu.specs.Items.{record_of}
+use Rattle.pdu.specs.Record.{Record}
 use Rattle.negotiate.specs.Settings.{Settings}
 use Rattle.negotiate.specs.declared.proposals.Context.{Context}
 use Rattle.negotiate.specs.Contexts.{context_of}
@@ -14,16 +14,15 @@ use Rattle.dimse.specs.Command.{CommandRecord}
 use Rattle.dimse.specs.Reading.{command_in}
 use Rattle.dimse.specs.Messages.{Begun, NoMessage, InCommand, InSet}
 use Rattle.sequence.specs.Tree.{Elements}
-use Rattle.sequence.specs.Open.{Entry, Tail, in_header, Open}
+use Rattle.sequence.specs.Open.{PathEntry, Tail, in_header, Open}
 use Rattle.sequence.specs.Rules.{Limits}
 use Rattle.sequence.specs.Wanted.{held_of}
 use Rattle.sequence.specs.FirstFault.{IsUnbroken, FirstFault}
-use Rattle.engine.specs.Inputs.{Received, stream_of}
-use Rattle.engine.specs.Timeline.{Happened}
-use Rattle.engine.specs.Progress.{Progress, start, is_due, is_established}
-use Rattle.engine.specs.Come.{begun_pdv, message_so_far}
+use Rattle.negotiate.specs.ContextRows.{accepted_count}
+use Rattle.engine.specs.Progress.{Progress, is_due, is_established}
+use Rattle.engine.specs.Reached.{Reached, begun_pdv, message_so_far}
 use Rattle.engine.specs.Stores.{limits, IsOfContext}
-use Rattle.engine.specs.Run.{Rooms, progress_of}
+use Rattle.engine.specs.Run.{Rooms}
 
 abbrev pub is_ended : State → Bool
 is_ended Sta1 = true
@@ -33,11 +32,16 @@ is_ended state = false
 abbrev pub unfinished : List ℕ → ℕ
 unfinished bytes = if nat_lt (length bytes) 6 then length bytes else 0
 
--- a request that is taken: in Sta2 what has come of its body, and in an established association all of it
+-- what is kept of an accepted request when it is given up: the calling title and the peer's maximum length, 20 bytes
+-- together, and 4 for each accepted context
+abbrev pub of_accepted : Record → ℕ
+of_accepted request = 20 + 4 * accepted_count request
+
+-- of a request that is taken: in Sta2 what has come of its body, and in an established association what is kept of it
 abbrev pub of_request : Progress → List ℕ → ℕ
 of_request p rest =
     if is_due p.state then (if not p.refused && nat_eq (frame_kind rest) 1 then length rest - 6 else 0)
-    else (if is_established p.state then length p.request else 0)
+    else (if is_established p.state then of_accepted (record_of p.request) else 0)
 
 -- the command set of a message
 abbrev pub of_command : Begun → ℕ
@@ -45,32 +49,32 @@ of_command NoMessage = 0
 of_command (InCommand context command) = length command
 of_command (InSet context command set) = length command
 
--- heads, request and command set, where these bytes are those of the frame that has begun
-abbrev pub held_before_data : Progress → List ℕ → ℕ
-held_before_data p rest =
-    if is_ended p.state then 0
-    else (unfinished rest + unfinished (begun_pdv p rest) + of_request p rest + of_command (message_so_far p rest))
+-- heads, request and command set
+abbrev pub held_before_data : Reached → ℕ
+held_before_data r =
+    if is_ended r.progress.state then 0
+    else (unfinished r.rest + unfinished (begun_pdv r) + of_request r.progress r.rest + of_command (message_so_far r))
 
 -- What a walk holds of the bytes of a data set that have come: where no rule is broken, the unfinished header, the wanted
 -- values with what has come of a begun one, and 16 for each open level; else the values and the levels at the fault's
 -- place.
 pub data IsHeldOfSet (syntax : Syntax) (lim : Limits) (bytes : List ℕ) : ℕ → Type 0 where
-  unbroken : {es : Elements} {path : List Entry} {last : ℕ} {tail : Tail} → IsUnbroken syntax lim bytes → Open syntax bytes es path last tail
+  unbroken : {es : Elements} {path : List PathEntry} {last : ℕ} {tail : Tail} → IsUnbroken syntax lim bytes → Open syntax bytes es path last tail
       → IsHeldOfSet syntax lim bytes (held_of lim.wanted es path tail)
-  faulty : {p u : List ℕ} {rule : ℕ} {tag : Tag} {es : Elements} {path : List Entry} {last : ℕ} → FirstFault syntax lim bytes p u rule tag
+  faulty : {p u : List ℕ} {rule : ℕ} {tag : Tag} {es : Elements} {path : List PathEntry} {last : ℕ} → FirstFault syntax lim bytes p u rule tag
       → Open syntax p es path last (in_header []) → IsHeldOfSet syntax lim bytes (held_of lim.wanted es path (in_header []))
 
--- the data of a message: those of a store whose class is its context's are walked
-pub data IsHeldOfMessage (rooms : Rooms) (s : Settings) (p : Progress) : Begun → ℕ → Type 0 where
-  no_set : IsHeldOfMessage rooms s p NoMessage 0
-  in_command : {id : ℕ} {command : List ℕ} → IsHeldOfMessage rooms s p (InCommand id command) 0
-  walked : {id n : ℕ} {command set : List ℕ} {asked : CommandRecord} {context : Context} → command_in command ≡ Ok asked → context_of (record_of p.request) id ≡ Some context
-      → IsOfContext context asked → IsHeldOfSet context.syntax (limits rooms.depth s.max_data) set n → IsHeldOfMessage rooms s p (InSet id command set) n
-  not_walked : {id : ℕ} {command set : List ℕ} {asked : CommandRecord} {context : Context} → command_in command ≡ Ok asked → context_of (record_of p.request) id ≡ Some context
-      → (IsOfContext context asked → ⊥) → IsHeldOfMessage rooms s p (InSet id command set) 0
+-- the data of a message in the association of this request: those of a store whose class is its context's are walked
+pub data IsHeldOfMessage (rooms : Rooms) (s : Settings) (request : List ℕ) : Begun → ℕ → Type 0 where
+  no_set : IsHeldOfMessage rooms s request NoMessage 0
+  in_command : {id : ℕ} {command : List ℕ} → IsHeldOfMessage rooms s request (InCommand id command) 0
+  walked : {id n : ℕ} {command set : List ℕ} {asked : CommandRecord} {context : Context} → command_in command ≡ Ok asked → context_of (record_of request) id ≡ Some context
+      → IsOfContext context asked → IsHeldOfSet context.syntax (limits rooms.depth s.max_data) set n → IsHeldOfMessage rooms s request (InSet id command set) n
+  not_walked : {id : ℕ} {command set : List ℕ} {asked : CommandRecord} {context : Context} → command_in command ≡ Ok asked → context_of (record_of request) id ≡ Some context
+      → (IsOfContext context asked → ⊥) → IsHeldOfMessage rooms s request (InSet id command set) 0
 
--- After these inputs so many bytes are held.
-pub record Held (rooms : Rooms) (s : Settings) (inputs : List Received) (story : List Happened) (n : ℕ) : Type 0 where
+-- so many bytes are held
+pub record Held (rooms : Rooms) (s : Settings) (r : Reached) (n : ℕ) : Type 0 where
   pub of_set : ℕ
-  pub walked : IsHeldOfMessage rooms s (progress_of rooms s start story) (message_so_far (progress_of rooms s start story) (rest_of (stream_of inputs))) of_set
-  pub sum : n ≡ held_before_data (progress_of rooms s start story) (rest_of (stream_of inputs)) + of_set
+  pub walked : IsHeldOfMessage rooms s r.progress.request (message_so_far r) of_set
+  pub sum : n ≡ held_before_data r + of_set

@@ -3,8 +3,8 @@
 use Rattle.std.specs.Prelude.{◌≡◌, ℕ, zero, suc, List, [], ◌∷◌, ◌++◌, Option, Some, None}
 use Rattle.engine.specs.declared.source.Input.{Input}
 use Rattle.engine.specs.declared.source.Input.TheVariants as kind
-use Rattle.engine.specs.declared.list_source.Given.{Given}
-use Rattle.engine.specs.declared.list_source.Given.TheVariants as given
+use Rattle.engine.specs.declared.list_source.ListedInput.{ListedInput}
+use Rattle.engine.specs.declared.list_source.ListedInput.TheVariants as listed
 
 pub data Received : Type 0 where
   Bytes : (piece : List ℕ) → Received
@@ -41,14 +41,14 @@ input_of kind.Closed bytes = Close
 input_of kind.Expired bytes = Expiry
 input_of kind.LocalAbort bytes = UserAbort
 
--- a source that tells what is to come gives the first of it and keeps the others
+-- a source that shows what is to come gives the first of it and keeps the others
 abbrev pub Gives : Option (List Received) → Option (List Received) → List ℕ → Input → Type 0
 Gives None new last named = new ≡ None
 Gives (Some inputs) new last named = (input_of named last ≡ first_of inputs) × (new ≡ Some (others_of inputs))
 
--- an input that is written down
-abbrev pub received_of : Given → Received
-received_of (given.Piece bytes) = Bytes bytes.now
-received_of given.Closed = Close
-received_of given.Expired = Expiry
-received_of given.LocalAbort = UserAbort
+-- a listed input
+abbrev pub received_of : ListedInput → Received
+received_of (listed.Piece bytes) = Bytes bytes.now
+received_of listed.Closed = Close
+received_of listed.Expired = Expiry
+received_of listed.LocalAbort = UserAbort

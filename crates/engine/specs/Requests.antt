@@ -11,27 +11,27 @@ use Rattle.negotiate.specs.declared.answer.Answer.TheVariants.{Accept, Reject}
 use Rattle.negotiate.specs.Settings.{Settings}
 use Rattle.negotiate.specs.Answer.{judged}
 use Rattle.negotiate.specs.Accept.{accept_text}
-use Rattle.engine.specs.Progress.{Progress, Given, followed_by, done}
+use Rattle.engine.specs.Progress.{Progress, Advance, followed_by, done}
 
 -- the request is kept
 abbrev pub keeping : List ℕ → Progress → Progress
 keeping body p = record p { request = body }
 
 -- the request is accepted, and the local user accepts or refuses it, sending these bytes
-abbrev pub accepted : Progress → List ℕ → Given
+abbrev pub accepted : Progress → List ℕ → Advance
 accepted p answer = followed_by (done [] 0 p (event.Request true)) (λ q. done answer 0 q event.UserAccepts)
 
-abbrev pub refused : Progress → List ℕ → Given
-refused p answer = followed_by (done [] 0 p (event.Request true)) (λ q. done answer 0 q event.UserRefuses)
+abbrev pub declined : Progress → List ℕ → Advance
+declined p answer = followed_by (done [] 0 p (event.Request true)) (λ q. done answer 0 q event.UserRefuses)
 
 -- a rejection of source 2 is the service provider's, any other the local user's
-abbrev pub answered : Settings → Record → Progress → Answer → Given
+abbrev pub answered : Settings → Record → Progress → Answer → Advance
 answered s r p Accept = accepted p (accept_text s r)
 answered s r p (Reject result source reason) =
     if nat_eq source 2 then done (reject_text result source reason) 0 p (event.Request false)
-    else refused p (reject_text result source reason)
+    else declined p (reject_text result source reason)
 
-abbrev pub at_request : Settings → Progress → List ℕ → Given
+abbrev pub at_request : Settings → Progress → List ℕ → Advance
 at_request s p body = elim (request_fault body) [
   | Some fault ↦ done [] 6 p event.Invalid
   | None ↦ answered s (record_of body) (keeping body p) (judged s (record_of body))

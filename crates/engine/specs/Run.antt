@@ -1,25 +1,16 @@
 -- What an association does along its timeline (PS3.8 section 9.2): what it sends, which files it puts, and where it
 -- stands.
-use Rattle.std.specs.Prelude.{◌≡◌, ℕ, ◌+◌, ◌-◌, Bool, true, false, ◌&&◌, ◌||◌, not, List, [], ◌∷◌, ◌++◌, take, Ok, Option, Some, None, nat_eq, if◌then◌else◌}
-use Rattle.acceptor.specs.declared.state.State.{State}
+use Rattle.std.specs.Prelude.{ℕ, ◌+◌, ◌-◌, Bool, true, false, ◌&&◌, List, [], ◌∷◌, ◌++◌, take, Option, Some, None, nat_eq, if◌then◌else◌}
 use Rattle.acceptor.specs.declared.state.State.TheVariants.{Sta1}
 use Rattle.acceptor.specs.declared.event.Event.TheVariants as event
-use Rattle.pdu.specs.Items.{record_of}
 use Rattle.pdu.specs.Marks.{Mark, Head, PdvHead, Pdv, BadPdv, Leftover, End}
 use Rattle.pdu.specs.Texts.{reject_text}
 use Rattle.negotiate.specs.Settings.{Settings}
-use Rattle.negotiate.specs.declared.proposals.Context.{Context}
-use Rattle.negotiate.specs.Contexts.{context_of}
-use Rattle.dimse.specs.Command.{CommandRecord}
-use Rattle.dimse.specs.Reading.{command_in}
-use Rattle.dimse.specs.Messages.{Message, ended}
-use Rattle.engine.specs.Inputs.{Received}
-use Rattle.engine.specs.Timeline.{Entry, At, Shut, TimedOut, Aborted, Outcome, Happened, entries, entries_of}
-use Rattle.engine.specs.Progress.{Progress, start, left, is_due, is_established, Given, nothing, followed_by, done, refusing}
+use Rattle.engine.specs.Timeline.{Entry, At, Shut, TimedOut, Aborted, Finding, Happened}
+use Rattle.engine.specs.Progress.{Progress, absorb, left, is_due, is_established, Advance, nothing, followed_by, done, refusing}
 use Rattle.engine.specs.Heads.{NoEvent, AtOnce, TooLong, head_event}
 use Rattle.engine.specs.Requests.{at_request}
 use Rattle.engine.specs.Replies.{invalid, at_pdv_head, at_pdv}
-use Rattle.engine.specs.Stores.{Verdict}
 
 -- the rooms of an association: A bytes for a request's body and two heads, C for a command set, V for kept values and a
 -- header, D open levels
@@ -31,18 +22,18 @@ pub record Rooms : Type 0 where
 
 -- ---- one entry
 
-abbrev pub at_head : Rooms → Settings → Progress → ℕ → ℕ → Given
+abbrev pub at_head : Rooms → Settings → Progress → ℕ → ℕ → Advance
 at_head rooms s p kind n = elim (head_event (rooms.request - 12) s.max_pdu p.state kind n) [
   | NoEvent ↦ nothing p
   | AtOnce e reason ↦ refusing (done [] reason p e)
   | TooLong ↦ refusing (done (reject_text 2 3 2) 0 p (event.Request false))
 ]
 
-abbrev pub released : Progress → Given
+abbrev pub released : Progress → Advance
 released p = followed_by (done [] 0 p event.ReleaseRq) (λ q. done [] 0 q event.UserReleases)
 
 -- a whole PDU that was not refused
-abbrev pub at_end : Settings → Progress → ℕ → List ℕ → Given
+abbrev pub at_end : Settings → Progress → ℕ → List ℕ → Advance
 at_end s p kind body =
     if nat_eq kind 7 then done [] 0 p event.Abort
     else (if nat_eq kind 1 && is_due p.state then at_request s p body
@@ -50,36 +41,38 @@ at_end s p kind body =
     else nothing p))
 
 -- a mark of a PDU that was not refused; PDVs count in an established association alone
-abbrev pub at_mark : Rooms → Settings → Progress → Outcome → Mark → Given
-at_mark rooms s p outcome (Head kind n) = at_head rooms s p kind n
-at_mark rooms s p outcome (PdvHead n context control) = if is_established p.state then at_pdv_head rooms.command p n context control else nothing p
-at_mark rooms s p outcome (Pdv context control fragment) =
-    if is_established p.state then at_pdv p outcome (record { context = context; control = control; fragment = fragment }) else nothing p
-at_mark rooms s p outcome BadPdv = if is_established p.state then invalid p else nothing p
-at_mark rooms s p outcome Leftover = if is_established p.state then invalid p else nothing p
-at_mark rooms s p outcome (End kind body) = at_end s p kind body
+abbrev pub at_mark : Rooms → Settings → Progress → Finding → Mark → Advance
+at_mark rooms s p finding (Head kind n) = at_head rooms s p kind n
+at_mark rooms s p finding (PdvHead n context control) = if is_established p.state then at_pdv_head rooms.command p n context control else nothing p
+at_mark rooms s p finding (Pdv context control fragment) =
+    if is_established p.state then at_pdv p finding (record { context = context; control = control; fragment = fragment }) else nothing p
+at_mark rooms s p finding BadPdv = if is_established p.state then invalid p else nothing p
+at_mark rooms s p finding Leftover = if is_established p.state then invalid p else nothing p
+at_mark rooms s p finding (End kind body) = at_end s p kind body
 
 -- a head begins a PDU; the later marks of a refused one give nothing
 abbrev pub begins : Mark → Bool
 begins (Head kind n) = true
 begins mark = false
 
-abbrev pub at_entry : Rooms → Settings → Progress → Outcome → Entry → Given
-at_entry rooms s p outcome (At mark) =
-    if begins mark then at_mark rooms s (record p { refused = false }) outcome mark
-    else (if p.refused then nothing p else at_mark rooms s p outcome mark)
-at_entry rooms s p outcome Shut = done [] 0 p event.Closed
-at_entry rooms s p outcome TimedOut = done [] 0 p event.Expired
-at_entry rooms s p outcome Aborted = done [] 0 p event.UserAborts
+-- what an entry brings, with the finding on the store that it may end
+abbrev pub at_entry : Rooms → Settings → Progress → Finding → Entry → Advance
+at_entry rooms s p finding (At mark) =
+    if begins mark then at_mark rooms s (record p { refused = false }) finding mark
+    else (if p.refused then nothing p else at_mark rooms s p finding mark)
+at_entry rooms s p finding Shut = done [] 0 p event.Closed
+at_entry rooms s p finding TimedOut = done [] 0 p event.Expired
+at_entry rooms s p finding Aborted = done [] 0 p event.UserAborts
 
--- where the wire failed after k bytes, a beginning is sent, and the association ends as if the transport had been closed;
--- a file that was put stays
-abbrev pub cut : Option ℕ → Progress → Given → Given
+-- where the wire failed after k bytes, a front is sent, and the association ends as if the transport connection had been
+-- closed; a file that was put stays
+abbrev pub cut : Option ℕ → Progress → Advance → Advance
 cut None p g = g
 cut (Some k) p g = record { next = left Sta1 p; sent = take k g.sent; files = g.files }
 
-abbrev pub gives : Rooms → Settings → Progress → Happened → Given
-gives rooms s p happened = cut happened.1.wire p (at_entry rooms s p happened.1 happened.0)
+-- an entry with its outcome: a filing call that failed counts for the message that is open, at whatever entry it stands
+abbrev pub gives : Rooms → Settings → Progress → Happened → Advance
+gives rooms s p happened = cut happened.1.wire p (at_entry rooms s (absorb happened.1.filing p) happened.1.finding happened.0)
 
 -- ---- the timeline
 
@@ -104,32 +97,12 @@ abbrev pub wire_failures : List Happened → ℕ
 wire_failures [] = 0
 wire_failures (h ∷ story) = fails h.1.wire + wire_failures story
 
--- ---- the verdicts
+abbrev pub counted : Bool → ℕ
+counted true = 1
+counted false = 0
 
--- the message that a mark ends
-abbrev pub message_at : Progress → Entry → Option Message
-message_at p (At (Pdv context control fragment)) =
-    if is_established p.state && not p.refused then ended p.message (record { context = context; control = control; fragment = fragment }) else None
-message_at p entry = None
-
--- the status beside a store's end is the verdict on its message
-abbrev pub IsVerdict : Rooms → Settings → Progress → Outcome → Option Message → Type 0
-IsVerdict rooms s p outcome None = Unit {0}
-IsVerdict rooms s p outcome (Some m) = (command : CommandRecord) (context : Context) → command_in m.command ≡ Ok command → command.field ≡ 0x0001
-    → context_of (record_of p.request) m.context ≡ Some context
-    → Verdict rooms.depth s.max_data context command m.set (p.filing_failed || outcome.filing) outcome.status
-
-abbrev pub AreVerdicts : Rooms → Settings → Progress → List Happened → Type 0
-AreVerdicts rooms s p [] = Unit {0}
-AreVerdicts rooms s p (h ∷ story) = IsVerdict rooms s p h.1 (message_at p h.0) × AreVerdicts rooms s (gives rooms s p h).next story
-
--- ---- a run
-
--- The inputs, with what failed and the verdicts beside the entries of their timeline, give these bytes sent, these files,
--- and this state.
-pub record Run (rooms : Rooms) (s : Settings) (inputs : List Received) (story : List Happened) (sent : List ℕ) (files : List (List ℕ)) (state : State) : Type 0 where
-  pub told : entries_of story ≡ entries [] inputs
-  pub verdicts : AreVerdicts rooms s start story
-  pub sent_is : sent ≡ sent_of rooms s start story
-  pub files_are : files ≡ files_of rooms s start story
-  pub state_is : state ≡ (progress_of rooms s start story).state
+-- In how many messages a filing call failed: each stands at most once, at the entry that comes next or, after the last
+-- entry, beside the story.
+abbrev pub filing_failures : List Happened → Bool → ℕ
+filing_failures [] failed = counted failed
+filing_failures (h ∷ story) failed = counted h.1.filing + filing_failures story failed

@@ -1,6 +1,6 @@
 -- C-STORE (PS3.7 section 9.1.1, PS3.4 annex B): the file of a stored instance, and the status of its reply. Which fault
 -- has which status is this product's own profile.
-use Rattle.std.specs.Prelude.{◌≡◌, ◌≢◌, ◌⊎◌, ℕ, Bool, true, false, List, [], ◌∷◌, Some}
+use Rattle.std.specs.Prelude.{◌≡◌, ◌≢◌, ◌⊎◌, ℕ, Bool, true, false, List, [], ◌∷◌, Some, None}
 use Rattle.element.specs.declared.syntax.Syntax.{Syntax}
 use Rattle.element.specs.declared.tag.Tag.{Tag}
 use Rattle.element.specs.Header.{number}
@@ -8,11 +8,13 @@ use Rattle.element.specs.Uid.{uid_of}
 use Rattle.dictionary.specs.Classes.{class_of, is_storage}
 use Rattle.negotiate.specs.declared.proposals.Context.{Context}
 use Rattle.dimse.specs.Command.{CommandRecord}
+use Rattle.dimse.specs.Status.{class_not_supported, out_of_resources, data_set_mismatch, cannot_understand}
 use Rattle.sequence.specs.declared.wanted.Want.{Want}
 use Rattle.sequence.specs.Rules.{Limits}
 use Rattle.sequence.specs.Wanted.{Values, Kept, value_of}
 use Rattle.sequence.specs.Tree.{Elements, DataSet}
 use Rattle.sequence.specs.FirstFault.{IsUnbroken, FirstFault, EndFault}
+use Rattle.engine.specs.Timeline.{Finding, good}
 
 -- (0008,0016) SOP Class UID and (0008,0018) SOP Instance UID
 abbrev pub class_tag : Tag
@@ -44,33 +46,47 @@ pub record IsOfContext (context : Context) (command : CommandRecord) : Type 0 wh
 abbrev pub Names : Values → Tag → List ℕ → Type 0
 Names values tag uid = (value : List ℕ) × (value_of values (number tag) ≡ Some value) × (uid_of value ≡ Some uid)
 
--- the data set is that of the command's class and instance
-abbrev pub IsOfCommand : Values → CommandRecord → Type 0
-IsOfCommand values command = Names values class_tag command.class × ((uid : List ℕ) × (command.instance ≡ Some uid) × Names values instance_tag uid)
+-- the data set's instance is the command's
+abbrev pub NamesInstance : Values → CommandRecord → Type 0
+NamesInstance values command = (uid : List ℕ) × (command.instance ≡ Some uid) × Names values instance_tag uid
 
--- The status of a store's reply: of the whole data set that came behind the command in this context, the first of these
--- that holds. `failed` says whether a filing call failed in the message.
-pub data Verdict (depth bytes : ℕ) (context : Context) (command : CommandRecord) (data_set : List ℕ) (failed : Bool) : ℕ → Type 0 where
-  -- the class is not that of the context, or not one of storage: SOP class not supported
-  other_class : (IsOfContext context command → ⊥) → Verdict depth bytes context command data_set failed 0x0122
-  -- too many open levels, or too many bytes: out of resources
+-- a failure that names its cause: a fault of the data set, or what doesn't match the command
+abbrev pub cause : ℕ → ℕ → Tag → Finding
+cause status number tag = record { status = status; detail = Some (record { number = number; tag = tag }) }
+
+abbrev pub class_mismatch : ℕ
+class_mismatch = 45
+
+abbrev pub instance_mismatch : ℕ
+instance_mismatch = 46
+
+-- The finding on a store: of the whole data set that came after the command in this context, the first of these that
+-- holds. `failed` says whether a filing call failed in the message.
+pub data Verdict (depth bytes : ℕ) (context : Context) (command : CommandRecord) (data_set : List ℕ) (failed : Bool) : Finding → Type 0 where
+  -- the class is not that of the context, or not one of storage
+  other_class : (IsOfContext context command → ⊥) → Verdict depth bytes context command data_set failed (record { status = class_not_supported; detail = None })
+  -- too many open levels, or too many bytes
   no_room : {p u : List ℕ} {rule : ℕ} {tag : Tag} → IsOfContext context command
       → FirstFault context.syntax (limits depth bytes) data_set p u rule tag → (rule ≡ 18) ⊎ (rule ≡ 19)
-      → Verdict depth bytes context command data_set failed 0xa700
-  -- another fault: cannot understand
+      → Verdict depth bytes context command data_set failed (record { status = out_of_resources; detail = None })
+  -- another fault
   faulty : {p u : List ℕ} {rule : ℕ} {tag : Tag} → IsOfContext context command
       → FirstFault context.syntax (limits depth bytes) data_set p u rule tag → rule ≢ 18 → rule ≢ 19
-      → Verdict depth bytes context command data_set failed 0xc000
+      → Verdict depth bytes context command data_set failed (cause cannot_understand rule tag)
   cut : {tag : Tag} → IsOfContext context command → EndFault context.syntax (limits depth bytes) data_set tag
-      → Verdict depth bytes context command data_set failed 0xc000
-  -- the data set names another class or instance than the command: data set does not match SOP class
-  mismatch : {values : Values} → IsOfContext context command → HasNoFault context.syntax (limits depth bytes) data_set
-      → Kept context.syntax wanted data_set values → (IsOfCommand values command → ⊥)
-      → Verdict depth bytes context command data_set failed 0xa900
-  -- a filing call failed: out of resources
+      → Verdict depth bytes context command data_set failed (cause cannot_understand 20 tag)
+  -- the data set's class is missing, unreadable or other than the command's
+  names_class : {values : Values} → IsOfContext context command → HasNoFault context.syntax (limits depth bytes) data_set
+      → Kept context.syntax wanted data_set values → (Names values class_tag command.class → ⊥)
+      → Verdict depth bytes context command data_set failed (cause data_set_mismatch class_mismatch class_tag)
+  -- its instance is
+  names_instance : {values : Values} → IsOfContext context command → HasNoFault context.syntax (limits depth bytes) data_set
+      → Kept context.syntax wanted data_set values → Names values class_tag command.class → (NamesInstance values command → ⊥)
+      → Verdict depth bytes context command data_set failed (cause data_set_mismatch instance_mismatch instance_tag)
+  -- a filing call failed
   unfiled : {values : Values} → IsOfContext context command → HasNoFault context.syntax (limits depth bytes) data_set
-      → Kept context.syntax wanted data_set values → IsOfCommand values command → failed ≡ true
-      → Verdict depth bytes context command data_set failed 0xa700
+      → Kept context.syntax wanted data_set values → Names values class_tag command.class → NamesInstance values command → failed ≡ true
+      → Verdict depth bytes context command data_set failed (record { status = out_of_resources; detail = None })
   filed : {values : Values} → IsOfContext context command → HasNoFault context.syntax (limits depth bytes) data_set
-      → Kept context.syntax wanted data_set values → IsOfCommand values command → failed ≡ false
-      → Verdict depth bytes context command data_set failed 0
+      → Kept context.syntax wanted data_set values → Names values class_tag command.class → NamesInstance values command → failed ≡ false
+      → Verdict depth bytes context command data_set failed good

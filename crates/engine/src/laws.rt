@@ -1,13 +1,23 @@
 //! Laws of the definitions, and the associations on which they are tried: each the contract of a
 //! function that does nothing.
-ghost use Rattle.engine.specs.Shown.{TheEchoRuns, TheRequestIsHeld, ItStandsEstablished, VerdictsOnStores};
-ghost use Rattle.engine.specs.Laws.{EntriesAppend};
-ghost use Rattle.engine.specs.Taken.{TheEchoIsTaken, AnEchoInEightsIsTaken, AnotherTitleIsNotTaken};
-ghost use Rattle.engine.specs.Tried.{ARequestAboveTheRoom, BytesThatAreNoPdu, DataAboveTheMaximum, AfterTheEnd, AnotherCalledTitle, RecordedEcho, HeldWhileTheEchoComes, AGoodPdvBeforeABadOne};
+ghost use Rattle.engine.specs.WholeExamples.{TheEchoRuns, TheRequestIsHeld, ItStandsEstablished, VerdictsOnStores};
+ghost use Rattle.engine.specs.StoreExamples.{AStoreIsFiled, AFilingFailsOnce, ACutReply, ACloseInADataSet, HeldInADataSet};
+ghost use Rattle.engine.specs.Laws.{EntriesAppend, CutsDoNotShow, NothingAfterTheEnd};
+ghost use Rattle.engine.specs.Examples.{ARequestAboveTheRoom, BytesThatAreNoPdu, DataAboveTheMaximum, AfterTheEnd, AnotherCalledTitle, RecordedEcho, HeldWhileTheEchoComes, AGoodPdvBeforeABadOne};
 
 /// The timeline with more inputs is the old one with their entries appended.
 pub fn timeline_only_grows()
     ensures { EntriesAppend }
+{}
+
+/// How the stream is cut doesn't show.
+pub fn cuts_do_not_show()
+    ensures { CutsDoNotShow }
+{}
+
+/// Nothing is sent and no file is put after the end.
+pub fn nothing_after_the_end()
+    ensures { NothingAfterTheEnd }
 {}
 
 /// A request above its room is rejected at its head.
@@ -55,12 +65,12 @@ pub fn the_echo_runs()
     ensures { TheEchoRuns }
 {}
 
-/// The bytes that are held behind an answered request.
+/// The bytes that are held after the answer to a request.
 pub fn the_request_is_held()
     ensures { TheRequestIsHeld }
 {}
 
-/// How an association stands behind an answered request.
+/// How an association stands after the answer to a request.
 pub fn it_stands_established()
     ensures { ItStandsEstablished }
 {}
@@ -70,17 +80,27 @@ pub fn verdicts_on_stores()
     ensures { VerdictsOnStores }
 {}
 
-/// The recorded echo is a stream of echoes, in one piece and in several.
-pub fn the_echo_is_taken()
-    ensures { TheEchoIsTaken }
+/// A store is filed and answered.
+pub fn a_store_is_filed()
+    ensures { AStoreIsFiled }
 {}
 
-/// So is one of a peer that takes eight bytes at a time.
-pub fn an_echo_in_eights_is_taken()
-    ensures { AnEchoInEightsIsTaken }
+/// A filing fails in one store, and the next one is filed.
+pub fn a_filing_fails_once()
+    ensures { AFilingFailsOnce }
 {}
 
-/// A request to another title begins no stream of echoes.
-pub fn another_title_is_not_taken()
-    ensures { AnotherTitleIsNotTaken }
+/// A reply that is cut leaves the file.
+pub fn a_cut_reply()
+    ensures { ACutReply }
+{}
+
+/// The transport is closed in the data of a store.
+pub fn a_close_in_a_data_set()
+    ensures { ACloseInADataSet }
+{}
+
+/// The bytes that are held in the data of a store.
+pub fn held_in_a_data_set()
+    ensures { HeldInADataSet }
 {}

@@ -1,17 +1,22 @@
 //! One association of the acceptor: inputs in, answers and files out (PS3.8 section 9.2).
 #![tactic(auto)]
 
-mod admission;
 mod association;
+mod framing;
+mod heads;
 pub mod laws;
 mod list_source;
+mod messages;
+mod provider;
 mod report;
+mod requests;
 mod running;
+mod sending;
 mod source;
 mod status;
 
 pub use association::Association;
-pub use list_source::{Given, ListSource};
+pub use list_source::{ListSource, ListedInput};
 pub use report::{Report, Standing};
 pub use running::run;
 pub use source::{Input, Source};

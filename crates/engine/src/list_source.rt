@@ -1,12 +1,12 @@
 //! A source over a list of inputs.
-ghost use Rattle.std.specs.Prelude.{◌≡◌, ◌≤◌, ℕ, Some, length, map};
+ghost use Rattle.std.specs.Prelude.{◌≡◌, ◌≤◌, Some, length, map};
 ghost use Rattle.engine.specs.Inputs.{received_of};
 
 use crate::source::{Input, Source};
 
-/// An input that is written down, a piece with its bytes.
+/// An input of a list, a piece with its bytes.
 #[derive(Clone, Copy)]
-pub enum Given<'a> {
+pub enum ListedInput<'a> {
     Piece(&'a [u8]),
     Closed,
     Expired,
@@ -17,7 +17,7 @@ pub enum Given<'a> {
 /// transport connection is closed.
 #[derive(Drop)]
 pub struct ListSource<'a> {
-    inputs: &'a [Given<'a>],
+    inputs: &'a [ListedInput<'a>],
     at: usize,
     piece: &'a [u8],
     ghost within: { at ≤ length inputs.now },
@@ -27,7 +27,7 @@ impl<'a> ListSource<'a> {
     ghost use Rattle.engine.specs.ListSource.{inputs_left};
 
     /// A source of these inputs.
-    pub fn new(inputs: &'a [Given<'a>]) -> ListSource<'a>
+    pub fn new(inputs: &'a [ListedInput<'a>]) -> ListSource<'a>
         ensures { inputs_left result ≡ map received_of inputs.entry.now }
     {
         ListSource {
@@ -50,16 +50,16 @@ impl Source for ListSource<'_> {
         if self.at == self.inputs.len() {
             return Input::Closed;
         }
-        let given = self.inputs[self.at];
+        let listed = self.inputs[self.at];
         self.at += 1;
-        match given {
-            Given::Piece(bytes) => {
+        match listed {
+            ListedInput::Piece(bytes) => {
                 self.piece = bytes;
                 Input::Piece
             }
-            Given::Closed => Input::Closed,
-            Given::Expired => Input::Expired,
-            Given::LocalAbort => Input::LocalAbort,
+            ListedInput::Closed => Input::Closed,
+            ListedInput::Expired => Input::Expired,
+            ListedInput::LocalAbort => Input::LocalAbort,
         }
     }
 

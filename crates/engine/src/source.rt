@@ -17,7 +17,7 @@ pub enum Input {
 
 /// Where inputs come from.
 pub trait Source {
-    /// The inputs that are still to come, where the source tells them.
+    /// The inputs that are still to come, where the source shows them.
     ghost to_come: { Self → Option (List Received) };
 
     /// The bytes of the last piece.

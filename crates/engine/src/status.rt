@@ -4,14 +4,8 @@ ghost use Rattle.engine.specs.Replies as spelling;
 
 use dictionary::{Class, class_of};
 use dimse::Command;
-use negotiate::{Config, context};
-use pdu::Request;
-
-/// The request was done.
-const SUCCESS: u16 = 0x0000;
-
-/// The class is not that of the presentation context.
-const CLASS_NOT_SUPPORTED: u16 = 0x0122;
+use dimse::status::{CLASS_NOT_SUPPORTED, SUCCESS};
+use negotiate::Context;
 
 fn is_verification(class: Option<Class>) -> bool
     ensures { result ≡ spelling.is_verification class }
@@ -19,23 +13,23 @@ fn is_verification(class: Option<Class>) -> bool
     matches!(class, Some(Class::Verification))
 }
 
-/// The class of the accepted presentation context with this id.
-fn class_in(config: &Config, request: &Request, id: u8) -> Option<Class>
-    ensures { result ≡ spelling.class_in request.now id }
+/// The class of a presentation context.
+fn class_by(context: Option<Context>) -> Option<Class>
+    ensures { result ≡ spelling.class_by context }
 {
-    match context(config, request, id) {
+    match context {
         Some(context) => Some(context.class),
         None => None,
     }
 }
 
-/// The status of the reply to an echo: success where the command names Verification and its
-/// presentation context does.
-pub(crate) fn echo_status(config: &Config, request: &Request, id: u8, command: &Command) -> u16
-    ensures { result ≡ spelling.echo_status request.now id command.now }
+/// Returns the status of the response to an echo in this presentation context: success where the
+/// command and the context name Verification.
+pub(crate) fn echo_status(context: Option<Context>, command: &Command) -> u16
+    ensures { result ≡ spelling.echo_status context command.now }
 {
     let named = class_of(command.class().as_bytes());
-    if is_verification(named) && is_verification(class_in(config, request, id)) {
+    if is_verification(named) && is_verification(class_by(context)) {
         SUCCESS
     } else {
         CLASS_NOT_SUPPORTED

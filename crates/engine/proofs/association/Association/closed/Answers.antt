@@ -1,15 +1,21 @@
--- The transport's close moves the association on.
-use Rattle.negotiate.specs.Settings.{settings_of}
-use Rattle.engine.specs.Progress.{start}
-use Rattle.engine.specs.Run.{progress_of}
-use Rattle.engine.specs.Idle.{rooms_of}
-use Rattle.engine.proofs.EventLemmas.{closed_went, no_answer_closed}
-use Rattle.engine.proofs.InputLemmas.{moved_by_close}
+use Rattle.std.proofs.Common.{◌∙◌, sym, refl, ap}
+use Rattle.part10.specs.Store.{Store}
+use Rattle.engine.specs.Inputs.{Close}
+use Rattle.engine.specs.Timeline.{Shut}
+use Rattle.engine.proofs.MovedLemmas.{moved_still, moved_call}
 use Rattle.engine.proofs.association.Association.closed.Goals as goal
 
+pub returns-then-is_ended-clause-moved : goal.returns-then-is_ended-clause-moved
+returns-then-is_ended-clause-moved g c inputs story failed h free = moved_still _ _ inputs story failed Close _ _ h (sym c.is_ended.ensures ∙ c.if-is_ended.true)
+
+pub invariant_of-self-clause-body_fits : goal.invariant_of-self-clause-body_fits
+invariant_of-self-clause-body_fits g c some = c.on_closed.ensures.body_fits _ _ (c.args.self.now.body_fits some)
+
+pub invariant_of-self-clause-fragment_fits : goal.invariant_of-self-clause-fragment_fits
+invariant_of-self-clause-fragment_fits g c some = c.on_closed.ensures.fragment_fits _ (c.args.self.now.fragment_fits some)
+
 pub returns-clause-moved : goal.returns-clause-moved
-returns-clause-moved g c = λ inputs story told h are.
-    let s = settings_of c.args.self.now.config in
-    moved_by_close (rooms_of g.row.A g.row.C g.row.V g.row.D) s inputs story told c.args.self.now.state c.args.self.now.body.items _ _ _ _ _ _ h are
-    (λ q at quiet state request. closed_went (rooms_of g.row.A g.row.C g.row.V g.row.D) s q (progress_of (rooms_of g.row.A g.row.C g.row.V g.row.D) s start story) c.args.self.now.body.items c.args.self.now.state _ _ _ _ _ _ quiet at state request
-    (c.happens.ensures.tries (λ answers. absurd (no_answer_closed c.args.self.now.state answers))))
+returns-clause-moved g c inputs story failed h free =
+    let dropped = c.drop_heads.ensures in
+    moved_call _ _ inputs story failed Close Shut _ _ _ _ _ _ _ _ h (sym c.is_ended.ensures ∙ c.if-is_ended.false) refl refl c.on_closed.ensures.does
+    (record { kept = dropped.kept; same = dropped.same; framing_is = dropped.framing; head_is = dropped.head }) (ap (λ (x : Store). x.has_draft) c.on_closed.ensures.unfiled)

@@ -1,10 +1,14 @@
--- A piece of whole PDUs moves the association on.
-use Rattle.negotiate.specs.Settings.{settings_of}
-use Rattle.engine.specs.Idle.{rooms_of}
-use Rattle.engine.proofs.InputLemmas.{moved_by_piece}
+use Rattle.std.proofs.Common.{◌∙◌, sym, ap}
+use Rattle.part10.specs.Store.{Store}
+use Rattle.engine.specs.Inputs.{Bytes}
+use Rattle.engine.proofs.MovedLemmas.{moved_still, moved_feed}
 use Rattle.engine.proofs.association.Association.feed.Goals as goal
 
+pub returns-then-is_ended-clause-moved : goal.returns-then-is_ended-clause-moved
+returns-then-is_ended-clause-moved g c inputs story failed h free = moved_still _ _ inputs story failed (Bytes c.args.piece.now) _ _ h (sym c.is_ended.ensures ∙ c.if-is_ended.true)
+
 pub returns-clause-moved : goal.returns-clause-moved
-returns-clause-moved g c = λ inputs story told h are.
-    moved_by_piece (rooms_of g.row.A g.row.C g.row.V g.row.D) (settings_of c.args.self.now.config) inputs story told c.args.self.now.state c.args.self.now.body.items _ _ _ _ _ _ h c.args.piece.now are
-    (λ q r fs is lead at quiet state request. c.take_all.ensures.went _ q r fs at quiet state request is lead)
+returns-clause-moved g c inputs story failed h free =
+    let dropped = c.drop_heads.ensures in
+    moved_feed _ _ inputs story failed c.args.piece.now _ _ _ _ _ h free c.take_all.ensures.took
+    (record { kept = dropped.kept; same = dropped.same; framing_is = dropped.framing; head_is = dropped.head }) (ap (λ (x : Store). x.has_draft) c.take_all.ensures.unfiled)

@@ -1,38 +1,41 @@
--- The association is left where a PDU is not taken; of a stream of echoes all are taken.
-use Rattle.std.proofs.Common.{rules, refl, sym, ap, ◌∙◌, arith}
-use Rattle.negotiate.specs.Settings.{settings_of}
-use Rattle.engine.specs.Idle.{rooms_of}
+use Rattle.std.proofs.Common.{◌≡◌, ◌-◌, ◌++◌, length, take, drop, take-add, arith, refl, ◌∙◌}
 use Rattle.std.proofs.lemmas.List.{take_all, length-drop}
-use Rattle.engine.proofs.LoopLemmas.{takes_nothing, takes_more, takes_never, takes_all, no_bytes}
+use Rattle.pdu.specs.Frames.{rest_of}
+use Rattle.pdu.proofs.FrameLemmas.{rest_is_rest}
+use Rattle.engine.specs.Progress.{absorb}
+use Rattle.engine.specs.Run.{Rooms, progress_of}
+use Rattle.negotiate.specs.Settings.{Settings}
+use Rattle.engine.specs.machine.Kept.{settings_in, rooms_of}
+use Rattle.engine.proofs.TookLemmas.{took_nothing, took_then, free_next}
 use Rattle.engine.proofs.association.Association.take_all.Goals as goal
 
-pub happens-requires : goal.happens-requires
-happens-requires g c = (search rules, λ six. absurd (c.refusal.ensures six))
+pub loop-at-init : goal.loop-at-init
+loop-at-init g c = record { within = omega arith; settings = refl; unfiled = refl; took = λ p r rest h free. took_nothing _ _ _ p r _ rest h }
 
-pub loop-rest-init : goal.loop-rest-init
-loop-rest-init g c = record {
-  same = refl;
-  takes = λ p place last fs at quiet e f is lead. takes_nothing (rooms_of g.row.A g.row.C g.row.V g.row.D) (settings_of c.args.self.now.config) p fs last place _ _ _ _ _ at quiet e f is lead;
-  ended = λ e. record { state = e; sent = refl; count = refl };
-}
+pub loop-at-preserved : goal.loop-at-preserved
+loop-at-preserved g c =
+    let piece = c.args.piece.now in
+    let at = c.loop-at.at in
+    let n = c.take_some-at.result in
+    let rooms : Rooms = rooms_of g.row.A g.row.C g.row.V g.row.D in
+    let s : Settings = settings_in c.args.self.now.provider in
+    let tail : take (length piece - at) (drop at piece) ≡ drop at piece = take_all (length piece - at) (drop at piece) (omega (arith, length-drop at piece)) in
+    record {
+      within = let k = c.take_some-at.ensures.within in omega (arith, rw tail at k, length-drop at piece);
+      settings = c.take_some-at.ensures.settings ∙ c.loop-at.invariant.settings;
+      unfiled = c.take_some-at.ensures.unfiled ∙ c.loop-at.invariant.unfiled;
+      took = λ p r rest h free.
+          let before = c.loop-at.invariant.took p r rest h free in
+          let took = rw (c.loop-at.invariant.settings, tail) at c.take_some-at.ensures.took in
+          let now = took (absorb before.failed (progress_of rooms s p before.story)) (rest_of (r ++ take at piece)) (rest_is_rest (r ++ take at piece)) before.shows (free_next rooms s _ p r piece at n _ _ free before) in
+          rw take-add (took_then rooms s _ _ p r _ _ _ _ _ before now);
+    }
 
-pub loop-rest-preserved : goal.loop-rest-preserved
-loop-rest-preserved g c = record {
-  same = c.in-Some.ensures.same ∙ c.loop-rest.invariant.same;
-  takes = λ p place last fs at quiet e f is lead.
-      takes_more (rooms_of g.row.A g.row.C g.row.V g.row.D) (settings_of c.args.self.now.config) p fs last
-      (settings_of c.loop-rest.self.config) (ap settings_of c.loop-rest.invariant.same) c.loop-rest.rest.now _ _ _ _ _ _ (c.loop-rest.invariant.takes p place last fs at quiet e f is lead)
-      _ c.in-Some.size _ _ _ _ c.in-Some.ensures.took (take_all _ _ (omega (arith, length-drop c.in-Some.size c.loop-rest.rest.now)));
-  ended = search rules;
-}
+pub returns-clause-settings : goal.returns-clause-settings
+returns-clause-settings g c = c.loop-at.invariant.settings
 
-pub returns-in-None-clause-went : goal.returns-in-None-clause-went
-returns-in-None-clause-went g c = λ p place last fs at quiet e f is lead.
-    absurd (takes_never (rooms_of g.row.A g.row.C g.row.V g.row.D) (settings_of c.args.self.now.config) p fs last
-    (settings_of c.loop-rest.self.config) (ap settings_of c.loop-rest.invariant.same) c.loop-rest.rest.now _ _ _ _ _ _ (c.loop-rest.invariant.takes p place last fs at quiet e f is lead)
-    c.in-None.ensures.took)
-
-pub returns-clause-went : goal.returns-clause-went
-returns-clause-went g c = λ p place last fs at quiet e f is lead.
-    takes_all (rooms_of g.row.A g.row.C g.row.V g.row.D) (settings_of c.args.self.now.config) p fs last c.loop-rest.rest.now _ _ _ _ _ _
-    (no_bytes c.loop-rest.rest.now (sym c.loop-rest-test.ensures)) (c.loop-rest.invariant.takes p place last fs at quiet e f is lead)
+pub returns-clause-took : goal.returns-clause-took
+returns-clause-took g c p r rest h free =
+    let piece = c.args.piece.now in
+    let all : take c.loop-at.at piece ≡ piece = take_all c.loop-at.at piece (omega (arith, c.loop-at-test.false)) in
+    rw all at (c.loop-at.invariant.took p r rest h free)

@@ -1,23 +1,25 @@
--- Each PDU that is taken leaves fewer bytes; where the association has ended, all are dropped.
-use Rattle.std.proofs.Common.{◌≡◌, List, ℕ, length}
-use Rattle.acceptor.specs.declared.state.State.TheVariants.{Sta1}
-use Rattle.pdu.specs.Pieces.{joined}
-use Rattle.negotiate.specs.Settings.{settings_of}
+use Rattle.std.proofs.Common.{◌≡◌, ℕ, List, ◌-◌, ◌≤◌, length, take, map}
+use Rattle.pdu.specs.Frames.{IsRest}
+use Rattle.pdu.specs.Marks.{new_marks}
+use Rattle.engine.specs.Devices.{devices}
 use Rattle.engine.specs.Progress.{Progress}
-use Rattle.engine.specs.Echoes.{Place, Lead}
-use Rattle.engine.specs.Moves.{IsAt, IsQuiet, Takes}
-use Rattle.engine.specs.Idle.{StaysEnded, rooms_of}
+use Rattle.engine.specs.Timeline.{At}
+use Rattle.engine.specs.machine.Does.{Storeless}
+use Rattle.engine.specs.machine.Kept.{settings_in, rooms_of}
+use Rattle.engine.specs.Fields.{fields_of}
+use Rattle.engine.specs.machine.Shows.{ShowsFrame, Took}
 use Rattle.engine.proofs.association.Association.take_all.Given as goal
 
-abbrev pub invariant-loop-rest : goal.invariant-loop-rest
-invariant-loop-rest g l = record {
-  same : l.self.config ≡ l.fn.self.config;
-  takes : (p : Progress) (place last : Place) (fs : List (List ℕ)) → IsAt place p → IsQuiet p → l.fn.self.state ≡ p.state → l.fn.self.body.items ≡ p.request
-      → l.fn.piece ≡ joined fs → Lead g.row.A g.row.C (settings_of l.fn.self.config) place fs last
-      → Takes (rooms_of g.row.A g.row.C g.row.V g.row.D) (settings_of l.fn.self.config) p fs last l.rest l.self.state l.self.body.items
-      (g.W.Wire.sent l.fn.wire) (g.W.Wire.sent l.wire) (g.W.Wire.failures l.fn.wire) (g.W.Wire.failures l.wire);
-  ended : l.fn.self.state ≡ Sta1 → StaysEnded l.self.state (g.W.Wire.sent l.fn.wire) (g.W.Wire.sent l.wire) (g.W.Wire.failures l.fn.wire) (g.W.Wire.failures l.wire);
+abbrev pub invariant-loop-at : goal.invariant-loop-at
+invariant-loop-at g l = record {
+  within : l.at ≤ length l.piece;
+  settings : settings_in l.self.provider ≡ settings_in l.fn.self.provider;
+  unfiled : g.F.Filing.store l.filing ≡ g.F.Filing.store l.fn.filing;
+  took : (p : Progress) (r : List ℕ) → IsRest r → ShowsFrame (fields_of l.fn.self) p r
+      → Storeless (rooms_of g.row.A g.row.C g.row.V g.row.D) (settings_in l.fn.self.provider) p (map At (new_marks r l.piece))
+      → Took (rooms_of g.row.A g.row.C g.row.V g.row.D) (settings_in l.fn.self.provider) (fields_of l.self) p r (take l.at l.piece)
+      (devices (g.W.Wire.line l.fn.wire) (g.F.Filing.store l.fn.filing)) (devices (g.W.Wire.line l.wire) (g.F.Filing.store l.filing));
 }
 
-abbrev pub decreases-loop-rest : goal.decreases-loop-rest
-decreases-loop-rest g l = length l.rest
+abbrev pub decreases-loop-at : goal.decreases-loop-at
+decreases-loop-at g l = length l.piece - l.at

@@ -1,0 +1,181 @@
+-- What the head of a PDU brings.
+use Rattle.std.proofs.Common.{◌≡◌, ℕ, ◌-◌, Bool, true, false, not, ◌&&◌, ◌||◌, [], nat_eq, nat_lt, refl, ap, sym, subst, ◌∙◌, if◌then◌else◌}
+use Rattle.acceptor.specs.declared.state.State.{State}
+use Rattle.acceptor.specs.declared.state.State.TheVariants.{Sta1, Sta2, Sta3, Sta6, Sta8, Sta13}
+use Rattle.acceptor.specs.declared.event.Event.{Event}
+use Rattle.acceptor.specs.declared.event.Event.TheVariants.{Connected, Request, Ac, Rj, Data, ReleaseRq, ReleaseRp, Abort, Invalid, Closed, Expired, UserAccepts, UserRefuses, UserReleases, UserAborts}
+use Rattle.acceptor.specs.Table.{table}
+use Rattle.pdu.specs.Marks.{Head}
+use Rattle.pdu.specs.Texts.{reject_text}
+use Rattle.negotiate.specs.Settings.{Settings}
+use Rattle.engine.specs.Timeline.{At, good}
+use Rattle.engine.specs.Run.{Rooms, at_entry}
+use Rattle.engine.specs.Progress.{Progress, nothing, done, refusing, is_due, is_established}
+use Rattle.engine.specs.Heads.{HeadEvent, NoEvent, AtOnce, TooLong, event_of, is_known, is_short, is_abort, out_of_place, request_length, data_length, head_event}
+use Rattle.engine.specs.machine.Tries.{is_left, Stays}
+
+-- an action that answers by an abort leaves the association
+pub abort_leaves : (st : State) (e : Event) → is_abort (table st e).0 ≡ true → is_left (table st e).1 ≡ true
+abort_leaves Sta1 Connected h = absurd cc
+abort_leaves Sta1 (Request true) h = absurd cc
+abort_leaves Sta1 (Request false) h = absurd cc
+abort_leaves Sta1 Ac h = absurd cc
+abort_leaves Sta1 Rj h = absurd cc
+abort_leaves Sta1 Data h = absurd cc
+abort_leaves Sta1 ReleaseRq h = absurd cc
+abort_leaves Sta1 ReleaseRp h = absurd cc
+abort_leaves Sta1 Abort h = absurd cc
+abort_leaves Sta1 Invalid h = absurd cc
+abort_leaves Sta1 Closed h = absurd cc
+abort_leaves Sta1 Expired h = absurd cc
+abort_leaves Sta1 UserAccepts h = absurd cc
+abort_leaves Sta1 UserRefuses h = absurd cc
+abort_leaves Sta1 UserReleases h = absurd cc
+abort_leaves Sta1 UserAborts h = absurd cc
+abort_leaves Sta2 Connected h = absurd cc
+abort_leaves Sta2 (Request true) h = absurd cc
+abort_leaves Sta2 (Request false) h = absurd cc
+abort_leaves Sta2 Ac h = refl
+abort_leaves Sta2 Rj h = refl
+abort_leaves Sta2 Data h = refl
+abort_leaves Sta2 ReleaseRq h = refl
+abort_leaves Sta2 ReleaseRp h = refl
+abort_leaves Sta2 Abort h = absurd cc
+abort_leaves Sta2 Invalid h = refl
+abort_leaves Sta2 Closed h = absurd cc
+abort_leaves Sta2 Expired h = absurd cc
+abort_leaves Sta2 UserAccepts h = absurd cc
+abort_leaves Sta2 UserRefuses h = absurd cc
+abort_leaves Sta2 UserReleases h = absurd cc
+abort_leaves Sta2 UserAborts h = absurd cc
+abort_leaves Sta3 Connected h = absurd cc
+abort_leaves Sta3 (Request true) h = absurd cc
+abort_leaves Sta3 (Request false) h = absurd cc
+abort_leaves Sta3 Ac h = absurd cc
+abort_leaves Sta3 Rj h = absurd cc
+abort_leaves Sta3 Data h = absurd cc
+abort_leaves Sta3 ReleaseRq h = absurd cc
+abort_leaves Sta3 ReleaseRp h = absurd cc
+abort_leaves Sta3 Abort h = absurd cc
+abort_leaves Sta3 Invalid h = absurd cc
+abort_leaves Sta3 Closed h = absurd cc
+abort_leaves Sta3 Expired h = absurd cc
+abort_leaves Sta3 UserAccepts h = absurd cc
+abort_leaves Sta3 UserRefuses h = absurd cc
+abort_leaves Sta3 UserReleases h = absurd cc
+abort_leaves Sta3 UserAborts h = absurd cc
+abort_leaves Sta6 Connected h = absurd cc
+abort_leaves Sta6 (Request true) h = refl
+abort_leaves Sta6 (Request false) h = refl
+abort_leaves Sta6 Ac h = refl
+abort_leaves Sta6 Rj h = refl
+abort_leaves Sta6 Data h = absurd cc
+abort_leaves Sta6 ReleaseRq h = absurd cc
+abort_leaves Sta6 ReleaseRp h = refl
+abort_leaves Sta6 Abort h = absurd cc
+abort_leaves Sta6 Invalid h = refl
+abort_leaves Sta6 Closed h = absurd cc
+abort_leaves Sta6 Expired h = absurd cc
+abort_leaves Sta6 UserAccepts h = absurd cc
+abort_leaves Sta6 UserRefuses h = absurd cc
+abort_leaves Sta6 UserReleases h = absurd cc
+abort_leaves Sta6 UserAborts h = refl
+abort_leaves Sta8 Connected h = absurd cc
+abort_leaves Sta8 (Request true) h = absurd cc
+abort_leaves Sta8 (Request false) h = absurd cc
+abort_leaves Sta8 Ac h = absurd cc
+abort_leaves Sta8 Rj h = absurd cc
+abort_leaves Sta8 Data h = absurd cc
+abort_leaves Sta8 ReleaseRq h = absurd cc
+abort_leaves Sta8 ReleaseRp h = absurd cc
+abort_leaves Sta8 Abort h = absurd cc
+abort_leaves Sta8 Invalid h = absurd cc
+abort_leaves Sta8 Closed h = absurd cc
+abort_leaves Sta8 Expired h = absurd cc
+abort_leaves Sta8 UserAccepts h = absurd cc
+abort_leaves Sta8 UserRefuses h = absurd cc
+abort_leaves Sta8 UserReleases h = absurd cc
+abort_leaves Sta8 UserAborts h = absurd cc
+abort_leaves Sta13 Connected h = absurd cc
+abort_leaves Sta13 (Request true) h = refl
+abort_leaves Sta13 (Request false) h = refl
+abort_leaves Sta13 Ac h = absurd cc
+abort_leaves Sta13 Rj h = absurd cc
+abort_leaves Sta13 Data h = absurd cc
+abort_leaves Sta13 ReleaseRq h = absurd cc
+abort_leaves Sta13 ReleaseRp h = absurd cc
+abort_leaves Sta13 Abort h = absurd cc
+abort_leaves Sta13 Invalid h = refl
+abort_leaves Sta13 Closed h = absurd cc
+abort_leaves Sta13 Expired h = absurd cc
+abort_leaves Sta13 UserAccepts h = absurd cc
+abort_leaves Sta13 UserRefuses h = absurd cc
+abort_leaves Sta13 UserReleases h = absurd cc
+abort_leaves Sta13 UserAborts h = absurd cc
+
+left_stays : (st : State) (e : Event) → is_left (table st e).1 ≡ true → Stays st e
+left_stays st e h = λ n. let x : true ≡ false = sym h ∙ n in absurd cc
+
+-- ---- which of two
+
+either : (b : Bool) (x y : HeadEvent) (e : HeadEvent) (P : Type 0) → (b ≡ true → x ≡ e → P) → (b ≡ false → y ≡ e → P) → (if b then x else y) ≡ e → P
+either true x y e P f g h = f refl h
+either false x y e P f g h = g refl h
+
+pub stays_at_invalid : (st : State) → Stays st Invalid
+stays_at_invalid Sta1 = λ h. refl
+stays_at_invalid Sta2 = λ h. absurd cc
+stays_at_invalid Sta3 = λ h. refl
+stays_at_invalid Sta6 = λ h. absurd cc
+stays_at_invalid Sta8 = λ h. refl
+stays_at_invalid Sta13 = λ h. absurd cc
+
+same_event : (a b : Event) (r q : ℕ) → AtOnce a r ≡ AtOnce b q → a ≡ b
+same_event a b r q h = cc
+
+invalid_stays : (st : State) (e : Event) (r q : ℕ) → AtOnce Invalid r ≡ AtOnce e q → Stays st e
+invalid_stays st e r q h = subst (λ (x : Event). Stays st x) (same_event Invalid e r q h) (stays_at_invalid st)
+
+pub head_stays : (room most : ℕ) (st : State) (kind n : ℕ) (e : Event) (r : ℕ) → head_event room most st kind n ≡ AtOnce e r → Stays st e
+head_stays room most st kind n e r =
+    let out = either (is_abort (table st (event_of kind)).0) (AtOnce (event_of kind) 2) NoEvent (AtOnce e r) (Stays st e)
+    (λ t h. subst (λ (x : Event). Stays st x) (same_event (event_of kind) e 2 r h) (left_stays st (event_of kind) (abort_leaves st (event_of kind) t))) (λ t h. absurd cc) in
+    let of_data = either (nat_lt most n || nat_lt n 6) (AtOnce Invalid 6) NoEvent (AtOnce e r) (Stays st e) (λ t h. invalid_stays st e 6 r h) (λ t h. absurd cc) in
+    let short = either (nat_lt n 68) (AtOnce Invalid 6) NoEvent (AtOnce e r) (Stays st e) (λ t h. invalid_stays st e 6 r h) (λ t h. absurd cc) in
+    let request = either (nat_lt room n) TooLong (if nat_lt n 68 then AtOnce Invalid 6 else NoEvent) (AtOnce e r) (Stays st e) (λ t h. absurd cc) (λ t h. short h) in
+    either (not (is_known kind)) (AtOnce Invalid 1) _ (AtOnce e r) (Stays st e) (λ t h. invalid_stays st e 1 r h)
+    (λ t. either (is_short kind && not (nat_eq n 4)) (AtOnce Invalid 6) _ (AtOnce e r) (Stays st e) (λ u h. invalid_stays st e 6 r h)
+    (λ u. either (is_due st && nat_eq kind 1) (request_length room n) _ (AtOnce e r) (Stays st e) (λ v h. request h)
+    (λ v. either (is_established st && nat_eq kind 4) (data_length most n) (out_of_place st kind) (AtOnce e r) (Stays st e) (λ w h. of_data h) (λ w h. out h))))
+
+due_is : (st : State) (b : Bool) → (is_due st && b) ≡ true → st ≡ Sta2
+due_is Sta1 b h = absurd cc
+due_is Sta2 b h = refl
+due_is Sta3 b h = absurd cc
+due_is Sta6 b h = absurd cc
+due_is Sta8 b h = absurd cc
+due_is Sta13 b h = absurd cc
+
+pub head_too_long : (room most : ℕ) (st : State) (kind n : ℕ) → head_event room most st kind n ≡ TooLong → st ≡ Sta2
+head_too_long room most st kind n =
+    let P = st ≡ Sta2 in
+    let out = either (is_abort (table st (event_of kind)).0) (AtOnce (event_of kind) 2) NoEvent TooLong P (λ t h. absurd cc) (λ t h. absurd cc) in
+    let of_data = either (nat_lt most n || nat_lt n 6) (AtOnce Invalid 6) NoEvent TooLong P (λ t h. absurd cc) (λ t h. absurd cc) in
+    either (not (is_known kind)) (AtOnce Invalid 1) _ TooLong P (λ t h. absurd cc)
+    (λ t. either (is_short kind && not (nat_eq n 4)) (AtOnce Invalid 6) _ TooLong P (λ u h. absurd cc)
+    (λ u. either (is_due st && nat_eq kind 1) (request_length room n) _ TooLong P (λ v h. due_is st (nat_eq kind 1) v)
+    (λ v. either (is_established st && nat_eq kind 4) (data_length most n) (out_of_place st kind) TooLong P (λ w h. of_data h) (λ w h. out h))))
+
+-- ---- what a judged head gives
+
+module _ (rooms : Rooms) (s : Settings) (p : Progress) (kind n : ℕ) where
+  pub head_nothing : head_event (rooms.request - 12) s.max_pdu p.state kind n ≡ NoEvent → at_entry rooms s p good (At (Head kind n)) ≡ nothing (record p { refused = false })
+  head_nothing e = ap (λ (h : HeadEvent). elim h [ NoEvent ↦ nothing (record p { refused = false }) | AtOnce event reason ↦ refusing (done [] reason (record p { refused = false }) event) | TooLong ↦ refusing (done (reject_text 2 3 2) 0 (record p { refused = false }) (Request false)) ]) e
+
+  pub head_at_once : (e : Event) (r : ℕ) → head_event (rooms.request - 12) s.max_pdu p.state kind n ≡ AtOnce e r
+      → at_entry rooms s p good (At (Head kind n)) ≡ refusing (done [] r (record p { refused = false }) e)
+  head_at_once e r h = ap (λ (h : HeadEvent). elim h [ NoEvent ↦ nothing (record p { refused = false }) | AtOnce event reason ↦ refusing (done [] reason (record p { refused = false }) event) | TooLong ↦ refusing (done (reject_text 2 3 2) 0 (record p { refused = false }) (Request false)) ]) h
+
+  pub head_rejected : head_event (rooms.request - 12) s.max_pdu p.state kind n ≡ TooLong
+      → at_entry rooms s p good (At (Head kind n)) ≡ refusing (done (reject_text 2 3 2) 0 (record p { refused = false }) (Request false))
+  head_rejected h = ap (λ (h : HeadEvent). elim h [ NoEvent ↦ nothing (record p { refused = false }) | AtOnce event reason ↦ refusing (done [] reason (record p { refused = false }) event) | TooLong ↦ refusing (done (reject_text 2 3 2) 0 (record p { refused = false }) (Request false)) ]) h

@@ -1,0 +1,83 @@
+-- How many bytes are kept, by where the timeline has led.
+use Rattle.std.proofs.Common.{◌≡◌, ℕ, ◌+◌, ◌-◌, ◌*◌, Bool, true, false, not, ◌&&◌, List, [], length, drop, nat_eq, refl, ap, ◌∙◌, arith, if◌then◌else◌}
+use Rattle.std.proofs.lemmas.List.{length-drop}
+use Rattle.acceptor.specs.declared.state.State.{State}
+use Rattle.acceptor.specs.declared.state.State.TheVariants.{Sta1, Sta2, Sta3, Sta6, Sta8, Sta13}
+use Rattle.pdu.specs.Marks.{frame_kind}
+use Rattle.pdu.specs.Items.{record_of}
+use Rattle.pdu.specs.Spot.{spot}
+use Rattle.dimse.specs.Messages.{Begun, NoMessage, InCommand, InSet}
+use Rattle.dimse.specs.Joining as joining
+use Rattle.dimse.specs.Joining.{Joining, command_bytes}
+use Rattle.engine.specs.Progress.{Progress, is_due, is_established}
+use Rattle.engine.specs.Reached.{begun_in, message_so_far}
+use Rattle.engine.specs.Held.{is_ended, of_request, of_accepted, of_command}
+use Rattle.engine.specs.machine.Pends.{Kept, Pends, counted_pdv, body_in, held_by}
+
+command_size : (m : Begun) → length (command_bytes m) ≡ of_command m
+command_size NoMessage = refl
+command_size (InCommand context command) = refl
+command_size (InSet context command set) = refl
+
+command_kept : (k : Kept) (p : Progress) (body begun : List ℕ) → Pends k p body begun → length k.join.command ≡ of_command (joining.with_pdv (counted_pdv p begun) p.message)
+command_kept k p body begun h = ap (λ (j : Joining). length j.command) h.join_is.shows ∙ command_size (joining.with_pdv (counted_pdv p begun) p.message)
+
+-- of a request: by the state
+kept_of_request : (st : State) (r one : Bool) (table body : ℕ) (xs rest : List ℕ) → is_ended st ≡ false → length xs ≡ length rest - 6
+    → (if is_established st then 20 + 4 * table else 0) + length (if is_due st && not r then (if one then xs else []) else [])
+    ≡ (if is_due st then (if not r && one then length rest - 6 else 0) else (if is_established st then 20 + 4 * table else 0))
+kept_of_request Sta1 r one table body xs rest e f = absurd cc
+kept_of_request Sta2 true true table body xs rest e f = refl
+kept_of_request Sta2 true false table body xs rest e f = refl
+kept_of_request Sta2 false true table body xs rest e f = omega (arith, f)
+kept_of_request Sta2 false false table body xs rest e f = refl
+kept_of_request Sta3 r one table body xs rest e f = refl
+kept_of_request Sta6 r one table body xs rest e f = omega arith
+kept_of_request Sta8 r one table body xs rest e f = refl
+kept_of_request Sta13 r one table body xs rest e f = refl
+
+-- after the end
+ended_counted : (st : State) (r : Bool) (xs : List ℕ) → is_ended st ≡ true → (if is_established st && not r then xs else []) ≡ []
+ended_counted Sta1 r xs e = refl
+ended_counted Sta2 r xs e = absurd cc
+ended_counted Sta3 r xs e = absurd cc
+ended_counted Sta6 r xs e = absurd cc
+ended_counted Sta8 r xs e = absurd cc
+ended_counted Sta13 r xs e = absurd cc
+
+nothing_kept : (st : State) (r : Bool) (table : ℕ) (xs : List ℕ) → is_ended st ≡ true
+    → (if is_established st then 20 + 4 * table else 0) + length (if is_due st && not r then xs else []) ≡ 0
+nothing_kept Sta1 r table xs e = refl
+nothing_kept Sta2 r table xs e = absurd cc
+nothing_kept Sta3 r table xs e = absurd cc
+nothing_kept Sta6 r table xs e = absurd cc
+nothing_kept Sta8 r table xs e = absurd cc
+nothing_kept Sta13 r table xs e = absurd cc
+
+module _ (k : Kept) (p : Progress) (rest : List ℕ) (h : Pends k p (body_in (frame_kind rest) (drop 6 rest)) (begun_in (spot rest))) where
+  accepted_size : (st : State) → p.state ≡ st → (if is_established st then 20 + 4 * length k.table else 0) ≡ (if is_established st then of_accepted (record_of p.request) else 0)
+  accepted_size Sta1 e = refl
+  accepted_size Sta2 e = refl
+  accepted_size Sta3 e = refl
+  accepted_size Sta6 e = ap (λ (n : ℕ). 20 + 4 * n) (h.agreed e).count
+  accepted_size Sta8 e = refl
+  accepted_size Sta13 e = refl
+
+  pub held_shown : is_ended p.state ≡ false → held_by k ≡ of_request p rest + of_command (message_so_far (record { progress = p; rest = rest }))
+  held_shown n =
+      let sizes = kept_of_request p.state p.refused (nat_eq (frame_kind rest) 1) (length k.table) 0 (drop 6 rest) rest n (length-drop 6 rest) in
+      let accepted = ap (λ (x : ℕ). if is_due p.state then (if not p.refused && nat_eq (frame_kind rest) 1 then length rest - 6 else 0) else x) (accepted_size p.state refl) in
+      let of_state = ap (λ (st : State). (if is_established st then 20 + 4 * length k.table else 0) + length k.body + length k.join.command) h.state_is in
+      let of_body = ap (λ (b : List ℕ). (if is_established p.state then 20 + 4 * length k.table else 0) + length b + length k.join.command) h.body_is in
+      of_state ∙ of_body ∙ ap (λ (x : ℕ). x + length k.join.command) (sizes ∙ accepted)
+      ∙ ap (λ (x : ℕ). of_request p rest + x) (command_kept k p (body_in (frame_kind rest) (drop 6 rest)) (begun_in (spot rest)) h)
+
+  pub held_ended : is_ended p.state ≡ true → held_by k ≡ 0
+  held_ended e =
+      let none = h.none_left e in
+      let quiet = ended_counted p.state p.refused (begun_in (spot rest)) e in
+      let command = command_kept k p (body_in (frame_kind rest) (drop 6 rest)) (begun_in (spot rest)) h
+      ∙ ap (λ (xs : List ℕ). of_command (joining.with_pdv xs p.message)) quiet ∙ ap of_command none in
+      let of_state = ap (λ (st : State). (if is_established st then 20 + 4 * length k.table else 0) + length k.body + length k.join.command) h.state_is in
+      let of_body = ap (λ (b : List ℕ). (if is_established p.state then 20 + 4 * length k.table else 0) + length b + length k.join.command) h.body_is in
+      of_state ∙ of_body ∙ ap (λ (x : ℕ). x + length k.join.command) (nothing_kept p.state p.refused (length k.table) (body_in (frame_kind rest) (drop 6 rest)) e) ∙ ap (λ (x : ℕ). 0 + x) command

@@ -1,0 +1,181 @@
+-- From what was tried to what an entry does.
+use Rattle.std.proofs.Common.{◌≡◌, ℕ, Bool, true, false, not, ◌&&◌, List, [], Option, Some, None, refl, ap, sym, subst, ◌∙◌, arith, if◌then◌else◌}
+use Rattle.std.proofs.lemmas.List.{append-nil}
+use Rattle.std.specs.Io.KnownBytes.{append_known}
+use Rattle.acceptor.specs.declared.state.State.{State}
+use Rattle.acceptor.specs.declared.state.State.TheVariants.{Sta1, Sta2, Sta3, Sta6, Sta8, Sta13}
+use Rattle.acceptor.specs.declared.event.Event.{Event}
+use Rattle.acceptor.specs.declared.event.Event.TheVariants as event
+use Rattle.pdu.specs.Marks.{BadPdv, Leftover}
+use Rattle.negotiate.specs.Settings.{Settings}
+use Rattle.pdu.specs.Sent.{Line}
+use Rattle.part10.specs.Store.{Store}
+use Rattle.dimse.specs.Joining.{Shows}
+use Rattle.engine.specs.Devices.{devices, line_after, line_with, IsFront, files_in, with_files}
+use Rattle.engine.specs.Timeline.{Entry, At, good}
+use Rattle.engine.specs.Progress.{Progress, Advance, nothing, left, refusing, is_due, is_established}
+use Rattle.engine.specs.Reached.{takes_pdvs}
+use Rattle.engine.specs.Replies.{invalid}
+use Rattle.engine.specs.Run.{Rooms, at_entry, cut, fails}
+use Rattle.engine.specs.Fair.{IsVerdict, message_at}
+use Rattle.engine.specs.Held.{is_ended}
+use Rattle.engine.specs.machine.Pends.{Kept, Pends, counted_body, counted_pdv, takes_pdvs_in}
+use Rattle.engine.specs.machine.Tries.{Tries, Stays}
+use Rattle.engine.specs.machine.Does.{Does}
+
+-- ---- the devices
+
+sent_nothing : (known : Option (List ℕ)) → known ≡ append_known known []
+sent_nothing None = refl
+sent_nothing (Some xs) = ap (λ (x : List ℕ). Some x) (sym (append-nil xs))
+
+pub line_same : (l : Line) → l ≡ line_after None [] l
+line_same l = ap (λ (x : Option (List ℕ)). record { sent = x; failures = l.failures }) (sent_nothing l.sent)
+
+filed_nothing : (known : Option (List (List ℕ))) → known ≡ with_files [] known
+filed_nothing None = refl
+filed_nothing (Some xs) = ap (λ (x : List (List ℕ)). Some x) (sym (append-nil xs))
+
+line_gained : (wire : Option ℕ) (p : Progress) (g : Advance) (l : Line) → line_after wire g.sent l ≡ line_with (cut wire p g).sent (fails wire) l
+line_gained None p g l = ap (λ (n : ℕ). record { sent = append_known l.sent g.sent; failures = n }) (omega arith)
+line_gained (Some k) p g l = refl
+
+files_cut : (wire : Option ℕ) (p : Progress) (g : Advance) → (cut wire p g).files ≡ g.files
+files_cut None p g = refl
+files_cut (Some k) p g = refl
+
+-- ---- an entry
+
+pub does_by : (rooms : Rooms) (s : Settings) (p : Progress) (e : Entry) (g : Advance) (new : Kept) (body begun : List ℕ) (lo ln : Line) (st : Store)
+    → at_entry rooms s p good e ≡ g → g.files ≡ [] → IsVerdict rooms s p good (message_at p e) → Tries p g new body begun lo ln → Does rooms s p e new body begun (devices lo st) (devices ln st)
+does_by rooms s p e g new body begun lo ln st is none verdict t = record {
+  outcome = record { wire = t.wire; filing = false; finding = good };
+  fair = record { verdict = verdict; wire = subst (λ (x : Advance). IsFront t.wire x.sent) (sym is) t.fair; filing = λ yes. absurd cc };
+  pends = subst (λ (x : Advance). Pends new (cut t.wire p x).next body begun) (sym is) t.pends;
+  line = t.line ∙ line_gained t.wire p g lo ∙ ap (λ (x : Advance). line_with (cut t.wire p x).sent (fails t.wire) lo) (sym is);
+  files = filed_nothing (files_in st) ∙ ap (λ (fs : List (List ℕ)). with_files fs (files_in st)) (sym (files_cut t.wire p (at_entry rooms s p good e) ∙ ap (λ (x : Advance). x.files) is ∙ none));
+  count = omega arith;
+}
+
+pub tries_nothing : (p : Progress) (k : Kept) (body begun : List ℕ) (l : Line) → Pends k p body begun → Tries p (nothing p) k body begun l l
+tries_nothing p k body begun l h = record { wire = None; fair = tt; pends = h; line = line_same l }
+
+pub does_nothing : (rooms : Rooms) (s : Settings) (p : Progress) (e : Entry) (k : Kept) (body begun : List ℕ) (l : Line) (st : Store)
+    → at_entry rooms s p good e ≡ nothing p → IsVerdict rooms s p good (message_at p e) → Pends k p body begun → Does rooms s p e k body begun (devices l st) (devices l st)
+does_nothing rooms s p e k body begun l st is verdict h = does_by rooms s p e (nothing p) k body begun l l st is refl verdict (tries_nothing p k body begun l h)
+
+-- ---- the PDU is refused
+
+pub not_counted : (b : Bool) (xs : List ℕ) → ◌≡◌ {A = List ℕ} [] (if b && false then xs else [])
+not_counted true xs = refl
+not_counted false xs = refl
+
+pends_refused : (q : Progress) (mid : Kept) (body begun body2 begun2 : List ℕ) → counted_body q body ≡ [] → counted_pdv q begun ≡ [] → Pends mid q body begun
+    → Pends (record mid { refused = true }) (record q { refused = true }) body2 begun2
+pends_refused q mid body begun body2 begun2 b d h = record {
+  state_is = h.state_is;
+  refused_is = λ n. refl;
+  body_is = h.body_is ∙ b ∙ not_counted (is_due q.state) body2;
+  join_is = subst (λ (xs : List ℕ). Shows mid.room mid.join q.message xs) (d ∙ not_counted (is_established q.state) begun2) h.join_is;
+  agreed = λ six. let a = h.agreed six in record { caller = a.caller; maximum = a.maximum; contexts = a.contexts; count = a.count };
+  none_left = h.none_left;
+  no_set = h.no_set;
+}
+
+ended_refused : (p : Progress) (mid : Kept) (body begun body2 begun2 : List ℕ) → Pends mid (left Sta1 p) body begun → Pends (record mid { refused = true }) (left Sta1 p) body2 begun2
+ended_refused p mid body begun body2 begun2 h = record { state_is = h.state_is; refused_is = λ n. absurd cc; body_is = h.body_is; join_is = h.join_is; agreed = λ six. absurd cc; none_left = λ e. refl; no_set = refl }
+
+pub refused_by : (p : Progress) (g : Advance) (mid : Kept) (body begun body2 begun2 : List ℕ) (lo ln : Line) → counted_body g.next body ≡ [] → counted_pdv g.next begun ≡ []
+    → Tries p g mid body begun lo ln → Tries p (refusing g) (record mid { refused = true }) body2 begun2 lo ln
+refused_by p g mid body begun body2 begun2 lo ln b d t = by t.wire refl where
+  by : (w : Option ℕ) → w ≡ t.wire → Tries p (refusing g) (record mid { refused = true }) body2 begun2 lo ln
+  by None e = record {
+    wire = None;
+    fair = tt;
+    pends = pends_refused g.next mid body begun body2 begun2 b d (subst (λ (x : Option ℕ). Pends mid (cut x p g).next body begun) (sym e) t.pends);
+    line = t.line ∙ ap (λ (x : Option ℕ). line_after x g.sent lo) (sym e);
+  }
+  by (Some k) e = record {
+    wire = Some k;
+    fair = subst (λ (x : Option ℕ). IsFront x g.sent) (sym e) t.fair;
+    pends = ended_refused p mid body begun body2 begun2 (subst (λ (x : Option ℕ). Pends mid (cut x p g).next body begun) (sym e) t.pends);
+    line = t.line ∙ ap (λ (x : Option ℕ). line_after x g.sent lo) (sym e);
+  }
+
+pub if_nothing : (t : Bool) → ◌≡◌ {A = List ℕ} (if t then [] else []) []
+if_nothing true = refl
+if_nothing false = refl
+
+pub none_counted_body : (q : Progress) → counted_body q [] ≡ []
+none_counted_body q = if_nothing (is_due q.state && not q.refused)
+
+pub none_counted_pdv : (q : Progress) → counted_pdv q [] ≡ []
+none_counted_pdv q = if_nothing (takes_pdvs q)
+
+-- ---- whether PDVs count
+
+takes_by : (st : State) (a b : Bool) → (is_ended st ≡ false → a ≡ b) → (is_established st && not a) ≡ (is_established st && not b)
+takes_by Sta1 a b h = refl
+takes_by Sta2 a b h = refl
+takes_by Sta3 a b h = refl
+takes_by Sta6 a b h = ap not (h refl)
+takes_by Sta8 a b h = refl
+takes_by Sta13 a b h = refl
+
+pub takes_shown : (k : Kept) (p : Progress) (body begun : List ℕ) → Pends k p body begun → takes_pdvs_in k ≡ takes_pdvs p
+takes_shown k p body begun h = ap (λ (x : State). is_established x && not k.refused) h.state_is ∙ takes_by p.state k.refused p.refused h.refused_is
+
+pub taken_when : (e r : Bool) (a b : Advance) → (if r then b else (if e then a else b)) ≡ (if e && not r then a else b)
+taken_when true true a b = refl
+taken_when true false a b = refl
+taken_when false true a b = refl
+taken_when false false a b = refl
+
+-- a PDV that is bad or leaves bytes over
+pub bad_is : (rooms : Rooms) (s : Settings) (p : Progress) → at_entry rooms s p good (At BadPdv) ≡ (if takes_pdvs p then invalid p else nothing p)
+bad_is rooms s p = taken_when (is_established p.state) p.refused (invalid p) (nothing p)
+
+pub leftover_is : (rooms : Rooms) (s : Settings) (p : Progress) → at_entry rooms s p good (At Leftover) ≡ (if takes_pdvs p then invalid p else nothing p)
+leftover_is rooms s p = taken_when (is_established p.state) p.refused (invalid p) (nothing p)
+
+-- ---- events that leave the association or keep its state
+
+pub stays_invalid : (st : State) → Stays st event.Invalid
+stays_invalid Sta1 = λ h. refl
+stays_invalid Sta2 = λ h. absurd cc
+stays_invalid Sta3 = λ h. refl
+stays_invalid Sta6 = λ h. absurd cc
+stays_invalid Sta8 = λ h. refl
+stays_invalid Sta13 = λ h. absurd cc
+
+pub stays_aborts : (st : State) → Stays st event.UserAborts
+stays_aborts Sta1 = λ h. refl
+stays_aborts Sta2 = λ h. refl
+stays_aborts Sta3 = λ h. refl
+stays_aborts Sta6 = λ h. absurd cc
+stays_aborts Sta8 = λ h. refl
+stays_aborts Sta13 = λ h. refl
+
+pub stays_closed : (st : State) → Stays st event.Closed
+stays_closed Sta1 = λ h. refl
+stays_closed Sta2 = λ h. absurd cc
+stays_closed Sta3 = λ h. refl
+stays_closed Sta6 = λ h. absurd cc
+stays_closed Sta8 = λ h. refl
+stays_closed Sta13 = λ h. absurd cc
+
+pub stays_expired : (st : State) → Stays st event.Expired
+stays_expired Sta1 = λ h. refl
+stays_expired Sta2 = λ h. absurd cc
+stays_expired Sta3 = λ h. refl
+stays_expired Sta6 = λ h. refl
+stays_expired Sta8 = λ h. refl
+stays_expired Sta13 = λ h. absurd cc
+
+pub stays_abort : (st : State) → Stays st event.Abort
+stays_abort Sta1 = λ h. refl
+stays_abort Sta2 = λ h. absurd cc
+stays_abort Sta3 = λ h. refl
+stays_abort Sta6 = λ h. absurd cc
+stays_abort Sta8 = λ h. refl
+stays_abort Sta13 = λ h. absurd cc

@@ -1,0 +1,166 @@
+-- The associations of which the whole is shown.
+use Rattle.std.proofs.Common.{◌≡◌, ℕ, ◌+◌, ◌^◌, Bool, List, [], ◌∷◌, ◌++◌, length, drop, eqb, false, Option, Some, None, Result, Ok, refl, ap, arith, lit<, codes}
+use Rattle.element.specs.declared.syntax.Syntax.TheVariants.{Explicit}
+use Rattle.element.specs.Vr.{is_short}
+use Rattle.element.specs.Header.{need, is_whole}
+use Rattle.element.specs.declared.syntax.Syntax.{Syntax}
+use Rattle.element.specs.declared.size.Need.{Need}
+use Rattle.element.specs.declared.size.Need.TheVariants.{More, BadVr}
+use Rattle.dictionary.specs.declared.class.Class.{Class}
+use Rattle.dictionary.specs.declared.class.Class.TheVariants.{Ct, Mr}
+use Rattle.dictionary.specs.Classes.{class_named}
+use Rattle.sequence.specs.Tree.{no_elements, nothing}
+use Rattle.sequence.specs.Open.{Open, in_header, at_elements, header_tail}
+use Rattle.sequence.specs.Rules.{Limits}
+use Rattle.sequence.specs.FirstFault.{IsUnbroken}
+use Rattle.sequence.specs.Walk.{Told, Tells, going, refused}
+use Rattle.sequence.specs.machine.Machine.{due, arrive, run}
+use Rattle.sequence.specs.machine.Keeping.{keeps}
+use Rattle.sequence.proofs.Tales.{tells}
+use Rattle.dictionary.specs.Syntaxes.{syntax_named}
+use Rattle.dimse.specs.declared.fault.DimseFault.{DimseFault}
+use Rattle.dimse.specs.Command.{CommandRecord, command_element_bytes, stored, command_of}
+use Rattle.dimse.specs.Reading.{element_at, elements_in, elements_of, set_of, command_in}
+use Rattle.dimse.specs.Reply.{reply_command, fragments, reply_bytes}
+use Rattle.dimse.specs.Messages.{Begun, NoMessage, InSet}
+use Rattle.negotiate.specs.declared.proposals.Context.{Context}
+use Rattle.pdu.specs.Frames.{frames_of, rest_of}
+use Rattle.pdu.specs.Items.{items_of, left_over}
+use Rattle.pdu.specs.Marks.{marks, new_marks, pdv_marks}
+use Rattle.pdu.specs.Pieces.{pieces_of}
+use Rattle.pdu.specs.Refusal.{item_fault, items_fault}
+use Rattle.pdu.specs.Spot.{spot}
+use Rattle.engine.specs.Timeline.{Entry, Finding, good, entries, entries_of}
+use Rattle.engine.specs.Fair.{IsFair, IsVerdict, message_at}
+use Rattle.negotiate.proofs.TableLemmas.{context_in-context_rows}
+use Rattle.pdu.specs.Items.{record_of}
+use Rattle.std.specs.List.{IsDistinct}
+use Rattle.engine.specs.Progress.{Progress, absorb}
+use Rattle.engine.specs.Run.{Rooms}
+use Rattle.engine.specs.Held.{IsHeldOfMessage, no_set, in_command, walked, not_walked}
+use Rattle.engine.specs.Stands.{none_due}
+use Rattle.engine.specs.Stores.{limits, Verdict, other_class, no_room, faulty, cut, names_class, names_instance, unfiled, filed, IsOfContext}
+use Rattle.engine.specs.Recording.{request, accept, reply, released}
+use Rattle.engine.specs.Examples.{rooms, settings, calm}
+use Rattle.engine.specs.WholeExamples.{unsupported, echo_inputs, request_inputs, TheEchoRuns, TheRequestIsHeld, ItStandsEstablished, VerdictsOnStores, ct_context, store_of}
+use Rattle.negotiate.specs.Settings.{Settings}
+
+calm_entries : (es : List Entry) → entries_of (calm es) ≡ es
+calm_entries [] = refl
+calm_entries (e ∷ es) = ap (λ (xs : List Entry). e ∷ xs) (calm_entries es)
+
+-- an echo is no store
+no_store : (command other : CommandRecord) → ◌≡◌ {A = Result CommandRecord DimseFault} (Ok other) (Ok command) → other.field ≡ 0x0030 → command.field ≡ 0x0001 → ⊥
+no_store command other e echoed f =
+    let same : other ≡ command = cc in
+    let fields : other.field ≡ command.field = ap (λ (c : CommandRecord). c.field) same in
+    absurd (omega (arith, fields, echoed, f))
+
+-- nothing failed in the entry
+calm_fair : {p : Progress} {e : Entry} → IsVerdict rooms settings (absorb false p) good (message_at p e) → IsFair rooms settings p (e, record { wire = None; filing = false; finding = good })
+calm_fair v = record { verdict = v; wire = tt; filing = λ f. absurd cc }
+
+pub the_echo_runs : TheEchoRuns
+unfolding frames_of rest_of pieces_of marks new_marks pdv_marks items_of left_over item_fault items_fault class_named syntax_named is_short command_element_bytes stored command_of element_at elements_in elements_of set_of command_in reply_command fragments reply_bytes
+the_echo_runs = (
+  record {
+    story_is = record {
+      told = calm_entries (entries [] echo_inputs);
+      fair = (calm_fair tt, (calm_fair tt, (calm_fair tt, (calm_fair tt, (calm_fair (λ command context spelled f of. absurd (no_store command _ spelled refl f)), (calm_fair tt, (calm_fair tt, (calm_fair tt, (calm_fair tt, tt)))))))));
+      last = λ e. absurd cc;
+    };
+    sent_is = refl;
+    files_are = refl;
+    state_is = refl;
+  },
+  λ files state run. let e : length (accept ++ reply) ≡ length (accept ++ reply ++ released) = ap length run.sent_is in absurd (omega (arith, e)),
+)
+
+none_held : {r : Rooms} {s : Settings} {request : List ℕ} {b : Begun} {k : ℕ} → IsHeldOfMessage r s request b k → b ≡ NoMessage → k ≡ 0
+none_held no_set e = refl
+none_held in_command e = refl
+none_held (walked spelled accepted of set) e = absurd cc
+none_held (not_walked spelled accepted of) e = refl
+
+pub the_request_is_held : TheRequestIsHeld
+unfolding frames_of rest_of pieces_of marks new_marks pdv_marks spot items_of left_over item_fault items_fault class_named syntax_named is_short
+the_request_is_held = (
+  record { of_set = 0; walked = no_set; sum = refl },
+  λ n held. let sum : n ≡ 24 + held.of_set = held.sum in let none : held.of_set ≡ 0 = none_held held.walked refl in omega (arith, sum, none),
+)
+
+not_in_set : (id : ℕ) (command set : List ℕ) → NoMessage ≡ InSet id command set → ⊥
+not_in_set id command set e = cc
+
+one_distinct : (id : ℕ) → IsDistinct eqb (id ∷ [])
+unfolding IsDistinct
+one_distinct id = (tt, tt)
+
+pub it_stands_established : ItStandsEstablished
+unfolding frames_of rest_of pieces_of marks new_marks pdv_marks spot items_of left_over item_fault items_fault class_named syntax_named is_short
+it_stands_established = (
+  λ store. record {
+    story_is = record { told = calm_entries (entries [] request_inputs); fair = (calm_fair tt, (calm_fair tt, tt)); last = λ e. absurd cc };
+    shows = record {
+      frame = record {
+        framed = λ e. record { short = omega arith; head_is = refl; pdv_is = refl };
+        pends = record {
+          state_is = refl;
+          refused_is = λ e. refl;
+          body_is = refl;
+          join_is = record { shows = refl; accepted = λ le. absurd (omega (arith, le)) };
+          agreed = λ e. record { caller = refl; maximum = refl; contexts = context_in-context_rows (record_of (drop 6 request)) (one_distinct 1); count = refl };
+          none_left = λ e. absurd cc;
+          no_set = refl;
+        };
+      };
+      headless = λ e. absurd cc;
+    };
+    draft = none_due (λ file d. not_in_set d.store.id d.store.command d.store.set d.store.begun);
+  },
+  λ store stands. let none : 0 ≡ 1 = (stands.shows.frame.pends.agreed refl).count in absurd (omega (arith, none)),
+)
+
+-- ---- verdicts
+
+only_other : {d l : ℕ} {c : Context} {r : CommandRecord} {b : List ℕ} {f : Bool} {n : Finding} → (IsOfContext c r → ⊥) → Verdict d l c r b f n → n ≡ unsupported
+only_other not (other_class other) = refl
+only_other not (no_room of fault rule) = absurd (not of)
+only_other not (faulty of fault deep long) = absurd (not of)
+only_other not (cut of end) = absurd (not of)
+only_other not (names_class of whole kept other) = absurd (not of)
+only_other not (names_instance of whole kept class other) = absurd (not of)
+only_other not (unfiled of whole kept class same failed) = absurd (not of)
+only_other not (filed of whole kept class same failed) = absurd (not of)
+
+mr_is_no_ct : IsOfContext ct_context (store_of (codes "1.2.840.10008.5.1.4.1.1.4")) → ⊥
+unfolding class_named
+mr_is_no_ct of = let e : ◌≡◌ {A = Option Class} (Some Mr) (Some Ct) = of.named in cc
+
+unbroken_of : {s : Syntax} {lim : Limits} {b : List ℕ} {told : Told} → Tells s lim b told → told.fault ≡ None → IsUnbroken s lim b
+unbroken_of (going unbroken front) e = unbroken
+unbroken_of (refused fault front) e = absurd cc
+
+nothing_breaks : IsUnbroken Explicit (limits 64 (2 ^ 40)) []
+unfolding run keeps due arrive
+nothing_breaks = unbroken_of (tells Explicit (limits 64 (2 ^ 40)) [] (λ i. lit< tt)) refl
+
+at_nothing : Open Explicit [] no_elements [] 0 (in_header [])
+unfolding need is_whole
+at_nothing = record {
+  nested = at_elements {b = []} {t = []} nothing (header_tail (record { part = refl; good = λ e. let f : ◌≡◌ {A = Need} More BadVr = e in cc }));
+  left = tt;
+  innermost = tt;
+}
+
+pub verdicts_on_stores : VerdictsOnStores
+unfolding class_named
+verdicts_on_stores = (
+  λ data_set failed. other_class mr_is_no_ct,
+  λ data_set failed finding verdict. only_other mr_is_no_ct verdict,
+  λ failed. names_class
+      (record { named = refl; storage = refl })
+      (record { elements = no_elements; whole = nothing; unbroken = nothing_breaks })
+      (record { elements = no_elements; path = []; last = 0; tail = in_header []; front = at_nothing; kept = refl })
+      (λ same. let e : ◌≡◌ {A = Option (List ℕ)} None (Some same.0) = same.1 in cc),
+)

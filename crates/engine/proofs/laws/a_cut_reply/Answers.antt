@@ -1,0 +1,5 @@
+use Rattle.engine.proofs.StoreExamples.{a_cut_reply}
+use Rattle.engine.proofs.laws.a_cut_reply.Goals as goal
+
+pub returns : goal.returns
+returns c = a_cut_reply

@@ -1,0 +1,5 @@
+use Rattle.engine.proofs.StoreExamples.{a_filing_fails_once}
+use Rattle.engine.proofs.laws.a_filing_fails_once.Goals as goal
+
+pub returns : goal.returns
+returns c = a_filing_fails_once

@@ -1,0 +1,35 @@
+-- The request is answered, and what is kept of it is what was agreed.
+use Rattle.std.proofs.Common.{◌<◌, ◌∙◌, ap, subst, List, ℕ, length, OnErr, arith}
+use Rattle.acceptor.specs.declared.state.State.TheVariants.{Sta6}
+use Rattle.pdu.specs.Sent.{Sends}
+use Rattle.pdu.specs.Items.{record_of}
+use Rattle.engine.specs.Progress.{start}
+use Rattle.engine.specs.Requests.{at_request}
+use Rattle.engine.specs.machine.Pends.{Agreed}
+use Rattle.engine.specs.machine.Tries.{Settles}
+use Rattle.engine.specs.machine.Kept.{kept_of, settings_in}
+use Rattle.engine.proofs.RequestLemmas.{request_tries, given_up}
+use Rattle.engine.proofs.provider.Provider.on_request.Goals as goal
+
+pub returns-clause-tries : goal.returns-clause-tries
+returns-clause-tries g c = λ p body h unrefused.
+    let s = settings_in c.args.self.now in
+    let old = kept_of c.args.self.now in
+    let new = kept_of c.settle.new.self in
+    let a = c.answer_request-next in
+    let caller = a.new.caller in
+    let maximum = a.new.peer_max in
+    let rows = a.new.table.items in
+    let given = given_up caller maximum rows old in
+    let bytes = c.as_slice.ensures.value in
+    request_tries s p body a.result.0 a.result.1 old new caller maximum rows _ _ h c.requires.due unrefused
+    (a.ensures.state ∙ ap (λ (b : List ℕ). (at_request s start b).next.state) bytes)
+    (subst (λ (b : List ℕ). Settles a.result.0 a.result.1 (record given { body = b }) new) c.clear.ensures c.settle.ensures.settles)
+    (λ six. subst (λ (b : List ℕ). Agreed (record given { state = Sta6 }) (record_of b)) bytes
+    (record { caller = a.ensures.caller six; maximum = a.ensures.maximum six; contexts = a.ensures.contexts six; count = a.ensures.count six }))
+    (subst (λ (b : List ℕ). Sends (at_request s start b).sent a.result.1 (g.W.Wire.line c.args.wire.now) (g.W.Wire.line a.new.wire)) bytes a.ensures.sends)
+    (subst (λ (b : List ℕ). OnErr a.result.1 (0 < length (at_request s start b).sent)) bytes a.ensures.due)
+
+pub invariant_of-self-clause-rows_room : goal.invariant_of-self-clause-rows_room
+invariant_of-self-clause-rows_room g c =
+    c.answer_request-next.ensures.rows g.row.A c.args.self.now.rows_room (omega (arith, c.args.self.now.room, ap length c.as_slice.ensures.value))

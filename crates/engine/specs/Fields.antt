@@ -1,0 +1,16 @@
+-- What contracts see of an association.
+use Rattle.std.specs.Prelude.{ℕ}
+use Rattle.acceptor.specs.declared.state.State.{State}
+use Rattle.negotiate.specs.Settings.{Settings, settings_of}
+use Rattle.engine.specs.declared.association.Association.{Association}
+use Rattle.engine.specs.machine.Kept.{kept_of}
+use Rattle.engine.specs.machine.Shows.{Fields}
+
+abbrev pub fields_of : {A C V D : ℕ} → Association A C V D → Fields
+fields_of a = record { framing = a.framing; head = a.head.items; pdv = a.pdv.items; kept = kept_of a.provider }
+
+abbrev pub state_of : {A C V D : ℕ} → Association A C V D → State
+state_of a = a.provider.state
+
+abbrev pub settings_in : {A C V D : ℕ} → Association A C V D → Settings
+settings_in a = settings_of a.provider.config

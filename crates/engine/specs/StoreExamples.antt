@@ -1,0 +1,92 @@
+-- One CT store: its request, its command and its data set; and what comes of it where all goes well, where the filing
+-- fails, where its reply is cut, and where the transport is closed in its data.
+use Rattle.std.specs.Prelude.{◌≡◌, ℕ, Bool, true, false, List, [], ◌∷◌, ◌++◌, length, map, take, Option, Some, None}
+use Rattle.acceptor.specs.declared.state.State.{State}
+use Rattle.acceptor.specs.declared.state.State.TheVariants.{Sta1, Sta6}
+use Rattle.pdu.specs.Marks.{Pdv}
+use Rattle.dimse.specs.Messages.{NoMessage, InSet}
+use Rattle.dimse.specs.Status.{out_of_resources}
+use Rattle.engine.specs.Timeline.{Entry, At, Shut, Finding, good, Happened}
+use Rattle.engine.specs.Progress.{Progress}
+use Rattle.engine.specs.Reached.{Reached, message_so_far}
+use Rattle.engine.specs.Held.{held_before_data}
+use Rattle.engine.specs.Run.{progress_of, sent_of, files_of, wire_failures, filing_failures}
+use Rattle.engine.specs.Examples.{rooms, settings}
+
+-- the body of a request of SCANNER1 for CT images in Explicit VR Little Endian
+abbrev pub request_body : List ℕ
+request_body =
+    0 ∷ 1 ∷ 0 ∷ 0 ∷ 68 ∷ 67 ∷ 77 ∷ 66 ∷ 79 ∷ 88 ∷ 32 ∷ 32 ∷ 32 ∷ 32 ∷ 32 ∷ 32 ∷ 32 ∷ 32 ∷ 32 ∷ 32 ∷ 83 ∷ 67 ∷ 65
+    ∷ 78 ∷ 78 ∷ 69 ∷ 82 ∷ 49 ∷ 32 ∷ 32 ∷ 32 ∷ 32 ∷ 32 ∷ 32 ∷ 32 ∷ 32 ∷ 0 ∷ 0 ∷ 0 ∷ 0 ∷ 0 ∷ 0 ∷ 0 ∷ 0 ∷ 0 ∷ 0 ∷ 0 ∷ 0
+    ∷ 0 ∷ 0 ∷ 0 ∷ 0 ∷ 0 ∷ 0 ∷ 0 ∷ 0 ∷ 0 ∷ 0 ∷ 0 ∷ 0 ∷ 0 ∷ 0 ∷ 0 ∷ 0 ∷ 0 ∷ 0 ∷ 0 ∷ 0 ∷ 16 ∷ 0 ∷ 0 ∷ 21 ∷ 49 ∷ 46 ∷ 50
+    ∷ 46 ∷ 56 ∷ 52 ∷ 48 ∷ 46 ∷ 49 ∷ 48 ∷ 48 ∷ 48 ∷ 56 ∷ 46 ∷ 51 ∷ 46 ∷ 49 ∷ 46 ∷ 49 ∷ 46 ∷ 49 ∷ 32 ∷ 0 ∷ 0 ∷ 56 ∷ 1
+    ∷ 0 ∷ 0 ∷ 0 ∷ 48 ∷ 0 ∷ 0 ∷ 25 ∷ 49 ∷ 46 ∷ 50 ∷ 46 ∷ 56 ∷ 52 ∷ 48 ∷ 46 ∷ 49 ∷ 48 ∷ 48 ∷ 48 ∷ 56 ∷ 46 ∷ 53 ∷ 46
+    ∷ 49 ∷ 46 ∷ 52 ∷ 46 ∷ 49 ∷ 46 ∷ 49 ∷ 46 ∷ 50 ∷ 64 ∷ 0 ∷ 0 ∷ 19 ∷ 49 ∷ 46 ∷ 50 ∷ 46 ∷ 56 ∷ 52 ∷ 48 ∷ 46 ∷ 49 ∷ 48
+    ∷ 48 ∷ 48 ∷ 56 ∷ 46 ∷ 49 ∷ 46 ∷ 50 ∷ 46 ∷ 49 ∷ 80 ∷ 0 ∷ 0 ∷ 17 ∷ 81 ∷ 0 ∷ 0 ∷ 4 ∷ 0 ∷ 0 ∷ 64 ∷ 0 ∷ 82 ∷ 0 ∷ 0
+    ∷ 5 ∷ 49 ∷ 46 ∷ 50 ∷ 46 ∷ 51 ∷ []
+
+-- a C-STORE-RQ of the instance 1.2.3
+abbrev pub command : List ℕ
+command =
+    0 ∷ 0 ∷ 0 ∷ 0 ∷ 4 ∷ 0 ∷ 0 ∷ 0 ∷ 88 ∷ 0 ∷ 0 ∷ 0 ∷ 0 ∷ 0 ∷ 2 ∷ 0 ∷ 26 ∷ 0 ∷ 0 ∷ 0 ∷ 49 ∷ 46 ∷ 50 ∷ 46 ∷ 56 ∷ 52
+    ∷ 48 ∷ 46 ∷ 49 ∷ 48 ∷ 48 ∷ 48 ∷ 56 ∷ 46 ∷ 53 ∷ 46 ∷ 49 ∷ 46 ∷ 52 ∷ 46 ∷ 49 ∷ 46 ∷ 49 ∷ 46 ∷ 50 ∷ 0 ∷ 0 ∷ 0 ∷ 0
+    ∷ 1 ∷ 2 ∷ 0 ∷ 0 ∷ 0 ∷ 1 ∷ 0 ∷ 0 ∷ 0 ∷ 16 ∷ 1 ∷ 2 ∷ 0 ∷ 0 ∷ 0 ∷ 7 ∷ 0 ∷ 0 ∷ 0 ∷ 0 ∷ 7 ∷ 2 ∷ 0 ∷ 0 ∷ 0 ∷ 0 ∷ 0 ∷ 0
+    ∷ 0 ∷ 0 ∷ 8 ∷ 2 ∷ 0 ∷ 0 ∷ 0 ∷ 0 ∷ 0 ∷ 0 ∷ 0 ∷ 0 ∷ 16 ∷ 6 ∷ 0 ∷ 0 ∷ 0 ∷ 49 ∷ 46 ∷ 50 ∷ 46 ∷ 51 ∷ 0 ∷ []
+
+-- its class and its instance
+abbrev pub data_set : List ℕ
+data_set =
+    8 ∷ 0 ∷ 22 ∷ 0 ∷ 85 ∷ 73 ∷ 26 ∷ 0 ∷ 49 ∷ 46 ∷ 50 ∷ 46 ∷ 56 ∷ 52 ∷ 48 ∷ 46 ∷ 49 ∷ 48 ∷ 48 ∷ 48 ∷ 56 ∷ 46 ∷ 53
+    ∷ 46 ∷ 49 ∷ 46 ∷ 52 ∷ 46 ∷ 49 ∷ 46 ∷ 49 ∷ 46 ∷ 50 ∷ 0 ∷ 8 ∷ 0 ∷ 24 ∷ 0 ∷ 85 ∷ 73 ∷ 6 ∷ 0 ∷ 49 ∷ 46 ∷ 50 ∷ 46
+    ∷ 51 ∷ 0 ∷ []
+
+-- the association of this request
+abbrev pub accepted : Progress
+accepted = record { state = Sta6; request = request_body; refused = false; message = NoMessage; filing_failed = false }
+
+-- an entry; whether a filing call failed before it, and the finding on a store that ends in it
+abbrev pub told : Entry → Bool → Finding → Option ℕ → Happened
+told e failed finding wire = (e, record { wire = wire; filing = failed; finding = finding })
+
+abbrev pub the_command : Happened
+the_command = told (At (Pdv 1 3 command)) false good None
+
+abbrev pub the_set : Bool → Finding → Option ℕ → Happened
+the_set failed finding wire = told (At (Pdv 1 2 data_set)) failed finding wire
+
+abbrev pub a_store : Happened → List Happened
+a_store set = the_command ∷ set ∷ []
+
+-- the lengths of the files that were put, the bytes that were sent, and the state
+abbrev pub Comes : List Happened → List ℕ → ℕ → State → Type 0
+Comes story files sent state =
+    (map length (files_of rooms settings accepted story) ≡ files) × (length (sent_of rooms settings accepted story) ≡ sent) × ((progress_of rooms settings accepted story).state ≡ state)
+
+-- a store is filed in 336 bytes, and answered in 112
+abbrev pub AStoreIsFiled : Type 0
+AStoreIsFiled = Comes (a_store (the_set false good None)) (336 ∷ []) 112 Sta6
+
+abbrev pub unfiled : Finding
+unfiled = record { status = out_of_resources; detail = None }
+
+-- A filing that fails in the first of two stores: it is answered by A700 and leaves no file, the second one is filed, and
+-- one failure is counted.
+abbrev pub AFilingFailsOnce : Type 0
+AFilingFailsOnce = let story = a_store (the_set true unfiled None) ++ a_store (the_set false good None) in
+    Comes story (336 ∷ []) 224 Sta6 × (filing_failures story false ≡ 1)
+
+-- a wire that fails in the reply: the file stays, and the association ends
+abbrev pub ACutReply : Type 0
+ACutReply = let story = a_store (the_set false good (Some 5)) in Comes story (336 ∷ []) 5 Sta1 × (wire_failures story ≡ 1)
+
+-- the transport is closed in the middle of the data: no file
+abbrev pub ACloseInADataSet : Type 0
+ACloseInADataSet = Comes (the_command ∷ told Shut false good None ∷ []) [] 0 Sta1
+
+-- the P-DATA of the data set, of which the head, the head of its value, and 39 bytes of it have come
+abbrev pub in_the_set : Reached
+in_the_set = record { progress = progress_of rooms settings accepted (the_command ∷ []); rest = 4 ∷ 0 ∷ 0 ∷ 0 ∷ 0 ∷ 54 ∷ 0 ∷ 0 ∷ 0 ∷ 50 ∷ 1 ∷ 2 ∷ take 39 data_set }
+
+-- there 24 bytes for the request and 100 of the command are held, beside the walk's; with the 31 of this one, 155
+abbrev pub HeldInADataSet : Type 0
+HeldInADataSet = (message_so_far in_the_set ≡ InSet 1 command (take 39 data_set)) × (held_before_data in_the_set ≡ 124)

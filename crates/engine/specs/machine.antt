@@ -1,0 +1,12 @@
+-- What the code is proved against, beside the definitions.
+pub mod HeadEvents
+pub mod Answers
+pub mod Pends
+pub mod Kept
+pub mod Tries
+pub mod Messages
+pub mod Does
+pub mod Counts
+pub mod Shows
+pub mod HeldHeads
+pub mod Running

@@ -1,0 +1,12 @@
+-- The text that answers an association request.
+use Rattle.std.specs.Prelude.{ℕ, List, []}
+use Rattle.pdu.specs.Texts.{reject_text}
+use Rattle.negotiate.specs.Settings.{settings_of}
+use Rattle.negotiate.specs.Accept.{answer_bytes}
+use Rattle.engine.specs.declared.sending.Answering.{Answering}
+use Rattle.engine.specs.declared.sending.Answering.TheVariants as answering
+
+abbrev pub answer_text : Answering → List ℕ
+answer_text answering.Nothing = []
+answer_text answering.TooLong = reject_text 2 3 2
+answer_text (answering.Request config request) = answer_bytes (settings_of config.now) request.now

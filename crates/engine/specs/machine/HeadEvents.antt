@@ -1,0 +1,9 @@
+-- What the code's judgement of a head is, in the words of the definitions.
+use Rattle.engine.specs.Heads.{HeadEvent, NoEvent, AtOnce, TooLong}
+use Rattle.engine.specs.declared.heads.HeadEvent as code
+use Rattle.engine.specs.declared.heads.HeadEvent.TheVariants as judged
+
+abbrev pub brings : code.HeadEvent → HeadEvent
+brings judged.Nothing = NoEvent
+brings (judged.AtOnce event reason) = AtOnce event reason
+brings judged.TooLong = TooLong

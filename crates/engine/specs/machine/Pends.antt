@@ -1,0 +1,84 @@
+-- What the upper half of an association keeps, by where its timeline stands and what has come of the PDU that has begun.
+use Rattle.std.specs.Prelude.{◌≡◌, ℕ, ◌+◌, ◌*◌, ◌≤◌, Bool, true, false, not, ◌&&◌, List, [], length, nat_eq, if◌then◌else◌}
+use Rattle.acceptor.specs.declared.state.State.{State}
+use Rattle.acceptor.specs.declared.state.State.TheVariants.{Sta2, Sta6}
+use Rattle.pdu.specs.Record.{Record}
+use Rattle.pdu.specs.Items.{record_of}
+use Rattle.negotiate.specs.Contexts.{context_of}
+use Rattle.negotiate.specs.declared.table.ContextRow.{ContextRow}
+use Rattle.negotiate.specs.ContextRows.{context_in, accepted_count}
+use Rattle.dimse.specs.Messages.{NoMessage}
+use Rattle.dimse.specs.Joining.{Joining, Shows}
+use Rattle.engine.specs.Progress.{Progress, is_due, is_established}
+use Rattle.engine.specs.Held.{is_ended}
+use Rattle.engine.specs.Reached.{takes_pdvs}
+pub use Rattle.engine.specs.Covered.{is_in_set}
+
+-- what contracts see of the fields
+pub record Kept : Type 0 where
+  -- the greatest command set that is kept
+  pub room : ℕ
+  pub state : State
+  -- whether the later marks of the PDU that has begun count for nothing
+  pub refused : Bool
+  -- of the accepted request: the calling AE title, the peer's maximum length, the accepted contexts
+  pub caller : List ℕ
+  pub peer_max : ℕ
+  pub table : List ContextRow
+  -- what has come of a request's body
+  pub body : List ℕ
+  pub join : Joining
+
+-- what an accepted request leaves of itself
+pub record Agreed (kept : Kept) (r : Record) : Type 0 where
+  pub caller : kept.caller ≡ r.calling
+  pub maximum : kept.peer_max ≡ r.maximum
+  pub contexts : (id : ℕ) → context_in kept.table id ≡ context_of r id
+  pub count : length kept.table ≡ accepted_count r
+
+-- ---- which bytes of a PDU that has begun are kept
+
+-- those of a request's body where a request is due, and of a PDV where the association is established
+abbrev pub counted_body : Progress → List ℕ → List ℕ
+counted_body p body = if is_due p.state && not p.refused then body else []
+
+abbrev pub counted_pdv : Progress → List ℕ → List ℕ
+counted_pdv p begun = if takes_pdvs p then begun else []
+
+-- the bytes of a body that count in a PDU of this type
+abbrev pub body_in : ℕ → List ℕ → List ℕ
+body_in kind body = if nat_eq kind 1 then body else []
+
+-- The fields are those of this progress, where these bytes of a request's body and of a PDV have come: the body's or the
+-- PDV's counted ones alone. Once the association has ended it is not known whether the PDU that has begun was refused.
+pub record Pends (kept : Kept) (p : Progress) (body begun : List ℕ) : Type 0 where
+  pub state_is : kept.state ≡ p.state
+  pub refused_is : is_ended p.state ≡ false → kept.refused ≡ p.refused
+  pub body_is : kept.body ≡ counted_body p body
+  pub join_is : Shows kept.room kept.join p.message (counted_pdv p begun)
+  pub agreed : p.state ≡ Sta6 → Agreed kept (record_of p.request)
+  pub none_left : is_ended p.state ≡ true → p.message ≡ NoMessage
+  -- no store's data are taken yet
+  pub no_set : is_in_set p.message ≡ false
+
+-- ---- rooms
+
+-- so many more bytes of the body of a PDU of this type have room
+abbrev pub BodyFits : ℕ → Kept → ℕ → ℕ → Type 0
+BodyFits room kept kind n = kept.state ≡ Sta2 → kept.refused ≡ false → kind ≡ 1 → length kept.body + n ≤ room
+
+-- so many more bytes of the begun fragment are due
+abbrev pub FragmentFits : Kept → ℕ → Type 0
+FragmentFits kept n = kept.state ≡ Sta6 → kept.refused ≡ false → n ≤ kept.join.left
+
+-- whether the PDVs of the PDU that has begun count
+abbrev pub takes_pdvs_in : Kept → Bool
+takes_pdvs_in kept = is_established kept.state && not kept.refused
+
+-- whether the body of a PDU of this type is kept
+abbrev pub takes_body_in : Kept → ℕ → Bool
+takes_body_in kept kind = is_due kept.state && (not kept.refused && nat_eq kind 1)
+
+-- how many bytes are kept of a request and of a message
+abbrev pub held_by : Kept → ℕ
+held_by kept = (if is_established kept.state then 20 + 4 * length kept.table else 0) + length kept.body + length kept.join.command

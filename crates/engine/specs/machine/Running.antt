@@ -1,0 +1,33 @@
+-- Between two turns of a run.
+use Rattle.std.specs.Prelude.{◌≡◌, ℕ, Bool, false, List, length, Option, Some, None}
+use Rattle.negotiate.specs.Settings.{Settings}
+use Rattle.engine.specs.Covered.{IsCovered}
+use Rattle.engine.specs.Devices.{Devices}
+use Rattle.engine.specs.Inputs.{Received, first_inputs}
+use Rattle.engine.specs.Gains.{Gains}
+use Rattle.engine.specs.Progress.{start}
+use Rattle.engine.specs.Ran.{inputs_after, EndsLast}
+use Rattle.engine.specs.Run.{Rooms}
+use Rattle.engine.specs.Stands.{Stands}
+use Rattle.engine.specs.machine.Shows.{Fields}
+use Rattle.engine.specs.Timeline.{Happened}
+
+-- a source that shows what is to come gave these inputs, and has the others left
+abbrev pub Follows : Option (List Received) → Option (List Received) → List Received → Type 0
+Follows None now taken = now ≡ None
+Follows (Some all) now taken = (taken ≡ first_inputs (length taken) all) × (now ≡ Some (inputs_after (length taken) all))
+
+-- after these inputs the association stands so, none before the last of them ended it, and this is what the devices gained
+pub record Stood (rooms : Rooms) (s : Settings) (taken : List Received) (seen : Fields) (old new : Devices) : Type 0 where
+  pub story : List Happened
+  pub failed : Bool
+  pub stands : Stands rooms s taken story failed seen new.store
+  pub last : EndsLast rooms s taken story
+  pub gains : Gains rooms s start story false failed old new
+
+-- so many inputs were taken
+pub record Running (rooms : Rooms) (s : Settings) (turns : ℕ) (source_old source_now : Option (List Received)) (seen : Fields) (old new : Devices) : Type 0 where
+  pub taken : List Received
+  pub number : length taken ≡ turns
+  pub follows : Follows source_old source_now taken
+  pub stood : IsCovered rooms s taken → Stood rooms s taken seen old new

@@ -1,0 +1,70 @@
+-- What comes of a text that is due: it is sent, or the wire fails after a beginning of it, and the association ends (PS3.8
+-- section 9.2.2: as if the transport connection had been closed).
+use Rattle.std.specs.Prelude.{◌≡◌, ℕ, Bool, true, false, List, [], Option, Result, Ok, Err, nat_eq, if◌then◌else◌}
+use Rattle.acceptor.specs.declared.state.State.{State}
+use Rattle.acceptor.specs.declared.state.State.TheVariants.{Sta1, Sta13}
+use Rattle.acceptor.specs.declared.event.Event.{Event}
+use Rattle.acceptor.specs.declared.event.Event.TheVariants.{Request, UserRefuses}
+use Rattle.acceptor.specs.Table.{table}
+use Rattle.acceptor.specs.Effect.{sending, bytes_sent}
+use Rattle.pdu.specs.declared.wire.WireFailed.{WireFailed}
+use Rattle.pdu.specs.Texts.{release_text, abort_text}
+use Rattle.pdu.specs.Sent.{Line}
+use Rattle.engine.specs.Devices.{line_after, IsFront}
+use Rattle.dimse.specs.Messages.{NoMessage}
+use Rattle.dimse.specs.Joining.{Shows}
+use Rattle.engine.specs.Progress.{Progress, Advance}
+use Rattle.engine.specs.Run.{cut}
+use Rattle.engine.specs.machine.Pends.{Kept, Pends}
+
+-- what is due in this progress was tried: there is an outcome of the wire such that the fields show what that gives
+pub record Tries (p : Progress) (g : Advance) (new : Kept) (body begun : List ℕ) (line_old line_new : Line) : Type 0 where
+  pub wire : Option ℕ
+  pub fair : IsFront wire g.sent
+  pub pends : Pends new (cut wire p g).next body begun
+  pub line : line_new ≡ line_after wire g.sent line_old
+
+-- ---- one event
+
+-- what the event's action sends, given the answer to a request
+abbrev pub step_text : State → Event → ℕ → List ℕ → List ℕ
+step_text state event reason answer =
+    let step = table state event in bytes_sent answer release_text abort_text (sending step.0 step.1 reason)
+
+abbrev pub state_after : Result (Unit {0}) WireFailed → State → State
+state_after (Ok u) state = state
+state_after (Err f) state = Sta1
+
+-- the association is left, or was never begun: nothing of it is kept
+abbrev pub is_left : State → Bool
+is_left Sta1 = true
+is_left Sta13 = true
+is_left state = false
+
+pub record IsLeft (kept : Kept) : Type 0 where
+  pub body : kept.body ≡ []
+  pub join : Shows kept.room kept.join NoMessage []
+
+abbrev pub with_state : State → Kept → Kept
+with_state state kept = record kept { state = state }
+
+-- the state came that was due after a send with this result, and nothing else changed, unless the association was left
+pub record Settles (state : State) (sent : Result (Unit {0}) WireFailed) (old new : Kept) : Type 0 where
+  pub state_is : new.state ≡ state_after sent state
+  pub refused : new.refused ≡ old.refused
+  pub left : is_left new.state ≡ true → IsLeft new
+  pub same : is_left new.state ≡ false → new ≡ with_state new.state old
+
+-- the event leaves the association or keeps the state
+abbrev pub Stays : State → Event → Type 0
+Stays state event = is_left (table state event).1 ≡ false → (table state event).1 ≡ state
+
+-- ---- the rejection of a request, by its source
+
+abbrev pub rejected_state : State → ℕ → State
+rejected_state state source =
+    if nat_eq source 2 then (table state (Request false)).1 else (table (table state (Request true)).1 UserRefuses).1
+
+abbrev pub rejected_text : State → ℕ → List ℕ → List ℕ
+rejected_text state source answer =
+    if nat_eq source 2 then step_text state (Request false) 0 answer else step_text (table state (Request true)).1 UserRefuses 0 answer

@@ -1,0 +1,244 @@
+//! What an association does at each mark of its stream, above the framing.
+ghost use Rattle.std.specs.Prelude.{◌≡◌, ◌≤◌, ◌<◌, ◌+◌, ◌*◌, ◌-◌, ◌^◌, []};
+ghost use Rattle.arrayvec.specs.ArrayVec.{array_vec_len};
+ghost use Rattle.acceptor.specs.declared.state.State.TheVariants.{Sta6};
+
+use crate::heads::INVALID_PARAMETER;
+use crate::sending::{Answering, state_after, step};
+use acceptor::{Event, State, act};
+use arrayvec::ArrayVec;
+use dimse::Join;
+use negotiate::{Config, ContextRow};
+use part10::Filing;
+use pdu::{Wire, WireFailed};
+
+/// An association above its framing: the acceptor's state, what is kept of a request and of a
+/// message, and what the service provider and the local user do at each mark of the stream.
+#[derive(Drop)]
+pub(crate) struct Provider<const A: usize, const C: usize, const V: usize, const D: usize> {
+    pub(crate) config: Config,
+    pub(crate) state: State,
+    /// Whether the later marks of the PDU that has begun count for nothing.
+    pub(crate) refused: bool,
+    /// The calling AE title of the accepted request.
+    pub(crate) caller: [u8; 16],
+    /// The peer's maximum length, or 0.
+    pub(crate) peer_max: u32,
+    /// The accepted presentation contexts.
+    pub(crate) table: ArrayVec<ContextRow, 128>,
+    /// What has come of a request's body.
+    pub(crate) body: ArrayVec<u8, A>,
+    /// What has come of a message.
+    pub(crate) join: Join<C>,
+    ghost least: { 256 ≤ A },
+    ghost greatest: { A ≤ 2 ^ 24 },
+    ghost command_greatest: { C ≤ 2 ^ 24 },
+    ghost answerable: { peer_max < 8 → peer_max ≡ 0 },
+    ghost room: { array_vec_len body + 12 ≤ A },
+    ghost rows_room: { 32 + 4 * array_vec_len table ≤ A },
+    ghost given_up: { state ≡ Sta6 → body.items ≡ [] },
+}
+
+impl<const A: usize, const C: usize, const V: usize, const D: usize> Provider<A, C, V, D> {
+    ghost use Rattle.std.specs.Prelude.{ℕ, List, true, false};
+    ghost use Rattle.pdu.specs.Marks.{BadPdv, Leftover};
+    ghost use Rattle.acceptor.specs.Table.{table};
+    ghost use Rattle.engine.specs.Progress.{Progress, done, refusing, start};
+    ghost use Rattle.engine.specs.Timeline.{At, Shut, TimedOut, Aborted};
+    ghost use Rattle.engine.specs.Devices.{devices};
+    ghost use Rattle.engine.specs.machine.Answers.{answer_text};
+    ghost use Rattle.negotiate.specs.Settings.{settings_of};
+    ghost use Rattle.engine.specs.machine.Tries.{IsLeft};
+    ghost use Rattle.engine.specs.machine.Pends.{Pends, held_by, BodyFits, FragmentFits, takes_pdvs_in, counted_body, counted_pdv};
+    ghost use Rattle.engine.specs.machine.Tries.{Tries, Settles, Stays};
+    ghost use Rattle.engine.specs.machine.Does.{Does};
+    ghost use Rattle.engine.specs.machine.Kept.{kept_of, settings_in, rooms_of};
+
+    /// The transport connection is open: a request is due.
+    pub(crate) fn open(config: &Config) -> Self
+        requires least { 256 ≤ A }
+        requires greatest { A ≤ 2 ^ 24 }
+        requires command_greatest { C ≤ 2 ^ 24 }
+        ensures pends { Pends (kept_of result) start [] [] }
+        ensures settings { settings_in result ≡ settings_of config.now }
+    {
+        let (_, state) = act(State::Sta1, Event::Connected);
+        Provider {
+            config: config.same(),
+            state,
+            refused: false,
+            caller: [0; 16],
+            peer_max: 0,
+            table: ArrayVec::new(),
+            body: ArrayVec::new(),
+            join: Join::new(),
+        }
+    }
+
+    /// The state of the acceptor.
+    pub(crate) fn state(&self) -> State
+        ensures { result ≡ self.now.state }
+    {
+        self.state
+    }
+
+    /// Whether the PDVs of the PDU that has begun count.
+    pub(crate) fn takes_pdvs(&self) -> bool
+        ensures { result ≡ takes_pdvs_in (kept_of self.now) }
+    {
+        match self.state {
+            State::Sta6 => !self.refused,
+            _ => false,
+        }
+    }
+
+    /// Returns how many bytes are kept of a request and of a message: 20 and 4 for each accepted
+    /// context of one that was accepted.
+    pub(crate) fn held(&self) -> usize
+        ensures value { result ≡ held_by (kept_of self.now) }
+        ensures room { result + 12 ≤ A + C }
+        ensures accepted_room { self.now.state ≡ Sta6 → result ≤ 532 + C }
+    {
+        let command = self.join.command();
+        match self.state {
+            State::Sta6 => 20 + 4 * self.table.len() + self.body.len() + command.len(),
+            _ => self.body.len() + command.len(),
+        }
+    }
+
+    /// Gives up all that is kept of a request and of a message.
+    fn leave(&mut self)
+        requires { self.old.state ≡ Sta6 → self.old.body.items ≡ [] }
+        ensures left { IsLeft (kept_of self.new) }
+        ensures state { self.new.state ≡ self.old.state }
+        ensures refused { self.new.refused ≡ self.old.refused }
+        ensures settings { settings_in self.new ≡ settings_in self.old }
+    {
+        self.caller = [0; 16];
+        self.peer_max = 0;
+        self.table.clear();
+        self.body.clear();
+        self.join.clear();
+    }
+
+    /// The state that comes after a send: `next`, or Sta1 where the send failed. Where the association
+    /// is left, nothing of it is kept.
+    pub(crate) fn settle(&mut self, next: State, sent: Result<(), WireFailed>)
+        requires { next ≡ Sta6 → self.old.body.items ≡ [] }
+        ensures settings { settings_in self.new ≡ settings_in self.old }
+        ensures settles { Settles next sent (kept_of self.old) (kept_of self.new) }
+    {
+        self.state = state_after(next, sent);
+        match self.state {
+            State::Sta1 => self.leave(),
+            State::Sta13 => self.leave(),
+            _ => {}
+        }
+    }
+
+    /// An event happens that leaves the association or keeps its state.
+    pub(crate) fn happens<W: Wire>(
+        &mut self,
+        event: Event,
+        reason: u8,
+        answering: Answering,
+        wire: &mut W,
+    )
+        requires stays { Stays self.old.state event }
+        ensures settings { settings_in self.new ≡ settings_in self.old }
+        ensures refused { self.new.refused ≡ self.old.refused }
+        ensures body { self.old.body.items ≡ [] → self.new.body.items ≡ [] }
+        ensures body_fits { (kind m : ℕ) → BodyFits (A - 12) (kept_of self.old) kind m → BodyFits (A - 12) (kept_of self.new) kind m }
+        ensures fragment_fits { (m : ℕ) → FragmentFits (kept_of self.old) m → FragmentFits (kept_of self.new) m }
+        ensures tries { (p : Progress) (body begun : List ℕ) → Pends (kept_of self.old) p body begun
+            → Tries p (done (answer_text answering.entry) reason p event) (kept_of self.new) body begun (W.line wire.old) (W.line wire.new) }
+    {
+        let (next, sent) = step(self.state, event, reason, answering, wire);
+        self.settle(next, sent);
+    }
+
+    /// An event happens, and the later marks of the PDU count for nothing.
+    pub(crate) fn refuse<W: Wire>(
+        &mut self,
+        event: Event,
+        reason: u8,
+        answering: Answering,
+        wire: &mut W,
+    )
+        requires stays { Stays self.old.state event }
+        ensures settings { settings_in self.new ≡ settings_in self.old }
+        ensures refused { self.new.refused ≡ true }
+        ensures body { self.old.body.items ≡ [] → self.new.body.items ≡ [] }
+        ensures tries { (p : Progress) (body begun body_then begun_then : List ℕ) → Pends (kept_of self.old) p body begun
+            → counted_body (done (answer_text answering.entry) reason p event).next body ≡ [] → counted_pdv (done (answer_text answering.entry) reason p event).next begun ≡ []
+            → Tries p (refusing (done (answer_text answering.entry) reason p event)) (kept_of self.new) body_then begun_then (W.line wire.old) (W.line wire.new) }
+    {
+        self.happens(event, reason, answering, wire);
+        self.refused = true;
+    }
+
+    /// The head of a PDV is bad.
+    pub(crate) fn on_bad<W: Wire, F: Filing>(&mut self, wire: &mut W, filing: &mut F)
+        ensures settings { settings_in self.new ≡ settings_in self.old }
+        ensures unfiled { F.store filing.new ≡ F.store filing.old }
+        ensures does { (p : Progress) → Pends (kept_of self.old) p [] [] → Does (rooms_of A C V D) (settings_in self.old) p (At BadPdv) (kept_of self.new) [] []
+            (devices (W.line wire.old) (F.store filing.old)) (devices (W.line wire.new) (F.store filing.new)) }
+    {
+        let _ = filing;
+        if self.takes_pdvs() {
+            self.refuse(Event::Invalid, INVALID_PARAMETER, Answering::Nothing, wire);
+        }
+    }
+
+    /// Bytes are left over after a PDV.
+    pub(crate) fn on_leftover<W: Wire, F: Filing>(&mut self, wire: &mut W, filing: &mut F)
+        ensures settings { settings_in self.new ≡ settings_in self.old }
+        ensures unfiled { F.store filing.new ≡ F.store filing.old }
+        ensures does { (p : Progress) → Pends (kept_of self.old) p [] [] → Does (rooms_of A C V D) (settings_in self.old) p (At Leftover) (kept_of self.new) [] []
+            (devices (W.line wire.old) (F.store filing.old)) (devices (W.line wire.new) (F.store filing.new)) }
+    {
+        let _ = filing;
+        if self.takes_pdvs() {
+            self.refuse(Event::Invalid, INVALID_PARAMETER, Answering::Nothing, wire);
+        }
+    }
+
+    /// The transport connection was closed.
+    pub(crate) fn on_closed<W: Wire, F: Filing>(&mut self, wire: &mut W, filing: &mut F)
+        ensures body_fits { (kind m : ℕ) → BodyFits (A - 12) (kept_of self.old) kind m → BodyFits (A - 12) (kept_of self.new) kind m }
+        ensures fragment_fits { (m : ℕ) → FragmentFits (kept_of self.old) m → FragmentFits (kept_of self.new) m }
+        ensures settings { settings_in self.new ≡ settings_in self.old }
+        ensures unfiled { F.store filing.new ≡ F.store filing.old }
+        ensures does { (p : Progress) (body begun : List ℕ) → Pends (kept_of self.old) p body begun → Does (rooms_of A C V D) (settings_in self.old) p Shut (kept_of self.new) body begun
+            (devices (W.line wire.old) (F.store filing.old)) (devices (W.line wire.new) (F.store filing.new)) }
+    {
+        let _ = filing;
+        self.happens(Event::Closed, 0, Answering::Nothing, wire);
+    }
+
+    /// The ARTIM timer expired.
+    pub(crate) fn on_expired<W: Wire, F: Filing>(&mut self, wire: &mut W, filing: &mut F)
+        ensures body_fits { (kind m : ℕ) → BodyFits (A - 12) (kept_of self.old) kind m → BodyFits (A - 12) (kept_of self.new) kind m }
+        ensures fragment_fits { (m : ℕ) → FragmentFits (kept_of self.old) m → FragmentFits (kept_of self.new) m }
+        ensures settings { settings_in self.new ≡ settings_in self.old }
+        ensures unfiled { F.store filing.new ≡ F.store filing.old }
+        ensures does { (p : Progress) (body begun : List ℕ) → Pends (kept_of self.old) p body begun → Does (rooms_of A C V D) (settings_in self.old) p TimedOut (kept_of self.new) body begun
+            (devices (W.line wire.old) (F.store filing.old)) (devices (W.line wire.new) (F.store filing.new)) }
+    {
+        let _ = filing;
+        self.happens(Event::Expired, 0, Answering::Nothing, wire);
+    }
+
+    /// The local user aborts the association.
+    pub(crate) fn on_local_abort<W: Wire, F: Filing>(&mut self, wire: &mut W, filing: &mut F)
+        ensures body_fits { (kind m : ℕ) → BodyFits (A - 12) (kept_of self.old) kind m → BodyFits (A - 12) (kept_of self.new) kind m }
+        ensures fragment_fits { (m : ℕ) → FragmentFits (kept_of self.old) m → FragmentFits (kept_of self.new) m }
+        ensures settings { settings_in self.new ≡ settings_in self.old }
+        ensures unfiled { F.store filing.new ≡ F.store filing.old }
+        ensures does { (p : Progress) (body begun : List ℕ) → Pends (kept_of self.old) p body begun → Does (rooms_of A C V D) (settings_in self.old) p Aborted (kept_of self.new) body begun
+            (devices (W.line wire.old) (F.store filing.old)) (devices (W.line wire.new) (F.store filing.new)) }
+    {
+        let _ = filing;
+        self.happens(Event::UserAborts, 0, Answering::Nothing, wire);
+    }
+}

@@ -1,0 +1,196 @@
+//! Association requests, and the other PDUs that act when they are whole.
+ghost use Rattle.std.specs.Prelude.{◌≡◌, ◌≤◌, ◌<◌, ◌+◌, ◌*◌, ◌-◌, ◌++◌, [], List, ℕ, length, true, false, OnErr};
+ghost use Rattle.acceptor.specs.declared.state.State.TheVariants.{Sta2, Sta6};
+ghost use Rattle.arrayvec.specs.ArrayVec.{array_vec_len};
+ghost use Rattle.pdu.specs.Items.{record_of};
+ghost use Rattle.pdu.specs.Sent.{Sends};
+ghost use Rattle.negotiate.specs.ContextRows.{context_in, accepted_count};
+ghost use Rattle.negotiate.specs.Contexts as contexts;
+ghost use Rattle.negotiate.specs.Settings.{settings_of};
+ghost use Rattle.negotiate.specs.Accept.{answer_bytes};
+ghost use Rattle.engine.specs.machine.Tries.{rejected_state, rejected_text};
+ghost use Rattle.engine.specs.Progress.{start};
+ghost use Rattle.engine.specs.Requests.{at_request};
+
+use crate::heads::INVALID_PARAMETER;
+use crate::provider::Provider;
+use crate::sending::{Answering, step};
+use acceptor::{Event, State, act};
+use arrayvec::ArrayVec;
+use negotiate::{Answer, Config, ContextRow, compact, judge, rejection};
+use part10::Filing;
+use pdu::{Request, Wire, WireFailed, pdu_type, read_request};
+
+/// Sends the rejection of a request, which is the service provider's or the local user's.
+fn reject<W: Wire>(
+    config: &Config,
+    request: &Request,
+    source: u8,
+    state: State,
+    wire: &mut W,
+) -> (State, Result<(), WireFailed>)
+    ensures state { result.0 ≡ rejected_state state source }
+    ensures sends { Sends (rejected_text state source (answer_bytes (settings_of config.now) request.now)) result.1 (W.line wire.old) (W.line wire.new) }
+    ensures due { OnErr result.1 (0 < length (rejected_text state source (answer_bytes (settings_of config.now) request.now))) }
+{
+    let answering = Answering::Request(config, request);
+    if source == rejection::SERVICE_PROVIDER_ACSE {
+        step(state, Event::Request(false), 0, answering, wire)
+    } else {
+        let (_, asked) = act(state, Event::Request(true));
+        step(asked, Event::UserRefuses, 0, answering, wire)
+    }
+}
+
+/// Reads the body of an association request, judges it, and sends the answer. What is kept of an
+/// accepted one is put into `caller`, `peer_max` and `table`.
+fn answer_request<W: Wire>(
+    config: &Config,
+    body: &[u8],
+    state: State,
+    caller: &mut [u8; 16],
+    peer_max: &mut u32,
+    table: &mut ArrayVec<ContextRow, 128>,
+    wire: &mut W,
+) -> (State, Result<(), WireFailed>)
+    requires due { state ≡ Sta2 }
+    ensures state { result.0 ≡ (at_request (settings_of config.now) start body.now).next.state }
+    ensures sends { Sends (at_request (settings_of config.now) start body.now).sent result.1 (W.line wire.old) (W.line wire.new) }
+    ensures due { OnErr result.1 (0 < length (at_request (settings_of config.now) start body.now).sent) }
+    ensures caller { result.0 ≡ Sta6 → caller.new ≡ (record_of body.now).calling }
+    ensures maximum { result.0 ≡ Sta6 → peer_max.new ≡ (record_of body.now).maximum }
+    ensures contexts { result.0 ≡ Sta6 → (id : ℕ) → context_in table.new.items id ≡ contexts.context_of (record_of body.now) id }
+    ensures count { result.0 ≡ Sta6 → length table.new.items ≡ accepted_count (record_of body.now) }
+    ensures rows { (n : ℕ) → 32 + 4 * array_vec_len table.old ≤ n → length body.now + 12 ≤ n → 32 + 4 * array_vec_len table.new ≤ n }
+    ensures answerable { (peer_max.old < 8 → peer_max.old ≡ 0) → peer_max.new < 8 → peer_max.new ≡ 0 }
+{
+    match read_request(body) {
+        Err(_) => step(
+            state,
+            Event::Invalid,
+            INVALID_PARAMETER,
+            Answering::Nothing,
+            wire,
+        ),
+        Ok(request) => match judge(config, &request) {
+            Answer::Accept => {
+                let calling = request.calling();
+                let title = calling.0;
+                *caller = title;
+                *peer_max = request.maximum();
+                table.clear();
+                compact(config, &request, table);
+                let (_, asked) = act(state, Event::Request(true));
+                let answering = Answering::Request(config, &request);
+                step(asked, Event::UserAccepts, 0, answering, wire)
+            }
+            Answer::Reject(_, source, _) => reject(config, &request, source, state, wire),
+        },
+    }
+}
+
+impl<const A: usize, const C: usize, const V: usize, const D: usize> Provider<A, C, V, D> {
+    ghost use Rattle.pdu.specs.Marks.{End};
+    ghost use Rattle.engine.specs.Progress.{Progress};
+    ghost use Rattle.engine.specs.Run.{at_entry, released};
+    ghost use Rattle.engine.specs.Timeline.{At, good};
+    ghost use Rattle.engine.specs.Devices.{devices};
+    ghost use Rattle.engine.specs.machine.Pends.{Pends, BodyFits, body_in, takes_body_in};
+    ghost use Rattle.engine.specs.machine.Tries.{Tries};
+    ghost use Rattle.engine.specs.machine.Does.{Does};
+    ghost use Rattle.engine.specs.machine.Kept.{kept_of, settings_in, rooms_of};
+
+    /// Whether the body of a PDU of this type is kept.
+    fn takes_body(&self, kind: u8) -> bool
+        ensures { result ≡ takes_body_in (kept_of self.now) kind }
+    {
+        match self.state {
+            State::Sta2 => !self.refused && kind == pdu_type::A_ASSOCIATE_RQ,
+            _ => false,
+        }
+    }
+
+    /// A part of the body of a PDU of this type.
+    pub(crate) fn on_body(&mut self, kind: u8, part: &[u8])
+        requires fits { BodyFits (A - 12) (kept_of self.old) kind (length part.now) }
+        ensures settings { settings_in self.new ≡ settings_in self.old }
+        ensures fits { (m : ℕ) → BodyFits (A - 12) (kept_of self.old) kind (length part.now + m) → BodyFits (A - 12) (kept_of self.new) kind m }
+        ensures pends { (p : Progress) (body : List ℕ) → Pends (kept_of self.old) p (body_in kind body) [] → Pends (kept_of self.new) p (body_in kind (body ++ part.now)) [] }
+    {
+        if self.takes_body(kind) {
+            self.body.try_extend_from_slice(part).unwrap();
+        }
+    }
+
+    /// The association request is whole: it is read, judged and answered, and then given up.
+    fn on_request<W: Wire>(&mut self, wire: &mut W)
+        requires due { self.old.state ≡ Sta2 }
+        ensures settings { settings_in self.new ≡ settings_in self.old }
+        ensures tries { (p : Progress) (body : List ℕ) → Pends (kept_of self.old) p body [] → p.refused ≡ false
+            → Tries p (at_request (settings_in self.old) p body) (kept_of self.new) body [] (W.line wire.old) (W.line wire.new) }
+    {
+        let (next, sent) = answer_request(
+            &self.config,
+            self.body.as_slice(),
+            self.state,
+            &mut self.caller,
+            &mut self.peer_max,
+            &mut self.table,
+            wire,
+        );
+        self.body.clear();
+        self.settle(next, sent);
+    }
+
+    /// A release request is whole, and the local user agrees to it at once.
+    fn on_release<W: Wire>(&mut self, wire: &mut W)
+        requires due { self.old.state ≡ Sta6 }
+        ensures settings { settings_in self.new ≡ settings_in self.old }
+        ensures tries { (p : Progress) (body begun : List ℕ) → Pends (kept_of self.old) p body begun
+            → Tries p (released p) (kept_of self.new) body begun (W.line wire.old) (W.line wire.new) }
+    {
+        let (_, asked) = act(self.state, Event::ReleaseRq);
+        let (next, sent) = step(asked, Event::UserReleases, 0, Answering::Nothing, wire);
+        self.settle(next, sent);
+    }
+
+    /// A PDU is whole: a request in Sta2, a release request in Sta6 and an abort act, others do not.
+    fn on_whole<W: Wire>(&mut self, kind: u8, wire: &mut W)
+        ensures settings { settings_in self.new ≡ settings_in self.old }
+        ensures tries { (p : Progress) (body : List ℕ) → Pends (kept_of self.old) p (body_in kind body) []
+            → Tries p (at_entry (rooms_of A C V D) (settings_in self.old) p good (At (End kind body))) (kept_of self.new) (body_in kind body) [] (W.line wire.old) (W.line wire.new) }
+    {
+        if let State::Sta1 = self.state {
+            return;
+        }
+        if self.refused {
+            return;
+        }
+        match kind {
+            pdu_type::A_ABORT => self.happens(Event::Abort, 0, Answering::Nothing, wire),
+            pdu_type::A_ASSOCIATE_RQ => {
+                if let State::Sta2 = self.state {
+                    self.on_request(wire);
+                }
+            }
+            pdu_type::A_RELEASE_RQ => {
+                if let State::Sta6 = self.state {
+                    self.on_release(wire);
+                }
+            }
+            _ => {}
+        }
+    }
+
+    /// A PDU of this type is whole; nothing is kept of its body.
+    pub(crate) fn on_end<W: Wire, F: Filing>(&mut self, kind: u8, wire: &mut W, filing: &mut F)
+        ensures settings { settings_in self.new ≡ settings_in self.old }
+        ensures unfiled { F.store filing.new ≡ F.store filing.old }
+        ensures does { (p : Progress) (body : List ℕ) → Pends (kept_of self.old) p (body_in kind body) [] → Does (rooms_of A C V D) (settings_in self.old) p (At (End kind body)) (kept_of self.new) [] []
+            (devices (W.line wire.old) (F.store filing.old)) (devices (W.line wire.new) (F.store filing.new)) }
+    {
+        let _ = filing;
+        self.on_whole(kind, wire);
+        self.body.clear()
+    }
+}

@@ -1,0 +1,84 @@
+//! What an event does: the acceptor's table gives an action and the next state, and the action may
+//! send a PDU.
+ghost use Rattle.std.specs.Prelude.{◌≡◌, ◌<◌, length, OnErr};
+ghost use Rattle.acceptor.specs.Table.{table};
+ghost use Rattle.pdu.specs.Sent.{Sends};
+ghost use Rattle.pdu.specs.Texts.{abort_text, release_text};
+ghost use Rattle.acceptor.specs.Effect.{bytes_sent};
+ghost use Rattle.engine.specs.machine.Tries.{step_text};
+ghost use Rattle.engine.specs.machine.Tries as machine;
+ghost use Rattle.engine.specs.machine.Answers.{answer_text};
+
+use acceptor::{Event, Sending, State, act};
+use negotiate::{Config, rejection, write_answer};
+use pdu::{Request, Wire, WireFailed, write_abort, write_reject, write_release};
+
+/// What answers an association request, where an action sends an answer.
+#[derive(Clone, Copy)]
+pub(crate) enum Answering<'a> {
+    /// Nothing: the event asks for no answer.
+    Nothing,
+    /// The rejection of a request that is longer than its room.
+    TooLong,
+    /// The answer to this request.
+    Request(&'a Config, &'a Request<'a>),
+}
+
+/// Sends the answer to an association request.
+fn answer<W: Wire>(answering: Answering, wire: &mut W) -> Result<(), WireFailed>
+    ensures sends { Sends (answer_text answering.entry) result (W.line wire.old) (W.line wire.new) }
+    ensures due { OnErr result (0 < length (answer_text answering.entry)) }
+{
+    match answering {
+        Answering::Nothing => Ok(()),
+        Answering::TooLong => write_reject(
+            rejection::TRANSIENT,
+            rejection::SERVICE_PROVIDER_PRESENTATION,
+            rejection::LOCAL_LIMIT_EXCEEDED,
+            wire,
+        ),
+        Answering::Request(config, request) => write_answer(config, request, wire),
+    }
+}
+
+/// Sends what an action asks for.
+fn send<W: Wire>(sending: Sending, answering: Answering, wire: &mut W) -> Result<(), WireFailed>
+    ensures sends { Sends (bytes_sent (answer_text answering.entry) release_text abort_text sending) result (W.line wire.old) (W.line wire.new) }
+    ensures due { OnErr result (0 < length (bytes_sent (answer_text answering.entry) release_text abort_text sending)) }
+{
+    match sending {
+        Sending::Nothing => Ok(()),
+        Sending::Answer => answer(answering, wire),
+        Sending::ReleaseResponse => write_release(wire),
+        Sending::Abort(source, reason) => write_abort(source, reason, wire),
+    }
+}
+
+/// Does the action that the table gives for the event, and returns the next state and whether all
+/// was sent. `reason` is that of a service provider's abort.
+pub(crate) fn step<W: Wire>(
+    state: State,
+    event: Event,
+    reason: u8,
+    answering: Answering,
+    wire: &mut W,
+) -> (State, Result<(), WireFailed>)
+    ensures state { result.0 ≡ (table state event).1 }
+    ensures sends { Sends (step_text state event reason (answer_text answering.entry)) result.1 (W.line wire.old) (W.line wire.new) }
+    ensures due { OnErr result.1 (0 < length (step_text state event reason (answer_text answering.entry))) }
+{
+    let (action, next) = act(state, event);
+    let sent = send(action.sends(next, reason), answering, wire);
+    (next, sent)
+}
+
+/// After a failed send the association ends as if the transport connection had been closed (PS3.8
+/// section 9.2.2).
+pub(crate) fn state_after(next: State, sent: Result<(), WireFailed>) -> State
+    ensures { result ≡ machine.state_after sent next }
+{
+    match sent {
+        Ok(()) => next,
+        Err(WireFailed) => State::Sta1,
+    }
+}
