@@ -2,9 +2,10 @@
 use Rattle.std.proofs.Common.{[], refl, sym, arith, codes}
 use Rattle.std.proofs.lemmas.List.{append-nil}
 use Rattle.element.specs.Vr.{is_short}
+use Rattle.part10.specs.declared.meta_fault.MetaFault.TheVariants.{NotPart10, OtherSyntax}
 use Rattle.part10.specs.MetaText.{SpellsMeta, HasMeta}
-use Rattle.part10.specs.Tried.{least_header, least_said}
-use Rattle.part10.proofs.Tried.{no_headers, other_syntax_is_told, least_read}
+use Rattle.part10.specs.Examples.{least_header, least_said}
+use Rattle.part10.proofs.Examples.{no_headers, other_syntax_is_a_fault, least_read}
 use Rattle.dicomdir.specs.CheckFault.{in_header, in_syntax}
 use Rattle.dicomdir.specs.HeaderFaults.{HeaderFaults}
 
@@ -21,4 +22,4 @@ implicit_has = record {
 }
 
 pub header_faults : HeaderFaults
-header_faults = (in_header no_headers.0, in_header other_syntax_is_told.1, in_syntax implicit_has refl)
+header_faults = (in_header NotPart10 no_headers.0, in_header OtherSyntax other_syntax_is_a_fault.1, in_syntax implicit_has refl)

@@ -1,5 +1,10 @@
+pub mod FileIds
 pub mod HeaderFaults
 pub mod Laid
 pub mod NoFault
 pub mod OneImage
 pub mod Walking
+pub mod Places
+pub mod Within
+pub mod Sizes
+pub mod Kept

@@ -3,10 +3,11 @@ use Rattle.std.proofs.Common.{◌≡◌, ℕ, suc, Bool, true, false, not, ◌&&
 use Rattle.std.specs.List.{list_all}
 use Rattle.std.proofs.lemmas.Bool.{and_parts}
 use Rattle.std.proofs.Math.Bool.{or-false}
-use Rattle.dicomdir.specs.Directory.{Found, missing, value_at, items_at, found, number_in, records_in, records_of, Record, first_offset, last_offset, has_record, has_file_id}
+use Rattle.dicomdir.specs.Directory.{Found, missing, value_at, items_at, found, number_in, records_in, records_of, Record, carried, first_offset, last_offset, has_record, has_file_id}
 use Rattle.dicomdir.specs.Linked.{places_of, first_place, last_place, are_records}
 use Rattle.dicomdir.specs.DirFault.{Fault, fault, offset_fault, records_fault, root_fault, record_fault, each_fault, unreached_fault, end_fault, links_fault, records_then_links, directory_fault, is_one_of, or_zero, ◌or_else◌, root_way, walk, went}
 use Rattle.dicomdir.specs.NoFault.{LinkedHasNoFault}
+use Rattle.dicomdir.proofs.Within.{nodes_are_records}
 use Rattle.dicomdir.proofs.Walking.{goes, IsApart, same_place}
 
 sized : (b : Bool) (x n place : ℕ) → (if b then Some x else None) ≡ Some n → (if b then None else fault 68 place) ≡ None
@@ -41,12 +42,13 @@ when_true true x y e = refl
 when_true false x y e = absurd cc
 
 unreached_none : (places more : List ℕ) (records : List Record) → ((p : ℕ) → is_one_of p more ≡ (is_one_of p places || false))
-    → list_all (λ r. is_one_of r.place places) records ≡ true → unreached_fault more records ≡ None
+    → list_all (λ r. not (carried r.elements).in_use || is_one_of r.place places) records ≡ true → unreached_fault more records ≡ None
 unreached_none places more [] members e = refl
 unreached_none places more (r ∷ records) members e =
-    let parts = and_parts (is_one_of r.place places) (list_all (λ r. is_one_of r.place places) records) e in
-    let here : is_one_of r.place more ≡ true = members r.place ∙ (or-false (is_one_of r.place places) ∙ parts.0) in
-    when_true (is_one_of r.place more) (unreached_fault more records) (fault 63 r.place) here ∙ unreached_none places more records members parts.1
+    let inactive : Bool = not (carried r.elements).in_use in
+    let parts = and_parts (inactive || is_one_of r.place places) (list_all (λ r. not (carried r.elements).in_use || is_one_of r.place places) records) e in
+    let here : (inactive || is_one_of r.place more) ≡ true = ap (λ z. inactive || z) (members r.place ∙ or-false (is_one_of r.place places)) ∙ parts.0 in
+    when_true (inactive || is_one_of r.place more) (unreached_fault more records) (fault 63 r.place) here ∙ unreached_none places more records members parts.1
 
 two_none : (a b : Option Fault) → a ≡ None → b ≡ None → (a or_else b) ≡ None
 two_none None b e f = f
@@ -58,7 +60,10 @@ last_named o last place e =
 
 pub linked_has_no_fault : LinkedHasNoFault
 unfolding directory_fault
-linked_has_no_fault start elements tree linked all few nonzero =
+linked_has_no_fault start elements tree linked all =
+    let facts = nodes_are_records start elements tree linked in
+    let few = facts.0 in
+    let nonzero = facts.1 in
     let way = root_way start elements in
     let apart : IsApart (places_of linked.placed) [] = record { distinct = linked.distinct; nonzero = nonzero; unreached = λ p h. refl } in
     let walked = goes linked.placed (suc (length linked.records)) linked.records way [] linked.linked (omega (arith, few)) apart in

@@ -1,5 +1,5 @@
 -- The directory of one image is linked, and offsets that leave the preamble out link nothing.
-use Rattle.std.proofs.Common.{◌≡◌, ℕ, ◌≤◌, List, [], ◌++◌, length, replicate, Option, Some, None, refl, subst, arith, codes}
+use Rattle.std.proofs.Common.{◌≡◌, ℕ, ◌≤◌, List, [], ◌∷◌, ◌++◌, length, replicate, Option, Some, None, refl, subst, arith, codes}
 use Rattle.element.specs.declared.syntax.Syntax.TheVariants.{Explicit}
 use Rattle.element.specs.Vr.{is_short}
 use Rattle.part10.specs.declared.meta.Meta.{Meta}
@@ -13,6 +13,7 @@ use Rattle.dicomdir.specs.Linked.{Linked, PlacedNode, carried_forest, record_at,
 use Rattle.dicomdir.specs.DirFault.{directory_fault, elements_at}
 use Rattle.dicomdir.specs.Layout.{spelled}
 use Rattle.dicomdir.specs.OneImage.{one_image_row, one_image_header, one_image_file, one_image_elements, OneImageIsLinked, OneImageFaults, preamble_left_out, PreambleCounts, RecordFaults, no_rows_elements, NoRowsAreLinked}
+use Rattle.dicomdir.specs.NodesInUseExamples.{OneImageHasNodes}
 use Rattle.dicomdir.specs.Groups.{RowsAreGrouped, FileIdsAreRead}
 use Rattle.dicomdir.specs.Record.{patient_record, study_record, series_record, image_record}
 use Rattle.dicomdir.proofs.Laid.{laid_elements}
@@ -93,13 +94,13 @@ one_image_is_linked = record {
     good = refl;
     tree_is = refl;
     linked = (
-      record { elements = elements_at the_records 320; stands = refl; carries = refl; fits = refl; names_lower = refl; names_next = refl },
+      record { elements = elements_at the_records 320; stands = refl; carries = refl; fits_there = refl; names_lower = refl; names_next = refl },
       (
-        record { elements = elements_at the_records 404; stands = refl; carries = refl; fits = refl; names_lower = refl; names_next = refl },
+        record { elements = elements_at the_records 404; stands = refl; carries = refl; fits_there = refl; names_lower = refl; names_next = refl },
         (
-          record { elements = elements_at the_records 534; stands = refl; carries = refl; fits = refl; names_lower = refl; names_next = refl },
+          record { elements = elements_at the_records 534; stands = refl; carries = refl; fits_there = refl; names_lower = refl; names_next = refl },
           (
-            record { elements = elements_at the_records 626; stands = refl; carries = refl; fits = refl; names_lower = refl; names_next = refl },
+            record { elements = elements_at the_records 626; stands = refl; carries = refl; fits_there = refl; names_lower = refl; names_next = refl },
             tt,
             tt,
           ),
@@ -198,3 +199,15 @@ no_rows_fault = refl
 
 pub no_rows_are_linked : NoRowsAreLinked
 no_rows_are_linked = (no_rows_size, no_rows_linked, no_rows_fault)
+
+pub one_image_has_nodes : OneImageHasNodes
+unfolding one_image_is_linked records_or_none the_elements the_records placed the_places TreeOf one_image_meta is_short
+one_image_has_nodes = record {
+  start = one_image_is_linked.start;
+  elements = one_image_is_linked.elements;
+  tree = carried_forest (TreeOf (one_image_row ∷ []));
+  is_file = one_image_is_linked.is_file;
+  linked = one_image_is_linked.linked;
+  all_reached = refl;
+  nodes_are = refl;
+}

@@ -6,10 +6,10 @@ use Rattle.std.proofs.lemmas.Bool.Decides.{nat_tests}
 use Rattle.sequence.specs.Tree.{Elements, no_elements}
 use Rattle.dicomdir.specs.TreeOf.{Forest, no_nodes, node, count_of}
 use Rattle.dicomdir.specs.Directory.{Record, carried, lower_offset, next_offset}
-use Rattle.dicomdir.specs.Linked.{PlacedNode, places_of, first_place, last_place_behind, is_distinct, record_at, fits_level, AreLinked}
-use Rattle.dicomdir.specs.DirFault.{Fault, Way, lower_way, next_way, Walked, stopped, went, with_reached, walk, is_one_of, first_or_zero, or_zero, elements_at, named_fault}
+use Rattle.dicomdir.specs.Linked.{PlacedNode, places_of, first_place, last_place_behind, is_distinct, record_at, fits, AreLinked}
+use Rattle.dicomdir.specs.DirFault.{Fault, Way, lower_way, next_way, Walked, stopped, went, with_reached, walk, is_one_of, last_before, or_zero, elements_at, named_fault}
 
-not_true : (b : Bool) → not b ≡ true → b ≡ false
+pub not_true : (b : Bool) → not b ≡ true → b ≡ false
 not_true true e = absurd cc
 not_true false e = refl
 
@@ -64,24 +64,24 @@ elements_is None es e = absurd cc
 elements_is (Some found) es e = cc
 
 named_is : (way : Way) (reached : List ℕ) (offset : ℕ) (es : Elements) (o : Option Elements) → o ≡ Some es → is_one_of offset reached ≡ false
-    → fits_level way.level (carried es).kind ≡ true → named_fault way reached offset o ≡ None
-named_is way reached offset es None stands new fits = absurd cc
-named_is way reached offset es (Some found) stands new fits =
+    → fits way.level (carried es) ≡ true → named_fault way reached offset o ≡ None
+named_is way reached offset es None stands new fit_there = absurd cc
+named_is way reached offset es (Some found) stands new fit_there =
     let same : found ≡ es = cc in
-    let fit : fits_level way.level (carried found).kind ≡ true = ap (λ z. fits_level way.level (carried z).kind) same ∙ fits in
+    let fit : fits way.level (carried found) ≡ true = ap (λ z. fits way.level (carried z)) same ∙ fit_there in
     rw (new, fit) refl
 
 step : (most : ℕ) (records : List Record) (way : Way) (reached : List ℕ) (offset : ℕ) (es : Elements) (lower next : ℕ)
-    → nat_eq offset 0 ≡ false → record_at offset records ≡ Some es → is_one_of offset reached ≡ false → fits_level way.level (carried es).kind ≡ true
+    → nat_eq offset 0 ≡ false → record_at offset records ≡ Some es → is_one_of offset reached ≡ false → fits way.level (carried es) ≡ true
     → lower_offset es ≡ Some lower → next_offset es ≡ Some next
     → walk (suc most) records way reached offset
     ≡ with_reached (walk most records (lower_way way offset) (offset ∷ reached) lower) (λ more. walk most records (next_way way offset) more next)
-step most records way reached offset es lower next nonzero stands new fits low nxt =
+step most records way reached offset es lower next nonzero stands new fit_there low nxt =
     let same : elements_at records offset ≡ es = elements_is (record_at offset records) es stands in
     let l : or_zero (lower_offset (elements_at records offset)) ≡ lower = ap (λ z. or_zero (lower_offset z)) same ∙ ap or_zero low in
     let x : or_zero (next_offset (elements_at records offset)) ≡ next = ap (λ z. or_zero (next_offset z)) same ∙ ap or_zero nxt in
-    when_false (nat_eq offset 0) (went reached (first_or_zero way.before)) _ nonzero
-    ∙ (when_none (named_fault way reached offset (record_at offset records)) _ (named_is way reached offset es (record_at offset records) stands new fits)
+    when_false (nat_eq offset 0) (went reached (last_before way)) _ nonzero
+    ∙ (when_none (named_fault way reached offset (record_at offset records)) _ (named_is way reached offset es (record_at offset records) stands new fit_there)
     ∙ (λ i. with_reached (walk most records (lower_way way offset) (offset ∷ reached) (l i)) (λ more. walk most records (next_way way offset) more (x i))))
 
 pub same_place : (x : ℕ) → nat_eq x x ≡ true
@@ -97,7 +97,7 @@ regrouped false true false d = refl
 regrouped false false true d = refl
 regrouped false false false d = refl
 
-not_place : (p x : ℕ) (xs : List ℕ) → is_one_of x xs ≡ false → is_one_of p xs ≡ true → nat_eq p x ≡ false
+pub not_place : (p x : ℕ) (xs : List ℕ) → is_one_of x xs ≡ false → is_one_of p xs ≡ true → nat_eq p x ≡ false
 not_place p x xs none h = by (nat_eq p x) refl
   where
     by : (b : Bool) → nat_eq p x ≡ b → b ≡ false
@@ -109,7 +109,7 @@ both_false a b e f = rw (e, f) refl
 
 pub goes : (f : Forest PlacedNode) (most : ℕ) (records : List Record) (way : Way) (reached : List ℕ)
     → AreLinked records way.level f → count_of f < most → IsApart (places_of f) reached
-    → Goes (places_of f) reached (last_place_behind (first_or_zero way.before) f) (walk most records way reached (first_place f))
+    → Goes (places_of f) reached (last_place_behind (last_before way) f) (walk most records way reached (first_place f))
 goes no_nodes zero records way reached linked few apart = record { more = reached; is = refl; members = λ p. refl }
 goes no_nodes (suc most) records way reached linked few apart = record { more = reached; is = refl; members = λ p. refl }
 goes (node n below next) zero records way reached linked few apart = absurd (omega (arith, few))
@@ -126,7 +126,7 @@ goes (node n below next) (suc most) records way reached linked few apart =
     let nonzero : nat_eq n.place 0 ≡ false = grind (arith, nat_tests, zeros.0) in
     let self : nat_eq n.place n.place ≡ true = same_place n.place in
     let new : is_one_of n.place reached ≡ false = apart.unreached n.place (rw self refl) in
-    let fits : fits_level way.level (carried here.elements).kind ≡ true = ap (λ z. fits_level way.level z.kind) here.carries ∙ here.fits in
+    let fit_there : fits way.level (carried here.elements) ≡ true = ap (λ z. fits way.level z) here.carries ∙ here.fits_there in
     let among_below : (p : ℕ) → is_one_of p bs ≡ true → is_one_of p reached ≡ false = λ p h.
     apart.unreached p (ap (λ z. nat_eq p n.place || z) (list_any-append (nat_eq p) bs ns) ∙ second_true (nat_eq p n.place) (is_one_of p bs) (is_one_of p ns) h) in
     let among_next : (p : ℕ) → is_one_of p ns ≡ true → is_one_of p reached ≡ false = λ p h.
@@ -148,7 +148,7 @@ goes (node n below next) (suc most) records way reached linked few apart =
     let second = goes next most records (next_way way n.place) first.more linked.2 (omega (arith, few)) apart_next in
     record {
       more = second.more;
-      is = step most records way reached n.place here.elements (first_place below) (first_place next) nonzero here.stands new fits here.names_lower here.names_next
+      is = step most records way reached n.place here.elements (first_place below) (first_place next) nonzero here.stands new fit_there here.names_lower here.names_next
           ∙ (ap (λ w. with_reached w (λ more. walk most records (next_way way n.place) more (first_place next))) first.is ∙ second.is);
       members = λ p. second.members p
           ∙ (ap (λ z. is_one_of p ns || z) (first.members p)

@@ -3,7 +3,8 @@ use Rattle.std.specs.Prelude.{◌≡◌, ℕ, ◌+◌, ◌^◌, List, [], length
 use Rattle.element.specs.declared.syntax.Syntax.TheVariants.{Implicit, Explicit}
 use Rattle.element.specs.declared.tag.Tag.{Tag}
 use Rattle.dictionary.specs.Syntaxes.{syntax_uid}
-use Rattle.part10.specs.MetaText.{Said, HasMeta, MetaFaultOf}
+use Rattle.part10.specs.declared.meta_fault.MetaFault.{MetaFault}
+use Rattle.part10.specs.MetaText.{Said, HasMeta, MetaFaultOf, fault_number}
 use Rattle.sequence.specs.Tree.{Elements, DataSet}
 use Rattle.sequence.specs.Rules.{Limits, no_tag}
 use Rattle.sequence.specs.FirstFault.{IsUnbroken, FirstFault, EndFault}
@@ -21,7 +22,7 @@ place_of_meta_fault number = if nat_eq number 50 then 128 else 132
 -- the fault's number, its place in the file, and the tag where it is a fault of the data set: first those of the
 -- file header, with Implicit as another syntax; then those of the data set; then those of the directory
 pub data CheckFault (file : List ℕ) : ℕ → ℕ → Tag → Type 0 where
-  in_header : {n : ℕ} → MetaFaultOf file n → CheckFault file n (place_of_meta_fault n) no_tag
+  in_header : (fault : MetaFault) → MetaFaultOf file fault → CheckFault file (fault_number fault) (place_of_meta_fault (fault_number fault)) no_tag
   in_syntax : {said : Said} → HasMeta said file → said.syntax ≡ syntax_uid Implicit → CheckFault file 53 132 no_tag
   in_data_set : {front back p u : List ℕ} {rule : ℕ} {tag : Tag} → IsExplicitFile file front back
       → FirstFault Explicit check_limits back p u rule tag → CheckFault file rule (length front + length p) tag

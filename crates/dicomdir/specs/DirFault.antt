@@ -1,9 +1,9 @@
 -- What is first found wrong with the elements of a directory (this product's own profile).
-use Rattle.std.specs.Prelude.{ℕ, zero, suc, Bool, true, false, not, List, [], ◌∷◌, ◌++◌, length, Option, Some, None, nat_eq, if◌then◌else◌}
+use Rattle.std.specs.Prelude.{ℕ, zero, suc, Bool, true, false, not, ◌||◌, List, [], ◌∷◌, ◌++◌, length, Option, Some, None, nat_eq, if◌then◌else◌}
 use Rattle.std.specs.List.{list_any}
 use Rattle.sequence.specs.Tree.{Elements, no_elements}
 use Rattle.dicomdir.specs.Directory.{Found, missing, value_at, items_at, found, Record, carried, first_offset, last_offset, records_of, next_offset, lower_offset, has_record, has_file_id}
-use Rattle.dicomdir.specs.Linked.{fits_level, record_at}
+use Rattle.dicomdir.specs.Linked.{fits, record_at}
 
 -- a fault's number, and its place in the file
 pub record Fault : Type 0 where
@@ -49,22 +49,51 @@ each_fault (r ∷ records) = record_fault r or_else each_fault records
 
 -- Then the offsets are followed, the lower one before the next one.
 
--- where an offset is read: the place that a fault of it is told at, the level of the record that it names, the
--- records above that one, those before it in its chain, and those that it must not lead back to
+abbrev pub is_one_of : ℕ → List ℕ → Bool
+is_one_of place places = list_any (nat_eq place) places
+
+abbrev pub first_or_zero : List ℕ → ℕ
+first_or_zero [] = 0
+first_or_zero (place ∷ places) = place
+
+abbrev pub first_alone : List ℕ → List ℕ
+first_alone [] = []
+first_alone (place ∷ places) = place ∷ []
+
+-- the way to an offset: the place that a fault of it is told at; the level of the record that it names; the record
+-- that names it, with those before that one in its chain; the records above that one; and whether it names the first
+-- record of a chain
 pub record Way : Type 0 where
   pub told : ℕ
   pub level : ℕ
+  pub chain : List ℕ
   pub above : List ℕ
-  pub before : List ℕ
-  pub trail : List ℕ
+  pub begins : Bool
+
+-- whether an offset leads back: to the record that names it, into its chain, or to one above it
+abbrev pub leads_back : Way → ℕ → Bool
+leads_back way offset = is_one_of offset (way.chain ++ way.above)
+
+-- the records before the named one in its own chain, the last of them, and the records above it
+
+abbrev pub before_named : Way → List ℕ
+before_named way = if way.begins then [] else way.chain
+
+abbrev pub last_before : Way → ℕ
+last_before way = first_or_zero (before_named way)
+
+abbrev pub above_named : Way → List ℕ
+above_named way = if way.begins then first_alone way.chain ++ way.above else way.above
+
+-- the ways to the two offsets of the record that stands at the place
 
 abbrev pub lower_way : Way → ℕ → Way
 lower_way way place =
-    record { told = place; level = suc way.level; above = place ∷ way.above; before = []; trail = place ∷ (way.before ++ way.above) }
+    record { told = place; level = suc way.level; chain = place ∷ before_named way; above = above_named way; begins = true }
 
 abbrev pub next_way : Way → ℕ → Way
 next_way way place =
-    record { told = place; level = way.level; above = way.above; before = place ∷ way.before; trail = place ∷ (way.before ++ way.above) }
+    record { told = place; level = way.level; chain = place ∷ before_named way; above = above_named way; begins = false }
 
 pub data Walked : Type 0 where
   stopped : Fault → Walked
@@ -75,16 +104,13 @@ abbrev pub with_reached : Walked → (List ℕ → Walked) → Walked
 with_reached (stopped f) more = stopped f
 with_reached (went reached last) more = more reached
 
-abbrev pub is_one_of : ℕ → List ℕ → Bool
-is_one_of place places = list_any (nat_eq place) places
-
 -- an offset that is no record's place is 60; of a record that was reached, 61 where it leads back and else 62; of
--- one whose type does not fit its level, 64 at that record
+-- one in use whose type does not fit its level, 64 at that record
 abbrev pub named_fault : Way → List ℕ → ℕ → Option Elements → Option Fault
 named_fault way reached offset None = fault 60 way.told
 named_fault way reached offset (Some es) =
-    if is_one_of offset reached then fault (if is_one_of offset way.trail then 61 else 62) way.told
-    else (if not (fits_level way.level (carried es).kind) then fault 64 offset
+    if is_one_of offset reached then fault (if leads_back way offset then 61 else 62) way.told
+    else (if not (fits way.level (carried es)) then fault 64 offset
     else None)
 
 abbrev pub elements_at : List Record → ℕ → Elements
@@ -94,16 +120,12 @@ abbrev pub or_zero : Option ℕ → ℕ
 or_zero None = 0
 or_zero (Some n) = n
 
-abbrev pub first_or_zero : List ℕ → ℕ
-first_or_zero [] = 0
-first_or_zero (place ∷ places) = place
-
 -- from an offset, over no more records than the first number says
 abbrev pub walk : ℕ → List Record → Way → List ℕ → ℕ → Walked
-walk zero records way reached offset = went reached (first_or_zero way.before)
+walk zero records way reached offset = went reached (last_before way)
 walk (suc most) records way reached offset =
     elim (nat_eq offset 0) [
-      | true ↦ went reached (first_or_zero way.before)
+      | true ↦ went reached (last_before way)
       | false ↦ elim (named_fault way reached offset (record_at offset records)) [
         | Some f ↦ stopped f
         | None ↦ with_reached
@@ -117,11 +139,11 @@ place_in missing = 0
 place_in (value_at place v) = place
 place_in (items_at place h is) = place
 
--- the first record that was not reached
+-- the first record in use that was not reached
 abbrev pub unreached_fault : List ℕ → List Record → Option Fault
 unreached_fault reached [] = None
 unreached_fault reached (r ∷ records) =
-    if is_one_of r.place reached then unreached_fault reached records else fault 63 r.place
+    if not (carried r.elements).in_use || is_one_of r.place reached then unreached_fault reached records else fault 63 r.place
 
 abbrev pub end_fault : ℕ → Elements → List Record → Walked → Option Fault
 end_fault start es records (stopped f) = Some f
@@ -131,7 +153,7 @@ end_fault start es records (went reached last) =
 
 abbrev pub root_way : ℕ → Elements → Way
 root_way start es =
-    record { told = place_in (found 0x00041200 start es); level = 1; above = []; before = []; trail = [] }
+    record { told = place_in (found 0x00041200 start es); level = 1; chain = []; above = []; begins = true }
 
 abbrev pub links_fault : ℕ → Elements → List Record → Option Fault
 links_fault start es records =

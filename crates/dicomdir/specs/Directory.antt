@@ -105,6 +105,11 @@ abbrev pub is_in_use : Option ℕ → Bool
 is_in_use None = false
 is_in_use (Some flag) = nat_eq flag 0xffff
 
+-- in use or inactive
+abbrev pub is_use_flag : Option ℕ → Bool
+is_use_flag None = false
+is_use_flag (Some flag) = nat_eq flag 0xffff || nat_eq flag 0
+
 -- spaces and 00H at the end of a type do not count
 abbrev pub kind_in : Found → List ℕ
 kind_in missing = []
@@ -121,23 +126,29 @@ is_missing missing = true
 is_missing (value_at place v) = false
 is_missing (items_at place h is) = false
 
--- what a node of the tree carries: its type, and its file ID where there is one
+-- what a node of the tree carries: whether it is in use, its type, and its file ID where there is one
 pub record Node : Type 0 where
+  pub in_use : Bool
   pub kind : List ℕ
   pub file_id : Option (List ℕ)
 
 -- what the node of a record with these elements carries
 abbrev pub carried : Elements → Node
-carried es = record { kind = kind_in (found 0x00041430 0 es); file_id = file_id_in (found 0x00041500 0 es) }
+carried es = record {
+  in_use = is_in_use (number_in 2 (found 0x00041410 0 es));
+  kind = kind_in (found 0x00041430 0 es);
+  file_id = file_id_in (found 0x00041500 0 es);
+}
 
--- a record has its offsets, is in use, and has a type
+-- a record has its offsets, is in use or inactive, and has a type
 abbrev pub has_record : Elements → Bool
 has_record es =
-    (is_some (next_offset es) && is_in_use (number_in 2 (found 0x00041410 0 es)))
+    (is_some (next_offset es) && is_use_flag (number_in 2 (found 0x00041410 0 es)))
     && (is_some (lower_offset es) && not (bytes_eq (carried es).kind []))
 
--- what it has for a file ID is one, and an image has one
+-- of a record in use, what it has for a file ID is one, and an image has one
 abbrev pub has_file_id : Elements → Bool
 has_file_id es =
-    is_some (carried es).file_id
+    not (carried es).in_use
+    || is_some (carried es).file_id
     || (is_missing (found 0x00041500 0 es) && not (bytes_eq (carried es).kind (codes "IMAGE")))

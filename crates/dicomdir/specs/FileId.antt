@@ -1,5 +1,5 @@
 -- File IDs (PS3.10 section 8.2, PS3.3 section F.3.2.2).
-use Rattle.std.specs.Prelude.{ℕ, Bool, ◌&&◌, ◌||◌, List, [], ◌∷◌, length, Option, Some, None, nat_eq, nat_le, if◌then◌else◌}
+use Rattle.std.specs.Prelude.{ℕ, Bool, ◌-◌, ◌&&◌, ◌||◌, List, [], ◌∷◌, ◌++◌, length, replicate, Option, Some, None, nat_eq, nat_le, if◌then◌else◌}
 use Rattle.std.specs.List.{list_all}
 use Rattle.element.specs.Padding.{is_space, without_trailing}
 
@@ -23,6 +23,10 @@ parts_of (c ∷ cs) = if nat_eq c 92 then [] ∷ parts_of cs else before_parts c
 -- one to eight components
 abbrev pub is_file_id : List ℕ → Bool
 is_file_id text = nat_le (length (parts_of text)) 8 && list_all is_component (parts_of text)
+
+-- a file ID in the room of the longest one, 71 bytes
+abbrev pub filled : List ℕ → List ℕ
+filled text = text ++ replicate (71 - length text) 0
 
 abbrev pub if_file_id : List ℕ → Option (List ℕ)
 if_file_id text = if is_file_id text then Some text else None

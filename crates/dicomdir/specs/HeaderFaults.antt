@@ -1,6 +1,6 @@
 -- Faults of the file header, as a check of a directory tells them (this product's own profile).
 use Rattle.std.specs.Prelude.{[], ◌++◌, replicate, codes}
-use Rattle.part10.specs.Tried.{least_header}
+use Rattle.part10.specs.Examples.{least_header}
 use Rattle.sequence.specs.Rules.{no_tag}
 use Rattle.dicomdir.specs.CheckFault.{CheckFault}
 

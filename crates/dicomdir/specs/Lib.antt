@@ -1,4 +1,5 @@
 pub mod FileId
+pub mod FileIdRoom
 pub mod Row
 pub mod Record
 pub mod TreeOf
@@ -11,3 +12,9 @@ pub mod OneImage
 pub mod Groups
 pub mod HeaderFaults
 pub mod NoFault
+pub mod Places
+pub mod PlacesExamples
+pub mod Kept
+pub mod KeptExamples
+pub mod NodesInUse
+pub mod NodesInUseExamples

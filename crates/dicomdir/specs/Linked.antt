@@ -23,6 +23,10 @@ fits_level level kind =
     else (if nat_eq level 3 then bytes_eq kind (codes "SERIES")
     else (nat_eq level 4 && not (is_upper_kind kind))))
 
+-- an inactive record fits any level
+abbrev pub fits : ℕ → Node → Bool
+fits level n = not n.in_use || fits_level level n.kind
+
 -- a node, and the place of its record
 pub record PlacedNode : Type 0 where
   pub place : ℕ
@@ -62,7 +66,7 @@ pub record IsRecordOf (records : List Record) (level : ℕ) (n : PlacedNode) (lo
   pub elements : Elements
   pub stands : record_at n.place records ≡ Some elements
   pub carries : carried elements ≡ n.carries
-  pub fits : fits_level level n.carries.kind ≡ true
+  pub fits_there : fits level n.carries ≡ true
   pub names_lower : lower_offset elements ≡ Some lower
   pub names_next : next_offset elements ≡ Some next
 
@@ -96,6 +100,6 @@ pub record Linked (file : List ℕ) (tree : Forest Node) : Type 0 where
   pub is_file : IsDirectoryFile file start elements
   pub linked : LinkedElements start elements tree
 
--- each of its records is a node of the tree
+-- each of its records in use is a node of the tree
 abbrev pub IsAllReached : {start : ℕ} {elements : Elements} {tree : Forest Node} → LinkedElements start elements tree → Type 0
-IsAllReached linked = list_all (λ r. list_any (nat_eq r.place) (places_of linked.placed)) linked.records ≡ true
+IsAllReached linked = list_all (λ r. not (carried r.elements).in_use || list_any (nat_eq r.place) (places_of linked.placed)) linked.records ≡ true

@@ -6,12 +6,15 @@ use Rattle.dicomdir.specs.Directory.{Node}
 use Rattle.dicomdir.specs.Linked.{LinkedElements, IsAllReached, places_of}
 use Rattle.dicomdir.specs.DirFault.{directory_fault, is_one_of}
 
--- a directory whose records are linked to a tree, which leaves none of them out, has no fault. That the tree has no
--- more nodes than there are records, and none at place 0, is a premise here
+-- of a linked directory the nodes are no more than the records, and none is at place 0
+abbrev pub NodesAreRecords : Type 0
+NodesAreRecords =
+    (start : ℕ) (elements : Elements) (tree : Forest Node) (linked : LinkedElements start elements tree)
+    → (count_of linked.placed ≤ length linked.records) × (is_one_of 0 (places_of linked.placed) ≡ false)
+
+-- a directory whose records are linked to a tree, which leaves none in use out, has no fault
 abbrev pub LinkedHasNoFault : Type 0
 LinkedHasNoFault =
     (start : ℕ) (elements : Elements) (tree : Forest Node) (linked : LinkedElements start elements tree)
     → IsAllReached linked
-    → count_of linked.placed ≤ length linked.records
-    → is_one_of 0 (places_of linked.placed) ≡ false
     → directory_fault start elements ≡ None

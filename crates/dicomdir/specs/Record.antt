@@ -3,7 +3,7 @@ use Rattle.std.specs.Prelude.{ℕ, List, length, Option, Some, None, codes}
 use Rattle.element.specs.declared.tag.Tag.{Tag}
 use Rattle.element.specs.Numbers.{le}
 use Rattle.dictionary.specs.Syntaxes.{syntax_uid}
-use Rattle.part10.specs.Written.{padded}
+use Rattle.element.specs.Padding.{padded}
 use Rattle.sequence.specs.Tree.{Elements, no_elements, value}
 use Rattle.dicomdir.specs.Row.{Row, key}
 

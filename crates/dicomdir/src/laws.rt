@@ -1,8 +1,11 @@
 //! What holds of the definitions: each function has a law as its contract, and does nothing.
+ghost use Rattle.dicomdir.specs.NodesInUseExamples.{OneImageHasNodes};
 ghost use Rattle.dicomdir.specs.Groups.{RowsAreGrouped, FileIdsAreRead};
 ghost use Rattle.dicomdir.specs.HeaderFaults.{HeaderFaults};
-ghost use Rattle.dicomdir.specs.NoFault.{LinkedHasNoFault};
+ghost use Rattle.dicomdir.specs.KeptExamples.{InactiveRecords};
+ghost use Rattle.dicomdir.specs.NoFault.{LinkedHasNoFault, NodesAreRecords};
 ghost use Rattle.dicomdir.specs.OneImage.{OneImageIsLinked, OneImageFaults, PreambleCounts, RecordFaults, NoRowsAreLinked};
+ghost use Rattle.dicomdir.specs.PlacesExamples.{PlacesAreAssigned, SizesAreTrue};
 
 /// The directory of one image, laid out byte by byte, is linked to the tree of its row.
 pub fn one_image_is_linked()
@@ -46,7 +49,34 @@ pub fn header_faults()
     ensures { HeaderFaults }
 {}
 
-/// A directory whose records are linked to a tree, which leaves none of them out, has no fault.
+/// A linked directory has no more nodes than records, and none at place 0.
+pub fn nodes_are_records()
+    ensures { NodesAreRecords }
+{}
+
+/// A directory whose records are linked to a tree, which leaves none in use out, has no fault.
 pub fn linked_has_no_fault()
     ensures { LinkedHasNoFault }
+{}
+
+/// Records stand depth first, without gaps: the directory that the definitions lay down of one image
+/// is the known one, byte by byte.
+pub fn places_are_assigned()
+    ensures { PlacesAreAssigned }
+{}
+
+/// The directory of any rows has the size that its places count with, and a record for each node of
+/// the tree.
+pub fn sizes_are_true()
+    ensures { SizesAreTrue }
+{}
+
+/// Inactive records are followed as any other, and keep neither themselves nor what is below them.
+pub fn inactive_records()
+    ensures { InactiveRecords }
+{}
+
+/// The directory of one image has these four records, with their places and levels.
+pub fn one_image_has_nodes()
+    ensures { OneImageHasNodes }
 {}

@@ -2,4 +2,7 @@
 //! and when their records are linked as they have to be.
 #![tactic(auto)]
 
+mod file_id;
 pub mod laws;
+
+pub use file_id::FileId;

@@ -1,0 +1,217 @@
+-- A file ID is read from its end: the parts that were seen, and the room that it needs.
+use Rattle.std.proofs.Common.{◌≡◌, ℕ, suc, ◌+◌, ◌*◌, ◌<◌, ◌≤◌, Bool, true, false, ◌&&◌, List, [], ◌∷◌, ◌++◌, replicate, ◌-◌, length, get_or, take, drop, refl, sym, ap, ◌∙◌, add-one, drop-cons, arith, nat_eq, nat_le, if◌then◌else◌}
+use Rattle.std.specs.List.{list_all}
+use Rattle.std.proofs.lemmas.Bool.{and_parts}
+use Rattle.std.proofs.lemmas.Bool.Decides.{nat_tests}
+use Rattle.std.proofs.lemmas.List.{drop-replicate}
+use Rattle.element.specs.Padding.{is_space, without_trailing}
+use Rattle.element.proofs.Trimming.{trailing_dropped, trailing_kept}
+use Rattle.dicomdir.specs.FileId.{is_id_character, is_component, before_parts, parts_of, is_file_id, filled}
+use Rattle.dicomdir.specs.FileIdRoom.{IsKept}
+
+pub space_dropped : (xs : List ℕ) (n : ℕ) → n < length xs → is_space (get_or xs n 0) ≡ true → without_trailing is_space (take (n + 1) xs) ≡ without_trailing is_space (take n xs)
+space_dropped xs n lt e = trailing_dropped is_space xs n lt e
+
+pub rest_kept : (xs : List ℕ) (n : ℕ) → n < length xs → is_space (get_or xs n 0) ≡ false → without_trailing is_space (take (n + 1) xs) ≡ take (n + 1) xs
+rest_kept xs n lt e = trailing_kept is_space xs n lt e
+
+-- the first part, of which characters may still come in front
+abbrev pub first_size : List (List ℕ) → ℕ
+first_size [] = 0
+first_size (part ∷ parts) = length part
+
+-- whether its characters and the other parts are good
+abbrev pub is_good : List (List ℕ) → Bool
+is_good [] = true
+is_good (part ∷ parts) = list_all is_component parts && list_all is_id_character part
+
+abbrev pub is_size : ℕ → Bool
+is_size n = nat_le 1 n && nat_le n 8
+
+-- there is always a part
+
+abbrev is_none : List (List ℕ) → Bool
+is_none [] = true
+is_none (part ∷ parts) = false
+
+some_before : (c : ℕ) (parts : List (List ℕ)) → is_none (before_parts c parts) ≡ false
+some_before c [] = refl
+some_before c (part ∷ parts) = refl
+
+some_part : (xs : List ℕ) → is_none (parts_of xs) ≡ false
+some_part [] = refl
+some_part (x ∷ xs) = by (nat_eq x 92)
+  where
+    by : (b : Bool) → is_none (if b then [] ∷ parts_of xs else before_parts x (parts_of xs)) ≡ false
+    by true = refl
+    by false = some_before x (parts_of xs)
+
+moved : (a b c d : Bool) → (((a && b && c) && d) && true) ≡ ((d && c) && (a && b))
+moved true true true true = refl
+moved true true true false = refl
+moved true true false true = refl
+moved true true false false = refl
+moved true false true true = refl
+moved true false true false = refl
+moved true false false true = refl
+moved true false false false = refl
+moved false true true true = refl
+moved false true true false = refl
+moved false true false true = refl
+moved false true false false = refl
+moved false false true true = refl
+moved false false true false = refl
+moved false false false true = refl
+moved false false false false = refl
+
+good_end : (parts : List (List ℕ)) → is_none parts ≡ false → is_good ([] ∷ parts) ≡ (is_good parts && is_size (first_size parts))
+good_end [] some = absurd cc
+good_end (part ∷ parts) some = moved (nat_le 1 (length part)) (nat_le (length part) 8) (list_all is_id_character part) (list_all is_component parts)
+
+shifted : (a b c : Bool) → (a && (b && c)) ≡ ((a && c) && b)
+shifted true true c = by c
+  where
+    by : (c : Bool) → c ≡ (c && true)
+    by true = refl
+    by false = refl
+shifted true false true = refl
+shifted true false false = refl
+shifted false b c = refl
+
+good_more : (c : ℕ) (parts : List (List ℕ)) → is_none parts ≡ false → is_good (before_parts c parts) ≡ (is_good parts && is_id_character c)
+good_more c [] some = absurd cc
+good_more c (part ∷ parts) some = shifted (list_all is_component parts) (is_id_character c) (list_all is_id_character part)
+
+size_more : (c : ℕ) (parts : List (List ℕ)) → is_none parts ≡ false → first_size (before_parts c parts) ≡ first_size parts + 1
+size_more c [] some = absurd cc
+size_more c (part ∷ parts) some = sym (add-one (length part))
+
+count_more : (c : ℕ) (parts : List (List ℕ)) → is_none parts ≡ false → length (before_parts c parts) ≡ length parts
+count_more c [] some = absurd cc
+count_more c (part ∷ parts) some = refl
+
+-- the parts from one byte further in front
+
+ends : (xs : List ℕ) (n : ℕ) → n < length xs → nat_eq (get_or xs n 0) 92 ≡ true → parts_of (drop n xs) ≡ [] ∷ parts_of (drop (n + 1) xs)
+ends xs n lt e = rw (drop-cons xs n 0, e, add-one) refl
+
+goes_on : (xs : List ℕ) (n : ℕ) → n < length xs → nat_eq (get_or xs n 0) 92 ≡ false → parts_of (drop n xs) ≡ before_parts (get_or xs n 0) (parts_of (drop (n + 1) xs))
+goes_on xs n lt e = rw (drop-cons xs n 0, e, add-one) refl
+
+pub good_before_end : (xs : List ℕ) (n : ℕ) → n < length xs → nat_eq (get_or xs n 0) 92 ≡ true
+    → is_good (parts_of (drop n xs)) ≡ (is_good (parts_of (drop (n + 1) xs)) && is_size (first_size (parts_of (drop (n + 1) xs))))
+good_before_end xs n lt e = ap is_good (ends xs n lt e) ∙ good_end (parts_of (drop (n + 1) xs)) (some_part (drop (n + 1) xs))
+
+pub size_before_end : (xs : List ℕ) (n : ℕ) → n < length xs → nat_eq (get_or xs n 0) 92 ≡ true → first_size (parts_of (drop n xs)) ≡ 0
+size_before_end xs n lt e = ap first_size (ends xs n lt e)
+
+pub count_before_end : (xs : List ℕ) (n : ℕ) → n < length xs → nat_eq (get_or xs n 0) 92 ≡ true → length (parts_of (drop n xs)) ≡ length (parts_of (drop (n + 1) xs)) + 1
+count_before_end xs n lt e = ap length (ends xs n lt e) ∙ sym (add-one (length (parts_of (drop (n + 1) xs))))
+
+pub good_before : (xs : List ℕ) (n : ℕ) → n < length xs → nat_eq (get_or xs n 0) 92 ≡ false
+    → is_good (parts_of (drop n xs)) ≡ (is_good (parts_of (drop (n + 1) xs)) && is_id_character (get_or xs n 0))
+good_before xs n lt e = ap is_good (goes_on xs n lt e) ∙ good_more (get_or xs n 0) (parts_of (drop (n + 1) xs)) (some_part (drop (n + 1) xs))
+
+pub size_before : (xs : List ℕ) (n : ℕ) → n < length xs → nat_eq (get_or xs n 0) 92 ≡ false → first_size (parts_of (drop n xs)) ≡ first_size (parts_of (drop (n + 1) xs)) + 1
+size_before xs n lt e = ap first_size (goes_on xs n lt e) ∙ size_more (get_or xs n 0) (parts_of (drop (n + 1) xs)) (some_part (drop (n + 1) xs))
+
+pub count_before : (xs : List ℕ) (n : ℕ) → n < length xs → nat_eq (get_or xs n 0) 92 ≡ false → length (parts_of (drop n xs)) ≡ length (parts_of (drop (n + 1) xs))
+count_before xs n lt e = ap length (goes_on xs n lt e) ∙ count_more (get_or xs n 0) (parts_of (drop (n + 1) xs)) (some_part (drop (n + 1) xs))
+
+gathered : (a b c d e : Bool) → (e && ((a && b && c) && d)) ≡ ((d && c) && ((a && b) && e))
+gathered true true true true true = refl
+gathered true true true true false = refl
+gathered true true true false true = refl
+gathered true true true false false = refl
+gathered true true false true true = refl
+gathered true true false true false = refl
+gathered true true false false true = refl
+gathered true true false false false = refl
+gathered true false c d true = same c d
+  where
+    same : (c d : Bool) → false ≡ ((d && c) && false)
+    same true true = refl
+    same true false = refl
+    same false true = refl
+    same false false = refl
+gathered true false true true false = refl
+gathered true false true false false = refl
+gathered true false false true false = refl
+gathered true false false false false = refl
+gathered false b true true true = refl
+gathered false b true false true = refl
+gathered false b false true true = refl
+gathered false b false false true = refl
+gathered false b true true false = refl
+gathered false b true false false = refl
+gathered false b false true false = refl
+gathered false b false false false = refl
+
+by_parts : (parts : List (List ℕ)) → is_none parts ≡ false → (nat_le (length parts) 8 && list_all is_component parts) ≡ (is_good parts && (is_size (first_size parts) && nat_le (length parts) 8))
+by_parts [] some = absurd cc
+by_parts (part ∷ parts) some = gathered (nat_le 1 (length part)) (nat_le (length part) 8) (list_all is_id_character part) (list_all is_component parts) (nat_le (length (part ∷ parts)) 8)
+
+pub is_file_id_by_parts : (xs : List ℕ) → is_file_id xs ≡ (is_good (parts_of xs) && (is_size (first_size (parts_of xs)) && nat_le (length (parts_of xs)) 8))
+is_file_id_by_parts xs = by_parts (parts_of xs) (some_part xs)
+
+refused_by_size : (xs : List ℕ) → is_size (first_size (parts_of xs)) ≡ false → is_file_id xs ≡ false
+refused_by_size xs e = is_file_id_by_parts xs ∙ by (is_good (parts_of xs)) (is_size (first_size (parts_of xs))) (nat_le (length (parts_of xs)) 8) e
+  where
+    by : (a b c : Bool) → b ≡ false → (a && (b && c)) ≡ false
+    by true true c e = absurd cc
+    by true false c e = refl
+    by false b c e = refl
+
+pub refused_at_front : (xs : List ℕ) (at size : ℕ) → at ≡ 0 → first_size (parts_of (drop at xs)) ≡ size → is_size size ≡ false → false ≡ is_file_id xs
+refused_at_front xs at size z f e = sym (refused_by_size xs (ap is_size (ap (λ k. first_size (parts_of (drop k xs))) (sym z) ∙ f) ∙ e))
+
+-- a component of eight characters and a backslash after each of eight of them, but for the last: 71 bytes
+
+abbrev total : List (List ℕ) → ℕ
+total [] = 0
+total (part ∷ parts) = suc (length part + total parts)
+
+total_more : (c : ℕ) (parts : List (List ℕ)) (n : ℕ) → total parts ≡ suc n → total (before_parts c parts) ≡ suc (suc n)
+total_more c [] n e = absurd cc
+total_more c (part ∷ parts) n e = omega (arith, e)
+
+total_is : (xs : List ℕ) → total (parts_of xs) ≡ suc (length xs)
+total_is [] = refl
+total_is (x ∷ xs) = by (total_is xs) (nat_eq x 92)
+  where
+    by : total (parts_of xs) ≡ suc (length xs) → (b : Bool) → total (if b then [] ∷ parts_of xs else before_parts x (parts_of xs)) ≡ suc (suc (length xs))
+    by rest true = omega (arith, rest)
+    by rest false = total_more x (parts_of xs) (length xs) rest
+
+short : (n : ℕ) (b : Bool) → (nat_le 1 n && nat_le n 8 && b) ≡ true → n ≤ 8
+short n b e = grind (arith, nat_tests, e)
+
+total_most : (parts : List (List ℕ)) → list_all is_component parts ≡ true → total parts ≤ 9 * length parts
+total_most [] e = omega (arith)
+total_most (part ∷ parts) e =
+    let both = and_parts (is_component part) (list_all is_component parts) e in
+    let few = short (length part) (list_all is_id_character part) both.0 in
+    let most = total_most parts both.1 in
+    omega (arith, few, most)
+
+pub file_id_room : (xs : List ℕ) → is_file_id xs ≡ true → length xs ≤ 71
+file_id_room xs e =
+    let both = and_parts (nat_le (length (parts_of xs)) 8) (list_all is_component (parts_of xs)) e in
+    let few : length (parts_of xs) ≤ 8 = grind (arith, nat_tests, both.0) in
+    let most = total_most (parts_of xs) both.1 in
+    omega (arith, few, most, total_is xs)
+
+pub zeros_after : (n : ℕ) → drop n (replicate {A = ℕ} 71 0) ≡ replicate {A = ℕ} (71 - n) 0
+zeros_after n = drop-replicate {X = ℕ} n 71 0
+
+front_of : (xs ys : List ℕ) → take (length xs) (xs ++ ys) ≡ xs
+front_of [] ys = refl
+front_of (x ∷ xs) ys = ap (λ zs. x ∷ zs) (front_of xs ys)
+
+pub kept_filled : (text : List ℕ) → is_file_id text ≡ true → IsKept (filled text) (length text)
+kept_filled text e =
+    let front : take (length text) (filled text) ≡ text = front_of text (replicate (71 - length text) 0) in
+    record { rest_is_zero = ap filled front; size_fits = ap length front; is_one = ap is_file_id front ∙ e }
+
+pub shown_filled : (text : List ℕ) → take (length text) (filled text) ≡ text
+shown_filled text = front_of text (replicate (71 - length text) 0)

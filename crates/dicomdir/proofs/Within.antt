@@ -1,0 +1,141 @@
+-- The nodes of a linked directory stand at records: there are no more of them than records, and none at place 0.
+use Rattle.std.proofs.Common.{◌≡◌, ℕ, suc, ◌+◌, ◌<◌, ◌≤◌, Bool, true, false, not, ◌||◌, List, [], ◌∷◌, ◌++◌, length, Some, refl, sym, ap, ◌∙◌, arith, nat_eq, if◌then◌else◌}
+use Rattle.std.proofs.lemmas.Bool.{and_parts}
+use Rattle.std.proofs.lemmas.List.{length-append}
+use Rattle.std.proofs.lemmas.List.Folds.{list_any-append}
+use Rattle.std.proofs.lemmas.Bool.Decides.{nat_tests}
+use Rattle.element.specs.declared.header.Header.{Header}
+use Rattle.sequence.specs.Tree.{Elements, Items, no_items, item}
+use Rattle.dicomdir.specs.TreeOf.{Forest, no_nodes, node, count_of}
+use Rattle.dicomdir.specs.Directory.{Found, missing, value_at, items_at, found, Record, header_size, size_of, end_size, records_at, records_in}
+use Rattle.dicomdir.specs.Linked.{PlacedNode, places_of, is_distinct, record_at, AreLinked}
+use Rattle.dicomdir.specs.DirFault.{is_one_of}
+use Rattle.dicomdir.specs.NoFault.{NodesAreRecords}
+use Rattle.dicomdir.proofs.Walking.{not_true, not_place, same_place}
+
+or_second : (a b : Bool) → b ≡ true → (a || b) ≡ true
+or_second true b e = refl
+or_second false b e = e
+
+or_first : (a b : Bool) → a ≡ true → (a || b) ≡ true
+or_first true b e = refl
+or_first false b e = absurd cc
+
+-- distinct places that are all among others are no more than those
+
+abbrev without : ℕ → List ℕ → List ℕ
+without p [] = []
+without p (q ∷ qs) = if nat_eq p q then qs else q ∷ without p qs
+
+one_fewer : (p : ℕ) (qs : List ℕ) → is_one_of p qs ≡ true → length qs ≡ suc (length (without p qs))
+one_fewer p [] e = absurd cc
+one_fewer p (q ∷ qs) e = by (nat_eq p q) (one_fewer p qs) e
+  where
+    by : (b : Bool) → (is_one_of p qs ≡ true → length qs ≡ suc (length (without p qs))) → (b || is_one_of p qs) ≡ true
+        → suc (length qs) ≡ suc (length (if b then qs else q ∷ without p qs))
+    by true rest e = refl
+    by false rest e = ap suc (rest e)
+
+still_one : (x p : ℕ) (qs : List ℕ) → nat_eq x p ≡ false → is_one_of x qs ≡ true → is_one_of x (without p qs) ≡ true
+still_one x p [] other e = absurd cc
+still_one x p (q ∷ qs) other e = by (nat_eq p q) refl (nat_eq x q) refl (still_one x p qs other) e
+  where
+    by : (b : Bool) → nat_eq p q ≡ b → (a : Bool) → nat_eq x q ≡ a → (is_one_of x qs ≡ true → is_one_of x (without p qs) ≡ true) → (a || is_one_of x qs) ≡ true
+        → is_one_of x (if b then qs else q ∷ without p qs) ≡ true
+    by true same true here rest e = absurd (grind (arith, nat_tests, same, here, other))
+    by true same false here rest e = e
+    by false same true here rest e = or_first (nat_eq x q) (is_one_of x (without p qs)) here
+    by false same false here rest e = or_second (nat_eq x q) (is_one_of x (without p qs)) (rest e)
+
+no_more : (ps qs : List ℕ) → is_distinct ps ≡ true → ((x : ℕ) → is_one_of x ps ≡ true → is_one_of x qs ≡ true) → length ps ≤ length qs
+no_more [] qs distinct all = omega arith
+no_more (p ∷ ps) qs distinct all =
+    let parts = and_parts (not (is_one_of p ps)) (is_distinct ps) distinct in
+    let none : is_one_of p ps ≡ false = not_true (is_one_of p ps) parts.0 in
+    let here : is_one_of p qs ≡ true = all p (or_first (nat_eq p p) (is_one_of p ps) (same_place p)) in
+    let fewer = one_fewer p qs here in
+    let rest = no_more ps (without p qs) parts.1
+    (λ x h. still_one x p qs (not_place x p ps none h) (all x (or_second (nat_eq x p) (is_one_of x ps) h))) in
+    omega (arith, fewer, rest)
+
+-- the places of records
+
+abbrev places : List Record → List ℕ
+places [] = []
+places (r ∷ records) = r.place ∷ places records
+
+length_places : (records : List Record) → length (places records) ≡ length records
+length_places [] = refl
+length_places (r ∷ records) = ap suc (length_places records)
+
+stands_there : (p : ℕ) (records : List Record) (es : Elements) → record_at p records ≡ Some es → is_one_of p (places records) ≡ true
+stands_there p [] es e = absurd cc
+stands_there p (r ∷ records) es e = by (nat_eq r.place p) refl (stands_there p records es) e
+  where
+    by : (b : Bool) → nat_eq r.place p ≡ b → (record_at p records ≡ Some es → is_one_of p (places records) ≡ true)
+        → (if b then Some r.elements else record_at p records) ≡ Some es → (nat_eq p r.place || is_one_of p (places records)) ≡ true
+    by true same rest e = or_first (nat_eq p r.place) (is_one_of p (places records)) (grind (arith, nat_tests, same))
+    by false same rest e = or_second (nat_eq p r.place) (is_one_of p (places records)) (rest e)
+
+either : (a b c : Bool) → (a ≡ true → c ≡ true) → (b ≡ true → c ≡ true) → (a || b) ≡ true → c ≡ true
+either true b c f g e = f refl
+either false b c f g e = g e
+
+at_records : (f : Forest PlacedNode) (records : List Record) (level : ℕ) → AreLinked records level f
+    → (x : ℕ) → is_one_of x (places_of f) ≡ true → is_one_of x (places records) ≡ true
+at_records no_nodes records level linked x h = absurd cc
+at_records (node n below next) records level linked x h =
+    let here = stands_there n.place records linked.0.elements linked.0.stands in
+    either (nat_eq x n.place) (is_one_of x (places_of below ++ places_of next)) (is_one_of x (places records))
+    (λ e. same_one x n.place (places records) e here)
+    (λ e. either (is_one_of x (places_of below)) (is_one_of x (places_of next)) (is_one_of x (places records))
+    (at_records below records (suc level) linked.1 x)
+    (at_records next records level linked.2 x)
+    (sym (list_any-append (nat_eq x) (places_of below) (places_of next)) ∙ e))
+    h
+  where
+    same_one : (x y : ℕ) (ps : List ℕ) → nat_eq x y ≡ true → is_one_of y ps ≡ true → is_one_of x ps ≡ true
+    same_one x y ps e h = let same : x ≡ y = grind (arith, nat_tests, e) in rw same h
+
+count_is : (f : Forest PlacedNode) → length (places_of f) ≡ count_of f
+count_is no_nodes = refl
+count_is (node n below next) =
+    let bs = count_is below in
+    let ns = count_is next in
+    let both = length-append (places_of below) (places_of next) in
+    omega (arith, bs, ns, both)
+
+-- no record stands at place 0
+
+header_some : (h : Header) → 0 < header_size h
+header_some h = omega arith
+
+none_at_zero : (place : ℕ) (is : Items) → 0 < place → is_one_of 0 (places (records_at place is)) ≡ false
+none_at_zero place no_items some = refl
+none_at_zero place (item h es is) some =
+    let rest = none_at_zero (place + header_size h + size_of es + end_size h.length) is (omega (arith, some)) in
+    let here : nat_eq 0 place ≡ false = grind (arith, nat_tests, some) in
+    rw (here, rest) refl
+
+none_in : (f : Found) (records : List Record) → records_in f ≡ Some records → is_one_of 0 (places records) ≡ false
+none_in missing records e = absurd cc
+none_in (value_at place v) records e = absurd cc
+none_in (items_at place h is) records e =
+    let same : records_at (place + header_size h) is ≡ records = cc in
+    let some = header_some h in
+    ap (λ r. is_one_of 0 (places r)) (sym same) ∙ none_at_zero (place + header_size h) is (omega (arith, some))
+
+backwards : (a b : Bool) → (a ≡ true → b ≡ true) → b ≡ false → a ≡ false
+backwards true b f e = let g : b ≡ true = f refl in absurd cc
+backwards false b f e = refl
+
+pub nodes_are_records : NodesAreRecords
+nodes_are_records start elements tree linked =
+    let all = at_records linked.placed linked.records 1 linked.linked in
+    let few = no_more (places_of linked.placed) (places linked.records) linked.distinct all in
+    let nodes = count_is linked.placed in
+    let records = length_places linked.records in (
+      omega (arith, few, nodes, records),
+      backwards (is_one_of 0 (places_of linked.placed)) (is_one_of 0 (places linked.records)) (all 0)
+          (none_in (found 0x00041220 start elements) linked.records linked.has_records),
+    )

@@ -1,0 +1,88 @@
+-- The directory that this product builds of rows: where each record of the tree stands, and what its offsets are
+-- (PS3.3 sections F.3 and F.4). Records stand depth first, without gaps, which is this product's own profile.
+use Rattle.std.specs.Prelude.{ℕ, suc, ◌+◌, ◌^◌, Bool, List, [], ◌∷◌, ◌++◌, length, nat_le, if◌then◌else◌}
+use Rattle.std.specs.List.{list_any}
+use Rattle.std.specs.Str.{bytes_eq}
+use Rattle.sequence.specs.Tree.{Elements, Items, no_items}
+use Rattle.dicomdir.specs.Row.{Row}
+use Rattle.dicomdir.specs.TreeOf.{Forest, no_nodes, node, TreeOf}
+use Rattle.dicomdir.specs.Directory.{Record}
+use Rattle.dicomdir.specs.Layout.{spelled, with_offsets, record_item, root_elements}
+
+-- how many bytes a record takes, with its item's header and its two offsets
+abbrev pub record_size : Elements → ℕ
+record_size es = 8 + length (spelled (with_offsets 0 0 es))
+
+-- how many bytes stand between the first of the data set and the first record
+abbrev pub root_size : ℕ
+root_size = length (spelled (root_elements 0 0 no_items))
+
+abbrev pub forest_size : Forest Elements → ℕ
+forest_size no_nodes = 0
+forest_size (node es below next) = record_size es + forest_size below + forest_size next
+
+-- each node's record with its place, where the first one stands at `place`: those below a record follow it, and
+-- then its next sibling
+abbrev pub with_places : ℕ → Forest Elements → Forest Record
+with_places place no_nodes = no_nodes
+with_places place (node es below next) =
+    node (record { place = place; elements = es })
+    (with_places (place + record_size es) below)
+    (with_places (place + record_size es + forest_size below) next)
+
+-- depth first
+abbrev pub flattened : Forest Record → List Record
+flattened no_nodes = []
+flattened (node r below next) = r ∷ (flattened below ++ flattened next)
+
+abbrev pub place_each : List Record → List ℕ
+place_each [] = []
+place_each (r ∷ records) = r.place ∷ place_each records
+
+-- of siblings, the place of the first and of the last; 0 where there is none
+
+abbrev pub first_record_place : Forest Record → ℕ
+first_record_place no_nodes = 0
+first_record_place (node r below next) = r.place
+
+abbrev pub last_record_place_after : ℕ → Forest Record → ℕ
+last_record_place_after place no_nodes = place
+last_record_place_after place (node r below next) = last_record_place_after r.place next
+
+abbrev pub last_record_place : Forest Record → ℕ
+last_record_place records = last_record_place_after 0 records
+
+-- the items of the records, depth first, and then the other items: a record names its next sibling and the first
+-- record below it
+abbrev pub record_items : Forest Record → Items → Items
+record_items no_nodes others = others
+record_items (node r below next) others =
+    record_item (first_record_place next) (first_record_place below) r.elements (record_items below (record_items next others))
+
+abbrev pub elements_with_places : Forest Record → Elements
+elements_with_places records = root_elements (first_record_place records) (last_record_place records) (record_items records no_items)
+
+-- the elements of the directory of a tree, of which the first stands at `start`
+unfoldable pub directory_elements : ℕ → Forest Elements → Elements
+directory_elements start tree = elements_with_places (with_places (start + root_size) tree)
+
+-- the directory of rows after a file header, and how many bytes it has
+abbrev pub directory_of : List ℕ → List Row → List ℕ
+directory_of front rows = front ++ spelled (directory_elements (length front) (TreeOf rows))
+
+abbrev pub directory_size : ℕ → List Row → ℕ
+directory_size start rows = start + root_size + forest_size (TreeOf rows)
+
+-- a directory whose offsets might not fit four bytes is not built
+abbrev pub is_too_large : ℕ → List Row → Bool
+is_too_large start rows = nat_le (2 ^ 32) (directory_size start rows)
+
+-- of rows that follow `at` others, the numbers of those that are left out as doubles
+abbrev pub doubles_after : ℕ → List (List ℕ) → List Row → List ℕ
+doubles_after at before [] = []
+doubles_after at before (row ∷ rows) =
+    if list_any (bytes_eq row.instance) before then at ∷ doubles_after (suc at) before rows
+    else doubles_after (suc at) (row.instance ∷ before) rows
+
+abbrev pub doubles_of : List Row → List ℕ
+doubles_of rows = doubles_after 0 [] rows
