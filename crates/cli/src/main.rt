@@ -1,62 +1,76 @@
 //! DCMBOX, a DICOM storage receiver: the program.
 #![tactic(auto)]
 
+mod arguments;
+mod command_line;
 mod error;
+mod folder;
 mod hexadecimal;
 mod limits;
 mod replay;
+mod serve;
+mod settings;
+mod socket;
 #[cfg(test)]
 mod tests;
 mod words;
 
 use crate::error::ProgramError;
+use crate::folder::open_folder;
+use crate::settings::{replay_settings, serve_settings};
 use crate::words::{Job, WordsError};
-use std::alloc::Global;
+use log::sink::Console;
+use log::{Level, Logged};
 use std::env;
 use std::process::ExitCode;
 
-/// The words are refused.
+/// The status where the arguments are invalid.
 const REFUSED: u8 = 2;
 
-/// A device failed, or there was too little memory.
+/// The status where a device failed or memory ran out.
 const FAILED: u8 = 3;
 
-/// Does what the words say.
-fn perform(rt: &HostRuntime, words: &[&str]) -> Result<ExitCode, ProgramError> {
-    match words::read_words(rt.alloc(), words) {
-        Ok(Job::Replay { file }) => {
-            replay::replay(rt, file)?;
-            Ok(ExitCode::SUCCESS)
+/// Does what the arguments say.
+fn perform(rt: &HostRuntime, job: &Job) -> Result<(), ProgramError> {
+    match job {
+        Job::Replay(arguments) => {
+            let settings = replay_settings(rt.alloc(), arguments)?;
+            replay::replay(rt, &settings)
         }
-        Err(WordsError::Shown(text)) => {
-            print!(rt; "{text}").map_err(ProgramError::Write)?;
-            Ok(ExitCode::SUCCESS)
+        Job::Serve(arguments) => {
+            let settings = serve_settings(rt.alloc(), arguments)?;
+            let mut filing = open_folder(*rt, settings.out, settings.layout, settings.sync)?;
+            let logged = Logged::new(rt, Level::Info, Console(rt));
+            serve::serve(&logged, &settings, &mut filing)
         }
-        Err(WordsError::Refused(text)) => {
-            let _ = eprint!(rt; "{text}");
-            Ok(ExitCode::from(REFUSED))
-        }
-        Err(WordsError::Memory(error)) => Err(ProgramError::Memory(error)),
     }
 }
 
-/// Takes the words of the command line.
-fn run_words(rt: &HostRuntime) -> Result<ExitCode, ProgramError> {
-    let alloc: Global = rt.alloc();
-    let mut owned = Vec::new(alloc);
-    for word in env::args(rt).map_err(ProgramError::Words)? {
+/// Reads the arguments and does what they say.
+fn run_words(rt: &HostRuntime) -> Result<(), ProgramError> {
+    let mut owned = Vec::new(rt.alloc());
+    for word in env::args(rt).map_err(ProgramError::Arguments)? {
         owned.push(word)?;
     }
-    let mut words = Vec::new(alloc);
+    let mut words = Vec::new(rt.alloc());
     for word in &owned {
         words.push(word.as_str())?;
     }
-    perform(rt, words.as_slice())
+    let job = words::read_words(rt.alloc(), words.as_slice())?;
+    perform(rt, &job)
 }
 
 fn main(rt: HostRuntime) -> ExitCode {
     match run_words(&rt) {
-        Ok(code) => code,
+        Ok(()) => ExitCode::SUCCESS,
+        Err(ProgramError::Words(WordsError::Shown(text))) => match print!(rt; "{text}") {
+            Ok(()) => ExitCode::SUCCESS,
+            Err(_) => ExitCode::from(FAILED),
+        },
+        Err(ProgramError::Words(WordsError::Refused(text))) => {
+            let _ = eprint!(rt; "{text}");
+            ExitCode::from(REFUSED)
+        }
         Err(error) => {
             let _ = eprintln!(rt; "dcmbox: {error}");
             ExitCode::from(FAILED)

@@ -2,45 +2,39 @@
 ghost use Rattle.std.specs.Prelude.{◌<◌};
 
 use crate::error::ProgramError;
+use crate::folder::open_folder;
 use crate::hexadecimal;
 use crate::limits::{COMMAND, DEPTH, REQUEST, VALUES};
-use arrayvec::ArrayVec;
-use element::AeTitle;
-use engine::{Given, ListSource, Report, run};
+use crate::settings::Replay;
+use engine::{ListSource, ListedInput, Report, run};
 use negotiate::Config;
-use part10::{Filing, MemoryFiling};
+use part10::Filing;
 use pdu::MemoryWire;
 use std::alloc::{AllocError, Allocator};
 use std::io::{Read, Write};
 use std::{fs, io};
-
-/// The bytes of a piece, where the words don't say it.
-const PIECE: usize = 4096;
-
-/// The title that the program answers to, where the words don't say it.
-const TITLE: AeTitle = AeTitle(*b"DCMBOX          ");
 
 /// The recording in pieces of `cut` bytes, and then the transport's close.
 fn inputs_of<'a, A: Allocator>(
     alloc: A,
     recording: &'a [u8],
     cut: usize,
-) -> Result<Vec<Given<'a>, A>, AllocError>
+) -> Result<Vec<ListedInput<'a>, A>, AllocError>
     requires { 0 < cut }
 {
     let mut inputs = Vec::new(alloc);
     for piece in recording.chunks(cut) {
-        inputs.push(Given::Piece(piece))?;
+        inputs.push(ListedInput::Piece(piece))?;
     }
-    inputs.push(Given::Closed)?;
+    inputs.push(ListedInput::Closed)?;
     Ok(inputs)
 }
 
 /// Runs the recording that the reader gives, in pieces of `cut` bytes, over a wire in memory and the
-/// filing; writes what was sent in hexadecimal, and answers how it ended.
+/// filing; writes what was sent in hexadecimal, and returns how the association ended.
 ///
-/// A recording that can't be read, a failed wire, an output that can't be written and want of memory
-/// are errors; where the wire failed, nothing is written.
+/// Fails if the recording can't be read, the output can't be written, or memory runs out. If the wire
+/// failed, nothing is written.
 pub fn replay_over<A: Allocator + Copy, R: Read, F: Filing, O: Write>(
     alloc: A,
     input: &mut R,
@@ -74,19 +68,20 @@ pub fn replay_over<A: Allocator + Copy, R: Read, F: Filing, O: Write>(
 }
 
 /// Runs the recording of a file, and prints what was sent and how it ended.
-pub fn replay(rt: &HostRuntime, file: &str) -> Result<(), ProgramError> {
+pub fn replay(rt: &HostRuntime, settings: &Replay) -> Result<(), ProgramError> {
     let alloc = rt.alloc();
-    let mut input = fs::open(rt, file).map_err(ProgramError::Open)?;
-    let config = Config::new(
-        TITLE,
-        ArrayVec::new(),
-        Config::DEFAULT_MAX_PDU,
-        Config::DEFAULT_MAX_DATA,
-    );
-    let mut filing = MemoryFiling::new(alloc);
+    let mut input = fs::open(rt, settings.file).map_err(ProgramError::Open)?;
+    let mut filing = open_folder(*rt, settings.out, settings.layout, true)?;
     let mut out = io::writer(rt);
-    let report = replay_over(alloc, &mut input, PIECE, &config, &mut filing, &mut out)?;
-    let files = filing.files().len();
+    let report = replay_over(
+        alloc,
+        &mut input,
+        settings.cut,
+        &settings.config,
+        &mut filing,
+        &mut out,
+    )?;
+    let files = filing.committed();
     writeln!(
         out,
         "{} held {} files {files}",

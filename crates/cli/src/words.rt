@@ -1,56 +1,41 @@
-//! The words of the command line.
-use clap::error::ErrorKind;
-use clap::{Arg, Command, Error};
-use std::alloc::{AllocError, Global};
+//! The command line.
+ghost use Rattle.std.specs.Prelude.{◌≡◌, IfOk, map};
+ghost use Rattle.clap.specs.Simple.{subcommand_of};
+ghost use Rattle.cli.specs.CommandLine.{the_command, Names};
 
-/// What the words ask for.
-#[derive(Clone, Copy, Debug)]
+use crate::arguments::{
+    MOST_VALUES, ReplayArguments, ServeArguments, replay_arguments, serve_arguments,
+};
+use crate::command_line::command;
+use clap::Error;
+use clap::error::ErrorKind;
+use std::alloc::{AllocError, Global};
+use thiserror::Error as ThisError;
+
+/// What the arguments ask for.
+#[derive(Debug, Drop)]
 pub enum Job<'a> {
     /// Run a recorded association again.
-    Replay { file: &'a str },
+    Replay(ReplayArguments<'a>),
+    /// Serve associations.
+    Serve(ServeArguments<'a>),
 }
 
 /// Why there is no job.
-#[derive(Debug, Drop)]
+#[derive(Debug, Drop, ThisError)]
 pub enum WordsError {
     /// Help or the version was asked for: this text.
+    #[error("{0}")]
     Shown(String),
-    /// The words are wrong, as this text says.
+    /// The arguments are invalid, as this text says.
+    #[error("{0}")]
     Refused(String),
-    /// There was too little memory.
-    Memory(AllocError),
+    #[error("out of memory")]
+    Memory(#[from(alloc)] AllocError),
 }
 
-impl From<AllocError> for WordsError {
-    fn from(error: AllocError) -> WordsError {
-        WordsError::Memory(error)
-    }
-}
-
-fn replay_command<'a>(alloc: Global) -> Result<Command<'a>, AllocError> {
-    let file = Arg::new(alloc, "FILE")
-        .required(true)
-        .help("The recorded bytes of one association");
-    let out = Arg::new(alloc, "out")
-        .long("out")
-        .value_name("DIR")
-        .required(true)
-        .help("The folder that received files go to");
-    Command::new(alloc, "replay")
-        .about("Runs a recorded association, and prints what is sent in hexadecimal")
-        .arg(file)?
-        .arg(out)
-}
-
-fn command<'a>(alloc: Global) -> Result<Command<'a>, AllocError> {
-    Command::new(alloc, "dcmbox")
-        .version("0.1.0")
-        .about("A DICOM storage receiver whose behaviour is proved")
-        .subcommand_required(true)
-        .subcommand(replay_command(alloc)?)
-}
-
-/// The text of clap's error: help and version were asked for, the others are refusals.
+/// Returns clap's error as this program reports it: help and the version are shown, the others are
+/// refusals.
 fn refusal(alloc: Global, error: Error) -> WordsError {
     let text = match format!(in alloc; "{error}") {
         Ok(text) => text,
@@ -63,18 +48,38 @@ fn refusal(alloc: Global, error: Error) -> WordsError {
     }
 }
 
-/// The job that the words name; the first of them is the program's name.
-pub fn read_words<'a>(alloc: Global, words: &'a [&'a str]) -> Result<Job<'a>, WordsError> {
+/// The only arguments that clap takes and this program does not: more titles than it keeps.
+fn too_many(alloc: Global) -> WordsError {
+    match format!(in alloc; "error: --caller may be given {MOST_VALUES} times at most\n") {
+        Ok(text) => WordsError::Refused(text),
+        Err(error) => WordsError::Memory(error),
+    }
+}
+
+/// Reads the arguments of the command line, of which the first is the program's name.
+///
+/// `named`: the subcommand, the values and the flags are those that clap's definition of a simple
+/// command gives for these arguments.
+pub fn read_words<'a>(alloc: Global, words: &'a [&'a str]) -> Result<Job<'a>, WordsError>
+    ensures named { IfOk result (λ job. Names job (subcommand_of the_command (map (λ w. w.now) words.entry.now))) }
+{
     let command = command(alloc)?;
     let matches = match command.try_get_matches_from(words) {
         Ok(matches) => matches,
         Err(error) => return Err(refusal(alloc, error)),
     };
-    let Some((_, inner)) = matches.subcommand() else {
-        return Err(WordsError::Memory(AllocError));
+    let Some((name, inner)) = matches.subcommand() else {
+        return Err(too_many(alloc));
     };
-    match inner.get_str("FILE") {
-        Some(file) => Ok(Job::Replay { file }),
-        None => Err(WordsError::Memory(AllocError)),
+    if name == "replay" {
+        if let Some(arguments) = replay_arguments(inner) {
+            return Ok(Job::Replay(arguments));
+        }
     }
+    if name == "serve" {
+        if let Some(arguments) = serve_arguments(inner) {
+            return Ok(Job::Serve(arguments));
+        }
+    }
+    Err(too_many(alloc))
 }

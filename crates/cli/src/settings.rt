@@ -1,0 +1,150 @@
+//! What the values of arguments mean.
+ghost use Rattle.std.specs.Prelude.{◌<◌, ◌≤◌, IfOk};
+
+use crate::arguments::{ReplayArguments, ServeArguments};
+use crate::socket::Timeouts;
+use crate::words::WordsError;
+use arrayvec::ArrayVec;
+use element::AeTitle;
+use negotiate::Config;
+use std::alloc::Global;
+use std::time::Duration;
+
+/// How files are laid out in a folder.
+#[derive(Clone, Copy)]
+pub enum Layout {
+    Flat,
+    /// In folders of this many files, 1 to 9999.
+    Levels(Per),
+}
+
+/// How many files a folder of files has, 1 to 9999.
+#[derive(Clone, Copy)]
+pub struct Per {
+    pub files: u32,
+    pub ghost some: { 1 ≤ files },
+    pub ghost most: { files ≤ 9999 },
+}
+
+/// What `replay` does.
+#[derive(Drop)]
+pub struct Replay<'a> {
+    pub file: &'a str,
+    pub out: &'a str,
+    pub config: Config,
+    /// The bytes of a piece, at least 1.
+    pub cut: usize,
+    pub layout: Layout,
+    pub ghost some: { 0 < cut },
+}
+
+/// What `serve` does.
+#[derive(Drop)]
+pub struct Serve<'a> {
+    pub bind: &'a str,
+    pub port: u16,
+    pub out: &'a str,
+    pub config: Config,
+    pub timeouts: Timeouts,
+    pub layout: Layout,
+    /// Whether a store is answered only once its file is on the disk.
+    pub sync: bool,
+    pub once: bool,
+}
+
+/// Reads a number from `least` to `most`, as Rust's number reader does.
+fn number(alloc: Global, option: &str, text: &str, least: u64, most: u64) -> Result<u64, WordsError>
+    ensures { IfOk result (λ n. (least ≤ n) × (n ≤ most)) }
+{
+    if let Ok(number) = text.parse::<u64>() {
+        if least <= number && number <= most {
+            return Ok(number);
+        }
+    }
+    let refused = format!(in alloc;
+        "error: --{option} takes a number from {least} to {most}, not '{text}'\n"
+    )?;
+    Err(WordsError::Refused(refused))
+}
+
+/// Reads an AE title: 1 to 16 characters, not all of them spaces, without a backslash.
+fn title(alloc: Global, option: &str, text: &str) -> Result<AeTitle, WordsError> {
+    match AeTitle::of_text(text) {
+        Some(title) => Ok(title),
+        None => {
+            let refused = format!(in alloc;
+                "error: --{option} takes an AE title of 1 to 16 characters, not '{text}'\n"
+            )?;
+            Err(WordsError::Refused(refused))
+        }
+    }
+}
+
+/// Returns what `replay` does with these arguments.
+pub fn replay_settings<'a>(
+    alloc: Global,
+    arguments: &ReplayArguments<'a>,
+) -> Result<Replay<'a>, WordsError> {
+    let ae = title(alloc, "ae", arguments.ae)?;
+    let cut = number(alloc, "cut", arguments.cut, 1, 65536)?;
+    Ok(Replay {
+        file: arguments.file,
+        out: arguments.out,
+        config: Config::new(
+            ae,
+            ArrayVec::new(),
+            Config::DEFAULT_MAX_PDU,
+            Config::DEFAULT_MAX_DATA,
+        ),
+        cut: cut as usize,
+        layout: layout_of(alloc, arguments.per)?,
+    })
+}
+
+/// Returns what `serve` does with these arguments.
+pub fn serve_settings<'a>(
+    alloc: Global,
+    arguments: &ServeArguments<'a>,
+) -> Result<Serve<'a>, WordsError> {
+    let port = number(alloc, "port", arguments.port, 1, 65535)?;
+    let ae = title(alloc, "ae", arguments.ae)?;
+    let mut callers = ArrayVec::new();
+    for caller in arguments.callers.as_slice() {
+        callers.push(title(alloc, "caller", *caller)?);
+    }
+    let timeouts = Timeouts {
+        artim: seconds(alloc, "timeout", arguments.timeout)?,
+        idle: seconds(alloc, "idle", arguments.idle)?,
+    };
+    let max_pdu = number(alloc, "max-pdu", arguments.max_pdu, 1024, 131_072)?;
+    let max_data = number(alloc, "max-data", arguments.max_data, 1024, MOST_DATA)?;
+    Ok(Serve {
+        bind: arguments.bind,
+        port: port as u16,
+        out: arguments.out,
+        config: Config::new(ae, callers, max_pdu as u32, max_data),
+        timeouts,
+        layout: layout_of(alloc, arguments.per)?,
+        sync: !arguments.no_sync,
+        once: arguments.once,
+    })
+}
+
+/// Reads how files are laid out.
+fn layout_of(alloc: Global, per: Option<&str>) -> Result<Layout, WordsError> {
+    let Some(per) = per else {
+        return Ok(Layout::Flat);
+    };
+    let files = number(alloc, "per", per, 1, 9999)?;
+    Ok(Layout::Levels(Per {
+        files: files as u32,
+    }))
+}
+
+/// The longest data set that can be asked for: 2^48 bytes.
+const MOST_DATA: u64 = 281_474_976_710_656;
+
+/// Reads a time of 1 second to a day.
+fn seconds(alloc: Global, option: &str, text: &str) -> Result<Duration, WordsError> {
+    Ok(Duration::from_secs(number(alloc, option, text, 1, 86400)?))
+}
