@@ -13,12 +13,20 @@ mod dimse_rows;
 #[cfg(test)]
 mod element_rows;
 #[cfg(test)]
+mod engine_pieces;
+#[cfg(test)]
 mod engine_rows;
 #[cfg(test)]
 mod negotiate_rows;
 #[cfg(test)]
+mod part10_folders;
+#[cfg(test)]
 mod part10_rows;
 #[cfg(test)]
 mod pdu_rows;
+#[cfg(test)]
+mod readme_rows;
+#[cfg(test)]
+mod sequence_faults;
 #[cfg(test)]
 mod sequence_rows;

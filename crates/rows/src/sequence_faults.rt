@@ -1,0 +1,213 @@
+//! For each fault of a data set a text that has it, beside a good one that differs little; and the shapes of elements in
+//! Implicit that no other row has.
+
+use element::{Syntax, Tag};
+use sequence::{Fault, Walker, Want, Wanted};
+
+/// A faulty text and a good one, for a walker of two levels that wants (0008,0018) with a room of four bytes.
+struct Case {
+    /// The greatest length of a data set.
+    limit: u64,
+    bad: &'static [u8],
+    fault: Fault,
+    good: &'static [u8],
+}
+
+fn fault(number: u8, place: u64, tag: Tag) -> Fault {
+    Fault { number, place, tag }
+}
+
+const CASES: [Case; 12] = [
+    Case {
+        limit: 1 << 40,
+        bad: b"\x08\x00\x60\x00cS\x02\x00CT",
+        fault: Fault {
+            number: 10,
+            place: 0,
+            tag: Tag(0x0008, 0x0060),
+        },
+        good: b"\x08\x00\x60\x00CS\x02\x00CT",
+    },
+    Case {
+        limit: 1 << 40,
+        bad: b"\x08\x00\x60\x00CS\x03\x00CT ",
+        fault: Fault {
+            number: 11,
+            place: 0,
+            tag: Tag(0x0008, 0x0060),
+        },
+        good: b"\x08\x00\x60\x00CS\x04\x00CT  ",
+    },
+    Case {
+        limit: 1 << 40,
+        bad: b"\x08\x00\x60\x00CS\x02\x00CT\x08\x00\x60\x00CS\x02\x00CT",
+        fault: Fault {
+            number: 12,
+            place: 10,
+            tag: Tag(0x0008, 0x0060),
+        },
+        good: b"\x08\x00\x60\x00CS\x02\x00CT\x08\x00\x61\x00CS\x02\x00CT",
+    },
+    Case {
+        limit: 1 << 40,
+        bad: b"\x02\x00\x10\x00UI\x00\x00",
+        fault: Fault {
+            number: 13,
+            place: 0,
+            tag: Tag(0x0002, 0x0010),
+        },
+        good: b"\x04\x00\x10\x00UI\x00\x00",
+    },
+    Case {
+        limit: 1 << 40,
+        bad: b"\xe0\x7f\x10\x00OB\x00\x00\xff\xff\xff\xff",
+        fault: Fault {
+            number: 14,
+            place: 0,
+            tag: Tag(0x7fe0, 0x0010),
+        },
+        good: b"\xe0\x7f\x10\x00OB\x00\x00\x00\x00\x00\x00",
+    },
+    Case {
+        limit: 1 << 40,
+        bad: b"\xfe\xff\x00\xe0\x00\x00\x00\x00",
+        fault: Fault {
+            number: 15,
+            place: 0,
+            tag: Tag(0xfffe, 0xe000),
+        },
+        good: b"\x08\x00\x40\x11SQ\x00\x00\x08\x00\x00\x00\xfe\xff\x00\xe0\x00\x00\x00\x00",
+    },
+    Case {
+        limit: 1 << 40,
+        bad: b"\x08\x00\x40\x11SQ\x00\x00\xff\xff\xff\xff\xfe\xff\xdd\xe0\x02\x00\x00\x00",
+        fault: Fault {
+            number: 16,
+            place: 12,
+            tag: Tag(0xfffe, 0xe0dd),
+        },
+        good: b"\x08\x00\x40\x11SQ\x00\x00\xff\xff\xff\xff\xfe\xff\xdd\xe0\x00\x00\x00\x00",
+    },
+    Case {
+        limit: 1 << 40,
+        bad: b"\x08\x00\x40\x11SQ\x00\x00\x10\x00\x00\x00\xfe\xff\x00\xe0\x0a\x00\x00\x00",
+        fault: Fault {
+            number: 17,
+            place: 12,
+            tag: Tag(0xfffe, 0xe000),
+        },
+        good: b"\x08\x00\x40\x11SQ\x00\x00\x10\x00\x00\x00\xfe\xff\x00\xe0\x08\x00\x00\x00\x08\x00\x50\x11UI\x00\x00",
+    },
+    Case {
+        limit: 1 << 40,
+        bad: b"\x08\x00\x40\x11SQ\x00\x00\xff\xff\xff\xff\xfe\xff\x00\xe0\xff\xff\xff\xff\x08\x00\x40\x11SQ\x00\x00\xff\xff\xff\xff",
+        fault: Fault {
+            number: 18,
+            place: 20,
+            tag: Tag(0x0008, 0x1140),
+        },
+        good: b"\x08\x00\x40\x11SQ\x00\x00\xff\xff\xff\xff\xfe\xff\x00\xe0\xff\xff\xff\xff\x08\x00\x40\x11SQ\x00\x00\x00\x00\x00\x00\xfe\xff\x0d\xe0\x00\x00\x00\x00\xfe\xff\xdd\xe0\x00\x00\x00\x00",
+    },
+    Case {
+        limit: 16,
+        bad: b"\x08\x00\x60\x00CS\x0a\x00CT",
+        fault: Fault {
+            number: 19,
+            place: 0,
+            tag: Tag(0x0008, 0x0060),
+        },
+        good: b"\x08\x00\x60\x00CS\x08\x00CT      ",
+    },
+    Case {
+        limit: 1 << 40,
+        bad: b"\x08\x00\x60\x00CS\x02\x00C",
+        fault: Fault {
+            number: 20,
+            place: 9,
+            tag: Tag(0x0008, 0x0060),
+        },
+        good: b"\x08\x00\x60\x00CS\x02\x00CT",
+    },
+    Case {
+        limit: 1 << 40,
+        bad: b"\x08\x00\x18\x00UI\x06\x001.2.3\0",
+        fault: Fault {
+            number: 21,
+            place: 0,
+            tag: Tag(0x0008, 0x0018),
+        },
+        good: b"\x08\x00\x18\x00UI\x04\x001.2\0",
+    },
+];
+
+fn take(walker: &mut Walker<140, 2>, piece: &[u8]) {
+    let mut rest = piece;
+    for _ in 0..piece.len() {
+        if rest.is_empty() {
+            break;
+        }
+        let (taken, _step) = walker.step(rest);
+        rest = &rest[taken..];
+    }
+}
+
+/// Whether the text ends like this in two pieces, or byte by byte where the cut is behind its end.
+fn ends(syntax: Syntax, limit: u64, text: &[u8], cut: usize, fault: Option<Fault>) -> bool {
+    let wants = [Want {
+        tag: Tag(0x0008, 0x0018),
+        room: 4,
+    }];
+    match Wanted::of(&wants) {
+        None => false,
+        Some(wanted) => {
+            let mut w: Walker<140, 2> = Walker::new(syntax, wanted, limit.min(1 << 40));
+            if cut <= text.len() {
+                take(&mut w, &text[..cut]);
+                take(&mut w, &text[cut..]);
+            } else {
+                for byte in text {
+                    take(&mut w, &[*byte]);
+                }
+            }
+            match w.finish() {
+                Ok(()) => fault.is_none(),
+                Err(found) => fault == Some(found),
+            }
+        }
+    }
+}
+
+/// Whether the text ends like this at every cut in two, and byte by byte.
+fn ends_at_every_cut(syntax: Syntax, limit: u64, text: &[u8], fault: Option<Fault>) -> bool {
+    for cut in 0..text.len() {
+        if !ends(syntax, limit, text, cut, fault) {
+            return false;
+        }
+    }
+    ends(syntax, limit, text, text.len(), fault) && ends(syntax, limit, text, usize::MAX, fault)
+}
+
+#[test]
+fn each_fault_beside_a_good_text(rt: HostRuntime) {
+    for case in &CASES {
+        assert!(rt; ends_at_every_cut(Syntax::Explicit, case.limit, case.bad, Some(case.fault)));
+        assert!(rt; ends_at_every_cut(Syntax::Explicit, case.limit, case.good, None));
+    }
+}
+
+#[test]
+fn shapes_in_implicit(rt: HostRuntime) {
+    // Modality, whose VR in the dictionary is CS, may not have undefined length.
+    let refused = fault(14, 0, Tag(0x0008, 0x0060));
+    let modality = b"\x08\x00\x60\x00\xff\xff\xff\xff";
+    assert!(rt; ends_at_every_cut(Syntax::Implicit, 1 << 40, modality, Some(refused)));
+    let modality = b"\x08\x00\x60\x00\x02\x00\x00\x00CT";
+    assert!(rt; ends_at_every_cut(Syntax::Implicit, 1 << 40, modality, None));
+    // A tag that the dictionary does not have holds items then.
+    let items =
+        b"\x09\x00\x01\x10\xff\xff\xff\xff\xfe\xff\x00\xe0\x00\x00\x00\x00\xfe\xff\xdd\xe0\x00\x00\x00\x00";
+    assert!(rt; ends_at_every_cut(Syntax::Implicit, 1 << 40, items, None));
+    let element = b"\x09\x00\x01\x10\xff\xff\xff\xff\x08\x00\x60\x00";
+    let refused = fault(15, 8, Tag(0x0008, 0x0060));
+    assert!(rt; ends_at_every_cut(Syntax::Implicit, 1 << 40, element, Some(refused)));
+}
