@@ -1,4 +1,5 @@
 pub mod Classes
+pub mod Implementation
 pub mod Syntaxes
 pub mod Tags
 pub mod machine

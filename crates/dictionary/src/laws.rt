@@ -2,10 +2,11 @@
 ghost use Rattle.std.specs.Prelude.{◌≡◌, Some};
 ghost use Rattle.element.specs.declared.syntax.Syntax as element;
 ghost use Rattle.dictionary.specs.Classes.{class_of, class_uid};
+ghost use Rattle.dictionary.specs.Implementation.{implementation_class_uid, implementation_version_name};
 ghost use Rattle.dictionary.specs.Syntaxes.{application_context, syntax_of, syntax_uid};
 ghost use Rattle.dictionary.specs.declared.class.Class as class;
 
-use crate::APPLICATION_CONTEXT;
+use crate::{APPLICATION_CONTEXT, IMPLEMENTATION_CLASS_UID, IMPLEMENTATION_VERSION_NAME};
 
 /// Each class and each transfer syntax is the one that its unique identifier names.
 pub fn identifiers_name_one()
@@ -16,4 +17,10 @@ pub fn identifiers_name_one()
 /// The application context is the one of the definitions.
 pub fn application_context_is_named()
     ensures { APPLICATION_CONTEXT.now ≡ application_context }
+{}
+
+/// What names this implementation is what the definitions name.
+pub fn implementation_is_named()
+    ensures class { IMPLEMENTATION_CLASS_UID.now ≡ implementation_class_uid }
+    ensures version { IMPLEMENTATION_VERSION_NAME.now ≡ implementation_version_name }
 {}

@@ -3,10 +3,12 @@
 #![tactic(auto)]
 
 mod class;
+mod implementation;
 pub mod laws;
 mod syntaxes;
 mod tags;
 
 pub use class::{Class, class_of};
+pub use implementation::{IMPLEMENTATION_CLASS_UID, IMPLEMENTATION_VERSION_NAME};
 pub use syntaxes::{APPLICATION_CONTEXT, syntax_of, syntax_uid};
 pub use tags::{name_of, vr_of};

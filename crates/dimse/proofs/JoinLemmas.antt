@@ -7,7 +7,7 @@ use Rattle.byteorder.specs.Endian.{big_number}
 use Rattle.pdu.specs.declared.head.PdvHead.{PdvHead}
 use Rattle.pdu.specs.Heads.{is_last, pdv_head_of}
 use Rattle.pdu.specs.Marks.{pdv_size}
-use Rattle.pdu.proofs.PdvLemmas.{same_head}
+use Rattle.pdu.proofs.Public.{same_head}
 use Rattle.dimse.specs.declared.fault.DimseFault.{DimseFault}
 use Rattle.dimse.specs.declared.stage.Stage.{Stage}
 use Rattle.dimse.specs.declared.stage.Stage.TheVariants.{Between, Command, Set}

@@ -5,7 +5,7 @@ use Rattle.std.proofs.lemmas.List.{length-drop}
 use Rattle.pdu.specs.declared.wire.WireFailed.{WireFailed}
 use Rattle.pdu.specs.Sent.{Line, sent_all, Sends}
 use Rattle.pdu.specs.Texts.{data_text}
-use Rattle.pdu.proofs.SentLemmas.{all_nothing, all_then, sends_part, sends_then}
+use Rattle.pdu.proofs.Public.{all_nothing, all_then, sends_part, sends_then}
 use Rattle.dimse.specs.Reply.{fragments_in, fragments, command_pdus}
 
 pdus_two : (context : ℕ) (f : List ℕ) (b : Bool) (g : List ℕ) (gs : List (List ℕ)) (text : List ℕ)

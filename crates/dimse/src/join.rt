@@ -13,6 +13,8 @@ use arrayvec::ArrayVec;
 use pdu::PdvHead;
 use std::marker::Model;
 
+mod fields;
+
 /// Joins the fragments of one message at a time (PS3.7 section 6.3; PS3.8 annex E): it keeps the
 /// command set, of at most `C` bytes, and counts the bytes of the data set.
 #[derive(Drop)]

@@ -8,12 +8,10 @@ use Rattle.element.specs.declared.kinds.Kind.TheVariants.{Words, Longs, Doubles,
 abbrev pub is_one_of : List (List ℕ) → List ℕ → Bool
 is_one_of names vr = list_any (pointwise nat_eq vr) names
 
-abbrev pub kind_of : List ℕ → Kind
-kind_of vr =
-    if is_one_of (codes "US" ∷ codes "SS" ∷ codes "OW" ∷ []) vr then Words
-    else (if is_one_of (codes "UL" ∷ codes "SL" ∷ codes "FL" ∷ codes "AT" ∷ codes "OL" ∷ codes "OF" ∷ []) vr then Longs
-    else (if is_one_of (codes "FD" ∷ codes "SV" ∷ codes "UV" ∷ codes "OD" ∷ codes "OV" ∷ []) vr then Doubles
-    else (if pointwise nat_eq vr (codes "AE") then Title
+-- the kind of a VR whose values are no numbers in bytes
+abbrev pub kind_of_text : List ℕ → Kind
+kind_of_text vr =
+    if pointwise nat_eq vr (codes "AE") then Title
     else (if pointwise nat_eq vr (codes "CS") then Code
     else (if pointwise nat_eq vr (codes "DA") then Date
     else (if pointwise nat_eq vr (codes "TM") then Time
@@ -21,4 +19,11 @@ kind_of vr =
     else (if pointwise nat_eq vr (codes "IS") then Integer
     else (if pointwise nat_eq vr (codes "DS") then Decimal
     else (if pointwise nat_eq vr (codes "UI") then Identifier
-    else Free))))))))))
+    else Free)))))))
+
+abbrev pub kind_of : List ℕ → Kind
+kind_of vr =
+    if is_one_of (codes "US" ∷ codes "SS" ∷ codes "OW" ∷ []) vr then Words
+    else (if is_one_of (codes "UL" ∷ codes "SL" ∷ codes "FL" ∷ codes "AT" ∷ codes "OL" ∷ codes "OF" ∷ []) vr then Longs
+    else (if is_one_of (codes "FD" ∷ codes "SV" ∷ codes "UV" ∷ codes "OD" ∷ codes "OV" ∷ []) vr then Doubles
+    else kind_of_text vr))

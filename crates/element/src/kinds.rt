@@ -33,17 +33,11 @@ fn is_one_of(vr: Vr, names: &[Vr]) -> bool
     names.iter().any(|name| vr == *name)
 }
 
-/// Returns the kind of the values of a VR.
-pub(crate) fn kind_of(vr: Vr) -> Kind
-    ensures { result ≡ rules.kind_of vr }
+/// Returns the kind of the values of a VR whose values are no numbers in bytes.
+fn kind_of_text(vr: Vr) -> Kind
+    ensures { result ≡ rules.kind_of_text vr }
 {
-    if is_one_of(vr, &[Vr::US, Vr::SS, Vr::OW]) {
-        Kind::Words
-    } else if is_one_of(vr, &[Vr::UL, Vr::SL, Vr::FL, Vr::AT, Vr::OL, Vr::OF]) {
-        Kind::Longs
-    } else if is_one_of(vr, &[Vr::FD, Vr::SV, Vr::UV, Vr::OD, Vr::OV]) {
-        Kind::Doubles
-    } else if vr == Vr::AE {
+    if vr == Vr::AE {
         Kind::Title
     } else if vr == Vr::CS {
         Kind::Code
@@ -61,5 +55,20 @@ pub(crate) fn kind_of(vr: Vr) -> Kind
         Kind::Identifier
     } else {
         Kind::Free
+    }
+}
+
+/// Returns the kind of the values of a VR.
+pub(crate) fn kind_of(vr: Vr) -> Kind
+    ensures { result ≡ rules.kind_of vr }
+{
+    if is_one_of(vr, &[Vr::US, Vr::SS, Vr::OW]) {
+        Kind::Words
+    } else if is_one_of(vr, &[Vr::UL, Vr::SL, Vr::FL, Vr::AT, Vr::OL, Vr::OF]) {
+        Kind::Longs
+    } else if is_one_of(vr, &[Vr::FD, Vr::SV, Vr::UV, Vr::OD, Vr::OV]) {
+        Kind::Doubles
+    } else {
+        kind_of_text(vr)
     }
 }

@@ -19,7 +19,7 @@ mod vr;
 mod writing;
 
 pub use header::Header;
-pub use padding::unpadded;
+pub use padding::{unpadded, without_trailing_spaces};
 pub use reading::{need, read_header, read_tag};
 pub use size::Need;
 pub use syntax::Syntax;

@@ -21,8 +21,10 @@ pub fn unpadded(bytes: &[u8]) -> &[u8]
     &bytes[..end]
 }
 
+/// Returns the bytes without the spaces at their end. Zero bytes are kept: text is padded by spaces
+/// alone (PS3.5 section 6.2).
 #[tactic(auto, using(crate::proofs::Trimming::trailing_dropped, crate::proofs::Trimming::trailing_kept))]
-fn without_trailing_spaces(bytes: &[u8]) -> &[u8]
+pub fn without_trailing_spaces(bytes: &[u8]) -> &[u8]
     ensures { result.now ≡ spelling.without_trailing spelling.is_space bytes.now }
 {
     let mut end = bytes.len();

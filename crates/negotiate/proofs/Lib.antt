@@ -1,3 +1,5 @@
+-- the lemmas that the crates above cite, and no others
+pub mod Public
 pub mod AnswerLemmas
 pub mod AcceptLemmas
 pub mod TableLemmas

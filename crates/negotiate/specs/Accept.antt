@@ -1,8 +1,9 @@
 -- The answer's bytes: A-ASSOCIATE-AC (PS3.8 section 9.3.3 and annex D.1, PS3.7 annex D.3.3.2) or A-ASSOCIATE-RJ (PS3.8
 -- section 9.3.4). Reserved bytes are zeros.
-use Rattle.std.specs.Prelude.{ℕ, List, ◌∷◌, ◌++◌, length, codes}
+use Rattle.std.specs.Prelude.{ℕ, List, ◌∷◌, ◌++◌, length}
 use Rattle.std.specs.List.{flat_map}
 use Rattle.element.specs.Numbers.{be}
+use Rattle.dictionary.specs.Implementation.{implementation_class_uid, implementation_version_name}
 use Rattle.dictionary.specs.Syntaxes.{application_context, syntax_uid}
 use Rattle.pdu.specs.Record.{Record, Proposal}
 use Rattle.pdu.specs.Texts.{pdu_text, reject_text}
@@ -27,8 +28,8 @@ abbrev pub user_text : ℕ → List ℕ
 user_text max_pdu =
     item_text user_information_item
     (item_text maximum_length_item (be max_pdu 4)
-    ++ item_text implementation_class_item (codes "2.25.20260101")
-    ++ item_text implementation_version_item (codes "DCMBOX_1"))
+    ++ item_text implementation_class_item implementation_class_uid
+    ++ item_text implementation_version_item implementation_version_name)
 
 -- version 1, the titles and the 32 reserved bytes as in the request, 10H
 abbrev pub before_contexts : Record → List ℕ

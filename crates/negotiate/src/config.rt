@@ -49,7 +49,7 @@ impl Config {
     }
 
     /// Returns a copy of the settings. Unlike `Clone` it allocates nothing and cannot fail.
-    pub fn same(&self) -> Config
+    pub fn copied(&self) -> Config
         ensures { settings_of result ≡ settings_of self.now }
     {
         let mut callers = ArrayVec::new();

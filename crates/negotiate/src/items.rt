@@ -6,14 +6,8 @@ ghost use Rattle.negotiate.specs.Accept.{item_text, context_text, user_text};
 use crate::proposals::{carried, result_of};
 use arrayvec::ArrayVec;
 use byteorder::{BigEndian, ByteOrder};
-use dictionary::syntax_uid;
+use dictionary::{IMPLEMENTATION_CLASS_UID, IMPLEMENTATION_VERSION_NAME, syntax_uid};
 use pdu::{Proposal, item_type};
-
-/// The implementation's class (PS3.7 annex D.3.3.2).
-const IMPLEMENTATION_CLASS: &[u8] = b"2.25.20260101";
-
-/// The implementation's version name.
-const IMPLEMENTATION_VERSION: &[u8] = b"DCMBOX_1";
 
 /// Appends bytes to a room in which they fit.
 pub(crate) fn extend<const N: usize>(room: &mut ArrayVec<u8, N>, bytes: &[u8])
@@ -64,12 +58,12 @@ pub(crate) fn user_item(max_pdu: u32) -> ArrayVec<u8, 64>
     extend_by_item(
         &mut content,
         item_type::IMPLEMENTATION_CLASS_UID,
-        IMPLEMENTATION_CLASS,
+        IMPLEMENTATION_CLASS_UID,
     );
     extend_by_item(
         &mut content,
         item_type::IMPLEMENTATION_VERSION_NAME,
-        IMPLEMENTATION_VERSION,
+        IMPLEMENTATION_VERSION_NAME,
     );
     let mut item = ArrayVec::<u8, 64>::new();
     extend_by_item(&mut item, item_type::USER_INFORMATION, content.as_slice());

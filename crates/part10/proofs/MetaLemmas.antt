@@ -12,6 +12,7 @@ use Rattle.element.specs.Padding.{is_padding, is_empty, kept_before, without_tra
 use Rattle.element.specs.Title.{title_text}
 use Rattle.element.specs.Uid.{is_uid_character, is_uid, uid_of}
 use Rattle.element.proofs.Headers.{written_spells}
+use Rattle.dictionary.specs.Implementation.{implementation_class_uid, implementation_version_name}
 use Rattle.dictionary.specs.Syntaxes.{syntax_uid}
 use Rattle.part10.specs.declared.meta.Meta.{Meta}
 use Rattle.element.specs.Padding.{padded}
@@ -128,8 +129,8 @@ uid_elements meta after =
 
 implementation : List MetaElement → List MetaElement
 implementation after =
-    record { number = 0x0012; value = padded 0 (codes "2.25.20260101") }
-    ∷ record { number = 0x0013; value = codes "DCMBOX_1" }
+    record { number = 0x0012; value = padded 0 implementation_class_uid }
+    ∷ record { number = 0x0013; value = implementation_version_name }
     ∷ after
 
 uid_short : (text : List ℕ) → is_uid text ≡ true → length (padded 0 text) < 65536
@@ -141,8 +142,8 @@ uid_short text e =
 implementation_read : (es : List MetaElement) (rest : List ℕ) → MetaElements 0x0013 es rest → MetaElements 0x0010 (implementation es) (implementation_elements ++ rest)
 unfolding implementation implementation_elements is_short
 implementation_read es rest more =
-    let inner = meta_then 0x0012 0x0013 83 72 (codes "DCMBOX_1") es rest (omega arith) (omega arith) refl (omega arith) refl more in
-    meta_then 0x0010 0x0012 85 73 (padded 0 (codes "2.25.20260101")) _ (meta_element 0x0013 (codes "SH") (codes "DCMBOX_1") ++ rest) (omega arith) (omega arith) refl (omega arith) refl inner
+    let inner = meta_then 0x0012 0x0013 83 72 implementation_version_name es rest (omega arith) (omega arith) refl (omega arith) refl more in
+    meta_then 0x0010 0x0012 85 73 (padded 0 implementation_class_uid) _ (meta_element 0x0013 (codes "SH") implementation_version_name ++ rest) (omega arith) (omega arith) refl (omega arith) refl inner
 
 pub uid_then : (last n : ℕ) (text : List ℕ) (es : List MetaElement) (rest : List ℕ) → last < n → n < 65536 → is_uid text ≡ true → MetaElements n es rest
     → MetaElements last (record { number = n; value = padded 0 text } ∷ es) (uid_element n text ++ rest)

@@ -6,6 +6,7 @@ use Rattle.element.specs.Header.{header_bytes}
 use Rattle.element.specs.Padding.{is_empty, padded}
 use Rattle.element.specs.Title.{title_text}
 use Rattle.element.specs.Uid.{even_uid}
+use Rattle.dictionary.specs.Implementation.{implementation_class_uid, implementation_version_name}
 use Rattle.dictionary.specs.Syntaxes.{syntax_uid}
 use Rattle.part10.specs.declared.meta.Meta.{Meta}
 
@@ -31,7 +32,7 @@ instance_elements meta =
 -- Implementation Class UID and Implementation Version Name
 unfoldable pub implementation_elements : List ℕ
 implementation_elements =
-    uid_element 0x0012 (codes "2.25.20260101") ++ meta_element 0x0013 (codes "SH") (codes "DCMBOX_1")
+    uid_element 0x0012 implementation_class_uid ++ meta_element 0x0013 (codes "SH") implementation_version_name
 
 -- Source Application Entity Title, left out where nothing remains of the title
 unfoldable pub title_element : List ℕ → List ℕ

@@ -77,6 +77,13 @@ fault_number BadMeta = 51
 fault_number OtherSyntax = 53
 fault_number ReadFailed = 54
 
+-- and its name
+abbrev pub fault_name : MetaFault → List ℕ
+fault_name NotPart10 = codes "NotPart10"
+fault_name BadMeta = codes "BadMeta"
+fault_name OtherSyntax = codes "OtherSyntax"
+fault_name ReadFailed = codes "ReadFailed"
+
 -- what is first wrong with a file: the letters do not stand after 128 bytes; it has no file header; its transfer
 -- syntax is not one that is taken. That a read fails is no fault of the file
 abbrev pub MetaFaultOf : List ℕ → MetaFault → Type 0

@@ -4,14 +4,16 @@ ghost use Rattle.std.specs.Prelude.{◌≡◌, ◌≤◌, ◌+◌, None, OnOk, i
 use crate::filing::{Filing, FilingFailed};
 use crate::place::{Layout, Place, number_in};
 use element::count::Count;
-use std::fs::{File, TryLockError};
+use std::alloc::Allocator;
+use std::fs::{DirEntry, File, TryLockError};
 use std::io::{Error, ErrorKind, Write};
 use std::rt::Files;
 use std::{fs, io};
 
 /// Keeps each committed draft as a file of its own: `I` and seven digits.
 ///
-/// The draft is the file `DRAFT` of the folder. The folder has one writer: it stays locked until
+/// The draft is the file `DRAFT` of the folder; one that was left there, by a writer that was
+/// killed, is removed when the folder is opened. The folder has one writer: it stays locked until
 /// this value is dropped. No file is ever written over.
 ///
 /// A commit writes the draft to the disk (`sync_all`) before it gives it its name, and the folder
@@ -47,6 +49,27 @@ fn lock<R: Files<File = File>>(rt: &R, dir: &str) -> io::Result<File> {
     }
 }
 
+/// Removes a file, if it is there.
+fn remove_left<R: Files>(rt: &R, path: &str) -> io::Result<()> {
+    match fs::remove_file(rt, path) {
+        Err(error) if error.kind() == ErrorKind::NotFound => Ok(()),
+        result => result,
+    }
+}
+
+/// Returns the number in the name of an entry, if it is a name of this letter.
+fn number_of<R: Files + Drop, A: Allocator>(
+    entry: &DirEntry<R, A>,
+    letter: char,
+    only_folders: bool,
+) -> io::Result<Option<u32>> {
+    let number = number_in(letter, entry.file_name());
+    if only_folders && number.is_some() && !entry.file_type()?.is_dir() {
+        return Ok(None);
+    }
+    Ok(number)
+}
+
 /// Returns the greatest number in a name of this letter, if there is one.
 fn highest<R: Files + Alloc + Clone + Drop>(
     rt: &R,
@@ -57,19 +80,18 @@ fn highest<R: Files + Alloc + Clone + Drop>(
     let mut highest = None;
     for entry in fs::read_dir(rt, dir)? {
         match entry {
-            Ok(entry) => {
-                if let Some(number) = number_in(letter, entry.file_name()) {
-                    if !only_folders || entry.file_type()?.is_dir() {
-                        highest = highest.max(Some(number));
-                    }
-                }
-            }
+            Ok(entry) => highest = highest.max(number_of(&entry, letter, only_folders)?),
             // A name that is not UTF-8 is no number.
             Err(error) if error.kind() == ErrorKind::InvalidFilename => {}
             Err(error) => return Err(error),
         }
     }
     Ok(highest)
+}
+
+/// Returns the path of a folder of files.
+fn folder_path<A: Allocator>(alloc: A, dir: &str, folder: u32) -> io::Result<String<A>> {
+    Ok(format!(in alloc; "{dir}/S{folder:07}")?)
 }
 
 /// Returns where the last file of the folder stands; 0 is the number of a file that is not there.
@@ -89,7 +111,7 @@ fn last_place<R: Files + Alloc + Clone + Drop>(
             file: per,
         }),
         Some(folder) => {
-            let path = format!(in rt.alloc(); "{dir}/S{folder:07}")?;
+            let path = folder_path(rt.alloc(), dir, folder)?;
             let file = highest(rt, path.as_str(), 'I', false)?.unwrap_or(0);
             Ok(Place { folder, file })
         }
@@ -119,6 +141,7 @@ impl<R: Files<File = File> + Alloc + Clone + Drop> FolderFiling<R> {
         let folder = lock(&rt, dir)?;
         let last = last_place(&rt, dir, layout)?;
         let draft_path = format!(in rt.alloc(); "{dir}/DRAFT")?;
+        remove_left(&rt, draft_path.as_str())?;
         let dir = String::from_str(rt.alloc(), dir)?;
         Ok(FolderFiling {
             rt,
@@ -157,10 +180,7 @@ impl<R: Files<File = File> + Alloc + Clone + Drop> FolderFiling<R> {
 
     /// Removes the file of a draft, so that nothing is written into a file that may have a name.
     fn remove_draft(&self) -> io::Result<()> {
-        match fs::remove_file(&self.rt, self.draft_path.as_str()) {
-            Err(error) if error.kind() == ErrorKind::NotFound => Ok(()),
-            result => result,
-        }
+        remove_left(&self.rt, self.draft_path.as_str())
     }
 
     fn drop_draft(&mut self)
@@ -195,8 +215,7 @@ impl<R: Files<File = File> + Alloc + Clone + Drop> FolderFiling<R> {
     fn make_folder(&mut self, folder: u32) -> io::Result<()>
         ensures same_count { self.new.failures.total ≡ self.old.failures.total }
     {
-        let dir = &self.dir;
-        let path = format!(in self.rt.alloc(); "{dir}/S{folder:07}")?;
+        let path = folder_path(self.rt.alloc(), self.dir.as_str(), folder)?;
         fs::create_dir(&self.rt, path.as_str())?;
         if self.has_sync {
             if let Err(error) = self.folder.sync_all() {
@@ -216,9 +235,7 @@ impl<R: Files<File = File> + Alloc + Clone + Drop> FolderFiling<R> {
         if self.layout == Layout::Flat {
             return self.folder.sync_all();
         }
-        let dir = &self.dir;
-        let folder = place.folder;
-        let path = format!(in self.rt.alloc(); "{dir}/S{folder:07}")?;
+        let path = folder_path(self.rt.alloc(), self.dir.as_str(), place.folder)?;
         fs::open(&self.rt, path)?.sync_all()
     }
 

@@ -1,9 +1,8 @@
 //! Why a file header cannot be read.
 ghost use Rattle.std.specs.Prelude.{◌≡◌};
-ghost use Rattle.part10.specs.MetaText.{fault_number};
+ghost use Rattle.part10.specs.MetaText.{fault_name, fault_number};
 
 use std::fmt;
-use std::fmt::{Debug, Display, Formatter};
 
 /// Why no file header was read (PS3.10 section 7.1).
 #[derive(Clone, Copy, Debug, PartialEq, Eq)]
@@ -32,10 +31,23 @@ impl MetaFault {
             MetaFault::ReadFailed => 54,
         }
     }
+
+    /// Returns its name.
+    pub fn name(self) -> &'static str
+        ensures { result.now ≡ fault_name self }
+    {
+        match self {
+            MetaFault::NotPart10 => "NotPart10",
+            MetaFault::BadMeta => "BadMeta",
+            MetaFault::OtherSyntax => "OtherSyntax",
+            MetaFault::ReadFailed => "ReadFailed",
+        }
+    }
 }
 
-impl Display for MetaFault {
-    fn fmt<W: fmt::Write>(&self, f: &mut Formatter<W>) -> fmt::Result {
-        Debug::fmt(self, f)
+/// The number and the name, as `51 BadMeta`.
+impl fmt::Display for MetaFault {
+    fn fmt<W: fmt::Write>(&self, f: &mut fmt::Formatter<W>) -> fmt::Result {
+        write!(f, "{} {}", self.number(), self.name())
     }
 }

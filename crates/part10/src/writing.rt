@@ -11,7 +11,7 @@ ghost use Rattle.element.specs.Padding.{padded};
 use crate::Meta;
 use arrayvec::ArrayVec;
 use byteorder::{ByteOrder, LittleEndian};
-use dictionary::syntax_uid;
+use dictionary::{IMPLEMENTATION_CLASS_UID, IMPLEMENTATION_VERSION_NAME, syntax_uid};
 use element::AeTitle;
 
 type Head = ArrayVec<u8, 512>;
@@ -80,8 +80,8 @@ fn put_implementation(group: &mut Head)
     ensures items { group.new.items ≡ group.old.items ++ file.implementation_elements }
     ensures bound { array_vec_len group.new ≤ 330 }
 {
-    put_uid(group, 0x0012, b"2.25.20260101");
-    put_element(group, 0x0013, *b"SH", b"DCMBOX_1", b' ');
+    put_uid(group, 0x0012, IMPLEMENTATION_CLASS_UID);
+    put_element(group, 0x0013, *b"SH", IMPLEMENTATION_VERSION_NAME, b' ');
 }
 
 /// Appends the element with the sender's title, if anything remains of the title without spaces.

@@ -7,7 +7,7 @@ use Rattle.pdu.specs.Frames.{IsRest}
 use Rattle.pdu.specs.Marks.{Mark, Head, BadPdv, End, pdv_size, head_mark, pdv_mark, is_leftover, frame_kind, frame_length, pdv_marks}
 use Rattle.pdu.specs.Pdvs.{DataSpot, Dropped, Within, Marked, too_short, bad, unfinished, data_spot, new_pdv_marks}
 use Rattle.pdu.specs.Spot.{Opening, Plain, InPdv, spot_of, spot, room_left}
-use Rattle.pdu.specs.Parts.{IsUnfinished, in_head, in_fragment, leftover_marks, leftover_spot, body_spot, end_mark, GoesOn, Comes}
+use Rattle.pdu.specs.Parts.{IsInData, IsUnfinished, in_head, in_fragment, leftover_marks, leftover_spot, body_spot, end_mark, GoesOn, Comes}
 use Rattle.pdu.proofs.PdvLemmas.{same_head, marks_are, spot_is}
 use Rattle.pdu.proofs.LaterLemmas.{begins_within, within_later, dropped_later}
 use Rattle.pdu.proofs.FrameLemmas.{same_frame}
@@ -64,6 +64,9 @@ within_pdv r b p e =
 
 pub unfinished_pdv : (r b : List ℕ) → IsRest r → spot r ≡ InPdv b → IsUnfinished (room_left r + length b) b
 unfinished_pdv r b p e = let v = within_pdv r b p e in rw (← v.1.room_is) v.1.is
+
+pub in_data : (r b : List ℕ) → IsRest r → spot r ≡ InPdv b → IsInData r
+in_data r b p e = let v = within_pdv r b p e in record { headed = v.1.headed; kind = v.1.kind }
 
 -- ---- in the head of a frame
 

@@ -7,14 +7,10 @@ use Rattle.std.proofs.Math.Seq.{drop-append_seam}
 use Rattle.std.specs.List.{flat_map}
 use Rattle.pdu.specs.Pieces.{joined, pieces_of}
 use Rattle.pdu.specs.Frames.{frame, IsFrame, IsRest, Splits, frames_of, rest_of}
+use Rattle.pdu.specs.Parts.{SameFrame}
 use Rattle.pdu.specs.Marks.{Mark, Head, End, frame_kind, frame_length, inner_marks, whole_marks, unfinished_marks, marks, new_marks, marks_by}
 use Rattle.pdu.proofs.PieceLemmas.{Reads, pieces_unique, pieces_split, splits_more, splits_alone, splits_one, rest_begins}
 use Rattle.pdu.proofs.LaterLemmas.{Grows, pdv_grows, drop_past}
-
-pub record SameFrame (f more : List ℕ) : Type 0 where
-  pub kind : frame_kind (f ++ more) ≡ frame_kind f
-  pub n : frame_length (f ++ more) ≡ frame_length f
-  pub body : drop 6 (f ++ more) ≡ drop 6 f ++ more
 
 pub same_frame : (f more : List ℕ) → 6 ≤ length f → SameFrame f more
 same_frame [] more h = absurd (omega arith)

@@ -3,15 +3,10 @@ use Rattle.std.proofs.Common.{◌≡◌, ℕ, zero, suc, ◌-◌, ◌<◌, ◌�
 use Rattle.std.proofs.lemmas.Bool.{cases_lt, cases_Bool, lt-ltb, le-ltb}
 use Rattle.std.proofs.lemmas.List.{length-append, length-drop, take-append-le}
 use Rattle.byteorder.specs.Endian.{big_number}
+use Rattle.pdu.specs.Parts.{SameHead}
 use Rattle.pdu.specs.Pdvs.{Mark, Pdv, Leftover, DataSpot, Dropped, pdv_size, IsGoodHead, IsBadHead, head_mark, pdv_mark, is_leftover, Marked, too_short, bad, unfinished, whole_and_leftover, whole_and_more, Pdvs, Front, Headless, Bad, Partial, Whole, front, with_front, or_leftover, pdvs_in, pdv_marks, data_spot}
 
 -- ---- what a head says
-
-pub record SameHead (bytes more : List ℕ) : Type 0 where
-  pub number : big_number 4 (bytes ++ more) ≡ big_number 4 bytes
-  pub context : get_or (bytes ++ more) 4 0 ≡ get_or bytes 4 0
-  pub control : get_or (bytes ++ more) 5 0 ≡ get_or bytes 5 0
-  pub body : drop 6 (bytes ++ more) ≡ drop 6 bytes ++ more
 
 pub same_head : (bytes more : List ℕ) → 6 ≤ length bytes → SameHead bytes more
 same_head [] more h = absurd (omega arith)

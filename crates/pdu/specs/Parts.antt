@@ -1,9 +1,9 @@
 -- What further bytes of a frame mark, and where the frame stands after them.
-use Rattle.std.specs.Prelude.{◌≡◌, ℕ, ◌<◌, ◌≤◌, List, [], ◌∷◌, ◌++◌, length, drop, nat_eq, if◌then◌else◌}
+use Rattle.std.specs.Prelude.{◌≡◌, ℕ, ◌<◌, ◌≤◌, List, [], ◌∷◌, ◌++◌, length, drop, get_or, nat_eq, true, if◌then◌else◌}
 use Rattle.byteorder.specs.Endian.{big_number}
 use Rattle.pdu.specs.Types.{p_data_tf}
 use Rattle.pdu.specs.Frames.{IsFrame, IsRest, rest_of}
-use Rattle.pdu.specs.Marks.{Mark, Leftover, End, pdv_size, is_leftover, frame_kind, new_marks}
+use Rattle.pdu.specs.Marks.{Mark, Leftover, End, pdv_size, is_leftover, frame_kind, frame_length, new_marks}
 use Rattle.pdu.specs.Spot.{Spot, Plain, InPdv, spot}
 
 -- less than a whole presentation data value, of which the frame has room for this many bytes
@@ -39,3 +39,21 @@ pub record Ends (r c : List ℕ) (ms : List Mark) : Type 0 where
 pub record Comes (r c : List ℕ) (ms : List Mark) (s : Spot) : Type 0 where
   pub goes_on : IsRest (r ++ c) → GoesOn r c ms s
   pub ends : IsFrame (r ++ c) → Ends r c ms
+
+-- what the head of a frame says, whatever follows it
+pub record SameFrame (f more : List ℕ) : Type 0 where
+  pub kind : frame_kind (f ++ more) ≡ frame_kind f
+  pub n : frame_length (f ++ more) ≡ frame_length f
+  pub body : drop 6 (f ++ more) ≡ drop 6 f ++ more
+
+-- what the head of a presentation data value says, whatever follows it
+pub record SameHead (bytes more : List ℕ) : Type 0 where
+  pub number : big_number 4 (bytes ++ more) ≡ big_number 4 bytes
+  pub context : get_or (bytes ++ more) 4 0 ≡ get_or bytes 4 0
+  pub control : get_or (bytes ++ more) 5 0 ≡ get_or bytes 5 0
+  pub body : drop 6 (bytes ++ more) ≡ drop 6 bytes ++ more
+
+-- the head has come, and is one of P-DATA
+pub record IsInData (r : List ℕ) : Type 0 where
+  pub headed : 6 ≤ length r
+  pub kind : nat_eq (frame_kind r) p_data_tf ≡ true

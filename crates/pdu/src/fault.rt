@@ -1,6 +1,8 @@
 //! Why a PDU is invalid.
 ghost use Rattle.std.specs.Prelude.{◌≡◌};
 
+use std::fmt;
+
 /// Why a PDU is invalid.
 #[derive(Clone, Copy, Debug, PartialEq, Eq)]
 pub enum PduFault {
@@ -22,7 +24,7 @@ pub enum PduFault {
 }
 
 impl PduFault {
-    ghost use Rattle.pdu.specs.Fault.{fault_number};
+    ghost use Rattle.pdu.specs.Fault.{fault_name, fault_number};
 
     /// Returns its number, from 30 to 35.
     pub fn number(self) -> u8
@@ -36,5 +38,26 @@ impl PduFault {
             PduFault::DoubleContext => 34,
             PduFault::Missing => 35,
         }
+    }
+
+    /// Returns its name.
+    pub fn name(self) -> &'static str
+        ensures { result.now ≡ fault_name self }
+    {
+        match self {
+            PduFault::UnknownType => "UnknownType",
+            PduFault::BadLength => "BadLength",
+            PduFault::BadItem => "BadItem",
+            PduFault::BadContextId => "BadContextId",
+            PduFault::DoubleContext => "DoubleContext",
+            PduFault::Missing => "Missing",
+        }
+    }
+}
+
+/// The number and the name, as `31 BadLength`.
+impl fmt::Display for PduFault {
+    fn fmt<W: fmt::Write>(&self, f: &mut fmt::Formatter<W>) -> fmt::Result {
+        write!(f, "{} {}", self.number(), self.name())
     }
 }

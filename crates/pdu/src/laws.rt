@@ -1,14 +1,17 @@
 //! Laws of the definitions, each the contract of a function that does nothing.
-ghost use Rattle.std.specs.Prelude.{◌≡◌, eqb, ◌≤◌, ◌++◌, [], ◌∷◌, ℕ, List, length, take, drop};
+ghost use Rattle.std.specs.Prelude.{◌≡◌, eqb, ◌≤◌, ◌++◌, [], ◌∷◌, ℕ, List, length, take, drop, Option, Result, Ok, Err};
 ghost use Rattle.std.specs.List.{AllByRecursion, IsDistinct};
+ghost use Rattle.std.specs.Io.KnownBytes.{append_known};
 ghost use Rattle.element.specs.Numbers.{IsBytes};
+ghost use Rattle.pdu.specs.declared.wire.WireFailed as wire;
+ghost use Rattle.pdu.specs.Sent.{Line, Sends, sent_all};
 ghost use Rattle.pdu.specs.Types.{associate_rq, associate_ac, associate_rj, p_data_tf, release_rq, release_rp, abort, application_context_item, proposed_context_item, answered_context_item, abstract_syntax_item, transfer_syntax_item, user_information_item, maximum_length_item, implementation_class_item, implementation_version_item};
 ghost use Rattle.pdu.specs.Record.{Record};
 ghost use Rattle.pdu.specs.Request.{RequestText, IsContextId, IsRequest};
 ghost use Rattle.pdu.specs.Items.{record_of};
 ghost use Rattle.pdu.specs.Refusal.{request_fault};
 ghost use Rattle.pdu.specs.Pieces.{joined};
-ghost use Rattle.pdu.specs.Frames.{Splits, frames_of, rest_of};
+ghost use Rattle.pdu.specs.Frames.{IsRest, Splits, frames_of, rest_of};
 ghost use Rattle.pdu.specs.Pdvs.{DataSpot, Marked, data_spot};
 ghost use Rattle.pdu.specs.Marks.{Mark, Head, PdvHead, Pdv, BadPdv, Leftover, End, IsPdv, marks, marks_by, marks_of_values, new_marks, pdv_marks};
 ghost use Rattle.pdu.specs.Examples.{no_pdu, good_then_bad, good_marks, good_then_bad_marks, empty_pdv, past_the_end, release_twice};
@@ -67,6 +70,17 @@ pub fn body_without_fault_is_a_request()
     ensures none { (r : Record) (b : List ℕ) → RequestText r b → request_fault b ≡ None }
 {}
 
+/// Texts that are sent one after the other are one text: nothing sends nothing, and a send that failed
+/// in the first failed in the whole.
+pub fn sends_are_joined()
+    ensures known_nothing { (old : Option (List ℕ)) → append_known old [] ≡ old }
+    ensures known { (old : Option (List ℕ)) (a b : List ℕ) → append_known (append_known old a) b ≡ append_known old (a ++ b) }
+    ensures nothing { (old : Line) → sent_all [] old ≡ old }
+    ensures all { (a b : List ℕ) (old : Line) → sent_all b (sent_all a old) ≡ sent_all (a ++ b) old }
+    ensures failed { (a b : List ℕ) (f : wire.WireFailed) (old new : Line) → Sends a (Err f) old new → Sends (a ++ b) (Err f) old new }
+    ensures both { (a b : List ℕ) (result : Result (Unit {0}) wire.WireFailed) (old now new : Line) → Sends a (Ok tt) old now → Sends b result now new → Sends (a ++ b) result old new }
+{}
+
 /// Every stream is whole frames and a rest shorter than a frame (PS3.8 section 9.3.1).
 pub fn stream_has_frames()
     ensures { (s : List ℕ) → Splits s (frames_of s) (rest_of s) }
@@ -85,6 +99,18 @@ pub fn marks_only_grow()
 /// The marks of a stream do not depend on how it is cut into pieces.
 pub fn marks_do_not_show_the_cut()
     ensures { (s : List ℕ) (ps qs : List (List ℕ)) → joined ps ≡ joined qs → marks_by s ps ≡ marks_by s qs }
+{}
+
+/// What is left of a stream is less than a whole frame, and a stream of such bytes is its own rest.
+pub fn rests_are_unfinished()
+    ensures rest { (s : List ℕ) → IsRest (rest_of s) }
+    ensures alone { (r : List ℕ) → IsRest r → rest_of r ≡ r }
+{}
+
+/// No bytes mark nothing, and two pieces mark what each of them marks where it comes.
+pub fn pieces_mark_one_after_another()
+    ensures nothing { (s : List ℕ) → new_marks s [] ≡ [] }
+    ensures both { (s p q : List ℕ) → new_marks s (p ++ q) ≡ new_marks s p ++ new_marks (s ++ p) q }
 {}
 
 /// What further bytes mark depends on the unfinished frame alone.

@@ -6,7 +6,21 @@ ghost use Rattle.byteorder.specs.Endian.{big_number};
 ghost use Rattle.pdu.specs.Frames.{IsRest};
 ghost use Rattle.pdu.specs.Marks.{Head, BadPdv, pdv_size, head_mark, pdv_mark, frame_kind, frame_length};
 ghost use Rattle.pdu.specs.Spot.{Opening, Plain, InPdv, spot, room_left};
-ghost use Rattle.pdu.specs.Parts.{IsUnfinished, GoesOn, Comes, leftover_marks, leftover_spot, body_spot};
+ghost use Rattle.pdu.specs.Parts.{IsInData, IsUnfinished, SameFrame, SameHead, GoesOn, Comes, leftover_marks, leftover_spot, body_spot};
+
+/// What a head says does not change with what follows it: that of a PDU, and that of a presentation
+/// data value.
+pub fn heads_are_final()
+    ensures frame { (f more : List ℕ) → 6 ≤ length f → SameFrame f more }
+    ensures value { (b more : List ℕ) → 6 ≤ length b → SameHead b more }
+{}
+
+/// With less than six bytes a PDU stands in its head; where a presentation data value is unfinished, the
+/// head has come and is one of P-DATA.
+pub fn heads_come_first()
+    ensures head { (r : List ℕ) → length r < 6 → spot r ≡ Opening }
+    ensures value { (r b : List ℕ) → IsRest r → spot r ≡ InPdv b → IsInData r }
+{}
 
 /// Within the head of a PDU nothing is marked.
 pub fn a_part_of_a_head()

@@ -1,4 +1,5 @@
-use Rattle.dictionary.proofs.Names.{class_back, syntax_back}
+use Rattle.dictionary.proofs.Names.{syntax_back}
+use Rattle.dictionary.proofs.Public.{class_back}
 use Rattle.dictionary.proofs.laws.identifiers_name_one.Goals as goal
 
 pub returns-clause-classes : goal.returns-clause-classes

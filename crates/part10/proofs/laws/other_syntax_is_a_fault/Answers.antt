@@ -1,4 +1,4 @@
-use Rattle.part10.proofs.Examples.{other_syntax_is_a_fault}
+use Rattle.part10.proofs.Public.{other_syntax_is_a_fault}
 use Rattle.part10.proofs.laws.other_syntax_is_a_fault.Goals as goal
 
 pub returns : goal.returns

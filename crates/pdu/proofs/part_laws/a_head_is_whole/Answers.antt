@@ -1,4 +1,4 @@
-use Rattle.pdu.proofs.BegunLemmas.{head_done}
+use Rattle.pdu.proofs.Public.{head_done}
 use Rattle.pdu.proofs.part_laws.a_head_is_whole.Goals as goal
 
 pub returns : goal.returns

@@ -1,4 +1,4 @@
-use Rattle.pdu.proofs.BegunLemmas.{plain_part}
+use Rattle.pdu.proofs.Public.{plain_part}
 use Rattle.pdu.proofs.part_laws.a_part_of_a_body.Goals as goal
 
 pub returns : goal.returns

@@ -1,4 +1,4 @@
-use Rattle.pdu.proofs.BegunLemmas.{fragment_part, fragment_done}
+use Rattle.pdu.proofs.Public.{fragment_part, fragment_done}
 use Rattle.pdu.proofs.part_laws.a_part_of_a_fragment.Goals as goal
 
 pub returns-clause-more : goal.returns-clause-more

@@ -1,4 +1,4 @@
-use Rattle.pdu.proofs.BegunLemmas.{head_part}
+use Rattle.pdu.proofs.Public.{head_part}
 use Rattle.pdu.proofs.part_laws.a_part_of_a_head.Goals as goal
 
 pub returns : goal.returns

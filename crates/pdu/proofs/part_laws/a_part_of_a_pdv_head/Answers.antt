@@ -1,4 +1,4 @@
-use Rattle.pdu.proofs.BegunLemmas.{pdv_head_part}
+use Rattle.pdu.proofs.Public.{pdv_head_part}
 use Rattle.pdu.proofs.part_laws.a_part_of_a_pdv_head.Goals as goal
 
 pub returns : goal.returns

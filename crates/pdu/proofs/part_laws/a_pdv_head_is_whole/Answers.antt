@@ -1,4 +1,4 @@
-use Rattle.pdu.proofs.BegunLemmas.{pdv_head_bad, pdv_head_done, pdv_head_whole}
+use Rattle.pdu.proofs.Public.{pdv_head_bad, pdv_head_done, pdv_head_whole}
 use Rattle.pdu.proofs.part_laws.a_pdv_head_is_whole.Goals as goal
 
 pub returns-clause-bad : goal.returns-clause-bad

@@ -1,4 +1,4 @@
-use Rattle.pdu.proofs.BegunLemmas.{unfinished_pdv}
+use Rattle.pdu.proofs.Public.{unfinished_pdv}
 use Rattle.pdu.proofs.part_laws.an_unfinished_pdv.Goals as goal
 
 pub returns : goal.returns

@@ -1,0 +1,9 @@
+-- What the crates above cite of this crate's lemmas: laws of `dictionary::laws`, which are their contracts, in the words of
+-- the definitions alone.
+use Rattle.std.proofs.Common.{◌≡◌, Some}
+use Rattle.dictionary.specs.declared.class.Class.{Class}
+use Rattle.dictionary.specs.Classes.{class_uid, class_of}
+use Rattle.dictionary.proofs.Names as names
+
+pub class_back : (c : Class) → class_of (class_uid c) ≡ Some c
+class_back = names.class_back
