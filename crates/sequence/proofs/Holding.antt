@@ -20,8 +20,7 @@ use Rattle.sequence.specs.Walk.{Told, Tells, going, refused}
 use Rattle.sequence.specs.machine.Machine.{set_scope, State, at, Mode, Heading, Reading, Stopped, run, start}
 use Rattle.sequence.specs.machine.Keeping.{keeps, with_value}
 use Rattle.sequence.specs.machine.Stored.{wants_of, values_of}
-use Rattle.sequence.specs.Holding.{scope_at, levels_at, with_begun, values_at, IsIn}
-use Rattle.sequence.specs.Taken.{IsWalked, whole_text, before_fault, Holds}
+use Rattle.sequence.specs.machine.Holding.{scope_at, levels_at, with_begun, values_at, IsIn, IsWalked, whole_text, before_fault, Holds}
 use Rattle.sequence.specs.machine.State.{mode_of, top, below, state_of, kept_values, limits_of, syntax_of, fault_by, fault_of, told_by, HoldsFront, StandsAt}
 use Rattle.sequence.specs.machine.Standing.{IsStopped, StandsIn, Stands}
 use Rattle.sequence.proofs.Runs.{HasStopped}
@@ -155,12 +154,12 @@ tells_unbroken s lim b told e (refused f o) = absurd cc
 
 pub stands_going : {V D : ℕ} (w : Walker V D) (b : List ℕ) → StandsAt w b → (es : Elements) (path : List PathEntry) (last : ℕ) (tail : Tail) → fault_of w ≡ None → Open (syntax_of w) b es path last tail → HoldsFront w (length b) es path last tail × IsIn w.stage w.header.items tail
 stands_going w b h es path last tail none o =
-    let k = h.holds b es path last tail (whole_text (tells_unbroken (syntax_of w) (limits_of w) b (told_by w) none h.tells)) o in
+    let k = h.goes_on b es path last tail (whole_text (tells_unbroken (syntax_of w) (limits_of w) b (told_by w) none h.tells)) o in
     (k.opened, k.begun none)
 
 stands_refused : {V D : ℕ} (w : Walker V D) (b : List ℕ) → StandsAt w b → (p u : List ℕ) (rule : ℕ) (tag : Tag) (es : Elements) (path : List PathEntry) (last : ℕ) → FirstFault (syntax_of w) (limits_of w) b p u rule tag → Open (syntax_of w) p es path last (in_header [])
     → HoldsFront w (length p) es path last (in_header [])
-stands_refused w b h p u rule tag es path last f o = (h.holds p es path last (in_header []) (before_fault f) o).opened
+stands_refused w b h p u rule tag es path last f o = (h.goes_on p es path last (in_header []) (before_fault f) o).opened
 
 -- back to the machine
 

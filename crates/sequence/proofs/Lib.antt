@@ -20,6 +20,7 @@ pub mod Taking
 pub mod Steps
 pub mod Fronts
 pub mod Plug
+pub mod Public
 pub mod Refusals
 pub mod Telling
 pub mod Tales
@@ -35,6 +36,7 @@ pub mod Once
 pub mod Lefts
 pub mod Tellings
 pub mod Holding
+pub mod Refused
 pub mod Unstopped
 pub mod Places
 pub mod Whole

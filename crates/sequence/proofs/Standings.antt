@@ -19,7 +19,8 @@ use Rattle.sequence.specs.machine.State.{mode_of, state_of, IsSameWalk, limits_o
 use Rattle.sequence.specs.machine.Standing.{IsBytes}
 use Rattle.sequence.proofs.Tops.{below_length}
 use Rattle.sequence.proofs.Walks.{wanted_is}
-use Rattle.sequence.proofs.Tales.{told_in, tells}
+use Rattle.sequence.specs.machine.Reported.{told_in}
+use Rattle.sequence.proofs.Tales.{tells}
 use Rattle.sequence.proofs.Holding.{walker_holds}
 
 abbrev told_of : Stage → List Level → ℕ → List ℕ → Values → Told
@@ -53,7 +54,7 @@ walker_stands w b bytes state values =
     ∙ ap (λ z. told_in (limits_of w) z (values_of w.kept)) state
     ∙ ap (λ z. told_in (limits_of w) (run (limits_of w) (start (syntax_of w)) b) z) values))
     (tells (syntax_of w) (limits_of w) b bytes) in
-    record { bytes = bytes; tells = told; holds = walker_holds w b (record { bytes = bytes; state = state; values = values }) told }
+    record { bytes = bytes; tells = told; goes_on = walker_holds w b (record { bytes = bytes; state = state; values = values }) told }
 
 pub no_bytes : IsBytes []
 no_bytes i = lit< tt

@@ -23,7 +23,7 @@ use Rattle.sequence.specs.Answering.{EndsHeader, EndsRun, EndsWith, of_header, o
 use Rattle.sequence.specs.Walk.{Told, Tells, going, refused}
 use Rattle.sequence.specs.machine.Machine.{State, at, ArrivesAt, Reading, run, start}
 use Rattle.sequence.specs.machine.Keeping.{keeps}
-use Rattle.sequence.specs.Holding.{levels_at, IsIn}
+use Rattle.sequence.specs.machine.Holding.{levels_at, IsIn}
 use Rattle.sequence.specs.machine.Spare.{due_of}
 use Rattle.sequence.specs.machine.Made.{header_told, value_told}
 use Rattle.sequence.specs.machine.State.{mode_of, state_of, kept_values, top, below, IsSameWalk, limits_of, syntax_of, fault_by, fault_of, told_by, StandsAt}

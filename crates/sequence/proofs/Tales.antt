@@ -15,6 +15,7 @@ use Rattle.sequence.specs.Rules.{Limits, broken}
 use Rattle.sequence.specs.FirstFault.{IsNoLater, spot_behind, Breaks, IsUnbroken, FirstFault}
 use Rattle.sequence.specs.Walk.{Told, Tells, going, refused}
 use Rattle.sequence.specs.machine.Machine.{set_scope, spot_of, arrive, due, State, at, Mode, Heading, Reading, Stopped, next, run, start}
+use Rattle.sequence.specs.machine.Reported.{fault_in, header_in, told_in}
 use Rattle.sequence.specs.machine.Keeping.{keep, keeps, with_value, wanted_at, but_last, whole_by}
 use Rattle.sequence.specs.machine.Standing.{IsBytes, at_root, AllHold, IsHeading, IsReading, IsStopped, StandsIn, Stands}
 use Rattle.sequence.proofs.Runs.{HasStopped, run_append, run_stopped}
@@ -126,25 +127,6 @@ stop_first s lim values f fs p rule place t b bytes state h = record {
         record { place = omega (arith, begin, h.place-is); end = omega (arith, far, place-is, h.came) }
 
 -- what is told
-
-abbrev pub fault_in : Mode → Option Fault
-fault_in (Heading begin t) = None
-fault_in (Reading t n) = None
-fault_in (Stopped rule place t) = Some (record { number = rule; place = place; tag = t })
-
-abbrev pub header_in : Mode → ℕ
-header_in (Heading begin t) = length t
-header_in (Reading t n) = 0
-header_in (Stopped rule place t) = 0
-
-abbrev pub told_in : Limits → State → Values → Told
-told_in lim st values = record {
-  fault = fault_in st.mode;
-  levels = length st.below;
-  place = st.place;
-  held = header_in st.mode + bytes_of values + 16 * length st.below;
-  kept = whole_by lim st.below st.mode values;
-}
 
 pub levels_is : {s : Syntax} {ws : List Want} {values : Values} {n : ℕ} {b : List ℕ} {tail : Tail} {f : Scope} {fs : List Scope} (x : IsFront s ws values n b tail f fs) → length x.path ≡ length fs
 levels_is {s = s} {n = n} {fs = fs} x = sym (depth_over n x.path (set_scope s None x.last)) ∙ ap length x.below

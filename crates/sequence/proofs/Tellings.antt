@@ -11,7 +11,8 @@ use Rattle.sequence.specs.Walk.{Told, Tells, going, refused}
 use Rattle.sequence.proofs.Readings.{same_front}
 use Rattle.sequence.specs.machine.Machine.{run, start}
 use Rattle.sequence.specs.machine.Keeping.{keeps}
-use Rattle.sequence.proofs.Tales.{told_in, tells}
+use Rattle.sequence.specs.machine.Reported.{told_in}
+use Rattle.sequence.proofs.Tales.{tells}
 use Rattle.sequence.proofs.Once.{one_path}
 
 -- the rule that a header breaks is one

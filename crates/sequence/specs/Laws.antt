@@ -1,14 +1,22 @@
 -- What follows from the definitions alone.
-use Rattle.std.specs.Prelude.{◌≡◌, ℕ, ◌≤◌, List, ◌∷◌, ◌++◌, None, Some}
+use Rattle.std.specs.Prelude.{◌≡◌, ℕ, ◌≤◌, true, List, [], ◌∷◌, ◌++◌, None, Some, nat_lt}
+use Rattle.std.specs.List.{list_all}
+use Rattle.element.specs.declared.size.Need.TheVariants.{Size}
 use Rattle.element.specs.declared.syntax.Syntax.{Syntax}
 use Rattle.element.specs.declared.tag.Tag.{Tag}
+use Rattle.element.specs.Header.{need}
 use Rattle.element.specs.Numbers.{IsBytes}
 use Rattle.sequence.specs.declared.fault.Fault.{Fault}
 use Rattle.sequence.specs.Tree.{Elements, DataSet}
-use Rattle.sequence.specs.Open.{PathEntry, Tail, Open}
+use Rattle.sequence.specs.Open.{PathEntry, Tail, IsUnfinished, Open}
 use Rattle.sequence.specs.Rules.{Limits}
-use Rattle.sequence.specs.FirstFault.{FirstFault}
+use Rattle.sequence.specs.FirstFault.{IsUnbroken, FirstFault}
+use Rattle.sequence.specs.declared.walker.Walker.{Walker}
+use Rattle.sequence.specs.Taken.{StandsAt, fault_of}
 use Rattle.sequence.specs.Walk.{Told, Tells}
+use Rattle.sequence.specs.machine.Machine.{start, run}
+use Rattle.sequence.specs.machine.Keeping.{keeps}
+use Rattle.sequence.specs.machine.Reported.{told_in}
 
 -- the first fault of a text is that of every text that goes on from it
 abbrev pub FaultStays : Type 0
@@ -17,6 +25,22 @@ FaultStays = (s : Syntax) (lim : Limits) (b more p u : List ℕ) (rule : ℕ) (t
 -- what is reported after a refusal is reported for good
 abbrev pub RefusalStays : Type 0
 RefusalStays = (s : Syntax) (lim : Limits) (b more : List ℕ) (told : Told) (fault : Fault) → IsBytes (b ++ more) → told.fault ≡ Some fault → Tells s lim b told → Tells s lim (b ++ more) told
+
+-- what is reported of a text, computed along its bytes
+abbrev pub report_of : Syntax → Limits → List ℕ → Told
+report_of s lim b = told_in lim (run lim (start s) b) (keeps lim (start s) [] b)
+
+-- it is what is to be reported
+abbrev pub ReportIsComputed : Type 0
+ReportIsComputed = (s : Syntax) (lim : Limits) (b : List ℕ) → IsBytes b → Tells s lim b (report_of s lim b)
+
+-- numbers below 256 are bytes
+abbrev pub BytesAreTried : Type 0
+BytesAreTried = (b : List ℕ) → list_all (λ x. nat_lt x 256) b ≡ true → IsBytes b
+
+-- a walker that refused stands after any bytes more
+abbrev pub RefusedStands : Type 0
+RefusedStands = (V D : ℕ) (w : Walker V D) (b more : List ℕ) (fault : Fault) → fault_of w ≡ Some fault → IsBytes more → StandsAt w b → StandsAt w (b ++ more)
 
 -- a text spells one data set at most
 abbrev pub OneTree : Type 0
@@ -56,3 +80,19 @@ OneTelling = (s : Syntax) (lim : Limits) (b : List ℕ) (told told2 : Told) → 
 -- there is a report after every text of bytes
 abbrev pub SomeTelling : Type 0
 SomeTelling = (s : Syntax) (lim : Limits) (b : List ℕ) → IsBytes b → (told : Told) × Tells s lim b told
+
+-- the empty text breaks no rule
+abbrev pub NothingIsUnbroken : Type 0
+NothingIsUnbroken = (s : Syntax) (lim : Limits) → IsUnbroken s lim []
+
+-- where no byte of a header came, it is unfinished
+abbrev pub NoHeader : Type 0
+NoHeader = (s : Syntax) → IsUnfinished s []
+
+-- a header takes at least eight bytes
+abbrev pub LeastHeader : Type 0
+LeastHeader = (s : Syntax) (b : List ℕ) (k : ℕ) → need s b ≡ Size k → 8 ≤ k
+
+-- texts of bytes are one text of bytes
+abbrev pub BytesAreJoined : Type 0
+BytesAreJoined = (a b : List ℕ) → IsBytes a → IsBytes b → IsBytes (a ++ b)

@@ -3,13 +3,13 @@ pub mod Tree
 pub mod Open
 pub mod Wanted
 pub mod Rules
+pub mod Names
 pub mod FirstFault
 pub mod Within
 pub mod Ending
 pub mod Answering
 pub mod Pieces
 pub mod Walk
-pub mod Holding
 pub mod Taken
 pub mod Examples
 pub mod Laws

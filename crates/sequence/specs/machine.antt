@@ -2,8 +2,11 @@
 pub mod Machine
 pub mod Scopes
 pub mod Keeping
+pub mod Reported
 pub mod Judging
 pub mod Stored
+pub mod Fields
+pub mod Holding
 pub mod Spare
 pub mod Made
 pub mod Standing

@@ -1,5 +1,9 @@
 //! Refusals.
+ghost use Rattle.std.specs.Prelude.{◌≡◌};
+ghost use Rattle.sequence.specs.Names.{rule_name};
+
 use element::Tag;
+use std::fmt;
 
 /// A rule that a data set breaks. After it a walker refuses everything.
 #[derive(Clone, Copy, Debug, PartialEq, Eq)]
@@ -49,4 +53,39 @@ impl Fault {
 
     /// A wanted value longer than its room.
     pub const KEPT_TOO_LONG: u8 = 21;
+
+    /// Returns the name of the rule, or `Unknown` if no rule has this number.
+    pub fn name(self) -> &'static str
+        ensures { result.now ≡ rule_name self.number }
+    {
+        match self.number {
+            Fault::BAD_VR => "BadVr",
+            Fault::ODD_LENGTH => "OddLength",
+            Fault::NOT_RISING => "Order",
+            Fault::BAD_GROUP => "BadGroup",
+            Fault::UNDEFINED_NOT_ALLOWED => "UndefinedLength",
+            Fault::UNEXPECTED_TAG => "UnexpectedTag",
+            Fault::DELIMITER_LENGTH => "DelimiterLength",
+            Fault::OVERRUN => "Overrun",
+            Fault::TOO_DEEP => "TooDeep",
+            Fault::TOO_LONG => "TooLong",
+            Fault::TRUNCATED => "Truncated",
+            Fault::KEPT_TOO_LONG => "KeptTooLong",
+            _ => "Unknown",
+        }
+    }
+}
+
+/// The number and the name of the rule, the place and the tag, as `17 Overrun at 26 tag 0008,0060`.
+impl fmt::Display for Fault {
+    fn fmt<W: fmt::Write>(&self, f: &mut fmt::Formatter<W>) -> fmt::Result {
+        let Tag(group, element) = self.tag;
+        write!(
+            f,
+            "{} {} at {} tag {group:04x},{element:04x}",
+            self.number,
+            self.name(),
+            self.place
+        )
+    }
 }

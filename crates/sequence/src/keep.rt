@@ -9,6 +9,8 @@ ghost use Rattle.sequence.specs.Wanted.{bytes_of};
 use crate::wanted::{Want, Wanted};
 use arrayvec::ArrayVec;
 
+mod fields;
+
 /// The length of a value that did not come.
 const ABSENT: u32 = 0xffff_ffff;
 

@@ -3,7 +3,7 @@
 ghost use Rattle.std.specs.Prelude.{◌≡◌, ◌∷◌, []};
 ghost use Rattle.sequence.specs.Rules.{bad_vr, odd_length, not_rising, bad_group, undefined_not_allowed, unexpected_tag, delimiter_length, overrun, too_deep, too_long, truncated, kept_too_long};
 ghost use Rattle.sequence.specs.Ending.{WholeBreaksNoRule, WholeHasNoFault, FaultIsFinal};
-ghost use Rattle.sequence.specs.Laws.{FaultStays, RefusalStays, OneTree, OnePath, EndsAreNested, WholeHasOpenInside, OneFault, OneTelling, SomeTelling};
+ghost use Rattle.sequence.specs.Laws.{FaultStays, RefusalStays, ReportIsComputed, BytesAreTried, RefusedStands, OneTree, OnePath, EndsAreNested, WholeHasOpenInside, OneFault, OneTelling, SomeTelling, NothingIsUnbroken, NoHeader, LeastHeader, BytesAreJoined};
 ghost use Rattle.sequence.specs.Examples.{TwoOpenLevels, FourLevels, PastItsItem, TooDeep, UnknownContent, AlongOneStore, AlongFourLevels};
 
 use crate::fault::Fault;
@@ -121,4 +121,39 @@ pub fn whole_has_no_fault()
 /// A fault comes only where no text that goes on is a data set within its limits.
 pub fn a_fault_is_final()
     ensures { FaultIsFinal }
+{}
+
+/// The empty text breaks no rule.
+pub fn nothing_is_unbroken()
+    ensures { NothingIsUnbroken }
+{}
+
+/// Where no byte of a header came, it is unfinished.
+pub fn no_header()
+    ensures { NoHeader }
+{}
+
+/// A header takes at least eight bytes.
+pub fn a_header_takes_eight_bytes()
+    ensures { LeastHeader }
+{}
+
+/// Two texts of bytes, one after the other, are a text of bytes.
+pub fn bytes_are_joined()
+    ensures { BytesAreJoined }
+{}
+
+/// A walker that refused has taken any bytes that come after.
+pub fn a_refused_walker_stands()
+    ensures { RefusedStands }
+{}
+
+/// What is reported of a text is computed along its bytes.
+pub fn a_report_is_computed()
+    ensures { ReportIsComputed }
+{}
+
+/// Numbers below 256 are bytes.
+pub fn bytes_are_tried()
+    ensures { BytesAreTried }
 {}

@@ -24,6 +24,7 @@ use crate::wanted::Wanted;
 use arrayvec::ArrayVec;
 use element::{Header, Syntax, Tag, read_tag};
 
+mod fields;
 mod told;
 
 /// Makes room for a wanted value of the data set itself; whether it is kept.

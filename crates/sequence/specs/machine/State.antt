@@ -14,7 +14,9 @@ use Rattle.sequence.specs.Rules.{is_sequence, is_value, passes}
 use Rattle.sequence.specs.machine.Machine.{State, at, Mode, Heading, Reading, Stopped}
 use Rattle.sequence.specs.machine.Scopes.{top_of, below_of}
 use Rattle.sequence.specs.machine.Stored.{wants_of, values_of}
-pub use Rattle.sequence.specs.Taken.{limits_of, syntax_of, fault_by, fault_of, told_by, HoldsFront, StandsAt}
+pub use Rattle.sequence.specs.machine.Fields.{limits_of, syntax_of, fault_by, fault_of, told_by}
+pub use Rattle.sequence.specs.machine.Holding.{HoldsFront}
+pub use Rattle.sequence.specs.Taken.{StandsAt}
 
 abbrev pub mode_of : Stage → ℕ → List ℕ → Mode
 mode_of stages.Heading place header = Heading (place - length header) header

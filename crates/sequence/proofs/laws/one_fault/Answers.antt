@@ -1,4 +1,4 @@
-use Rattle.sequence.proofs.Tellings.{one_fault}
+use Rattle.sequence.proofs.Public.{one_fault}
 use Rattle.sequence.proofs.laws.one_fault.Goals as goal
 
 pub returns : goal.returns

@@ -1,4 +1,4 @@
-use Rattle.sequence.proofs.Once.{one_path}
+use Rattle.sequence.proofs.Public.{one_path}
 use Rattle.sequence.proofs.laws.one_path.Goals as goal
 
 pub returns : goal.returns

@@ -1,4 +1,4 @@
-use Rattle.sequence.proofs.Tellings.{some_telling}
+use Rattle.sequence.proofs.Public.{some_telling}
 use Rattle.sequence.proofs.laws.some_telling.Goals as goal
 
 pub returns : goal.returns

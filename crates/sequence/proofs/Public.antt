@@ -1,0 +1,65 @@
+-- What the crates above cite of this crate's lemmas: laws of `sequence::laws`, which are their contracts, in the words of the
+-- definitions alone.
+use Rattle.std.proofs.Common.{[]}
+use Rattle.sequence.specs.Ending.{WholeBreaksNoRule}
+use Rattle.sequence.specs.Laws.{FaultStays, RefusalStays, ReportIsComputed, BytesAreTried, RefusedStands, OneTree, OnePath, OneFault, SomeTelling, NothingIsUnbroken, NoHeader, LeastHeader, BytesAreJoined}
+use Rattle.sequence.specs.machine.Machine.{run}
+use Rattle.sequence.proofs.Arriving as arriving
+use Rattle.sequence.proofs.Examples as examples
+use Rattle.sequence.proofs.Once as once
+use Rattle.sequence.proofs.Quiet as quiet
+use Rattle.sequence.proofs.Refused as refused
+use Rattle.sequence.proofs.Staying as staying
+use Rattle.sequence.proofs.Stepping as stepping
+use Rattle.sequence.proofs.Tales as tales
+use Rattle.sequence.proofs.Tellings as tellings
+use Rattle.sequence.proofs.Whole as whole
+
+-- ---- data sets and their fronts
+
+pub one_tree : OneTree
+one_tree = once.one_tree
+
+pub one_path : OnePath
+one_path = once.one_path
+
+pub no_header : NoHeader
+no_header = arriving.no_header
+
+pub need_least : LeastHeader
+need_least = quiet.need_least
+
+pub both_bytes : BytesAreJoined
+both_bytes = stepping.both_bytes
+
+-- ---- faults
+
+pub one_fault : OneFault
+one_fault = tellings.one_fault
+
+pub fault_stays : FaultStays
+fault_stays = staying.fault_stays
+
+pub nothing_unbroken : NothingIsUnbroken
+unfolding run
+nothing_unbroken s lim = tales.goes_unbroken s lim [] (λ k. k)
+
+pub whole_breaks_no_rule : WholeBreaksNoRule
+whole_breaks_no_rule = whole.whole_breaks_no_rule
+
+-- ---- reports
+
+pub some_telling : SomeTelling
+some_telling = tellings.some_telling
+
+pub refusal_stays : RefusalStays
+refusal_stays = staying.refusal_stays
+
+pub refused_stands : RefusedStands
+refused_stands = refused.refused_stands
+
+pub report_computed : ReportIsComputed
+report_computed = tales.tells
+
+pub bytes_tried : BytesAreTried
+bytes_tried = examples.bytes_by

@@ -1,0 +1,27 @@
+-- What a walk reports, by where it stands and what it keeps.
+use Rattle.std.specs.Prelude.{ℕ, ◌+◌, ◌*◌, Option, None, Some, length}
+use Rattle.sequence.specs.declared.fault.Fault.{Fault}
+use Rattle.sequence.specs.Rules.{Limits}
+use Rattle.sequence.specs.Walk.{Told}
+use Rattle.sequence.specs.Wanted.{Values, bytes_of}
+use Rattle.sequence.specs.machine.Machine.{State, Mode, Heading, Reading, Stopped}
+use Rattle.sequence.specs.machine.Keeping.{whole_by}
+
+abbrev pub fault_in : Mode → Option Fault
+fault_in (Heading begin t) = None
+fault_in (Reading t n) = None
+fault_in (Stopped rule place t) = Some (record { number = rule; place = place; tag = t })
+
+abbrev pub header_in : Mode → ℕ
+header_in (Heading begin t) = length t
+header_in (Reading t n) = 0
+header_in (Stopped rule place t) = 0
+
+abbrev pub told_in : Limits → State → Values → Told
+told_in lim st values = record {
+  fault = fault_in st.mode;
+  levels = length st.below;
+  place = st.place;
+  held = header_in st.mode + bytes_of values + 16 * length st.below;
+  kept = whole_by lim st.below st.mode values;
+}
