@@ -2,7 +2,7 @@
 use Rattle.std.proofs.Common.{◌≡◌, ℕ, List, [], ◌∷◌, ◌++◌, map, refl, sym, ap, ◌∙◌, append_assoc}
 use Rattle.std.proofs.lemmas.List.{append-nil, map-append}
 use Rattle.pdu.specs.Marks.{Mark, new_marks}
-use Rattle.pdu.proofs.FrameLemmas.{new_then, new_nothing}
+use Rattle.pdu.proofs.Public.{new_then, new_nothing}
 use Rattle.engine.specs.Inputs.{Received, Bytes, Close, Expiry, UserAbort}
 use Rattle.engine.specs.Timeline.{Entry, At, Shut, TimedOut, Aborted, entries}
 use Rattle.engine.specs.Laws.{put_together, CutsDoNotShow}

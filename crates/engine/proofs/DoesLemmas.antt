@@ -10,7 +10,7 @@ use Rattle.engine.specs.Run.{Rooms, at_entry, cut, gives, progress_of, sent_of, 
 use Rattle.engine.specs.Fair.{MayFail, IsFair, AreFair, message_at}
 use Rattle.engine.proofs.StoryLemmas.{failures_then, filing_then, filing_last, line_then, line_nothing, files_and, no_files, progress_then, sent_then, files_then, fair_then}
 use Rattle.engine.specs.machine.Pends.{Kept, Pends}
-use Rattle.engine.specs.machine.Does.{Does, DoesAll, Appends, push, still_failed, announces_store, Storeless}
+use Rattle.engine.specs.machine.Does.{Does, DoesAll, Appends, push, still_failed}
 
 pub absorb_twice : (f g : Bool) (p : Progress) → absorb (f || g) p ≡ absorb g (absorb f p)
 absorb_twice true true p = refl
@@ -32,17 +32,6 @@ message_absorbed f p (At (End kind body)) = refl
 message_absorbed f p Shut = refl
 message_absorbed f p TimedOut = refl
 message_absorbed f p Aborted = refl
-
-announced_absorbed : (f : Bool) (p : Progress) (e : Entry) → announces_store (absorb f p) e ≡ announces_store p e
-announced_absorbed f p (At (Head kind n)) = refl
-announced_absorbed f p (At (PdvHead n context control)) = refl
-announced_absorbed f p (At (Pdv context control fragment)) = refl
-announced_absorbed f p (At BadPdv) = refl
-announced_absorbed f p (At Leftover) = refl
-announced_absorbed f p (At (End kind body)) = refl
-announced_absorbed f p Shut = refl
-announced_absorbed f p TimedOut = refl
-announced_absorbed f p Aborted = refl
 
 -- ---- a failure before the next entry counts at it
 
@@ -102,7 +91,7 @@ module _ (rooms : Rooms) (s : Settings) where
 
   -- ---- none, one and more
 
-  pub does_none : (p : Progress) (k : Kept) (body begun : List ℕ) (d : Devices) → Pends k p body begun → DoesAll rooms s p [] k body begun d d
+  pub does_none : (p : Progress) (k : Kept) (body begun : List ℕ) (d : Devices) → Pends k d.store p body begun → DoesAll rooms s p [] k body begun d d
   does_none p k body begun d h = record {
     story = [];
     failed = false;
@@ -173,17 +162,3 @@ module _ (rooms : Rooms) (s : Settings) where
   pub does_after : (p : Progress) (ys : List Entry) (k n : Kept) (b f body begun : List ℕ) (d e g : Devices) → (a : Appends rooms s p k b f d e)
       → DoesAll rooms s (absorb a.failed p) ys n body begun e g → DoesAll rooms s p ys n body begun d g
   does_after p ys k n b f body begun d e g a j = does_then p [] ys k n b f body begun d e g (does_appended p k b f d e a) j
-
-  -- ---- no store
-
-  pub storeless_absorbed : (f : Bool) (p : Progress) (es : List Entry) → Storeless rooms s p es → Storeless rooms s (absorb f p) es
-  storeless_absorbed f p [] h = h
-  storeless_absorbed f p (e ∷ es) h = (rw (announced_absorbed f p e) h.0, λ o. rw (← push_gives f p e o) (h.1 (record o { filing = f || o.filing })))
-
-  pub storeless_front : (p : Progress) (xs ys : List Entry) → Storeless rooms s p (xs ++ ys) → Storeless rooms s p xs
-  storeless_front p [] ys h = tt
-  storeless_front p (x ∷ xs) ys h = (h.0, λ o. storeless_front (gives rooms s p (x, o)).next xs ys (h.1 o))
-
-  pub storeless_later : (p : Progress) (st : List Happened) (ys : List Entry) → Storeless rooms s p (entries_of st ++ ys) → Storeless rooms s (progress_of rooms s p st) ys
-  storeless_later p [] ys h = h
-  storeless_later p ((x, o) ∷ st) ys h = storeless_later (gives rooms s p (x, o)).next st ys (h.1 o)

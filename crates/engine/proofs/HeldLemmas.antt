@@ -2,21 +2,27 @@
 use Rattle.std.proofs.Common.{◌≡◌, ℕ, ◌+◌, ◌<◌, ◌≤◌, Bool, true, false, List, [], length, if◌then◌else◌, refl, sym, ap, ◌∙◌, arith, inl, inr}
 use Rattle.std.proofs.lemmas.Bool.{cases_Bool, lt-ltb, le-ltb}
 use Rattle.pdu.specs.Spot.{spot}
-use Rattle.pdu.proofs.BegunLemmas.{spot_opening}
+use Rattle.pdu.proofs.Public.{spot_opening}
 use Rattle.negotiate.specs.Settings.{Settings}
-use Rattle.dimse.specs.Messages.{Begun, NoMessage, InCommand, InSet}
-use Rattle.engine.specs.declared.framing.Framing.{Framing}
+use Rattle.dimse.specs.Messages.{Begun}
+use Rattle.part10.specs.Store.{Store}
+use Rattle.element.specs.declared.syntax.Syntax.{Syntax}
+use Rattle.sequence.specs.Rules.{Limits}
+use Rattle.sequence.specs.Walk.{Told, Tells, going, refused}
+use Rattle.sequence.specs.Taken.{syntax_of, limits_of, told_by}
+use Rattle.engine.specs.Stores.{limits}
 use Rattle.engine.specs.declared.framing.Framing.TheVariants as framing
 use Rattle.engine.specs.Run.{Rooms}
 use Rattle.engine.specs.Reached.{Reached, takes_pdvs, begun_in, begun_pdv, message_so_far}
-use Rattle.engine.specs.Held.{is_ended, unfinished, of_request, of_command, held_before_data, IsHeldOfMessage, no_set, in_command, Held}
+use Rattle.engine.specs.Held as holding
+use Rattle.engine.specs.Held.{is_ended, unfinished, of_request, of_command, held_before_data, IsHeldOfSet, unbroken, faulty, IsHeldOfMessage, Held}
 use Rattle.engine.specs.Stands.{Shows}
-use Rattle.engine.specs.machine.Pends.{Kept, is_in_set, takes_pdvs_in, held_by}
+use Rattle.engine.specs.machine.Pends.{Kept, takes_pdvs_in, held_by}
+use Rattle.engine.specs.machine.Storing.{Stored, Walks, not_walked, walked, held_in}
 use Rattle.engine.specs.machine.Shows.{Fields, InHead, InBody, InPdvHead, InFragment}
 use Rattle.engine.specs.machine.HeldHeads.{heads_of}
 use Rattle.engine.proofs.KeptLemmas.{held_shown, held_ended}
-use Rattle.engine.proofs.TriesLemmas.{takes_shown}
-use Rattle.engine.proofs.MovedLemmas.{no_set_so_far}
+use Rattle.engine.proofs.ShownLemmas.{takes_shown, ended_stored}
 
 few : (xs : List ℕ) → length xs < 6 → unfinished xs ≡ length xs
 few xs lt = rw (lt-ltb (length xs) 6 lt) refl
@@ -48,8 +54,8 @@ heads_open r b n m e is first second =
     let begun : unfinished (begun_pdv r) ≡ m = ap (λ (x : List ℕ). unfinished (if takes_pdvs r.progress then x else [])) is ∙ second in
     rw e (omega (arith, first, begun))
 
-module _ (hd pv : List ℕ) (k : Kept) (r : Reached) where
-  pub heads_head : Shows (record { framing = framing.Head; head = hd; pdv = pv; kept = k }) r → length hd ≡ heads_of r
+module _ (hd pv : List ℕ) (k : Kept) (store : Store) (r : Reached) where
+  pub heads_head : Shows (record { framing = framing.Head; head = hd; pdv = pv; kept = k }) store r → length hd ≡ heads_of r
   heads_head h = elim (cases_Bool (is_ended r.progress.state)) [
     | inl e ↦ ap length (h.headless e).1 ∙ sym (heads_ended r e)
     | inr e ↦
@@ -58,7 +64,7 @@ module _ (hd pv : List ℕ) (k : Kept) (r : Reached) where
         omega (arith, ap length f.head_is, heads_open r [] (length r.rest) 0 e open_is (few r.rest f.short) (begun_none (takes_pdvs r.progress)))
   ]
 
-  pub heads_body : (l : ℕ) → Shows (record { framing = framing.Body l; head = hd; pdv = pv; kept = k }) r → 0 ≡ heads_of r
+  pub heads_body : (l : ℕ) → Shows (record { framing = framing.Body l; head = hd; pdv = pv; kept = k }) store r → 0 ≡ heads_of r
   heads_body l h = elim (cases_Bool (is_ended r.progress.state)) [
     | inl e ↦ sym (heads_ended r e)
     | inr e ↦
@@ -66,17 +72,17 @@ module _ (hd pv : List ℕ) (k : Kept) (r : Reached) where
         omega (arith, heads_open r [] 0 0 e (ap begun_in f.spot_is) (many r.rest f.headed) (begun_none (takes_pdvs r.progress)))
   ]
 
-  pub heads_pdv : (l : ℕ) → length pv < 6 → Shows (record { framing = framing.PdvHead l; head = hd; pdv = pv; kept = k }) r → pdv_part (takes_pdvs_in k) pv ≡ heads_of r
+  pub heads_pdv : (l : ℕ) → length pv < 6 → Shows (record { framing = framing.PdvHead l; head = hd; pdv = pv; kept = k }) store r → pdv_part (takes_pdvs_in k) pv ≡ heads_of r
   heads_pdv l lt h = elim (cases_Bool (is_ended r.progress.state)) [
     | inl e ↦ let wrong : framing.PdvHead l ≡ framing.Head = (h.headless e).0 in absurd cc
     | inr e ↦
         let f : InPdvHead l hd pv r.rest (spot r.rest) = h.frame.framed e in
-        let takes : takes_pdvs_in k ≡ takes_pdvs r.progress = takes_shown k r.progress _ _ h.frame.pends in
+        let takes : takes_pdvs_in k ≡ takes_pdvs r.progress = takes_shown k store r.progress _ _ h.frame.pends in
         ap (λ (t : Bool). pdv_part t pv) takes
         ∙ omega (arith, heads_open r pv 0 (pdv_part (takes_pdvs r.progress) pv) e (ap begun_in f.spot_is) (many r.rest f.headed) (begun_short (takes_pdvs r.progress) pv lt))
   ]
 
-  pub heads_fragment : (l m : ℕ) → Shows (record { framing = framing.Fragment l m; head = hd; pdv = pv; kept = k }) r → 0 ≡ heads_of r
+  pub heads_fragment : (l m : ℕ) → Shows (record { framing = framing.Fragment l m; head = hd; pdv = pv; kept = k }) store r → 0 ≡ heads_of r
   heads_fragment l m h = elim (cases_Bool (is_ended r.progress.state)) [
     | inl e ↦ sym (heads_ended r e)
     | inr e ↦
@@ -84,22 +90,33 @@ module _ (hd pv : List ℕ) (k : Kept) (r : Reached) where
         omega (arith, heads_open r f.begun 0 0 e (ap begun_in f.spot_is) (many r.rest f.headed) (begun_long (takes_pdvs r.progress) f.begun f.long))
   ]
 
-no_data : (rooms : Rooms) (s : Settings) (request : List ℕ) (m : Begun) → is_in_set m ≡ false → IsHeldOfMessage rooms s request m 0
-no_data rooms s request NoMessage e = no_set
-no_data rooms s request (InCommand context command) e = in_command
-no_data rooms s request (InSet context command set) e = absurd cc
+-- ---- the data set
 
-pub held_as : (rooms : Rooms) (s : Settings) (f : Fields) (r : Reached) (heads : ℕ) → Shows f r → heads ≡ heads_of r → Held rooms s r (heads + held_by f.kept)
-held_as rooms s f r heads h is = record {
-  of_set = 0;
-  walked = no_data rooms s r.progress.request (message_so_far r) (no_set_so_far (begun_pdv r) r.progress.message h.frame.pends.no_set);
+held_told : {syntax : Syntax} {lim : Limits} {set : List ℕ} {told : Told} → Tells syntax lim set told → IsHeldOfSet syntax lim set told.held
+held_told (going whole front) = unbroken whole front
+held_told (refused fault front) = faulty fault front
+
+held_walked : {depth most : ℕ} {request : List ℕ} {m : Begun} {stored : Stored} → (rooms : Rooms) (s : Settings) → rooms.depth ≡ depth → s.max_data ≡ most
+    → Walks depth most request m stored → IsHeldOfMessage rooms s request m (held_in stored)
+held_walked rooms s d l (not_walked none) = holding.not_walked none
+held_walked rooms s d l (walked {walker = w} store takes) =
+    let told : IsHeldOfSet (syntax_of w) (limits_of w) store.set (told_by w).held = held_told takes.stands.tells in
+    let same : limits_of w ≡ limits rooms.depth s.max_data = takes.limits_are ∙ rw (d, l) refl in
+    holding.walked store (rw (takes.syntax_is, same) at told)
+
+pub held_as : (rooms : Rooms) (s : Settings) (f : Fields) (store : Store) (r : Reached) (heads : ℕ) → rooms.depth ≡ f.kept.depth → s.max_data ≡ f.kept.most → Shows f store r → heads ≡ heads_of r
+    → Held rooms s r (heads + held_by f.kept)
+held_as rooms s f store r heads d l h is = record {
+  of_set = held_in f.kept.storing;
+  walked = held_walked rooms s d l h.frame.pends.walks;
   sum = elim (cases_Bool (is_ended r.progress.state)) [
     | inl e ↦
         let all : held_before_data r ≡ 0 = rw e refl in
-        omega (arith, is, heads_ended r e, held_ended f.kept r.progress r.rest h.frame.pends e, all)
+        let none : held_in f.kept.storing ≡ 0 = ap held_in (ended_stored f.kept store r.progress _ _ e h.frame.pends) in
+        omega (arith, is, heads_ended r e, held_ended f.kept store r.progress r.rest h.frame.pends e, all, none)
     | inr e ↦
         let all : held_before_data r ≡ unfinished r.rest + unfinished (begun_pdv r) + of_request r.progress r.rest + of_command (message_so_far r) = rw e refl in
         let heads_are : heads_of r ≡ unfinished r.rest + unfinished (begun_pdv r) = rw e refl in
-        omega (arith, is, heads_are, held_shown f.kept r.progress r.rest h.frame.pends e, all)
+        omega (arith, is, heads_are, held_shown f.kept store r.progress r.rest h.frame.pends e, all)
   ];
 }

@@ -13,14 +13,17 @@ use Rattle.engine.specs.Progress.{Progress, is_due, is_established}
 use Rattle.engine.specs.Reached.{begun_in, message_so_far}
 use Rattle.engine.specs.Held.{is_ended, of_request, of_accepted, of_command}
 use Rattle.engine.specs.machine.Pends.{Kept, Pends, counted_pdv, body_in, held_by}
+use Rattle.engine.specs.machine.Storing.{Stored, held_in}
+use Rattle.part10.specs.Store.{Store}
+use Rattle.engine.proofs.ShownLemmas.{ended_unestablished, ended_stored}
 
 command_size : (m : Begun) → length (command_bytes m) ≡ of_command m
 command_size NoMessage = refl
 command_size (InCommand context command) = refl
 command_size (InSet context command set) = refl
 
-command_kept : (k : Kept) (p : Progress) (body begun : List ℕ) → Pends k p body begun → length k.join.command ≡ of_command (joining.with_pdv (counted_pdv p begun) p.message)
-command_kept k p body begun h = ap (λ (j : Joining). length j.command) h.join_is.shows ∙ command_size (joining.with_pdv (counted_pdv p begun) p.message)
+command_kept : (k : Kept) (store : Store) (p : Progress) (body begun : List ℕ) → Pends k store p body begun → length k.join.command ≡ of_command (joining.with_pdv (counted_pdv p begun) p.message)
+command_kept k store p body begun h = ap (λ (j : Joining). length j.command) h.join_is.shows ∙ command_size (joining.with_pdv (counted_pdv p begun) p.message)
 
 -- of a request: by the state
 kept_of_request : (st : State) (r one : Bool) (table body : ℕ) (xs rest : List ℕ) → is_ended st ≡ false → length xs ≡ length rest - 6
@@ -54,7 +57,7 @@ nothing_kept Sta6 r table xs e = absurd cc
 nothing_kept Sta8 r table xs e = absurd cc
 nothing_kept Sta13 r table xs e = absurd cc
 
-module _ (k : Kept) (p : Progress) (rest : List ℕ) (h : Pends k p (body_in (frame_kind rest) (drop 6 rest)) (begun_in (spot rest))) where
+module _ (k : Kept) (store : Store) (p : Progress) (rest : List ℕ) (h : Pends k store p (body_in (frame_kind rest) (drop 6 rest)) (begun_in (spot rest))) where
   accepted_size : (st : State) → p.state ≡ st → (if is_established st then 20 + 4 * length k.table else 0) ≡ (if is_established st then of_accepted (record_of p.request) else 0)
   accepted_size Sta1 e = refl
   accepted_size Sta2 e = refl
@@ -63,21 +66,22 @@ module _ (k : Kept) (p : Progress) (rest : List ℕ) (h : Pends k p (body_in (fr
   accepted_size Sta8 e = refl
   accepted_size Sta13 e = refl
 
-  pub held_shown : is_ended p.state ≡ false → held_by k ≡ of_request p rest + of_command (message_so_far (record { progress = p; rest = rest }))
+  pub held_shown : is_ended p.state ≡ false → held_by k ≡ of_request p rest + of_command (message_so_far (record { progress = p; rest = rest })) + held_in k.storing
   held_shown n =
       let sizes = kept_of_request p.state p.refused (nat_eq (frame_kind rest) 1) (length k.table) 0 (drop 6 rest) rest n (length-drop 6 rest) in
       let accepted = ap (λ (x : ℕ). if is_due p.state then (if not p.refused && nat_eq (frame_kind rest) 1 then length rest - 6 else 0) else x) (accepted_size p.state refl) in
-      let of_state = ap (λ (st : State). (if is_established st then 20 + 4 * length k.table else 0) + length k.body + length k.join.command) h.state_is in
-      let of_body = ap (λ (b : List ℕ). (if is_established p.state then 20 + 4 * length k.table else 0) + length b + length k.join.command) h.body_is in
-      of_state ∙ of_body ∙ ap (λ (x : ℕ). x + length k.join.command) (sizes ∙ accepted)
-      ∙ ap (λ (x : ℕ). of_request p rest + x) (command_kept k p (body_in (frame_kind rest) (drop 6 rest)) (begun_in (spot rest)) h)
+      let of_state = ap (λ (st : State). (if is_established st then 20 + 4 * length k.table else 0) + length k.body + length k.join.command + held_in k.storing) h.state_is in
+      let of_body = ap (λ (b : List ℕ). (if is_established p.state then 20 + 4 * length k.table else 0) + length b + length k.join.command + held_in k.storing) h.body_is in
+      of_state ∙ of_body ∙ ap (λ (x : ℕ). x + length k.join.command + held_in k.storing) (sizes ∙ accepted)
+      ∙ ap (λ (x : ℕ). of_request p rest + x + held_in k.storing) (command_kept k store p (body_in (frame_kind rest) (drop 6 rest)) (begun_in (spot rest)) h)
 
   pub held_ended : is_ended p.state ≡ true → held_by k ≡ 0
   held_ended e =
-      let none = h.none_left e in
+      let none = h.none_left (ended_unestablished p.state e) in
       let quiet = ended_counted p.state p.refused (begun_in (spot rest)) e in
-      let command = command_kept k p (body_in (frame_kind rest) (drop 6 rest)) (begun_in (spot rest)) h
+      let command = command_kept k store p (body_in (frame_kind rest) (drop 6 rest)) (begun_in (spot rest)) h
       ∙ ap (λ (xs : List ℕ). of_command (joining.with_pdv xs p.message)) quiet ∙ ap of_command none in
-      let of_state = ap (λ (st : State). (if is_established st then 20 + 4 * length k.table else 0) + length k.body + length k.join.command) h.state_is in
-      let of_body = ap (λ (b : List ℕ). (if is_established p.state then 20 + 4 * length k.table else 0) + length b + length k.join.command) h.body_is in
-      of_state ∙ of_body ∙ ap (λ (x : ℕ). x + length k.join.command) (nothing_kept p.state p.refused (length k.table) (body_in (frame_kind rest) (drop 6 rest)) e) ∙ ap (λ (x : ℕ). 0 + x) command
+      let of_state = ap (λ (st : State). (if is_established st then 20 + 4 * length k.table else 0) + length k.body + length k.join.command + held_in k.storing) h.state_is in
+      let of_body = ap (λ (b : List ℕ). (if is_established p.state then 20 + 4 * length k.table else 0) + length b + length k.join.command + held_in k.storing) h.body_is in
+      of_state ∙ of_body ∙ ap (λ (x : ℕ). x + length k.join.command + held_in k.storing) (nothing_kept p.state p.refused (length k.table) (body_in (frame_kind rest) (drop 6 rest)) e)
+      ∙ ap (λ (x : ℕ). 0 + x + held_in k.storing) command ∙ ap (λ (x : Stored). 0 + 0 + held_in x) (ended_stored k store p _ _ e h)

@@ -7,7 +7,6 @@ use Rattle.part10.specs.Store.{Shelf, Store, told_after, without_draft, stepped}
 use Rattle.negotiate.specs.Settings.{Settings}
 use Rattle.engine.specs.declared.source.Input.{Input}
 use Rattle.engine.specs.declared.report.Report.{Report}
-use Rattle.engine.specs.Covered.{IsCovered}
 use Rattle.engine.specs.Devices.{Devices, with_files, filed}
 use Rattle.engine.specs.Held.{Held}
 use Rattle.engine.specs.Inputs.{Received, first_of, others_of, first_inputs, input_of, stream_of, Gives}
@@ -20,7 +19,6 @@ use Rattle.engine.specs.Stands.{Stands}
 use Rattle.engine.specs.machine.Shows.{Fields}
 use Rattle.engine.specs.Timeline.{Happened, Entry, entries, entries_of}
 use Rattle.engine.specs.machine.Running.{Follows, Stood, Running}
-use Rattle.engine.proofs.MovedLemmas.{covered_before}
 use Rattle.engine.proofs.StoryLemmas.{gains_nothing, gains_then}
 use Rattle.engine.proofs.TimelineLemmas.{entries_append}
 
@@ -103,12 +101,12 @@ module _ (rooms : Rooms) (s : Settings) where
     taken = [];
     number = refl;
     follows = follows_start source;
-    stood = λ are. record { story = []; failed = false; stands = h; last = ends_last_start; gains = gains_nothing rooms s start d };
+    stood = record { story = []; failed = false; stands = h; last = ends_last_start; gains = gains_nothing rooms s start d };
   }
 
   -- what an association that is set so does with an input
   abbrev OnInput : Fields → Fields → Devices → Devices → Received → Settings → Type 0
-  OnInput seen seen_new now new x set = (inputs : List Received) (story : List Happened) (failed : Bool) → Stands rooms set inputs story failed seen now.store → IsCovered rooms set (inputs ++ x ∷ [])
+  OnInput seen seen_new now new x set = (inputs : List Received) (story : List Happened) (failed : Bool) → Stands rooms set inputs story failed seen now.store
       → Moved rooms set inputs story failed x seen seen_new now new
 
   pub running_more : (seen seen_new : Fields) (source now next : Option (List Received)) (turns : ℕ) (old mid new : Devices) (bytes : List ℕ) (kind : Input) (set : Settings) → set ≡ s → seen.kept.state ≢ Sta1 → (r : Running rooms s turns source now seen old mid)
@@ -117,9 +115,9 @@ module _ (rooms : Rooms) (s : Settings) where
     taken = r.taken ++ input_of kind bytes ∷ [];
     number = omega (arith, r.number, length-append r.taken (input_of kind bytes ∷ []));
     follows = follows_more source now next r.taken bytes kind r.follows g;
-    stood = λ are.
-        let before = r.stood (covered_before rooms s r.taken (input_of kind bytes) are) in
-        let m = subst (OnInput seen seen_new mid new (input_of kind bytes)) is k r.taken before.story before.failed before.stands are in
+    stood =
+        let before = r.stood in
+        let m = subst (OnInput seen seen_new mid new (input_of kind bytes)) is k r.taken before.story before.failed before.stands in
         record {
           story = before.story ++ m.more;
           failed = m.failed_then;
@@ -142,25 +140,20 @@ module _ (rooms : Rooms) (s : Settings) where
       let same : now.files ≡ old.files ++ files = cc in
       ap (λ (fs : List (List ℕ)). Some (record { files = fs; draft = [] })) same
 
-  pub answered_by : (taken : List Received) (report : Report) (seen : Fields) (old now new : Devices)
-      → (IsCovered rooms s taken → Stood rooms s taken seen old now)
-      → report.standing ≡ standing_of seen.kept.state
-      → ((story : List Happened) (failed : Bool) → Stands rooms s taken story failed seen now.store → IsCovered rooms s taken → Held rooms s (reached rooms s taken story failed) report.held)
-      → new.line ≡ now.line → new.store ≡ stepped without_draft false now.store
-      → IsCovered rooms s taken → Answered rooms s taken report old new
-  answered_by taken report seen old now new stood e held line store are =
-      let h = stood are in
-      record {
-        story = h.story;
-        failed = h.failed;
-        sent = sent_of rooms s start h.story;
-        files = files_of rooms s start h.story;
-        state = seen.kept.state;
-        run = record { story_is = h.stands.story_is; sent_is = refl; files_are = refl; state_is = h.stands.shows.frame.pends.state_is };
-        last = h.last;
-        standing = e;
-        held = held h.story h.failed h.stands are;
-        line = line ∙ h.gains.line;
-        told = ap (λ (x : Store). x.told) store ∙ told_filed old.store.told now.store.told (files_of rooms s start h.story) h.gains.files;
-        count = omega (arith, ap (λ (x : Store). x.failures) store, h.gains.count);
-      }
+  pub answered_by : (taken : List Received) (report : Report) (seen : Fields) (old now new : Devices) → Stood rooms s taken seen old now → report.standing ≡ standing_of seen.kept.state
+      → ((story : List Happened) (failed : Bool) → Stands rooms s taken story failed seen now.store → Held rooms s (reached rooms s taken story failed) report.held)
+      → new.line ≡ now.line → new.store ≡ stepped without_draft false now.store → Answered rooms s taken report old new
+  answered_by taken report seen old now new h e held line store = record {
+    story = h.story;
+    failed = h.failed;
+    sent = sent_of rooms s start h.story;
+    files = files_of rooms s start h.story;
+    state = seen.kept.state;
+    run = record { story_is = h.stands.story_is; sent_is = refl; files_are = refl; state_is = h.stands.shows.frame.pends.state_is };
+    last = h.last;
+    standing = e;
+    held = held h.story h.failed h.stands;
+    line = line ∙ h.gains.line;
+    told = ap (λ (x : Store). x.told) store ∙ told_filed old.store.told now.store.told (files_of rooms s start h.story) h.gains.files;
+    count = omega (arith, ap (λ (x : Store). x.failures) store, h.gains.count);
+  }

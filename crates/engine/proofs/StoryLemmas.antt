@@ -3,7 +3,7 @@ use Rattle.std.proofs.Common.{◌≡◌, ℕ, ◌+◌, Bool, false, List, [], �
 use Rattle.std.proofs.lemmas.List.{append-nil, map-append}
 use Rattle.std.specs.Io.KnownBytes.{append_known}
 use Rattle.pdu.specs.Sent.{Line}
-use Rattle.pdu.proofs.SentLemmas.{known_then, known_nothing}
+use Rattle.pdu.proofs.Public.{known_then, known_nothing}
 use Rattle.negotiate.specs.Settings.{Settings}
 use Rattle.engine.specs.Devices.{Devices, line_with, with_files, files_in}
 use Rattle.engine.specs.Fair.{AreFair}

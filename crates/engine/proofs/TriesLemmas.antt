@@ -4,23 +4,24 @@ use Rattle.std.proofs.lemmas.List.{append-nil}
 use Rattle.std.specs.Io.KnownBytes.{append_known}
 use Rattle.acceptor.specs.declared.state.State.{State}
 use Rattle.acceptor.specs.declared.state.State.TheVariants.{Sta1, Sta2, Sta3, Sta6, Sta8, Sta13}
-use Rattle.acceptor.specs.declared.event.Event.{Event}
 use Rattle.acceptor.specs.declared.event.Event.TheVariants as event
 use Rattle.pdu.specs.Marks.{BadPdv, Leftover}
 use Rattle.negotiate.specs.Settings.{Settings}
 use Rattle.pdu.specs.Sent.{Line}
 use Rattle.part10.specs.Store.{Store}
-use Rattle.dimse.specs.Joining.{Shows}
-use Rattle.engine.specs.Devices.{devices, line_after, line_with, IsFront, files_in, with_files}
+use Rattle.dimse.specs.Joining.{Shows, with_pdv}
+use Rattle.engine.specs.Devices.{Devices, line_after, line_with, IsFront, files_in, with_files}
 use Rattle.engine.specs.Timeline.{Entry, At, good}
 use Rattle.engine.specs.Progress.{Progress, Advance, nothing, left, refusing, is_due, is_established}
 use Rattle.engine.specs.Reached.{takes_pdvs}
 use Rattle.engine.specs.Replies.{invalid}
 use Rattle.engine.specs.Run.{Rooms, at_entry, cut, fails}
 use Rattle.engine.specs.Fair.{IsVerdict, message_at}
-use Rattle.engine.specs.Held.{is_ended}
-use Rattle.engine.specs.machine.Pends.{Kept, Pends, counted_body, counted_pdv, takes_pdvs_in}
+use Rattle.engine.specs.machine.Pends.{Kept, Pends, counted_body, counted_pdv}
+use Rattle.engine.specs.Drafts.{IsDraft}
+use Rattle.engine.specs.machine.Storing.{Walks, drafting_in}
 use Rattle.engine.specs.machine.Tries.{Tries, Stays}
+use Rattle.engine.proofs.StoreLemmas.{unfiled_same}
 use Rattle.engine.specs.machine.Does.{Does}
 
 -- ---- the devices
@@ -32,37 +33,38 @@ sent_nothing (Some xs) = ap (λ (x : List ℕ). Some x) (sym (append-nil xs))
 pub line_same : (l : Line) → l ≡ line_after None [] l
 line_same l = ap (λ (x : Option (List ℕ)). record { sent = x; failures = l.failures }) (sent_nothing l.sent)
 
-filed_nothing : (known : Option (List (List ℕ))) → known ≡ with_files [] known
+pub filed_nothing : (known : Option (List (List ℕ))) → known ≡ with_files [] known
 filed_nothing None = refl
 filed_nothing (Some xs) = ap (λ (x : List (List ℕ)). Some x) (sym (append-nil xs))
 
-line_gained : (wire : Option ℕ) (p : Progress) (g : Advance) (l : Line) → line_after wire g.sent l ≡ line_with (cut wire p g).sent (fails wire) l
+pub line_gained : (wire : Option ℕ) (p : Progress) (g : Advance) (l : Line) → line_after wire g.sent l ≡ line_with (cut wire p g).sent (fails wire) l
 line_gained None p g l = ap (λ (n : ℕ). record { sent = append_known l.sent g.sent; failures = n }) (omega arith)
 line_gained (Some k) p g l = refl
 
-files_cut : (wire : Option ℕ) (p : Progress) (g : Advance) → (cut wire p g).files ≡ g.files
+pub files_cut : (wire : Option ℕ) (p : Progress) (g : Advance) → (cut wire p g).files ≡ g.files
 files_cut None p g = refl
 files_cut (Some k) p g = refl
 
 -- ---- an entry
 
-pub does_by : (rooms : Rooms) (s : Settings) (p : Progress) (e : Entry) (g : Advance) (new : Kept) (body begun : List ℕ) (lo ln : Line) (st : Store)
-    → at_entry rooms s p good e ≡ g → g.files ≡ [] → IsVerdict rooms s p good (message_at p e) → Tries p g new body begun lo ln → Does rooms s p e new body begun (devices lo st) (devices ln st)
-does_by rooms s p e g new body begun lo ln st is none verdict t = record {
+pub does_by : (rooms : Rooms) (s : Settings) (p : Progress) (e : Entry) (g : Advance) (new : Kept) (body begun : List ℕ) (old later : Devices)
+    → at_entry rooms s p good e ≡ g → g.files ≡ [] → IsVerdict rooms s p good (message_at p e) → Tries p g new body begun old later → Does rooms s p e new body begun old later
+does_by rooms s p e g new body begun old later is none verdict t = record {
   outcome = record { wire = t.wire; filing = false; finding = good };
   fair = record { verdict = verdict; wire = subst (λ (x : Advance). IsFront t.wire x.sent) (sym is) t.fair; filing = λ yes. absurd cc };
-  pends = subst (λ (x : Advance). Pends new (cut t.wire p x).next body begun) (sym is) t.pends;
-  line = t.line ∙ line_gained t.wire p g lo ∙ ap (λ (x : Advance). line_with (cut t.wire p x).sent (fails t.wire) lo) (sym is);
-  files = filed_nothing (files_in st) ∙ ap (λ (fs : List (List ℕ)). with_files fs (files_in st)) (sym (files_cut t.wire p (at_entry rooms s p good e) ∙ ap (λ (x : Advance). x.files) is ∙ none));
-  count = omega arith;
+  pends = subst (λ (x : Advance). Pends new later.store (cut t.wire p x).next body begun) (sym is) t.pends;
+  line = t.line ∙ line_gained t.wire p g old.line ∙ ap (λ (x : Advance). line_with (cut t.wire p x).sent (fails t.wire) old.line) (sym is);
+  files = t.unfiled.files ∙ filed_nothing (files_in old.store)
+      ∙ ap (λ (fs : List (List ℕ)). with_files fs (files_in old.store)) (sym (files_cut t.wire p (at_entry rooms s p good e) ∙ ap (λ (x : Advance). x.files) is ∙ none));
+  count = omega (arith, t.unfiled.count);
 }
 
-pub tries_nothing : (p : Progress) (k : Kept) (body begun : List ℕ) (l : Line) → Pends k p body begun → Tries p (nothing p) k body begun l l
-tries_nothing p k body begun l h = record { wire = None; fair = tt; pends = h; line = line_same l }
+pub tries_nothing : (p : Progress) (k : Kept) (body begun : List ℕ) (d : Devices) → Pends k d.store p body begun → Tries p (nothing p) k body begun d d
+tries_nothing p k body begun d h = record { wire = None; fair = tt; pends = h; line = line_same d.line; unfiled = unfiled_same d.store }
 
-pub does_nothing : (rooms : Rooms) (s : Settings) (p : Progress) (e : Entry) (k : Kept) (body begun : List ℕ) (l : Line) (st : Store)
-    → at_entry rooms s p good e ≡ nothing p → IsVerdict rooms s p good (message_at p e) → Pends k p body begun → Does rooms s p e k body begun (devices l st) (devices l st)
-does_nothing rooms s p e k body begun l st is verdict h = does_by rooms s p e (nothing p) k body begun l l st is refl verdict (tries_nothing p k body begun l h)
+pub does_nothing : (rooms : Rooms) (s : Settings) (p : Progress) (e : Entry) (k : Kept) (body begun : List ℕ) (d : Devices)
+    → at_entry rooms s p good e ≡ nothing p → IsVerdict rooms s p good (message_at p e) → Pends k d.store p body begun → Does rooms s p e k body begun d d
+does_nothing rooms s p e k body begun d is verdict h = does_by rooms s p e (nothing p) k body begun d d is refl verdict (tries_nothing p k body begun d h)
 
 -- ---- the PDU is refused
 
@@ -70,36 +72,43 @@ pub not_counted : (b : Bool) (xs : List ℕ) → ◌≡◌ {A = List ℕ} [] (if
 not_counted true xs = refl
 not_counted false xs = refl
 
-pends_refused : (q : Progress) (mid : Kept) (body begun body2 begun2 : List ℕ) → counted_body q body ≡ [] → counted_pdv q begun ≡ [] → Pends mid q body begun
-    → Pends (record mid { refused = true }) (record q { refused = true }) body2 begun2
-pends_refused q mid body begun body2 begun2 b d h = record {
-  state_is = h.state_is;
-  refused_is = λ n. refl;
-  body_is = h.body_is ∙ b ∙ not_counted (is_due q.state) body2;
-  join_is = subst (λ (xs : List ℕ). Shows mid.room mid.join q.message xs) (d ∙ not_counted (is_established q.state) begun2) h.join_is;
-  agreed = λ six. let a = h.agreed six in record { caller = a.caller; maximum = a.maximum; contexts = a.contexts; count = a.count };
-  none_left = h.none_left;
-  no_set = h.no_set;
-}
+pends_refused : (q : Progress) (mid : Kept) (store : Store) (body begun body2 begun2 : List ℕ) → counted_body q body ≡ [] → counted_pdv q begun ≡ [] → Pends mid store q body begun
+    → Pends (record mid { refused = true }) store (record q { refused = true }) body2 begun2
+pends_refused q mid store body begun body2 begun2 b d h =
+    let same : counted_pdv q begun ≡ counted_pdv (record q { refused = true }) begun2 = d ∙ not_counted (is_established q.state) begun2 in
+    record {
+      state_is = h.state_is;
+      refused_is = λ n. refl;
+      body_is = h.body_is ∙ b ∙ not_counted (is_due q.state) body2;
+      join_is = subst (λ (xs : List ℕ). Shows mid.room mid.join q.message xs) same h.join_is;
+      agreed = λ six. let a = h.agreed six in record { caller = a.caller; maximum = a.maximum; contexts = a.contexts; count = a.count };
+      none_left = h.none_left;
+      walks = subst (λ (xs : List ℕ). Walks mid.depth mid.most q.request (with_pdv xs q.message) mid.storing) same h.walks;
+      draft = subst (λ (xs : List ℕ). IsDraft q.request (with_pdv xs q.message) q.filing_failed store (drafting_in mid.storing)) same h.draft;
+      failed_in = h.failed_in;
+    }
 
-ended_refused : (p : Progress) (mid : Kept) (body begun body2 begun2 : List ℕ) → Pends mid (left Sta1 p) body begun → Pends (record mid { refused = true }) (left Sta1 p) body2 begun2
-ended_refused p mid body begun body2 begun2 h = record { state_is = h.state_is; refused_is = λ n. absurd cc; body_is = h.body_is; join_is = h.join_is; agreed = λ six. absurd cc; none_left = λ e. refl; no_set = refl }
+ended_refused : (p : Progress) (mid : Kept) (store : Store) (body begun body2 begun2 : List ℕ) → Pends mid store (left Sta1 p) body begun → Pends (record mid { refused = true }) store (left Sta1 p) body2 begun2
+ended_refused p mid store body begun body2 begun2 h =
+    record { state_is = h.state_is; refused_is = λ n. absurd cc; body_is = h.body_is; join_is = h.join_is; agreed = λ six. absurd cc; none_left = λ e. refl; walks = h.walks; draft = h.draft; failed_in = λ n. absurd cc }
 
-pub refused_by : (p : Progress) (g : Advance) (mid : Kept) (body begun body2 begun2 : List ℕ) (lo ln : Line) → counted_body g.next body ≡ [] → counted_pdv g.next begun ≡ []
-    → Tries p g mid body begun lo ln → Tries p (refusing g) (record mid { refused = true }) body2 begun2 lo ln
-refused_by p g mid body begun body2 begun2 lo ln b d t = by t.wire refl where
-  by : (w : Option ℕ) → w ≡ t.wire → Tries p (refusing g) (record mid { refused = true }) body2 begun2 lo ln
+pub refused_by : (p : Progress) (g : Advance) (mid : Kept) (body begun body2 begun2 : List ℕ) (old new : Devices) → counted_body g.next body ≡ [] → counted_pdv g.next begun ≡ []
+    → Tries p g mid body begun old new → Tries p (refusing g) (record mid { refused = true }) body2 begun2 old new
+refused_by p g mid body begun body2 begun2 old new b d t = by t.wire refl where
+  by : (w : Option ℕ) → w ≡ t.wire → Tries p (refusing g) (record mid { refused = true }) body2 begun2 old new
   by None e = record {
     wire = None;
     fair = tt;
-    pends = pends_refused g.next mid body begun body2 begun2 b d (subst (λ (x : Option ℕ). Pends mid (cut x p g).next body begun) (sym e) t.pends);
-    line = t.line ∙ ap (λ (x : Option ℕ). line_after x g.sent lo) (sym e);
+    pends = pends_refused g.next mid new.store body begun body2 begun2 b d (subst (λ (x : Option ℕ). Pends mid new.store (cut x p g).next body begun) (sym e) t.pends);
+    line = t.line ∙ ap (λ (x : Option ℕ). line_after x g.sent old.line) (sym e);
+    unfiled = t.unfiled;
   }
   by (Some k) e = record {
     wire = Some k;
     fair = subst (λ (x : Option ℕ). IsFront x g.sent) (sym e) t.fair;
-    pends = ended_refused p mid body begun body2 begun2 (subst (λ (x : Option ℕ). Pends mid (cut x p g).next body begun) (sym e) t.pends);
-    line = t.line ∙ ap (λ (x : Option ℕ). line_after x g.sent lo) (sym e);
+    pends = ended_refused p mid new.store body begun body2 begun2 (subst (λ (x : Option ℕ). Pends mid new.store (cut x p g).next body begun) (sym e) t.pends);
+    line = t.line ∙ ap (λ (x : Option ℕ). line_after x g.sent old.line) (sym e);
+    unfiled = t.unfiled;
   }
 
 pub if_nothing : (t : Bool) → ◌≡◌ {A = List ℕ} (if t then [] else []) []
@@ -113,17 +122,6 @@ pub none_counted_pdv : (q : Progress) → counted_pdv q [] ≡ []
 none_counted_pdv q = if_nothing (takes_pdvs q)
 
 -- ---- whether PDVs count
-
-takes_by : (st : State) (a b : Bool) → (is_ended st ≡ false → a ≡ b) → (is_established st && not a) ≡ (is_established st && not b)
-takes_by Sta1 a b h = refl
-takes_by Sta2 a b h = refl
-takes_by Sta3 a b h = refl
-takes_by Sta6 a b h = ap not (h refl)
-takes_by Sta8 a b h = refl
-takes_by Sta13 a b h = refl
-
-pub takes_shown : (k : Kept) (p : Progress) (body begun : List ℕ) → Pends k p body begun → takes_pdvs_in k ≡ takes_pdvs p
-takes_shown k p body begun h = ap (λ (x : State). is_established x && not k.refused) h.state_is ∙ takes_by p.state k.refused p.refused h.refused_is
 
 pub taken_when : (e r : Bool) (a b : Advance) → (if r then b else (if e then a else b)) ≡ (if e && not r then a else b)
 taken_when true true a b = refl

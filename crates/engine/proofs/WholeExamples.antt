@@ -1,5 +1,5 @@
 -- The associations of which the whole is shown.
-use Rattle.std.proofs.Common.{◌≡◌, ℕ, ◌+◌, ◌^◌, Bool, List, [], ◌∷◌, ◌++◌, length, drop, eqb, false, Option, Some, None, Result, Ok, refl, ap, arith, lit<, codes}
+use Rattle.std.proofs.Common.{◌≡◌, ℕ, ◌+◌, ◌^◌, Bool, List, [], ◌∷◌, ◌++◌, length, drop, eqb, false, Option, Some, None, Result, Ok, refl, ap, subst, arith, lit<, codes}
 use Rattle.element.specs.declared.syntax.Syntax.TheVariants.{Explicit}
 use Rattle.element.specs.Vr.{is_short}
 use Rattle.element.specs.Header.{need, is_whole}
@@ -16,7 +16,7 @@ use Rattle.sequence.specs.FirstFault.{IsUnbroken}
 use Rattle.sequence.specs.Walk.{Told, Tells, going, refused}
 use Rattle.sequence.specs.machine.Machine.{due, arrive, run}
 use Rattle.sequence.specs.machine.Keeping.{keeps}
-use Rattle.sequence.proofs.Tales.{tells}
+use Rattle.sequence.proofs.Public.{nothing_unbroken}
 use Rattle.dictionary.specs.Syntaxes.{syntax_named}
 use Rattle.dimse.specs.declared.fault.DimseFault.{DimseFault}
 use Rattle.dimse.specs.Command.{CommandRecord, command_element_bytes, stored, command_of}
@@ -31,14 +31,15 @@ use Rattle.pdu.specs.Pieces.{pieces_of}
 use Rattle.pdu.specs.Refusal.{item_fault, items_fault}
 use Rattle.pdu.specs.Spot.{spot}
 use Rattle.engine.specs.Timeline.{Entry, Finding, good, entries, entries_of}
-use Rattle.engine.specs.Fair.{IsFair, IsVerdict, message_at}
-use Rattle.negotiate.proofs.TableLemmas.{context_in-context_rows}
+use Rattle.engine.specs.Fair.{IsFair, IsVerdict, InStore, message_at}
+use Rattle.negotiate.proofs.Public.{context_in-context_rows}
 use Rattle.pdu.specs.Items.{record_of}
 use Rattle.std.specs.List.{IsDistinct}
 use Rattle.engine.specs.Progress.{Progress, absorb}
 use Rattle.engine.specs.Run.{Rooms}
-use Rattle.engine.specs.Held.{IsHeldOfMessage, no_set, in_command, walked, not_walked}
-use Rattle.engine.specs.Stands.{none_due}
+use Rattle.engine.specs.Held.{IsHeldOfMessage, walked, not_walked}
+use Rattle.engine.specs.Drafts.{none_due}
+use Rattle.engine.specs.machine.Storing as storing
 use Rattle.engine.specs.Stores.{limits, Verdict, other_class, no_room, faulty, cut, names_class, names_instance, unfiled, filed, IsOfContext}
 use Rattle.engine.specs.Recording.{request, accept, reply, released}
 use Rattle.engine.specs.Examples.{rooms, settings, calm}
@@ -76,21 +77,22 @@ the_echo_runs = (
   λ files state run. let e : length (accept ++ reply) ≡ length (accept ++ reply ++ released) = ap length run.sent_is in absurd (omega (arith, e)),
 )
 
+not_in_set : (id : ℕ) (command set : List ℕ) → NoMessage ≡ InSet id command set → ⊥
+not_in_set id command set e = cc
+
+no_store_in : (request : List ℕ) → InStore request NoMessage → ⊥
+no_store_in request store = not_in_set store.id store.command store.set store.begun
+
 none_held : {r : Rooms} {s : Settings} {request : List ℕ} {b : Begun} {k : ℕ} → IsHeldOfMessage r s request b k → b ≡ NoMessage → k ≡ 0
-none_held no_set e = refl
-none_held in_command e = refl
-none_held (walked spelled accepted of set) e = absurd cc
-none_held (not_walked spelled accepted of) e = refl
+none_held {request = request} (walked store set) e = absurd (no_store_in request (subst (λ (m : Begun). InStore request m) e store))
+none_held (not_walked none) e = refl
 
 pub the_request_is_held : TheRequestIsHeld
 unfolding frames_of rest_of pieces_of marks new_marks pdv_marks spot items_of left_over item_fault items_fault class_named syntax_named is_short
 the_request_is_held = (
-  record { of_set = 0; walked = no_set; sum = refl },
+  record { of_set = 0; walked = not_walked (no_store_in _); sum = refl },
   λ n held. let sum : n ≡ 24 + held.of_set = held.sum in let none : held.of_set ≡ 0 = none_held held.walked refl in omega (arith, sum, none),
 )
-
-not_in_set : (id : ℕ) (command set : List ℕ) → NoMessage ≡ InSet id command set → ⊥
-not_in_set id command set e = cc
 
 one_distinct : (id : ℕ) → IsDistinct eqb (id ∷ [])
 unfolding IsDistinct
@@ -111,12 +113,14 @@ it_stands_established = (
           join_is = record { shows = refl; accepted = λ le. absurd (omega (arith, le)) };
           agreed = λ e. record { caller = refl; maximum = refl; contexts = context_in-context_rows (record_of (drop 6 request)) (one_distinct 1); count = refl };
           none_left = λ e. absurd cc;
-          no_set = refl;
+          failed_in = λ still failed. absurd cc;
+          walks = storing.not_walked (no_store_in _);
+          draft = none_due (λ file due. no_store_in _ due.store);
         };
       };
       headless = λ e. absurd cc;
     };
-    draft = none_due (λ file d. not_in_set d.store.id d.store.command d.store.set d.store.begun);
+    draft = none_due (λ file due. no_store_in _ due.store);
   },
   λ store stands. let none : 0 ≡ 1 = (stands.shows.frame.pends.agreed refl).count in absurd (omega (arith, none)),
 )
@@ -137,13 +141,8 @@ mr_is_no_ct : IsOfContext ct_context (store_of (codes "1.2.840.10008.5.1.4.1.1.4
 unfolding class_named
 mr_is_no_ct of = let e : ◌≡◌ {A = Option Class} (Some Mr) (Some Ct) = of.named in cc
 
-unbroken_of : {s : Syntax} {lim : Limits} {b : List ℕ} {told : Told} → Tells s lim b told → told.fault ≡ None → IsUnbroken s lim b
-unbroken_of (going unbroken front) e = unbroken
-unbroken_of (refused fault front) e = absurd cc
-
 nothing_breaks : IsUnbroken Explicit (limits 64 (2 ^ 40)) []
-unfolding run keeps due arrive
-nothing_breaks = unbroken_of (tells Explicit (limits 64 (2 ^ 40)) [] (λ i. lit< tt)) refl
+nothing_breaks = nothing_unbroken Explicit (limits 64 (2 ^ 40))
 
 at_nothing : Open Explicit [] no_elements [] 0 (in_header [])
 unfolding need is_whole

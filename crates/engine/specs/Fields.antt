@@ -1,9 +1,10 @@
 -- What contracts see of an association.
-use Rattle.std.specs.Prelude.{ℕ}
+use Rattle.std.specs.Prelude.{ℕ, Bool}
 use Rattle.acceptor.specs.declared.state.State.{State}
 use Rattle.negotiate.specs.Settings.{Settings, settings_of}
 use Rattle.engine.specs.declared.association.Association.{Association}
 use Rattle.engine.specs.machine.Kept.{kept_of}
+use Rattle.engine.specs.machine.Storing.{stored_of, drafting_in}
 use Rattle.engine.specs.machine.Shows.{Fields}
 
 abbrev pub fields_of : {A C V D : ℕ} → Association A C V D → Fields
@@ -14,3 +15,7 @@ state_of a = a.provider.state
 
 abbrev pub settings_in : {A C V D : ℕ} → Association A C V D → Settings
 settings_in a = settings_of a.provider.config
+
+-- whether it has a draft in the filing
+abbrev pub drafting_of : {A C V D : ℕ} → Association A C V D → Bool
+drafting_of a = drafting_in (stored_of a.provider.storing)

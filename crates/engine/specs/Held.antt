@@ -1,5 +1,5 @@
 -- How many received bytes an association holds (this product's own profile).
-use Rattle.std.specs.Prelude.{◌≡◌, ℕ, ◌+◌, ◌-◌, ◌*◌, Bool, true, false, not, ◌&&◌, List, [], length, Some, Ok, nat_eq, nat_lt, if◌then◌else◌}
+use Rattle.std.specs.Prelude.{◌≡◌, ℕ, ◌+◌, ◌-◌, ◌*◌, Bool, true, false, not, ◌&&◌, List, [], length, nat_eq, nat_lt, if◌then◌else◌}
 use Rattle.acceptor.specs.declared.state.State.{State}
 use Rattle.acceptor.specs.declared.state.State.TheVariants.{Sta1}
 use Rattle.element.specs.declared.syntax.Syntax.{Syntax}
@@ -8,10 +8,6 @@ use Rattle.pdu.specs.Marks.{frame_kind}
 use Rattle.pdu.specs.Items.{record_of}
 use Rattle.pdu.specs.Record.{Record}
 use Rattle.negotiate.specs.Settings.{Settings}
-use Rattle.negotiate.specs.declared.proposals.Context.{Context}
-use Rattle.negotiate.specs.Contexts.{context_of}
-use Rattle.dimse.specs.Command.{CommandRecord}
-use Rattle.dimse.specs.Reading.{command_in}
 use Rattle.dimse.specs.Messages.{Begun, NoMessage, InCommand, InSet}
 use Rattle.sequence.specs.Tree.{Elements}
 use Rattle.sequence.specs.Open.{PathEntry, Tail, in_header, Open}
@@ -21,7 +17,8 @@ use Rattle.sequence.specs.FirstFault.{IsUnbroken, FirstFault}
 use Rattle.negotiate.specs.ContextRows.{accepted_count}
 use Rattle.engine.specs.Progress.{Progress, is_due, is_established}
 use Rattle.engine.specs.Reached.{Reached, begun_pdv, message_so_far}
-use Rattle.engine.specs.Stores.{limits, IsOfContext}
+use Rattle.engine.specs.Fair.{InStore}
+use Rattle.engine.specs.Stores.{limits}
 use Rattle.engine.specs.Run.{Rooms}
 
 abbrev pub is_ended : State → Bool
@@ -64,14 +61,11 @@ pub data IsHeldOfSet (syntax : Syntax) (lim : Limits) (bytes : List ℕ) : ℕ �
   faulty : {p u : List ℕ} {rule : ℕ} {tag : Tag} {es : Elements} {path : List PathEntry} {last : ℕ} → FirstFault syntax lim bytes p u rule tag
       → Open syntax p es path last (in_header []) → IsHeldOfSet syntax lim bytes (held_of lim.wanted es path (in_header []))
 
--- the data of a message in the association of this request: those of a store whose class is its context's are walked
-pub data IsHeldOfMessage (rooms : Rooms) (s : Settings) (request : List ℕ) : Begun → ℕ → Type 0 where
-  no_set : IsHeldOfMessage rooms s request NoMessage 0
-  in_command : {id : ℕ} {command : List ℕ} → IsHeldOfMessage rooms s request (InCommand id command) 0
-  walked : {id n : ℕ} {command set : List ℕ} {asked : CommandRecord} {context : Context} → command_in command ≡ Ok asked → context_of (record_of request) id ≡ Some context
-      → IsOfContext context asked → IsHeldOfSet context.syntax (limits rooms.depth s.max_data) set n → IsHeldOfMessage rooms s request (InSet id command set) n
-  not_walked : {id : ℕ} {command set : List ℕ} {asked : CommandRecord} {context : Context} → command_in command ≡ Ok asked → context_of (record_of request) id ≡ Some context
-      → (IsOfContext context asked → ⊥) → IsHeldOfMessage rooms s request (InSet id command set) 0
+-- the data of a message in the association of this request: those of a store whose class is its context's are walked,
+-- and of others nothing is held
+pub data IsHeldOfMessage (rooms : Rooms) (s : Settings) (request : List ℕ) (message : Begun) : ℕ → Type 0 where
+  walked : {n : ℕ} → (store : InStore request message) → IsHeldOfSet store.context.syntax (limits rooms.depth s.max_data) store.set n → IsHeldOfMessage rooms s request message n
+  not_walked : (InStore request message → ⊥) → IsHeldOfMessage rooms s request message 0
 
 -- so many bytes are held
 pub record Held (rooms : Rooms) (s : Settings) (r : Reached) (n : ℕ) : Type 0 where

@@ -11,13 +11,15 @@ pub mod Run
 pub mod Fair
 pub mod Reached
 pub mod Held
+pub mod Drafts
 pub mod Stands
 pub mod Gains
 pub mod Moves
 pub mod Fields
-pub mod Covered
 pub mod Ran
 pub mod Laws
+pub mod StoreLaws
+pub mod VerdictExamples
 pub mod Recording
 pub mod Examples
 pub mod WholeExamples

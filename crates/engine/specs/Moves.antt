@@ -1,5 +1,5 @@
 -- What one more input does: how the association stands after it, and what its devices gained.
-use Rattle.std.specs.Prelude.{◌≡◌, ◌+◌, Bool, List, [], ◌∷◌, ◌++◌}
+use Rattle.std.specs.Prelude.{◌≡◌, Bool, List, [], ◌∷◌, ◌++◌}
 use Rattle.negotiate.specs.Settings.{Settings}
 use Rattle.engine.specs.Devices.{Devices}
 use Rattle.engine.specs.Gains.{Gains}
@@ -7,7 +7,8 @@ use Rattle.engine.specs.Inputs.{Received}
 use Rattle.engine.specs.Timeline.{Happened}
 use Rattle.engine.specs.Progress.{start}
 use Rattle.engine.specs.Run.{Rooms, progress_of}
-use Rattle.engine.specs.Stands.{Stands, OwnDraft, drafting}
+use Rattle.engine.specs.Drafts.{Drafts}
+use Rattle.engine.specs.Stands.{Stands, drafting}
 use Rattle.engine.specs.machine.Shows.{Fields}
 
 -- one more input came
@@ -16,7 +17,7 @@ pub record Moved (rooms : Rooms) (s : Settings) (inputs : List Received) (story 
   pub failed_then : Bool
   pub stands : Stands rooms s (inputs ++ input ∷ []) (story ++ more) failed_then seen_new new.store
   pub gains : Gains rooms s (progress_of rooms s start story) more failed failed_then old new
-  pub own : OwnDraft (drafting seen_old) old.store (drafting seen_new) new.store
+  pub drafts : Drafts (drafting seen_old) old.store (drafting seen_new) new.store
 
 -- nothing happens to an association that has ended (PS3.8 section 9.2.2: in Sta1 there is none)
 pub record StaysEnded (seen_old seen_new : Fields) (old new : Devices) : Type 0 where

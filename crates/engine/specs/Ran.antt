@@ -7,7 +7,6 @@ use Rattle.part10.specs.Store.{told_after}
 use Rattle.engine.specs.declared.report.Standing.{Standing}
 use Rattle.engine.specs.declared.report.Standing.TheVariants as standing
 use Rattle.engine.specs.declared.report.Report.{Report}
-use Rattle.engine.specs.Covered.{IsCovered}
 use Rattle.engine.specs.Devices.{Devices, line_with, filed}
 use Rattle.engine.specs.Fair.{IsStory}
 use Rattle.engine.specs.Held.{Held}
@@ -70,5 +69,5 @@ pub record Ran (rooms : Rooms) (s : Settings) (turns : ℕ) (report : Report) (s
   pub most_turns : length taken ≤ turns
   pub all_turns : length taken < turns → report.standing ≡ standing.Ended
   pub source : (all : List Received) → source_old ≡ Some all → Leaves taken all source_new
-  pub answered : IsCovered rooms s taken → Answered rooms s taken report old new
+  pub answered : Answered rooms s taken report old new
   pub no_draft : new.store.has_draft ≡ false

@@ -1,10 +1,11 @@
 -- Where the timeline of some inputs has led, and what has come of the PDU and of the message that have begun (PS3.8
 -- section 9.3.5 and annex E).
-use Rattle.std.specs.Prelude.{ℕ, Bool, not, ◌&&◌, List, [], ◌++◌, length, drop, get_or, nat_lt, if◌then◌else◌}
+use Rattle.std.specs.Prelude.{ℕ, Bool, not, ◌&&◌, List, [], if◌then◌else◌}
 use Rattle.pdu.specs.Frames.{rest_of}
 use Rattle.pdu.specs.Spot.{Spot, Opening, Plain, InPdv, spot}
 use Rattle.negotiate.specs.Settings.{Settings}
-use Rattle.dimse.specs.Messages.{Begun, NoMessage, InCommand, InSet}
+use Rattle.dimse.specs.Messages.{Begun}
+use Rattle.dimse.specs.Joining.{with_pdv}
 use Rattle.engine.specs.Inputs.{Received, stream_of}
 use Rattle.engine.specs.Timeline.{Happened}
 use Rattle.engine.specs.Progress.{Progress, start, absorb, is_established}
@@ -31,15 +32,6 @@ takes_pdvs p = is_established p.state && not p.refused
 -- the bytes of the PDV that has begun, its head with them; none where no PDV counts
 abbrev pub begun_pdv : Reached → List ℕ
 begun_pdv r = if takes_pdvs r.progress then begun_in (spot r.rest) else []
-
--- a message with a fragment, which may be a part of one
-abbrev pub with_fragment : ℕ → List ℕ → Begun → Begun
-with_fragment context fragment NoMessage = InCommand context fragment
-with_fragment context fragment (InCommand first command) = InCommand first (command ++ fragment)
-with_fragment context fragment (InSet first command set) = InSet first command (set ++ fragment)
-
-abbrev pub with_pdv : List ℕ → Begun → Begun
-with_pdv begun message = if nat_lt (length begun) 6 then message else with_fragment (get_or begun 4 0) (drop 6 begun) message
 
 -- what has come of the message
 abbrev pub message_so_far : Reached → Begun

@@ -21,6 +21,7 @@ use Rattle.dimse.specs.Joining.{shown}
 use Rattle.negotiate.specs.declared.table.ContextRow.{ContextRow}
 use Rattle.engine.specs.declared.framing.Framing.TheVariants as framing
 use Rattle.engine.specs.machine.Shows.{Fields}
+use Rattle.engine.specs.machine.Storing.{Nothing}
 use Rattle.engine.specs.Stands.{Stands}
 use Rattle.engine.specs.Stores.{Verdict, cause, class_mismatch, class_tag}
 use Rattle.engine.specs.Recording.{request, accept, reply, released}
@@ -53,7 +54,7 @@ established table = record {
   framing = framing.Head;
   head = [];
   pdv = [];
-  kept = record { room = 4096; state = Sta6; refused = false; caller = codes "SCANNER1        "; peer_max = 16384; table = table; body = []; join = shown NoMessage [] };
+  kept = record { room = 4096; depth = 64; most = 2 ^ 40; state = Sta6; refused = false; caller = codes "SCANNER1        "; peer_max = 16384; table = table; body = []; join = shown NoMessage []; storing = Nothing };
 }
 
 -- it stands established with the accepted context, whatever the filing shows, and not without it

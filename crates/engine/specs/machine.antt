@@ -1,6 +1,8 @@
 -- What the code is proved against, beside the definitions.
 pub mod HeadEvents
 pub mod Answers
+pub mod Storing
+pub mod Judged
 pub mod Pends
 pub mod Kept
 pub mod Tries

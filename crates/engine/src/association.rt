@@ -1,11 +1,12 @@
 //! One association of the acceptor.
-ghost use Rattle.std.specs.Prelude.{◌≡◌, ◌≤◌, ◌<◌, ◌+◌, ◌-◌, ◌^◌};
+ghost use Rattle.std.specs.Prelude.{◌≡◌, ◌≤◌, ◌<◌, ◌+◌, ◌*◌, ◌-◌, ◌^◌};
 ghost use Rattle.arrayvec.specs.ArrayVec.{array_vec_len};
 ghost use Rattle.pdu.specs.Marks.{frame_kind};
 ghost use Rattle.engine.specs.machine.Counts.{due, head_least, head_most, pdv_least, pdv_most, left_of, body_due, pdvs_due, fragment_due};
 ghost use Rattle.engine.specs.machine.Kept.{kept_of};
 ghost use Rattle.engine.specs.machine.Pends.{BodyFits, FragmentFits};
 
+mod fields;
 mod parts;
 
 use crate::framing::Framing;
@@ -49,9 +50,9 @@ impl<const A: usize, const C: usize, const V: usize, const D: usize> Association
     ghost use Rattle.negotiate.specs.Settings.{settings_of};
     ghost use Rattle.part10.specs.Store.{Store};
     ghost use Rattle.engine.specs.declared.framing.Framing.TheVariants as framing;
-    ghost use Rattle.engine.specs.Covered.{IsCovered};
     ghost use Rattle.engine.specs.Devices.{devices};
-    ghost use Rattle.engine.specs.Fields.{fields_of, settings_in, state_of};
+    ghost use Rattle.engine.specs.Drafts.{IsThere};
+    ghost use Rattle.engine.specs.Fields.{drafting_of, fields_of, settings_in, state_of};
     ghost use Rattle.engine.specs.Held as holding;
     ghost use Rattle.engine.specs.Held.{Held};
     ghost use Rattle.engine.specs.Inputs.{Received, Bytes, Close, Expiry, UserAbort};
@@ -67,6 +68,11 @@ impl<const A: usize, const C: usize, const V: usize, const D: usize> Association
         requires least { 256 ≤ A }
         requires greatest { A ≤ 2 ^ 24 }
         requires command_greatest { C ≤ 2 ^ 24 }
+        requires least_kept { 140 ≤ V }
+        requires greatest_kept { V ≤ 2 ^ 24 }
+        requires least_levels { 2 ≤ D }
+        requires greatest_levels { D ≤ 2 ^ 24 }
+        ensures no_draft { drafting_of result ≡ false }
         ensures settings { settings_in result ≡ settings_of config.now }
         ensures stands { (store : Store) → Stands (rooms_of A C V D) (settings_of config.now) [] [] false (fields_of result) store }
     {
@@ -90,33 +96,38 @@ impl<const A: usize, const C: usize, const V: usize, const D: usize> Association
     pub fn artim(&self) -> bool
         ensures { result ≡ timer_runs (state_of self.now) }
     {
-        self.provider.state().timer_runs()
+        self.state().timer_runs()
     }
 
-    /// Whether a store of this association has its draft in the filing. No store is taken yet.
+    /// Whether a store of this association has its draft in the filing.
     pub fn drafting(&self) -> bool
-        ensures { result ≡ false }
+        ensures { result ≡ drafting_of self.now }
     {
-        false
+        self.provider.drafting()
     }
 
     /// How many received bytes are held: of unfinished heads, of a request's body, what is kept of an
-    /// accepted request, and the command set of a message.
+    /// accepted request, the command set of a message, and what a walk holds of its data set.
     pub fn held(&self) -> usize
         ensures held { (inputs : List Received) (story : List Happened) (failed : Bool) (store : Store)
-            → Stands (rooms_of A C V D) (settings_in self.now) inputs story failed (fields_of self.now) store → IsCovered (rooms_of A C V D) (settings_in self.now) inputs
+            → Stands (rooms_of A C V D) (settings_in self.now) inputs story failed (fields_of self.now) store
             → Held (rooms_of A C V D) (settings_in self.now) (reached (rooms_of A C V D) (settings_in self.now) inputs story failed) result }
-        ensures room { result ≤ A + C }
-        ensures accepted_room { state_of self.now ≡ Sta6 → result ≤ 544 + C }
+        ensures room { result ≤ A + C + V + 16 * D }
+        ensures accepted_room { state_of self.now ≡ Sta6 → result ≤ 544 + C + V + 16 * D }
     {
         self.heads_held() + self.provider.held()
     }
 
     /// Takes the next bytes of the stream.
+    ///
+    /// `filing` is that of the earlier calls: where a store has its draft in it, the draft is still
+    /// there.
     pub fn feed<W: Wire, F: Filing>(&mut self, piece: &[u8], wire: &mut W, filing: &mut F)
+        requires draft { IsThere (drafting_of self.old) (F.store filing.old) }
+        ensures draft { IsThere (drafting_of self.new) (F.store filing.new) }
         ensures settings { settings_in self.new ≡ settings_in self.old }
         ensures moved { (inputs : List Received) (story : List Happened) (failed : Bool)
-            → Stands (rooms_of A C V D) (settings_in self.old) inputs story failed (fields_of self.old) (F.store filing.old) → IsCovered (rooms_of A C V D) (settings_in self.old) (inputs ++ Bytes piece.now ∷ [])
+            → Stands (rooms_of A C V D) (settings_in self.old) inputs story failed (fields_of self.old) (F.store filing.old)
             → Moved (rooms_of A C V D) (settings_in self.old) inputs story failed (Bytes piece.now) (fields_of self.old) (fields_of self.new)
             (devices (W.line wire.old) (F.store filing.old)) (devices (W.line wire.new) (F.store filing.new)) }
         ensures ended { state_of self.old ≡ Sta1
@@ -129,11 +140,13 @@ impl<const A: usize, const C: usize, const V: usize, const D: usize> Association
         self.drop_heads();
     }
 
-    /// The peer closed the transport connection.
+    /// The peer closed the transport connection. A draft is still in `filing`, as in `feed`.
     pub fn closed<W: Wire, F: Filing>(&mut self, wire: &mut W, filing: &mut F)
+        requires draft { IsThere (drafting_of self.old) (F.store filing.old) }
+        ensures draft { IsThere (drafting_of self.new) (F.store filing.new) }
         ensures settings { settings_in self.new ≡ settings_in self.old }
         ensures moved { (inputs : List Received) (story : List Happened) (failed : Bool)
-            → Stands (rooms_of A C V D) (settings_in self.old) inputs story failed (fields_of self.old) (F.store filing.old) → IsCovered (rooms_of A C V D) (settings_in self.old) (inputs ++ Close ∷ [])
+            → Stands (rooms_of A C V D) (settings_in self.old) inputs story failed (fields_of self.old) (F.store filing.old)
             → Moved (rooms_of A C V D) (settings_in self.old) inputs story failed Close (fields_of self.old) (fields_of self.new)
             (devices (W.line wire.old) (F.store filing.old)) (devices (W.line wire.new) (F.store filing.new)) }
         ensures ended { state_of self.old ≡ Sta1
@@ -146,11 +159,13 @@ impl<const A: usize, const C: usize, const V: usize, const D: usize> Association
         self.drop_heads();
     }
 
-    /// The ARTIM timer ran out.
+    /// The ARTIM timer ran out. A draft is still in `filing`, as in `feed`.
     pub fn expired<W: Wire, F: Filing>(&mut self, wire: &mut W, filing: &mut F)
+        requires draft { IsThere (drafting_of self.old) (F.store filing.old) }
+        ensures draft { IsThere (drafting_of self.new) (F.store filing.new) }
         ensures settings { settings_in self.new ≡ settings_in self.old }
         ensures moved { (inputs : List Received) (story : List Happened) (failed : Bool)
-            → Stands (rooms_of A C V D) (settings_in self.old) inputs story failed (fields_of self.old) (F.store filing.old) → IsCovered (rooms_of A C V D) (settings_in self.old) (inputs ++ Expiry ∷ [])
+            → Stands (rooms_of A C V D) (settings_in self.old) inputs story failed (fields_of self.old) (F.store filing.old)
             → Moved (rooms_of A C V D) (settings_in self.old) inputs story failed Expiry (fields_of self.old) (fields_of self.new)
             (devices (W.line wire.old) (F.store filing.old)) (devices (W.line wire.new) (F.store filing.new)) }
         ensures ended { state_of self.old ≡ Sta1
@@ -163,11 +178,13 @@ impl<const A: usize, const C: usize, const V: usize, const D: usize> Association
         self.drop_heads();
     }
 
-    /// The local user aborts the association.
+    /// The local user aborts the association. A draft is still in `filing`, as in `feed`.
     pub fn local_abort<W: Wire, F: Filing>(&mut self, wire: &mut W, filing: &mut F)
+        requires draft { IsThere (drafting_of self.old) (F.store filing.old) }
+        ensures draft { IsThere (drafting_of self.new) (F.store filing.new) }
         ensures settings { settings_in self.new ≡ settings_in self.old }
         ensures moved { (inputs : List Received) (story : List Happened) (failed : Bool)
-            → Stands (rooms_of A C V D) (settings_in self.old) inputs story failed (fields_of self.old) (F.store filing.old) → IsCovered (rooms_of A C V D) (settings_in self.old) (inputs ++ UserAbort ∷ [])
+            → Stands (rooms_of A C V D) (settings_in self.old) inputs story failed (fields_of self.old) (F.store filing.old)
             → Moved (rooms_of A C V D) (settings_in self.old) inputs story failed UserAbort (fields_of self.old) (fields_of self.new)
             (devices (W.line wire.old) (F.store filing.old)) (devices (W.line wire.new) (F.store filing.new)) }
         ensures ended { state_of self.old ≡ Sta1
@@ -182,7 +199,7 @@ impl<const A: usize, const C: usize, const V: usize, const D: usize> Association
 
     /// How many bytes of unfinished heads are held; those of a PDV where PDVs count.
     fn heads_held(&self) -> usize
-        ensures value { (r : Reached) → Shows (fields_of self.now) r → result ≡ heads_of r }
+        ensures value { (store : Store) (r : Reached) → Shows (fields_of self.now) store r → result ≡ heads_of r }
         ensures few { result ≤ 6 }
     {
         match self.framing {
@@ -200,10 +217,10 @@ impl<const A: usize, const C: usize, const V: usize, const D: usize> Association
     }
 
     /// Whether the association has ended.
-    fn is_ended(&self) -> bool
-        ensures { result ≡ holding.is_ended self.now.provider.state }
+    pub(crate) fn is_ended(&self) -> bool
+        ensures { result ≡ holding.is_ended (state_of self.now) }
     {
-        matches!(self.provider.state(), State::Sta1)
+        matches!(self.state(), State::Sta1)
     }
 
     /// Gives up the bytes of heads once the association has ended.

@@ -139,6 +139,8 @@ impl<const A: usize, const C: usize, const V: usize, const D: usize> Provider<A,
     ghost use Rattle.engine.specs.Timeline.{At};
     ghost use Rattle.engine.specs.Devices.{devices};
     ghost use Rattle.engine.specs.machine.Pends.{Pends, BodyFits};
+    ghost use Rattle.engine.specs.Drafts.{IsThere, Drafts};
+    ghost use Rattle.engine.specs.machine.Storing.{drafting_in};
     ghost use Rattle.engine.specs.machine.Does.{Does};
     ghost use Rattle.engine.specs.machine.Kept.{kept_of, settings_in, rooms_of};
 
@@ -150,23 +152,23 @@ impl<const A: usize, const C: usize, const V: usize, const D: usize> Provider<A,
         wire: &mut W,
         filing: &mut F,
     )
+        requires draft { IsThere (drafting_in (kept_of self.old).storing) (F.store filing.old) }
         ensures body { self.new.body.items ≡ [] }
         ensures fits { BodyFits (A - 12) (kept_of self.new) kind length }
         ensures settings { settings_in self.new ≡ settings_in self.old }
-        ensures unfiled { F.store filing.new ≡ F.store filing.old }
-        ensures does { (p : Progress) → Pends (kept_of self.old) p [] [] → Does (rooms_of A C V D) (settings_in self.old) p (At (Head kind length)) (kept_of self.new) [] []
+        ensures drafts { Drafts (drafting_in (kept_of self.old).storing) (F.store filing.old) (drafting_in (kept_of self.new).storing) (F.store filing.new) }
+        ensures does { (p : Progress) → Pends (kept_of self.old) (F.store filing.old) p [] [] → Does (rooms_of A C V D) (settings_in self.old) p (At (Head kind length)) (kept_of self.new) [] []
             (devices (W.line wire.old) (F.store filing.old)) (devices (W.line wire.new) (F.store filing.new)) }
     {
-        let _ = filing;
         self.body.clear();
         self.refused = false;
         match head_event(A - HEADS, self.config.max_pdu, self.state, kind, length) {
             HeadEvent::Nothing => {}
             HeadEvent::AtOnce(event, reason) => {
-                self.refuse(event, reason, Answering::Nothing, wire);
+                self.refuse(event, reason, Answering::Nothing, wire, filing);
             }
             HeadEvent::TooLong => {
-                self.refuse(Event::Request(false), 0, Answering::TooLong, wire);
+                self.refuse(Event::Request(false), 0, Answering::TooLong, wire, filing);
             }
         }
     }

@@ -2,6 +2,8 @@
 //! function that does nothing.
 ghost use Rattle.engine.specs.WholeExamples.{TheEchoRuns, TheRequestIsHeld, ItStandsEstablished, VerdictsOnStores};
 ghost use Rattle.engine.specs.StoreExamples.{AStoreIsFiled, AFilingFailsOnce, ACutReply, ACloseInADataSet, HeldInADataSet};
+ghost use Rattle.engine.specs.VerdictExamples.{VerdictsOnFaults};
+ghost use Rattle.engine.specs.StoreLaws.{AVerdictIsThere, AVerdictIsOne, NoGoodImageIsRefused, FiledByItself};
 ghost use Rattle.engine.specs.Laws.{EntriesAppend, CutsDoNotShow, NothingAfterTheEnd};
 ghost use Rattle.engine.specs.Examples.{ARequestAboveTheRoom, BytesThatAreNoPdu, DataAboveTheMaximum, AfterTheEnd, AnotherCalledTitle, RecordedEcho, HeldWhileTheEchoComes, AGoodPdvBeforeABadOne};
 
@@ -18,6 +20,32 @@ pub fn cuts_do_not_show()
 /// Nothing is sent and no file is put after the end.
 pub fn nothing_after_the_end()
     ensures { NothingAfterTheEnd }
+{}
+
+/// There is a verdict on every store.
+pub fn a_verdict_is_there()
+    ensures { AVerdictIsThere }
+{}
+
+/// There is no more than one.
+pub fn a_verdict_is_one()
+    ensures { AVerdictIsOne }
+{}
+
+/// A whole data set within the limits, sent under its own class and instance in an accepted context of
+/// that class, is answered by success and filed, where no device fails.
+pub fn no_good_image_is_refused()
+    ensures { NoGoodImageIsRefused }
+{}
+
+/// What is filed for a store depends on its own bytes and the sender's title alone.
+pub fn a_store_is_filed_by_itself()
+    ensures { FiledByItself }
+{}
+
+/// Statuses and causes of stores whose data sets break a rule.
+pub fn verdicts_on_faults()
+    ensures { VerdictsOnFaults }
 {}
 
 /// A request above its room is rejected at its head.

@@ -14,6 +14,7 @@ mod running;
 mod sending;
 mod source;
 mod status;
+mod stores;
 
 pub use association::Association;
 pub use list_source::{ListSource, ListedInput};

@@ -5,6 +5,7 @@ ghost use Rattle.acceptor.specs.declared.state.State.TheVariants.{Sta6};
 
 use crate::heads::INVALID_PARAMETER;
 use crate::sending::{Answering, state_after, step};
+use crate::stores::Storing;
 use acceptor::{Event, State, act};
 use arrayvec::ArrayVec;
 use dimse::Join;
@@ -30,9 +31,15 @@ pub(crate) struct Provider<const A: usize, const C: usize, const V: usize, const
     pub(crate) body: ArrayVec<u8, A>,
     /// What has come of a message.
     pub(crate) join: Join<C>,
+    /// What is kept of the data of a store.
+    pub(crate) storing: Storing<V, D>,
     ghost least: { 256 ≤ A },
     ghost greatest: { A ≤ 2 ^ 24 },
     ghost command_greatest: { C ≤ 2 ^ 24 },
+    ghost least_kept: { 140 ≤ V },
+    ghost greatest_kept: { V ≤ 2 ^ 24 },
+    ghost least_levels: { 2 ≤ D },
+    ghost greatest_levels: { D ≤ 2 ^ 24 },
     ghost answerable: { peer_max < 8 → peer_max ≡ 0 },
     ghost room: { array_vec_len body + 12 ≤ A },
     ghost rows_room: { 32 + 4 * array_vec_len table ≤ A },
@@ -48,7 +55,10 @@ impl<const A: usize, const C: usize, const V: usize, const D: usize> Provider<A,
     ghost use Rattle.engine.specs.Devices.{devices};
     ghost use Rattle.engine.specs.machine.Answers.{answer_text};
     ghost use Rattle.negotiate.specs.Settings.{settings_of};
-    ghost use Rattle.engine.specs.machine.Tries.{IsLeft};
+    ghost use Rattle.part10.specs.Store.{Store};
+    ghost use Rattle.engine.specs.Drafts.{IsThere, Drafts};
+    ghost use Rattle.engine.specs.machine.Storing.{drafting_in};
+    ghost use Rattle.engine.specs.machine.Tries.{IsLeft, Unfiled};
     ghost use Rattle.engine.specs.machine.Pends.{Pends, held_by, BodyFits, FragmentFits, takes_pdvs_in, counted_body, counted_pdv};
     ghost use Rattle.engine.specs.machine.Tries.{Tries, Settles, Stays};
     ghost use Rattle.engine.specs.machine.Does.{Does};
@@ -59,12 +69,17 @@ impl<const A: usize, const C: usize, const V: usize, const D: usize> Provider<A,
         requires least { 256 ≤ A }
         requires greatest { A ≤ 2 ^ 24 }
         requires command_greatest { C ≤ 2 ^ 24 }
-        ensures pends { Pends (kept_of result) start [] [] }
+        requires least_kept { 140 ≤ V }
+        requires greatest_kept { V ≤ 2 ^ 24 }
+        requires least_levels { 2 ≤ D }
+        requires greatest_levels { D ≤ 2 ^ 24 }
+        ensures pends { (store : Store) → Pends (kept_of result) store start [] [] }
+        ensures no_draft { drafting_in (kept_of result).storing ≡ false }
         ensures settings { settings_in result ≡ settings_of config.now }
     {
         let (_, state) = act(State::Sta1, Event::Connected);
         Provider {
-            config: config.same(),
+            config: config.copied(),
             state,
             refused: false,
             caller: [0; 16],
@@ -72,6 +87,7 @@ impl<const A: usize, const C: usize, const V: usize, const D: usize> Provider<A,
             table: ArrayVec::new(),
             body: ArrayVec::new(),
             join: Join::new(),
+            storing: Storing::Nothing,
         }
     }
 
@@ -92,28 +108,39 @@ impl<const A: usize, const C: usize, const V: usize, const D: usize> Provider<A,
         }
     }
 
+    /// Whether the draft of a store is in the filing.
+    pub(crate) fn drafting(&self) -> bool
+        ensures { result ≡ drafting_in (kept_of self.now).storing }
+    {
+        self.storing.drafting()
+    }
+
     /// Returns how many bytes are kept of a request and of a message: 20 and 4 for each accepted
-    /// context of one that was accepted.
+    /// context of one that was accepted, and what a walk holds of a data set.
     pub(crate) fn held(&self) -> usize
         ensures value { result ≡ held_by (kept_of self.now) }
-        ensures room { result + 12 ≤ A + C }
-        ensures accepted_room { self.now.state ≡ Sta6 → result ≤ 532 + C }
+        ensures room { result + 12 ≤ A + C + V + 16 * D }
+        ensures accepted_room { self.now.state ≡ Sta6 → result ≤ 532 + C + V + 16 * D }
     {
-        let command = self.join.command();
+        let message = self.join.command().len() + self.storing.held();
         match self.state {
-            State::Sta6 => 20 + 4 * self.table.len() + self.body.len() + command.len(),
-            _ => self.body.len() + command.len(),
+            State::Sta6 => 20 + 4 * self.table.len() + self.body.len() + message,
+            _ => self.body.len() + message,
         }
     }
 
-    /// Gives up all that is kept of a request and of a message.
-    fn leave(&mut self)
-        requires { self.old.state ≡ Sta6 → self.old.body.items ≡ [] }
+    /// Gives up all that is kept of a request and of a message, and drops the draft of a store.
+    fn leave<F: Filing>(&mut self, filing: &mut F)
+        requires draft { IsThere (drafting_in (kept_of self.old).storing) (F.store filing.old) }
+        requires given_up { self.old.state ≡ Sta6 → self.old.body.items ≡ [] }
         ensures left { IsLeft (kept_of self.new) }
         ensures state { self.new.state ≡ self.old.state }
         ensures refused { self.new.refused ≡ self.old.refused }
         ensures settings { settings_in self.new ≡ settings_in self.old }
+        ensures unfiled { Unfiled (F.store filing.old) (F.store filing.new) }
+        ensures drafts { Drafts (drafting_in (kept_of self.old).storing) (F.store filing.old) (drafting_in (kept_of self.new).storing) (F.store filing.new) }
     {
+        self.storing.leave(filing);
         self.caller = [0; 16];
         self.peer_max = 0;
         self.table.clear();
@@ -123,122 +150,147 @@ impl<const A: usize, const C: usize, const V: usize, const D: usize> Provider<A,
 
     /// The state that comes after a send: `next`, or Sta1 where the send failed. Where the association
     /// is left, nothing of it is kept.
-    pub(crate) fn settle(&mut self, next: State, sent: Result<(), WireFailed>)
-        requires { next ≡ Sta6 → self.old.body.items ≡ [] }
+    pub(crate) fn settle<F: Filing>(
+        &mut self,
+        next: State,
+        sent: Result<(), WireFailed>,
+        filing: &mut F,
+    )
+        requires draft { IsThere (drafting_in (kept_of self.old).storing) (F.store filing.old) }
+        requires given_up { next ≡ Sta6 → self.old.body.items ≡ [] }
         ensures settings { settings_in self.new ≡ settings_in self.old }
-        ensures settles { Settles next sent (kept_of self.old) (kept_of self.new) }
+        ensures settles { Settles next sent (kept_of self.old) (kept_of self.new) (F.store filing.old) (F.store filing.new) }
+        ensures drafts { Drafts (drafting_in (kept_of self.old).storing) (F.store filing.old) (drafting_in (kept_of self.new).storing) (F.store filing.new) }
     {
         self.state = state_after(next, sent);
         match self.state {
-            State::Sta1 => self.leave(),
-            State::Sta13 => self.leave(),
+            State::Sta1 => self.leave(filing),
+            State::Sta13 => self.leave(filing),
             _ => {}
         }
     }
 
     /// An event happens that leaves the association or keeps its state.
-    pub(crate) fn happens<W: Wire>(
+    pub(crate) fn happens<W: Wire, F: Filing>(
         &mut self,
         event: Event,
         reason: u8,
         answering: Answering,
         wire: &mut W,
+        filing: &mut F,
     )
+        requires draft { IsThere (drafting_in (kept_of self.old).storing) (F.store filing.old) }
         requires stays { Stays self.old.state event }
+        ensures drafts { Drafts (drafting_in (kept_of self.old).storing) (F.store filing.old) (drafting_in (kept_of self.new).storing) (F.store filing.new) }
         ensures settings { settings_in self.new ≡ settings_in self.old }
         ensures refused { self.new.refused ≡ self.old.refused }
         ensures body { self.old.body.items ≡ [] → self.new.body.items ≡ [] }
         ensures body_fits { (kind m : ℕ) → BodyFits (A - 12) (kept_of self.old) kind m → BodyFits (A - 12) (kept_of self.new) kind m }
         ensures fragment_fits { (m : ℕ) → FragmentFits (kept_of self.old) m → FragmentFits (kept_of self.new) m }
-        ensures tries { (p : Progress) (body begun : List ℕ) → Pends (kept_of self.old) p body begun
-            → Tries p (done (answer_text answering.entry) reason p event) (kept_of self.new) body begun (W.line wire.old) (W.line wire.new) }
+        ensures tries { (p : Progress) (body begun : List ℕ) → Pends (kept_of self.old) (F.store filing.old) p body begun
+            → Tries p (done (answer_text answering.entry) reason p event) (kept_of self.new) body begun (devices (W.line wire.old) (F.store filing.old)) (devices (W.line wire.new) (F.store filing.new)) }
     {
         let (next, sent) = step(self.state, event, reason, answering, wire);
-        self.settle(next, sent);
+        self.settle(next, sent, filing);
     }
 
     /// An event happens, and the later marks of the PDU count for nothing.
-    pub(crate) fn refuse<W: Wire>(
+    pub(crate) fn refuse<W: Wire, F: Filing>(
         &mut self,
         event: Event,
         reason: u8,
         answering: Answering,
         wire: &mut W,
+        filing: &mut F,
     )
+        requires draft { IsThere (drafting_in (kept_of self.old).storing) (F.store filing.old) }
         requires stays { Stays self.old.state event }
+        ensures drafts { Drafts (drafting_in (kept_of self.old).storing) (F.store filing.old) (drafting_in (kept_of self.new).storing) (F.store filing.new) }
         ensures settings { settings_in self.new ≡ settings_in self.old }
         ensures refused { self.new.refused ≡ true }
         ensures body { self.old.body.items ≡ [] → self.new.body.items ≡ [] }
-        ensures tries { (p : Progress) (body begun body_then begun_then : List ℕ) → Pends (kept_of self.old) p body begun
+        ensures tries { (p : Progress) (body begun body_then begun_then : List ℕ) → Pends (kept_of self.old) (F.store filing.old) p body begun
             → counted_body (done (answer_text answering.entry) reason p event).next body ≡ [] → counted_pdv (done (answer_text answering.entry) reason p event).next begun ≡ []
-            → Tries p (refusing (done (answer_text answering.entry) reason p event)) (kept_of self.new) body_then begun_then (W.line wire.old) (W.line wire.new) }
+            → Tries p (refusing (done (answer_text answering.entry) reason p event)) (kept_of self.new) body_then begun_then (devices (W.line wire.old) (F.store filing.old)) (devices (W.line wire.new) (F.store filing.new)) }
     {
-        self.happens(event, reason, answering, wire);
+        self.happens(event, reason, answering, wire, filing);
         self.refused = true;
     }
 
     /// The head of a PDV is bad.
     pub(crate) fn on_bad<W: Wire, F: Filing>(&mut self, wire: &mut W, filing: &mut F)
+        requires draft { IsThere (drafting_in (kept_of self.old).storing) (F.store filing.old) }
         ensures settings { settings_in self.new ≡ settings_in self.old }
-        ensures unfiled { F.store filing.new ≡ F.store filing.old }
-        ensures does { (p : Progress) → Pends (kept_of self.old) p [] [] → Does (rooms_of A C V D) (settings_in self.old) p (At BadPdv) (kept_of self.new) [] []
+        ensures drafts { Drafts (drafting_in (kept_of self.old).storing) (F.store filing.old) (drafting_in (kept_of self.new).storing) (F.store filing.new) }
+        ensures does { (p : Progress) → Pends (kept_of self.old) (F.store filing.old) p [] [] → Does (rooms_of A C V D) (settings_in self.old) p (At BadPdv) (kept_of self.new) [] []
             (devices (W.line wire.old) (F.store filing.old)) (devices (W.line wire.new) (F.store filing.new)) }
     {
-        let _ = filing;
         if self.takes_pdvs() {
-            self.refuse(Event::Invalid, INVALID_PARAMETER, Answering::Nothing, wire);
+            self.refuse(
+                Event::Invalid,
+                INVALID_PARAMETER,
+                Answering::Nothing,
+                wire,
+                filing,
+            );
         }
     }
 
     /// Bytes are left over after a PDV.
     pub(crate) fn on_leftover<W: Wire, F: Filing>(&mut self, wire: &mut W, filing: &mut F)
+        requires draft { IsThere (drafting_in (kept_of self.old).storing) (F.store filing.old) }
         ensures settings { settings_in self.new ≡ settings_in self.old }
-        ensures unfiled { F.store filing.new ≡ F.store filing.old }
-        ensures does { (p : Progress) → Pends (kept_of self.old) p [] [] → Does (rooms_of A C V D) (settings_in self.old) p (At Leftover) (kept_of self.new) [] []
+        ensures drafts { Drafts (drafting_in (kept_of self.old).storing) (F.store filing.old) (drafting_in (kept_of self.new).storing) (F.store filing.new) }
+        ensures does { (p : Progress) → Pends (kept_of self.old) (F.store filing.old) p [] [] → Does (rooms_of A C V D) (settings_in self.old) p (At Leftover) (kept_of self.new) [] []
             (devices (W.line wire.old) (F.store filing.old)) (devices (W.line wire.new) (F.store filing.new)) }
     {
-        let _ = filing;
         if self.takes_pdvs() {
-            self.refuse(Event::Invalid, INVALID_PARAMETER, Answering::Nothing, wire);
+            self.refuse(
+                Event::Invalid,
+                INVALID_PARAMETER,
+                Answering::Nothing,
+                wire,
+                filing,
+            );
         }
     }
 
     /// The transport connection was closed.
     pub(crate) fn on_closed<W: Wire, F: Filing>(&mut self, wire: &mut W, filing: &mut F)
+        requires draft { IsThere (drafting_in (kept_of self.old).storing) (F.store filing.old) }
         ensures body_fits { (kind m : ℕ) → BodyFits (A - 12) (kept_of self.old) kind m → BodyFits (A - 12) (kept_of self.new) kind m }
         ensures fragment_fits { (m : ℕ) → FragmentFits (kept_of self.old) m → FragmentFits (kept_of self.new) m }
         ensures settings { settings_in self.new ≡ settings_in self.old }
-        ensures unfiled { F.store filing.new ≡ F.store filing.old }
-        ensures does { (p : Progress) (body begun : List ℕ) → Pends (kept_of self.old) p body begun → Does (rooms_of A C V D) (settings_in self.old) p Shut (kept_of self.new) body begun
+        ensures drafts { Drafts (drafting_in (kept_of self.old).storing) (F.store filing.old) (drafting_in (kept_of self.new).storing) (F.store filing.new) }
+        ensures does { (p : Progress) (body begun : List ℕ) → Pends (kept_of self.old) (F.store filing.old) p body begun → Does (rooms_of A C V D) (settings_in self.old) p Shut (kept_of self.new) body begun
             (devices (W.line wire.old) (F.store filing.old)) (devices (W.line wire.new) (F.store filing.new)) }
     {
-        let _ = filing;
-        self.happens(Event::Closed, 0, Answering::Nothing, wire);
+        self.happens(Event::Closed, 0, Answering::Nothing, wire, filing);
     }
 
     /// The ARTIM timer expired.
     pub(crate) fn on_expired<W: Wire, F: Filing>(&mut self, wire: &mut W, filing: &mut F)
+        requires draft { IsThere (drafting_in (kept_of self.old).storing) (F.store filing.old) }
         ensures body_fits { (kind m : ℕ) → BodyFits (A - 12) (kept_of self.old) kind m → BodyFits (A - 12) (kept_of self.new) kind m }
         ensures fragment_fits { (m : ℕ) → FragmentFits (kept_of self.old) m → FragmentFits (kept_of self.new) m }
         ensures settings { settings_in self.new ≡ settings_in self.old }
-        ensures unfiled { F.store filing.new ≡ F.store filing.old }
-        ensures does { (p : Progress) (body begun : List ℕ) → Pends (kept_of self.old) p body begun → Does (rooms_of A C V D) (settings_in self.old) p TimedOut (kept_of self.new) body begun
+        ensures drafts { Drafts (drafting_in (kept_of self.old).storing) (F.store filing.old) (drafting_in (kept_of self.new).storing) (F.store filing.new) }
+        ensures does { (p : Progress) (body begun : List ℕ) → Pends (kept_of self.old) (F.store filing.old) p body begun → Does (rooms_of A C V D) (settings_in self.old) p TimedOut (kept_of self.new) body begun
             (devices (W.line wire.old) (F.store filing.old)) (devices (W.line wire.new) (F.store filing.new)) }
     {
-        let _ = filing;
-        self.happens(Event::Expired, 0, Answering::Nothing, wire);
+        self.happens(Event::Expired, 0, Answering::Nothing, wire, filing);
     }
 
     /// The local user aborts the association.
     pub(crate) fn on_local_abort<W: Wire, F: Filing>(&mut self, wire: &mut W, filing: &mut F)
+        requires draft { IsThere (drafting_in (kept_of self.old).storing) (F.store filing.old) }
         ensures body_fits { (kind m : ℕ) → BodyFits (A - 12) (kept_of self.old) kind m → BodyFits (A - 12) (kept_of self.new) kind m }
         ensures fragment_fits { (m : ℕ) → FragmentFits (kept_of self.old) m → FragmentFits (kept_of self.new) m }
         ensures settings { settings_in self.new ≡ settings_in self.old }
-        ensures unfiled { F.store filing.new ≡ F.store filing.old }
-        ensures does { (p : Progress) (body begun : List ℕ) → Pends (kept_of self.old) p body begun → Does (rooms_of A C V D) (settings_in self.old) p Aborted (kept_of self.new) body begun
+        ensures drafts { Drafts (drafting_in (kept_of self.old).storing) (F.store filing.old) (drafting_in (kept_of self.new).storing) (F.store filing.new) }
+        ensures does { (p : Progress) (body begun : List ℕ) → Pends (kept_of self.old) (F.store filing.old) p body begun → Does (rooms_of A C V D) (settings_in self.old) p Aborted (kept_of self.new) body begun
             (devices (W.line wire.old) (F.store filing.old)) (devices (W.line wire.new) (F.store filing.new)) }
     {
-        let _ = filing;
-        self.happens(Event::UserAborts, 0, Answering::Nothing, wire);
+        self.happens(Event::UserAborts, 0, Answering::Nothing, wire, filing);
     }
 }

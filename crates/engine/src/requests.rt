@@ -96,6 +96,9 @@ impl<const A: usize, const C: usize, const V: usize, const D: usize> Provider<A,
     ghost use Rattle.engine.specs.Timeline.{At, good};
     ghost use Rattle.engine.specs.Devices.{devices};
     ghost use Rattle.engine.specs.machine.Pends.{Pends, BodyFits, body_in, takes_body_in};
+    ghost use Rattle.part10.specs.Store.{Store};
+    ghost use Rattle.engine.specs.Drafts.{IsThere, Drafts};
+    ghost use Rattle.engine.specs.machine.Storing.{drafting_in};
     ghost use Rattle.engine.specs.machine.Tries.{Tries};
     ghost use Rattle.engine.specs.machine.Does.{Does};
     ghost use Rattle.engine.specs.machine.Kept.{kept_of, settings_in, rooms_of};
@@ -114,8 +117,9 @@ impl<const A: usize, const C: usize, const V: usize, const D: usize> Provider<A,
     pub(crate) fn on_body(&mut self, kind: u8, part: &[u8])
         requires fits { BodyFits (A - 12) (kept_of self.old) kind (length part.now) }
         ensures settings { settings_in self.new ≡ settings_in self.old }
+        ensures storing { (kept_of self.new).storing ≡ (kept_of self.old).storing }
         ensures fits { (m : ℕ) → BodyFits (A - 12) (kept_of self.old) kind (length part.now + m) → BodyFits (A - 12) (kept_of self.new) kind m }
-        ensures pends { (p : Progress) (body : List ℕ) → Pends (kept_of self.old) p (body_in kind body) [] → Pends (kept_of self.new) p (body_in kind (body ++ part.now)) [] }
+        ensures pends { (store : Store) (p : Progress) (body : List ℕ) → Pends (kept_of self.old) store p (body_in kind body) [] → Pends (kept_of self.new) store p (body_in kind (body ++ part.now)) [] }
     {
         if self.takes_body(kind) {
             self.body.try_extend_from_slice(part).unwrap();
@@ -123,11 +127,13 @@ impl<const A: usize, const C: usize, const V: usize, const D: usize> Provider<A,
     }
 
     /// The association request is whole: it is read, judged and answered, and then given up.
-    fn on_request<W: Wire>(&mut self, wire: &mut W)
+    fn on_request<W: Wire, F: Filing>(&mut self, wire: &mut W, filing: &mut F)
+        requires draft { IsThere (drafting_in (kept_of self.old).storing) (F.store filing.old) }
         requires due { self.old.state ≡ Sta2 }
         ensures settings { settings_in self.new ≡ settings_in self.old }
-        ensures tries { (p : Progress) (body : List ℕ) → Pends (kept_of self.old) p body [] → p.refused ≡ false
-            → Tries p (at_request (settings_in self.old) p body) (kept_of self.new) body [] (W.line wire.old) (W.line wire.new) }
+        ensures drafts { Drafts (drafting_in (kept_of self.old).storing) (F.store filing.old) (drafting_in (kept_of self.new).storing) (F.store filing.new) }
+        ensures tries { (p : Progress) (body : List ℕ) → Pends (kept_of self.old) (F.store filing.old) p body [] → p.refused ≡ false
+            → Tries p (at_request (settings_in self.old) p body) (kept_of self.new) body [] (devices (W.line wire.old) (F.store filing.old)) (devices (W.line wire.new) (F.store filing.new)) }
     {
         let (next, sent) = answer_request(
             &self.config,
@@ -139,26 +145,30 @@ impl<const A: usize, const C: usize, const V: usize, const D: usize> Provider<A,
             wire,
         );
         self.body.clear();
-        self.settle(next, sent);
+        self.settle(next, sent, filing);
     }
 
     /// A release request is whole, and the local user agrees to it at once.
-    fn on_release<W: Wire>(&mut self, wire: &mut W)
+    fn on_release<W: Wire, F: Filing>(&mut self, wire: &mut W, filing: &mut F)
+        requires draft { IsThere (drafting_in (kept_of self.old).storing) (F.store filing.old) }
         requires due { self.old.state ≡ Sta6 }
         ensures settings { settings_in self.new ≡ settings_in self.old }
-        ensures tries { (p : Progress) (body begun : List ℕ) → Pends (kept_of self.old) p body begun
-            → Tries p (released p) (kept_of self.new) body begun (W.line wire.old) (W.line wire.new) }
+        ensures drafts { Drafts (drafting_in (kept_of self.old).storing) (F.store filing.old) (drafting_in (kept_of self.new).storing) (F.store filing.new) }
+        ensures tries { (p : Progress) (body begun : List ℕ) → Pends (kept_of self.old) (F.store filing.old) p body begun
+            → Tries p (released p) (kept_of self.new) body begun (devices (W.line wire.old) (F.store filing.old)) (devices (W.line wire.new) (F.store filing.new)) }
     {
         let (_, asked) = act(self.state, Event::ReleaseRq);
         let (next, sent) = step(asked, Event::UserReleases, 0, Answering::Nothing, wire);
-        self.settle(next, sent);
+        self.settle(next, sent, filing);
     }
 
     /// A PDU is whole: a request in Sta2, a release request in Sta6 and an abort act, others do not.
-    fn on_whole<W: Wire>(&mut self, kind: u8, wire: &mut W)
+    fn on_whole<W: Wire, F: Filing>(&mut self, kind: u8, wire: &mut W, filing: &mut F)
+        requires draft { IsThere (drafting_in (kept_of self.old).storing) (F.store filing.old) }
         ensures settings { settings_in self.new ≡ settings_in self.old }
-        ensures tries { (p : Progress) (body : List ℕ) → Pends (kept_of self.old) p (body_in kind body) []
-            → Tries p (at_entry (rooms_of A C V D) (settings_in self.old) p good (At (End kind body))) (kept_of self.new) (body_in kind body) [] (W.line wire.old) (W.line wire.new) }
+        ensures drafts { Drafts (drafting_in (kept_of self.old).storing) (F.store filing.old) (drafting_in (kept_of self.new).storing) (F.store filing.new) }
+        ensures tries { (p : Progress) (body : List ℕ) → Pends (kept_of self.old) (F.store filing.old) p (body_in kind body) []
+            → Tries p (at_entry (rooms_of A C V D) (settings_in self.old) p good (At (End kind body))) (kept_of self.new) (body_in kind body) [] (devices (W.line wire.old) (F.store filing.old)) (devices (W.line wire.new) (F.store filing.new)) }
     {
         if let State::Sta1 = self.state {
             return;
@@ -167,15 +177,15 @@ impl<const A: usize, const C: usize, const V: usize, const D: usize> Provider<A,
             return;
         }
         match kind {
-            pdu_type::A_ABORT => self.happens(Event::Abort, 0, Answering::Nothing, wire),
+            pdu_type::A_ABORT => self.happens(Event::Abort, 0, Answering::Nothing, wire, filing),
             pdu_type::A_ASSOCIATE_RQ => {
                 if let State::Sta2 = self.state {
-                    self.on_request(wire);
+                    self.on_request(wire, filing);
                 }
             }
             pdu_type::A_RELEASE_RQ => {
                 if let State::Sta6 = self.state {
-                    self.on_release(wire);
+                    self.on_release(wire, filing);
                 }
             }
             _ => {}
@@ -184,13 +194,13 @@ impl<const A: usize, const C: usize, const V: usize, const D: usize> Provider<A,
 
     /// A PDU of this type is whole; nothing is kept of its body.
     pub(crate) fn on_end<W: Wire, F: Filing>(&mut self, kind: u8, wire: &mut W, filing: &mut F)
+        requires draft { IsThere (drafting_in (kept_of self.old).storing) (F.store filing.old) }
         ensures settings { settings_in self.new ≡ settings_in self.old }
-        ensures unfiled { F.store filing.new ≡ F.store filing.old }
-        ensures does { (p : Progress) (body : List ℕ) → Pends (kept_of self.old) p (body_in kind body) [] → Does (rooms_of A C V D) (settings_in self.old) p (At (End kind body)) (kept_of self.new) [] []
+        ensures drafts { Drafts (drafting_in (kept_of self.old).storing) (F.store filing.old) (drafting_in (kept_of self.new).storing) (F.store filing.new) }
+        ensures does { (p : Progress) (body : List ℕ) → Pends (kept_of self.old) (F.store filing.old) p (body_in kind body) [] → Does (rooms_of A C V D) (settings_in self.old) p (At (End kind body)) (kept_of self.new) [] []
             (devices (W.line wire.old) (F.store filing.old)) (devices (W.line wire.new) (F.store filing.new)) }
     {
-        let _ = filing;
-        self.on_whole(kind, wire);
+        self.on_whole(kind, wire, filing);
         self.body.clear()
     }
 }

@@ -1,5 +1,5 @@
 //! A run over a source of inputs.
-ghost use Rattle.std.specs.Prelude.{◌≤◌, ◌^◌, ◌+◌};
+ghost use Rattle.std.specs.Prelude.{◌≤◌, ◌^◌, ◌+◌, ◌*◌};
 ghost use Rattle.negotiate.specs.Settings.{settings_of};
 ghost use Rattle.engine.specs.Devices.{devices};
 ghost use Rattle.engine.specs.machine.Kept.{rooms_of};
@@ -8,7 +8,6 @@ ghost use Rattle.engine.specs.Ran.{Ran};
 use crate::association::Association;
 use crate::report::{Report, Standing};
 use crate::source::{Input, Source};
-use acceptor::State;
 use negotiate::Config;
 use part10::Filing;
 use pdu::Wire;
@@ -17,10 +16,10 @@ use pdu::Wire;
 /// draft that may be there. Returns how the association stands, and how many received bytes it holds.
 ///
 /// `ran`: the source is left with exactly the inputs that were not taken, and only the last one that
-/// was taken may have ended the association. Where the inputs are covered (`IsCovered`), what was
-/// sent, the files, how the association stands and what it holds are what the acceptor's table and
-/// the rules of DIMSE give for them, cut off at a failed send; and every failure is counted. It holds
-/// for every number of turns, so at every moment between two inputs.
+/// was taken may have ended the association. What was sent, the files, how the association stands and
+/// what it holds are what the acceptor's table and the rules of DIMSE give for the inputs, cut off at
+/// a failed send; and every failure is counted. It holds for every number of turns, so at every
+/// moment between two inputs.
 pub fn run<
     const A: usize,
     const C: usize,
@@ -33,13 +32,18 @@ pub fn run<
     requires least { 256 ≤ A }
     requires greatest { A ≤ 2 ^ 24 }
     requires command_greatest { C ≤ 2 ^ 24 }
+    requires least_kept { 140 ≤ V }
+    requires greatest_kept { V ≤ 2 ^ 24 }
+    requires least_levels { 2 ≤ D }
+    requires greatest_levels { D ≤ 2 ^ 24 }
     ensures ran { Ran (rooms_of A C V D) (settings_of config.now) turns result (S.to_come source.old) (S.to_come source.new)
         (devices (W.line wire.old) (F.store filing.old)) (devices (W.line wire.new) (F.store filing.new)) }
-    ensures room { result.held ≤ A + C }
+    ensures room { result.held ≤ A + C + V + 16 * D }
 {
     let mut association = Association::<A, C, V, D>::open(config);
     for _turn in 0..turns {
-        if let State::Sta1 = association.state() {
+        let over = association.is_ended();
+        if over {
             break;
         }
         match source.next(association.artim()) {

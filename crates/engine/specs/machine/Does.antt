@@ -8,13 +8,12 @@ use Rattle.engine.specs.Run.{Rooms, gives, progress_of, fails, counted}
 use Rattle.engine.specs.Fair.{MayFail, IsFair, AreFair}
 use Rattle.engine.specs.Gains.{Gains}
 use Rattle.engine.specs.machine.Pends.{Kept, Pends}
-pub use Rattle.engine.specs.Covered.{announces_store, brings_set, Storeless}
 
 -- one entry: there is an outcome such that what is kept shows what the entry gives with it, and the devices gained it
 pub record Does (rooms : Rooms) (s : Settings) (p : Progress) (entry : Entry) (new : Kept) (body begun : List ℕ) (devices_old devices_new : Devices) : Type 0 where
   pub outcome : Outcome
   pub fair : IsFair rooms s p (entry, outcome)
-  pub pends : Pends new (gives rooms s p (entry, outcome)).next body begun
+  pub pends : Pends new devices_new.store (gives rooms s p (entry, outcome)).next body begun
   pub line : devices_new.line ≡ line_with (gives rooms s p (entry, outcome)).sent (fails outcome.wire) devices_old.line
   pub files : files_in devices_new.store ≡ with_files (gives rooms s p (entry, outcome)).files (files_in devices_old.store)
   pub count : devices_new.store.failures ≡ devices_old.store.failures + counted outcome.filing
@@ -26,14 +25,14 @@ pub record DoesAll (rooms : Rooms) (s : Settings) (p : Progress) (entries : List
   pub told : entries_of story ≡ entries
   pub fair : AreFair rooms s p story
   pub last : failed ≡ true → MayFail (progress_of rooms s p story) (progress_of rooms s p story)
-  pub pends : Pends new (absorb failed (progress_of rooms s p story)) body begun
+  pub pends : Pends new devices_new.store (absorb failed (progress_of rooms s p story)) body begun
   pub gains : Gains rooms s p story false failed devices_old devices_new
 
 -- a part of a fragment came: a filing call may have failed in it
 pub record Appends (rooms : Rooms) (s : Settings) (p : Progress) (new : Kept) (body begun : List ℕ) (devices_old devices_new : Devices) : Type 0 where
   pub failed : Bool
   pub last : failed ≡ true → MayFail p p
-  pub pends : Pends new (absorb failed p) body begun
+  pub pends : Pends new devices_new.store (absorb failed p) body begun
   pub gains : Gains rooms s p [] false failed devices_old devices_new
 
 -- a failure before a story counts at its first entry; where there is none, it is still to count

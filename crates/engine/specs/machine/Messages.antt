@@ -1,21 +1,75 @@
--- What is kept beside a join.
-use Rattle.std.specs.Prelude.{◌≡◌, [], true, false}
+-- What is kept beside a join, and what calls do to the message that is open.
+use Rattle.std.specs.Prelude.{◌≡◌, ◌⊎◌, ℕ, ◌+◌, ◌<◌, Bool, true, false, ◌||◌, List, [], length, Option, Some, Result, Ok, OnErr}
 use Rattle.acceptor.specs.declared.state.State.TheVariants.{Sta6}
+use Rattle.pdu.specs.declared.wire.WireFailed.{WireFailed}
 use Rattle.pdu.specs.Items.{record_of}
-use Rattle.dimse.specs.Messages.{NoMessage}
+use Rattle.pdu.specs.Sent.{Line, Sends}
+use Rattle.negotiate.specs.Settings.{Settings}
+use Rattle.dimse.specs.Command.{CommandRecord}
+use Rattle.dimse.specs.Reading.{command_in}
+use Rattle.dimse.specs.Messages.{Message, Begun, NoMessage, InCommand, InSet}
 use Rattle.dimse.specs.Joining.{Joining}
+use Rattle.part10.specs.Store.{Store}
 use Rattle.engine.specs.Held.{is_ended}
-use Rattle.engine.specs.Progress.{Progress}
-use Rattle.engine.specs.machine.Pends.{Kept, Agreed, counted_body, is_in_set}
+use Rattle.engine.specs.Timeline.{Finding}
+use Rattle.engine.specs.Progress.{Progress, absorb, is_established}
+use Rattle.engine.specs.Devices.{Devices, files_in, with_files, line_after, IsFront}
+use Rattle.engine.specs.Replies.{replied}
+use Rattle.engine.specs.Run.{Rooms, cut, counted}
+use Rattle.engine.specs.Fair.{InStore, IsVerdict}
+use Rattle.engine.specs.Drafts.{IsDraft}
+use Rattle.engine.specs.machine.Storing.{Stored, Walks, drafting_in}
+use Rattle.engine.specs.machine.Pends.{Kept, Pends, Agreed, counted_body}
 
 abbrev pub with_join : Joining → Kept → Kept
 with_join join kept = record kept { join = join }
 
--- the fields but for the join are those of this progress, where no part of a body has come
+abbrev pub with_storing : Stored → Kept → Kept
+with_storing stored kept = record kept { storing = stored }
+
+-- the fields but for those of the message are those of this progress, where no part of a body has come
 pub record Aside (kept : Kept) (p : Progress) : Type 0 where
   pub state_is : kept.state ≡ p.state
   pub refused_is : is_ended p.state ≡ false → kept.refused ≡ p.refused
   pub body_is : kept.body ≡ counted_body p []
   pub agreed : p.state ≡ Sta6 → Agreed kept (record_of p.request)
-  pub none_left : is_ended p.state ≡ true → p.message ≡ NoMessage
-  pub no_set : is_in_set p.message ≡ false
+  pub none_left : is_established p.state ≡ false → p.message ≡ NoMessage
+
+-- More of a message has come, in which a filing call had failed before or not: its data are walked and in the draft, no
+-- file was put, and the filing failed at most once.
+pub record Proceeds (depth most : ℕ) (request : List ℕ) (message : Begun) (failed_before : Bool) (stored : Stored) (old new : Store) : Type 0 where
+  pub failed : Bool
+  pub may : failed ≡ true → (failed_before ≡ false) × InStore request message
+  pub walks : Walks depth most request message stored
+  pub draft : IsDraft request message (failed || failed_before) new (drafting_in stored)
+  pub files : files_in new ≡ files_in old
+  pub count : new.failures ≡ old.failures + counted failed
+
+-- what had come of a whole message: its command and its data set, or its command alone, which announces none
+abbrev pub HasCome : Message → Begun → Type 0
+HasCome m come = (come ≡ InSet m.context m.command m.set) ⊎ ((come ≡ InCommand m.context m.command) × ((c : CommandRecord) → command_in m.command ≡ Ok c → c.with_data ≡ false))
+
+-- A whole message was answered, or the wire failed: there is a finding on it such that this was sent and these files were
+-- put.
+pub record Ended (rooms : Rooms) (s : Settings) (p : Progress) (m : Message) (come : Begun) (result : Result (Unit {0}) WireFailed) (line_old line_new : Line) (old new : Store) : Type 0 where
+  pub finding : Finding
+  pub failed : Bool
+  pub may : failed ≡ true → (p.filing_failed ≡ false) × InStore p.request come
+  pub verdict : IsVerdict rooms s (absorb failed p) finding (Some m)
+  pub sends : Sends (replied p finding m (command_in m.command)).sent result line_old line_new
+  pub due : OnErr result (0 < length (replied p finding m (command_in m.command)).sent)
+  pub files : files_in new ≡ with_files (replied p finding m (command_in m.command)).files (files_in old)
+  pub count : new.failures ≡ old.failures + counted failed
+
+-- and the fields show what comes after it
+pub record Concludes (rooms : Rooms) (s : Settings) (p : Progress) (m : Message) (come : Begun) (new : Kept) (devices_old devices_new : Devices) : Type 0 where
+  pub finding : Finding
+  pub failed : Bool
+  pub wire : Option ℕ
+  pub may : failed ≡ true → (p.filing_failed ≡ false) × InStore p.request come
+  pub verdict : IsVerdict rooms s (absorb failed p) finding (Some m)
+  pub fair : IsFront wire (replied p finding m (command_in m.command)).sent
+  pub pends : Pends new devices_new.store (cut wire p (replied p finding m (command_in m.command))).next [] []
+  pub line : devices_new.line ≡ line_after wire (replied p finding m (command_in m.command)).sent devices_old.line
+  pub files : files_in devices_new.store ≡ with_files (replied p finding m (command_in m.command)).files (files_in devices_old.store)
+  pub count : devices_new.store.failures ≡ devices_old.store.failures + counted failed

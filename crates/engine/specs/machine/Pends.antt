@@ -12,12 +12,18 @@ use Rattle.dimse.specs.Joining.{Joining, Shows}
 use Rattle.engine.specs.Progress.{Progress, is_due, is_established}
 use Rattle.engine.specs.Held.{is_ended}
 use Rattle.engine.specs.Reached.{takes_pdvs}
-pub use Rattle.engine.specs.Covered.{is_in_set}
+use Rattle.dimse.specs.Joining.{with_pdv}
+use Rattle.part10.specs.Store.{Store}
+use Rattle.engine.specs.Drafts.{IsDraft}
+use Rattle.engine.specs.Fair.{InStore}
+use Rattle.engine.specs.machine.Storing.{Stored, Walks, drafting_in, held_in}
 
 -- what contracts see of the fields
 pub record Kept : Type 0 where
-  -- the greatest command set that is kept
+  -- the greatest command set that is kept, the most open levels and the most bytes of a data set
   pub room : ℕ
+  pub depth : ℕ
+  pub most : ℕ
   pub state : State
   -- whether the later marks of the PDU that has begun count for nothing
   pub refused : Bool
@@ -28,6 +34,8 @@ pub record Kept : Type 0 where
   -- what has come of a request's body
   pub body : List ℕ
   pub join : Joining
+  -- of the data of a message
+  pub storing : Stored
 
 -- what an accepted request leaves of itself
 pub record Agreed (kept : Kept) (r : Record) : Type 0 where
@@ -49,17 +57,19 @@ counted_pdv p begun = if takes_pdvs p then begun else []
 abbrev pub body_in : ℕ → List ℕ → List ℕ
 body_in kind body = if nat_eq kind 1 then body else []
 
--- The fields are those of this progress, where these bytes of a request's body and of a PDV have come: the body's or the
+-- The fields and the draft are those of this progress, where these bytes of a request's body and of a PDV have come: the body's or the
 -- PDV's counted ones alone. Once the association has ended it is not known whether the PDU that has begun was refused.
-pub record Pends (kept : Kept) (p : Progress) (body begun : List ℕ) : Type 0 where
+pub record Pends (kept : Kept) (store : Store) (p : Progress) (body begun : List ℕ) : Type 0 where
   pub state_is : kept.state ≡ p.state
   pub refused_is : is_ended p.state ≡ false → kept.refused ≡ p.refused
   pub body_is : kept.body ≡ counted_body p body
   pub join_is : Shows kept.room kept.join p.message (counted_pdv p begun)
   pub agreed : p.state ≡ Sta6 → Agreed kept (record_of p.request)
-  pub none_left : is_ended p.state ≡ true → p.message ≡ NoMessage
-  -- no store's data are taken yet
-  pub no_set : is_in_set p.message ≡ false
+  pub none_left : is_established p.state ≡ false → p.message ≡ NoMessage
+  pub walks : Walks kept.depth kept.most p.request (with_pdv (counted_pdv p begun) p.message) kept.storing
+  pub draft : IsDraft p.request (with_pdv (counted_pdv p begun) p.message) p.filing_failed store (drafting_in kept.storing)
+  -- a failure of the filing stands in the data of a store alone
+  pub failed_in : is_ended p.state ≡ false → p.filing_failed ≡ true → InStore p.request p.message
 
 -- ---- rooms
 
@@ -81,4 +91,4 @@ takes_body_in kept kind = is_due kept.state && (not kept.refused && nat_eq kind 
 
 -- how many bytes are kept of a request and of a message
 abbrev pub held_by : Kept → ℕ
-held_by kept = (if is_established kept.state then 20 + 4 * length kept.table else 0) + length kept.body + length kept.join.command
+held_by kept = (if is_established kept.state then 20 + 4 * length kept.table else 0) + length kept.body + length kept.join.command + held_in kept.storing

@@ -1,7 +1,6 @@
 -- Between two turns of a run.
 use Rattle.std.specs.Prelude.{◌≡◌, ℕ, Bool, false, List, length, Option, Some, None}
 use Rattle.negotiate.specs.Settings.{Settings}
-use Rattle.engine.specs.Covered.{IsCovered}
 use Rattle.engine.specs.Devices.{Devices}
 use Rattle.engine.specs.Inputs.{Received, first_inputs}
 use Rattle.engine.specs.Gains.{Gains}
@@ -30,4 +29,4 @@ pub record Running (rooms : Rooms) (s : Settings) (turns : ℕ) (source_old sour
   pub taken : List Received
   pub number : length taken ≡ turns
   pub follows : Follows source_old source_now taken
-  pub stood : IsCovered rooms s taken → Stood rooms s taken seen old new
+  pub stood : Stood rooms s taken seen old new

@@ -17,7 +17,8 @@ use Rattle.engine.specs.Reached.{begun_in}
 use Rattle.engine.specs.Held.{is_ended}
 use Rattle.engine.specs.Gains.{Gains}
 use Rattle.engine.specs.machine.Pends.{Kept, Pends, body_in}
-use Rattle.engine.specs.machine.Does.{DoesAll, Storeless}
+use Rattle.part10.specs.Store.{Store}
+use Rattle.engine.specs.machine.Does.{DoesAll}
 
 -- ---- the counts and the bytes of the heads, where the frame that has begun stands here
 
@@ -67,22 +68,22 @@ pub record Fields : Type 0 where
   pub kept : Kept
 
 -- it shows this progress and this frame; once it has ended, no frame
-pub record ShowsFrame (f : Fields) (p : Progress) (r : List ℕ) : Type 0 where
+pub record ShowsFrame (f : Fields) (store : Store) (p : Progress) (r : List ℕ) : Type 0 where
   pub framed : is_ended p.state ≡ false → Framed f.framing f.head f.pdv r (spot r)
-  pub pends : Pends f.kept p (body_of r) (begun_in (spot r))
+  pub pends : Pends f.kept store p (body_of r) (begun_in (spot r))
 
 -- the frame goes on; or a frame of this type is whole, and the counts are those of no frame
 abbrev pub FoundThen : Fields → List ℕ → List ℕ → Spot → Option ℕ → Type 0
 FoundThen f r c s None = IsRest (r ++ c) × Framed f.framing f.head f.pdv (r ++ c) s
 FoundThen f r c s (Some kind) = IsFrame (r ++ c) × (length (begun_in s) < 6) × (kind ≡ frame_kind (r ++ c)) × Framed f.framing f.head f.pdv [] Opening
 
--- A part c of a frame that has begun as r was taken, but for the frame's end: these are its marks, and what came of them
--- where none ends a store. Where it ended the frame, the frame's type is returned.
+-- A part c of a frame that has begun as r was taken, but for the frame's end: these are its marks, and what came of them.
+-- Where it ended the frame, the frame's type is returned.
 pub record Found (rooms : Rooms) (s : Settings) (f : Fields) (p : Progress) (r c : List ℕ) (ended : Option ℕ) (old new : Devices) : Type 0 where
   pub spot_then : Spot
   pub marks : List Mark
   pub comes : Comes r c marks spot_then
-  pub does : Storeless rooms s p (map At marks) → DoesAll rooms s p (map At marks) f.kept (body_of (r ++ c)) (begun_in spot_then) old new
+  pub does : DoesAll rooms s p (map At marks) f.kept (body_of (r ++ c)) (begun_in spot_then) old new
   pub later : FoundThen f r c spot_then ended
 
 -- a part of the stream was taken
@@ -92,5 +93,5 @@ pub record Took (rooms : Rooms) (s : Settings) (f : Fields) (p : Progress) (r c 
   pub told : entries_of story ≡ map At (new_marks r c)
   pub fair : AreFair rooms s p story
   pub last : failed ≡ true → MayFail (progress_of rooms s p story) (progress_of rooms s p story)
-  pub shows : ShowsFrame f (absorb failed (progress_of rooms s p story)) (rest_of (r ++ c))
+  pub shows : ShowsFrame f new.store (absorb failed (progress_of rooms s p story)) (rest_of (r ++ c))
   pub gains : Gains rooms s p story false failed old new

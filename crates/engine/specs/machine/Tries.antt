@@ -9,20 +9,27 @@ use Rattle.acceptor.specs.Table.{table}
 use Rattle.acceptor.specs.Effect.{sending, bytes_sent}
 use Rattle.pdu.specs.declared.wire.WireFailed.{WireFailed}
 use Rattle.pdu.specs.Texts.{release_text, abort_text}
-use Rattle.pdu.specs.Sent.{Line}
-use Rattle.engine.specs.Devices.{line_after, IsFront}
+use Rattle.part10.specs.Store.{Store}
+use Rattle.engine.specs.Devices.{Devices, files_in, line_after, IsFront}
+use Rattle.engine.specs.machine.Storing.{Nothing}
 use Rattle.dimse.specs.Messages.{NoMessage}
 use Rattle.dimse.specs.Joining.{Shows}
 use Rattle.engine.specs.Progress.{Progress, Advance}
 use Rattle.engine.specs.Run.{cut}
 use Rattle.engine.specs.machine.Pends.{Kept, Pends}
 
+-- the filing has the files that it had, and failed no more often
+pub record Unfiled (old new : Store) : Type 0 where
+  pub files : files_in new ≡ files_in old
+  pub count : new.failures ≡ old.failures
+
 -- what is due in this progress was tried: there is an outcome of the wire such that the fields show what that gives
-pub record Tries (p : Progress) (g : Advance) (new : Kept) (body begun : List ℕ) (line_old line_new : Line) : Type 0 where
+pub record Tries (p : Progress) (g : Advance) (new : Kept) (body begun : List ℕ) (devices_old devices_new : Devices) : Type 0 where
   pub wire : Option ℕ
   pub fair : IsFront wire g.sent
-  pub pends : Pends new (cut wire p g).next body begun
-  pub line : line_new ≡ line_after wire g.sent line_old
+  pub pends : Pends new devices_new.store (cut wire p g).next body begun
+  pub line : devices_new.line ≡ line_after wire g.sent devices_old.line
+  pub unfiled : Unfiled devices_old.store devices_new.store
 
 -- ---- one event
 
@@ -44,16 +51,19 @@ is_left state = false
 pub record IsLeft (kept : Kept) : Type 0 where
   pub body : kept.body ≡ []
   pub join : Shows kept.room kept.join NoMessage []
+  pub storing : kept.storing ≡ Nothing
 
 abbrev pub with_state : State → Kept → Kept
 with_state state kept = record kept { state = state }
 
 -- the state came that was due after a send with this result, and nothing else changed, unless the association was left
-pub record Settles (state : State) (sent : Result (Unit {0}) WireFailed) (old new : Kept) : Type 0 where
+pub record Settles (state : State) (sent : Result (Unit {0}) WireFailed) (old new : Kept) (store_old store_new : Store) : Type 0 where
   pub state_is : new.state ≡ state_after sent state
   pub refused : new.refused ≡ old.refused
   pub left : is_left new.state ≡ true → IsLeft new
   pub same : is_left new.state ≡ false → new ≡ with_state new.state old
+  pub store_same : is_left new.state ≡ false → store_new ≡ store_old
+  pub unfiled : Unfiled store_old store_new
 
 -- the event leaves the association or keeps the state
 abbrev pub Stays : State → Event → Type 0

@@ -6,9 +6,11 @@ ghost use Rattle.pdu.specs.Marks.{Pdv, frame_kind, pdv_size};
 ghost use Rattle.pdu.specs.Parts.{leftover_marks};
 ghost use Rattle.engine.specs.Devices.{Devices, devices};
 ghost use Rattle.engine.specs.Progress.{Progress};
+ghost use Rattle.engine.specs.Drafts.{IsThere, Drafts};
+ghost use Rattle.engine.specs.machine.Storing.{drafting_in};
 ghost use Rattle.engine.specs.Timeline.{At};
 ghost use Rattle.engine.specs.machine.Counts.{due, head_least, head_most, pdv_least, body_due, pdvs_due, fragment_due, ended_by, framing_after, head_after};
-ghost use Rattle.engine.specs.machine.Does.{DoesAll, Storeless};
+ghost use Rattle.engine.specs.machine.Does.{DoesAll};
 ghost use Rattle.engine.specs.machine.Kept.{kept_of, settings_in, rooms_of};
 ghost use Rattle.engine.specs.machine.Pends.{Pends, BodyFits, FragmentFits};
 
@@ -39,7 +41,8 @@ fn end_pdv<const A: usize, const C: usize, const V: usize, const D: usize, W: Wi
     wire: &mut W,
     filing: &mut F,
 ) -> Option<u8>
-    requires { array_vec_len head.old ≡ 6 }
+    requires draft { IsThere (drafting_in (kept_of provider.old).storing) (F.store filing.old) }
+    requires headed { array_vec_len head.old ≡ 6 }
     ensures some_due { 0 < due framing.new }
     ensures head_least { head_least framing.new ≤ array_vec_len head.new }
     ensures head_most { array_vec_len head.new ≤ head_most framing.new }
@@ -51,9 +54,8 @@ fn end_pdv<const A: usize, const C: usize, const V: usize, const D: usize, W: Wi
     ensures framing { framing.new ≡ framing_after left }
     ensures head { head.new.items ≡ head_after left head.old.items }
     ensures settings { settings_in provider.new ≡ settings_in provider.old }
-    ensures unfiled { F.store filing.new ≡ F.store filing.old }
-    ensures does { (p : Progress) (begun : List ℕ) → 6 ≤ length begun → length begun ≡ pdv_size begun → context ≡ get_or begun 4 0 → Pends (kept_of provider.old) p [] begun
-        → Storeless (rooms_of A C V D) (settings_in provider.old) p (At (Pdv (get_or begun 4 0) (get_or begun 5 0) (drop 6 begun)) ∷ map At (leftover_marks left))
+    ensures drafts { Drafts (drafting_in (kept_of provider.old).storing) (F.store filing.old) (drafting_in (kept_of provider.new).storing) (F.store filing.new) }
+    ensures does { (p : Progress) (begun : List ℕ) → 6 ≤ length begun → length begun ≡ pdv_size begun → context ≡ get_or begun 4 0 → Pends (kept_of provider.old) (F.store filing.old) p [] begun
         → DoesAll (rooms_of A C V D) (settings_in provider.old) p (At (Pdv (get_or begun 4 0) (get_or begun 5 0) (drop 6 begun)) ∷ map At (leftover_marks left)) (kept_of provider.new) [] []
         (devices (W.line wire.old) (F.store filing.old)) (devices (W.line wire.new) (F.store filing.new)) }
 {
@@ -87,6 +89,7 @@ impl<const A: usize, const C: usize, const V: usize, const D: usize> Association
         wire: &mut W,
         filing: &mut F,
     ) -> (usize, Option<u8>)
+        requires draft { IsThere (drafting_in (kept_of self.old.provider).storing) (F.store filing.old) }
         requires some { 0 < length piece.now }
         requires head { array_vec_len self.old.head < 6 }
         requires pdv { array_vec_len self.old.pdv ≡ 0 }
@@ -94,8 +97,8 @@ impl<const A: usize, const C: usize, const V: usize, const D: usize> Association
         ensures within { result.0 ≤ length piece.now }
         ensures none_due { IfSome result.1 (λ kind. body_due self.new.framing + pdvs_due self.new.framing ≡ 0) }
         ensures settings { settings_in self.new.provider ≡ settings_in self.old.provider }
-        ensures unfiled { F.store filing.new ≡ F.store filing.old }
-        ensures found { (p : Progress) (r : List ℕ) (s : Spot) → InHead self.old.head.items self.old.pdv.items r s → Pends (kept_of self.old.provider) p [] []
+        ensures drafts { Drafts (drafting_in (kept_of self.old.provider).storing) (F.store filing.old) (drafting_in (kept_of self.new.provider).storing) (F.store filing.new) }
+        ensures found { (p : Progress) (r : List ℕ) (s : Spot) → InHead self.old.head.items self.old.pdv.items r s → Pends (kept_of self.old.provider) (F.store filing.old) p [] []
             → Found (rooms_of A C V D) (settings_in self.old.provider) (fields_of self.new) p r (take result.0 piece.now) result.1
             (devices (W.line wire.old) (F.store filing.old)) (devices (W.line wire.new) (F.store filing.new)) }
     {
@@ -132,7 +135,8 @@ impl<const A: usize, const C: usize, const V: usize, const D: usize> Association
         ensures within { result.0 ≤ length piece.now }
         ensures none_due { IfSome result.1 (λ kind. body_due self.new.framing + pdvs_due self.new.framing ≡ 0) }
         ensures settings { settings_in self.new.provider ≡ settings_in self.old.provider }
-        ensures found { (p : Progress) (r : List ℕ) (d : Devices) → IsRest r → InBody left self.old.head.items self.old.pdv.items r (spot r) → Pends (kept_of self.old.provider) p (body_of r) []
+        ensures storing { (kept_of self.new.provider).storing ≡ (kept_of self.old.provider).storing }
+        ensures found { (p : Progress) (r : List ℕ) (d : Devices) → IsRest r → InBody left self.old.head.items self.old.pdv.items r (spot r) → Pends (kept_of self.old.provider) d.store p (body_of r) []
             → Found (rooms_of A C V D) (settings_in self.old.provider) (fields_of self.new) p r (take result.0 piece.now) result.1 d d }
     {
         let count = piece.len().min(left as usize);
@@ -157,6 +161,7 @@ impl<const A: usize, const C: usize, const V: usize, const D: usize> Association
         wire: &mut W,
         filing: &mut F,
     ) -> (usize, Option<u8>)
+        requires draft { IsThere (drafting_in (kept_of self.old.provider).storing) (F.store filing.old) }
         requires some { 0 < length piece.now }
         requires due { 0 < left }
         requires head { array_vec_len self.old.head ≡ 6 }
@@ -166,8 +171,8 @@ impl<const A: usize, const C: usize, const V: usize, const D: usize> Association
         ensures within { result.0 ≤ length piece.now }
         ensures none_due { IfSome result.1 (λ kind. body_due self.new.framing + pdvs_due self.new.framing ≡ 0) }
         ensures settings { settings_in self.new.provider ≡ settings_in self.old.provider }
-        ensures unfiled { F.store filing.new ≡ F.store filing.old }
-        ensures found { (p : Progress) (r : List ℕ) → IsRest r → InPdvHead left self.old.head.items self.old.pdv.items r (spot r) → Pends (kept_of self.old.provider) p [] []
+        ensures drafts { Drafts (drafting_in (kept_of self.old.provider).storing) (F.store filing.old) (drafting_in (kept_of self.new.provider).storing) (F.store filing.new) }
+        ensures found { (p : Progress) (r : List ℕ) → IsRest r → InPdvHead left self.old.head.items self.old.pdv.items r (spot r) → Pends (kept_of self.old.provider) (F.store filing.old) p [] []
             → Found (rooms_of A C V D) (settings_in self.old.provider) (fields_of self.new) p r (take result.0 piece.now) result.1
             (devices (W.line wire.old) (F.store filing.old)) (devices (W.line wire.new) (F.store filing.new)) }
     {
@@ -225,6 +230,7 @@ impl<const A: usize, const C: usize, const V: usize, const D: usize> Association
         wire: &mut W,
         filing: &mut F,
     ) -> (usize, Option<u8>)
+        requires draft { IsThere (drafting_in (kept_of self.old.provider).storing) (F.store filing.old) }
         requires some { 0 < length piece.now }
         requires due { 0 < more }
         requires within { more ≤ left }
@@ -236,8 +242,8 @@ impl<const A: usize, const C: usize, const V: usize, const D: usize> Association
         ensures within { result.0 ≤ length piece.now }
         ensures none_due { IfSome result.1 (λ kind. body_due self.new.framing + pdvs_due self.new.framing ≡ 0) }
         ensures settings { settings_in self.new.provider ≡ settings_in self.old.provider }
-        ensures unfiled { F.store filing.new ≡ F.store filing.old }
-        ensures found { (p : Progress) (r : List ℕ) → IsRest r → (shows : InFragment left more self.old.head.items self.old.pdv.items r (spot r)) → Pends (kept_of self.old.provider) p [] shows.begun
+        ensures drafts { Drafts (drafting_in (kept_of self.old.provider).storing) (F.store filing.old) (drafting_in (kept_of self.new.provider).storing) (F.store filing.new) }
+        ensures found { (p : Progress) (r : List ℕ) → IsRest r → (shows : InFragment left more self.old.head.items self.old.pdv.items r (spot r)) → Pends (kept_of self.old.provider) (F.store filing.old) p [] shows.begun
             → Found (rooms_of A C V D) (settings_in self.old.provider) (fields_of self.new) p r (take result.0 piece.now) result.1
             (devices (W.line wire.old) (F.store filing.old)) (devices (W.line wire.new) (F.store filing.new)) }
     {
@@ -271,13 +277,14 @@ impl<const A: usize, const C: usize, const V: usize, const D: usize> Association
         wire: &mut W,
         filing: &mut F,
     ) -> (usize, Option<u8>)
+        requires draft { IsThere (drafting_in (kept_of self.old.provider).storing) (F.store filing.old) }
         requires some { 0 < length piece.now }
         ensures some { 0 < result.0 }
         ensures within { result.0 ≤ length piece.now }
         ensures none_due { IfSome result.1 (λ kind. body_due self.new.framing + pdvs_due self.new.framing ≡ 0) }
         ensures settings { settings_in self.new.provider ≡ settings_in self.old.provider }
-        ensures unfiled { F.store filing.new ≡ F.store filing.old }
-        ensures found { (p : Progress) (r : List ℕ) → IsRest r → is_ended p.state ≡ false → ShowsFrame (fields_of self.old) p r
+        ensures drafts { Drafts (drafting_in (kept_of self.old.provider).storing) (F.store filing.old) (drafting_in (kept_of self.new.provider).storing) (F.store filing.new) }
+        ensures found { (p : Progress) (r : List ℕ) → IsRest r → is_ended p.state ≡ false → ShowsFrame (fields_of self.old) (F.store filing.old) p r
             → Found (rooms_of A C V D) (settings_in self.old.provider) (fields_of self.new) p r (take result.0 piece.now) result.1
             (devices (W.line wire.old) (F.store filing.old)) (devices (W.line wire.new) (F.store filing.new)) }
     {
@@ -293,13 +300,13 @@ impl<const A: usize, const C: usize, const V: usize, const D: usize> Association
 
     /// Takes some bytes, and returns how many: all once the association has ended.
     fn take_some<W: Wire, F: Filing>(&mut self, piece: &[u8], wire: &mut W, filing: &mut F) -> usize
+        requires draft { IsThere (drafting_in (kept_of self.old.provider).storing) (F.store filing.old) }
         requires some { 0 < length piece.now }
         ensures some { 0 < result }
         ensures within { result ≤ length piece.now }
         ensures settings { settings_in self.new.provider ≡ settings_in self.old.provider }
-        ensures unfiled { F.store filing.new ≡ F.store filing.old }
-        ensures took { (p : Progress) (r : List ℕ) → IsRest r → ShowsFrame (fields_of self.old) p r
-            → Storeless (rooms_of A C V D) (settings_in self.old.provider) p (map At (new_marks r (take result piece.now)))
+        ensures drafts { Drafts (drafting_in (kept_of self.old.provider).storing) (F.store filing.old) (drafting_in (kept_of self.new.provider).storing) (F.store filing.new) }
+        ensures took { (p : Progress) (r : List ℕ) → IsRest r → ShowsFrame (fields_of self.old) (F.store filing.old) p r
             → Took (rooms_of A C V D) (settings_in self.old.provider) (fields_of self.new) p r (take result piece.now)
             (devices (W.line wire.old) (F.store filing.old)) (devices (W.line wire.new) (F.store filing.new)) }
     {
@@ -320,10 +327,10 @@ impl<const A: usize, const C: usize, const V: usize, const D: usize> Association
         wire: &mut W,
         filing: &mut F,
     )
+        requires draft { IsThere (drafting_in (kept_of self.old.provider).storing) (F.store filing.old) }
         ensures settings { settings_in self.new.provider ≡ settings_in self.old.provider }
-        ensures unfiled { F.store filing.new ≡ F.store filing.old }
-        ensures took { (p : Progress) (r : List ℕ) → IsRest r → ShowsFrame (fields_of self.old) p r
-            → Storeless (rooms_of A C V D) (settings_in self.old.provider) p (map At (new_marks r piece.now))
+        ensures drafts { Drafts (drafting_in (kept_of self.old.provider).storing) (F.store filing.old) (drafting_in (kept_of self.new.provider).storing) (F.store filing.new) }
+        ensures took { (p : Progress) (r : List ℕ) → IsRest r → ShowsFrame (fields_of self.old) (F.store filing.old) p r
             → Took (rooms_of A C V D) (settings_in self.old.provider) (fields_of self.new) p r piece.now
             (devices (W.line wire.old) (F.store filing.old)) (devices (W.line wire.new) (F.store filing.new)) }
     {

@@ -2,7 +2,7 @@
 use Rattle.std.proofs.Common.{◌≡◌, ◌∙◌, ap, sym, subst, ℕ, ◌<◌, List, length, OnErr, arith}
 use Rattle.pdu.specs.Sent.{Sends}
 use Rattle.pdu.specs.Items.{record_of}
-use Rattle.pdu.proofs.RequestLemmas.{request_fits}
+use Rattle.pdu.proofs.Public.{request_fits}
 use Rattle.negotiate.specs.declared.answer.Answer.TheVariants.{Accept, Reject}
 use Rattle.negotiate.specs.Settings.{settings_of}
 use Rattle.negotiate.specs.Answer.{judged}

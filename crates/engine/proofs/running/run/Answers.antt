@@ -1,22 +1,24 @@
 -- One turn after another, and the report.
-use Rattle.std.proofs.Common.{◌∙◌, refl, arith, sym, ap, subst}
+use Rattle.std.proofs.Common.{◌≡◌, ◌≢◌, true, false, ◌∙◌, refl, arith, sym, ap, subst}
 use Rattle.negotiate.specs.Settings.{Settings, settings_of}
 use Rattle.part10.specs.Store.{Store}
 use Rattle.engine.specs.declared.source.Input.TheVariants.{Piece, Closed, Expired, LocalAbort}
-use Rattle.engine.specs.Covered.{IsCovered}
-use Rattle.engine.specs.Fields.{fields_of}
+use Rattle.acceptor.specs.declared.state.State.TheVariants.{Sta1}
+use Rattle.engine.specs.Fields.{fields_of, state_of}
 use Rattle.engine.specs.machine.Kept.{rooms_of}
-use Rattle.engine.specs.Held.{Held}
+use Rattle.engine.specs.Held.{Held, is_ended}
 use Rattle.engine.specs.Reached.{reached}
 use Rattle.engine.specs.Stands.{Stands}
 use Rattle.engine.specs.Ran.{standing_of}
+use Rattle.engine.proofs.StillLemmas.{ended_is}
 use Rattle.engine.proofs.RanLemmas.{running_start, running_more, follows_all, answered_by}
 use Rattle.engine.proofs.running.run.Goals as goal
-use Rattle.engine.proofs.running.run.Goals.{in-Piece, in-Closed, in-Expired, in-LocalAbort, else-loop-turn-test, then-loop-turn-test+in-Sta1}
+use Rattle.engine.proofs.running.run.Goals.{in-Piece, in-Closed, in-Expired, in-LocalAbort, else-loop-turn-test, then-loop-turn-test+then-over}
 
 pub loop-turn-init : goal.loop-turn-init
 loop-turn-init g c = record {
   settings = c.open-association.ensures.settings;
+  there = λ e. absurd (let wrong : true ≡ false = sym e ∙ c.open-association.ensures.no_draft in cc);
   running = running_start (rooms_of g.row.A g.row.C g.row.V g.row.D) (settings_of c.args.config.now) _ _ _ (c.open-association.ensures.stands _);
 }
 
@@ -26,22 +28,27 @@ loop-turn-preserved g c =
     let s = settings_of c.args.config.now in
     let i = c.loop-turn.invariant in
     let r = i.running in
+    let open_still : state_of c.loop-turn.association ≢ Sta1 = λ e. absurd (let wrong : true ≡ false = sym (ap is_ended e) ∙ sym c.is_ended-over.ensures ∙ c.if-over.false in cc) in
     elim c.match-next.branch [
       | in-Piece w ↦ rw (w.association-is, w.wire-is, w.filing-is) (record {
         settings = w.feed.ensures.settings ∙ i.settings;
-        running = running_more rooms s _ _ _ _ _ _ _ _ _ _ Piece _ i.settings (λ e. c.in_default.not-Sta1 (c.state.ensures ∙ e)) r (w.in-Piece.ensures {u = tt}) (rw w.piece.ensures at w.feed.ensures.moved);
+        there = w.feed.ensures.draft;
+        running = running_more rooms s _ _ _ _ _ _ _ _ _ _ Piece _ i.settings open_still r (w.in-Piece.ensures {u = tt}) (rw w.piece.ensures at w.feed.ensures.moved);
       })
       | in-Closed w ↦ rw (w.association-is, w.wire-is, w.filing-is) (record {
         settings = w.closed.ensures.settings ∙ i.settings;
-        running = running_more rooms s _ _ _ _ _ _ _ _ _ _ Closed _ i.settings (λ e. c.in_default.not-Sta1 (c.state.ensures ∙ e)) r (w.in-Closed.ensures {u = tt}) w.closed.ensures.moved;
+        there = w.closed.ensures.draft;
+        running = running_more rooms s _ _ _ _ _ _ _ _ _ _ Closed _ i.settings open_still r (w.in-Closed.ensures {u = tt}) w.closed.ensures.moved;
       })
       | in-Expired w ↦ rw (w.association-is, w.wire-is, w.filing-is) (record {
         settings = w.expired.ensures.settings ∙ i.settings;
-        running = running_more rooms s _ _ _ _ _ _ _ _ _ _ Expired _ i.settings (λ e. c.in_default.not-Sta1 (c.state.ensures ∙ e)) r (w.in-Expired.ensures {u = tt}) w.expired.ensures.moved;
+        there = w.expired.ensures.draft;
+        running = running_more rooms s _ _ _ _ _ _ _ _ _ _ Expired _ i.settings open_still r (w.in-Expired.ensures {u = tt}) w.expired.ensures.moved;
       })
       | in-LocalAbort w ↦ rw (w.association-is, w.wire-is, w.filing-is) (record {
         settings = w.local_abort.ensures.settings ∙ i.settings;
-        running = running_more rooms s _ _ _ _ _ _ _ _ _ _ LocalAbort _ i.settings (λ e. c.in_default.not-Sta1 (c.state.ensures ∙ e)) r (w.in-LocalAbort.ensures {u = tt}) w.local_abort.ensures.moved;
+        there = w.local_abort.ensures.draft;
+        running = running_more rooms s _ _ _ _ _ _ _ _ _ _ LocalAbort _ i.settings open_still r (w.in-LocalAbort.ensures {u = tt}) w.local_abort.ensures.moved;
       })
     ]
 
@@ -56,12 +63,12 @@ returns-clause-ran g c =
       most_turns = omega (arith, r.number, c.loop-turn.auto);
       all_turns = λ lt. elim c.loop-turn-test.branch [
         | else-loop-turn-test w ↦ absurd (omega (arith, r.number, w.loop-turn-test.false))
-        | then-loop-turn-test+in-Sta1 w ↦ c.of.ensures ∙ ap standing_of (c.state-2.ensures ∙ sym w.state.ensures ∙ w.in-Sta1.is)
+        | then-loop-turn-test+then-over w ↦ c.of.ensures ∙ ap standing_of (c.state.ensures ∙ ended_is _ (sym w.is_ended-over.ensures ∙ w.if-over.true))
       ];
       source = λ all e. follows_all _ _ r.taken all r.follows e;
-      answered = answered_by rooms s r.taken _ _ _ _ _ r.stood (c.of.ensures ∙ ap standing_of c.state-2.ensures)
-          (λ story failed h are. subst (λ (x : Settings). Held rooms x (reached rooms x r.taken story failed) c.held.result) set
-          (c.held.ensures.held r.taken story failed _ (subst (λ (x : Settings). Stands rooms x r.taken story failed (fields_of c.loop-turn.association) (g.F.Filing.store c.loop-turn.filing)) (sym set) h) (subst (λ (x : Settings). IsCovered rooms x r.taken) (sym set) are)))
+      answered = answered_by rooms s r.taken _ _ _ _ _ r.stood (c.of.ensures ∙ ap standing_of c.state.ensures)
+          (λ story failed h. subst (λ (x : Settings). Held rooms x (reached rooms x r.taken story failed) c.held.result) set
+          (c.held.ensures.held r.taken story failed _ (subst (λ (x : Settings). Stands rooms x r.taken story failed (fields_of c.loop-turn.association) (g.F.Filing.store c.loop-turn.filing)) (sym set) h)))
           refl c.discard.ensures.leaves;
       no_draft = ap (λ (x : Store). x.has_draft) c.discard.ensures.leaves;
     }

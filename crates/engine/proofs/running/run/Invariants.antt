@@ -2,7 +2,8 @@
 use Rattle.std.proofs.Common.{◌≡◌}
 use Rattle.negotiate.specs.Settings.{settings_of}
 use Rattle.engine.specs.Devices.{devices}
-use Rattle.engine.specs.Fields.{fields_of, settings_in}
+use Rattle.engine.specs.Drafts.{IsThere}
+use Rattle.engine.specs.Fields.{drafting_of, fields_of, settings_in}
 use Rattle.engine.specs.machine.Kept.{rooms_of}
 use Rattle.engine.specs.machine.Running.{Running}
 use Rattle.engine.proofs.running.run.Given as goal
@@ -10,6 +11,7 @@ use Rattle.engine.proofs.running.run.Given as goal
 abbrev pub invariant-loop-turn : goal.invariant-loop-turn
 invariant-loop-turn g l = record {
   settings : settings_in l.association ≡ settings_of l.fn.config;
+  there : IsThere (drafting_of l.association) (g.F.Filing.store l.filing);
   running : Running (rooms_of g.row.A g.row.C g.row.V g.row.D) (settings_of l.fn.config) l._turn (g.S.Source.to_come l.fn.source) (g.S.Source.to_come l.source) (fields_of l.association)
       (devices (g.W.Wire.line l.fn.wire) (g.F.Filing.store l.fn.filing)) (devices (g.W.Wire.line l.wire) (g.F.Filing.store l.filing));
 }

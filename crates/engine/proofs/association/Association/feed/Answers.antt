@@ -1,14 +1,13 @@
-use Rattle.std.proofs.Common.{◌∙◌, sym, ap}
-use Rattle.part10.specs.Store.{Store}
+use Rattle.std.proofs.Common.{◌∙◌, sym}
 use Rattle.engine.specs.Inputs.{Bytes}
 use Rattle.engine.proofs.MovedLemmas.{moved_still, moved_feed}
 use Rattle.engine.proofs.association.Association.feed.Goals as goal
 
 pub returns-then-is_ended-clause-moved : goal.returns-then-is_ended-clause-moved
-returns-then-is_ended-clause-moved g c inputs story failed h free = moved_still _ _ inputs story failed (Bytes c.args.piece.now) _ _ h (sym c.is_ended.ensures ∙ c.if-is_ended.true)
+returns-then-is_ended-clause-moved g c inputs story failed h = moved_still _ _ inputs story failed (Bytes c.args.piece.now) _ _ h (sym c.is_ended.ensures ∙ c.if-is_ended.true) c.requires.draft
 
 pub returns-clause-moved : goal.returns-clause-moved
-returns-clause-moved g c inputs story failed h free =
+returns-clause-moved g c inputs story failed h =
     let dropped = c.drop_heads.ensures in
-    moved_feed _ _ inputs story failed c.args.piece.now _ _ _ _ _ h free c.take_all.ensures.took
-    (record { kept = dropped.kept; same = dropped.same; framing_is = dropped.framing; head_is = dropped.head }) (ap (λ (x : Store). x.has_draft) c.take_all.ensures.unfiled)
+    moved_feed _ _ inputs story failed c.args.piece.now _ _ _ _ _ h c.take_all.ensures.took
+    (record { kept = dropped.kept; same = dropped.same; framing_is = dropped.framing; head_is = dropped.head }) c.take_all.ensures.drafts

@@ -1,5 +1,6 @@
+use Rattle.std.proofs.Common.{refl}
 use Rattle.engine.proofs.HeldLemmas.{held_as}
 use Rattle.engine.proofs.association.Association.held.Goals as goal
 
 pub returns-clause-held : goal.returns-clause-held
-returns-clause-held g c inputs story failed store h free = rw c.held.ensures.value (held_as _ _ _ _ _ h.shows (c.heads_held.ensures.value _ h.shows))
+returns-clause-held g c inputs story failed store h = rw c.held.ensures.value (held_as _ _ _ store _ _ refl refl h.shows (c.heads_held.ensures.value store _ h.shows))

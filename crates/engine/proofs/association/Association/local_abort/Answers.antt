@@ -1,12 +1,11 @@
-use Rattle.std.proofs.Common.{◌∙◌, sym, refl, ap}
-use Rattle.part10.specs.Store.{Store}
+use Rattle.std.proofs.Common.{◌∙◌, sym, refl}
 use Rattle.engine.specs.Inputs.{UserAbort}
 use Rattle.engine.specs.Timeline.{Aborted}
 use Rattle.engine.proofs.MovedLemmas.{moved_still, moved_call}
 use Rattle.engine.proofs.association.Association.local_abort.Goals as goal
 
 pub returns-then-is_ended-clause-moved : goal.returns-then-is_ended-clause-moved
-returns-then-is_ended-clause-moved g c inputs story failed h free = moved_still _ _ inputs story failed UserAbort _ _ h (sym c.is_ended.ensures ∙ c.if-is_ended.true)
+returns-then-is_ended-clause-moved g c inputs story failed h = moved_still _ _ inputs story failed UserAbort _ _ h (sym c.is_ended.ensures ∙ c.if-is_ended.true) c.requires.draft
 
 pub invariant_of-self-clause-body_fits : goal.invariant_of-self-clause-body_fits
 invariant_of-self-clause-body_fits g c some = c.on_local_abort.ensures.body_fits _ _ (c.args.self.now.body_fits some)
@@ -15,7 +14,7 @@ pub invariant_of-self-clause-fragment_fits : goal.invariant_of-self-clause-fragm
 invariant_of-self-clause-fragment_fits g c some = c.on_local_abort.ensures.fragment_fits _ (c.args.self.now.fragment_fits some)
 
 pub returns-clause-moved : goal.returns-clause-moved
-returns-clause-moved g c inputs story failed h free =
+returns-clause-moved g c inputs story failed h =
     let dropped = c.drop_heads.ensures in
     moved_call _ _ inputs story failed UserAbort Aborted _ _ _ _ _ _ _ _ h (sym c.is_ended.ensures ∙ c.if-is_ended.false) refl refl c.on_local_abort.ensures.does
-    (record { kept = dropped.kept; same = dropped.same; framing_is = dropped.framing; head_is = dropped.head }) (ap (λ (x : Store). x.has_draft) c.on_local_abort.ensures.unfiled)
+    (record { kept = dropped.kept; same = dropped.same; framing_is = dropped.framing; head_is = dropped.head }) c.on_local_abort.ensures.drafts

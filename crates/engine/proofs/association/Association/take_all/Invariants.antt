@@ -1,11 +1,10 @@
-use Rattle.std.proofs.Common.{◌≡◌, ℕ, List, ◌-◌, ◌≤◌, length, take, map}
+use Rattle.std.proofs.Common.{◌≡◌, ℕ, List, ◌-◌, ◌≤◌, length, take}
 use Rattle.pdu.specs.Frames.{IsRest}
-use Rattle.pdu.specs.Marks.{new_marks}
 use Rattle.engine.specs.Devices.{devices}
 use Rattle.engine.specs.Progress.{Progress}
-use Rattle.engine.specs.Timeline.{At}
-use Rattle.engine.specs.machine.Does.{Storeless}
-use Rattle.engine.specs.machine.Kept.{settings_in, rooms_of}
+use Rattle.engine.specs.machine.Storing.{drafting_in}
+use Rattle.engine.specs.Drafts.{Drafts}
+use Rattle.engine.specs.machine.Kept.{kept_of, settings_in, rooms_of}
 use Rattle.engine.specs.Fields.{fields_of}
 use Rattle.engine.specs.machine.Shows.{ShowsFrame, Took}
 use Rattle.engine.proofs.association.Association.take_all.Given as goal
@@ -14,9 +13,8 @@ abbrev pub invariant-loop-at : goal.invariant-loop-at
 invariant-loop-at g l = record {
   within : l.at ≤ length l.piece;
   settings : settings_in l.self.provider ≡ settings_in l.fn.self.provider;
-  unfiled : g.F.Filing.store l.filing ≡ g.F.Filing.store l.fn.filing;
-  took : (p : Progress) (r : List ℕ) → IsRest r → ShowsFrame (fields_of l.fn.self) p r
-      → Storeless (rooms_of g.row.A g.row.C g.row.V g.row.D) (settings_in l.fn.self.provider) p (map At (new_marks r l.piece))
+  drafts : Drafts (drafting_in (kept_of l.fn.self.provider).storing) (g.F.Filing.store l.fn.filing) (drafting_in (kept_of l.self.provider).storing) (g.F.Filing.store l.filing);
+  took : (p : Progress) (r : List ℕ) → IsRest r → ShowsFrame (fields_of l.fn.self) (g.F.Filing.store l.fn.filing) p r
       → Took (rooms_of g.row.A g.row.C g.row.V g.row.D) (settings_in l.fn.self.provider) (fields_of l.self) p r (take l.at l.piece)
       (devices (g.W.Wire.line l.fn.wire) (g.F.Filing.store l.fn.filing)) (devices (g.W.Wire.line l.wire) (g.F.Filing.store l.filing));
 }

@@ -8,13 +8,13 @@ pub returns-then-left-eq0-clause-found : goal.returns-then-left-eq0-clause-found
 returns-then-left-eq0-clause-found g c p r d rest h q =
     let part = take c.min-count.result c.args.piece.now in
     let count : length part ≡ c.args.left = omega (arith, length-take c.min-count.result c.args.piece.now, c.min-count.ensures, c.if-left-eq0.true) in
-    rw c.clear.ensures (found_body_end _ _ c.args.left _ _ _ _ _ p r part d rest h q (ap (λ (xs : List ℕ). get_or xs 0 0) c.deref.ensures.0) (c.on_body.ensures.pends p (drop 6 r)) count (no_items _ c.requires.pdv))
+    rw c.clear.ensures (found_body_end _ _ c.args.left _ _ _ _ _ p r part d rest h q (ap (λ (xs : List ℕ). get_or xs 0 0) c.deref.ensures.0) (c.on_body.ensures.pends d.store p (drop 6 r)) count (no_items _ c.requires.pdv))
 
 pub returns-else-left-eq0-clause-found : goal.returns-else-left-eq0-clause-found
 returns-else-left-eq0-clause-found g c p r d rest h q =
     let part = take c.min-count.result c.args.piece.now in
     let count : length part ≡ c.min-count.result = omega (arith, length-take c.min-count.result c.args.piece.now, c.min-count.ensures) in
-    found_body _ _ c.args.left _ _ _ _ _ _ p r part d rest h q (ap (λ (xs : List ℕ). get_or xs 0 0) c.deref.ensures.0) (c.on_body.ensures.pends p (drop 6 r)) (omega (arith, count, c.if-left-eq0.false)) (omega (arith, count))
+    found_body _ _ c.args.left _ _ _ _ _ _ p r part d rest h q (ap (λ (xs : List ℕ). get_or xs 0 0) c.deref.ensures.0) (c.on_body.ensures.pends d.store p (drop 6 r)) (omega (arith, count, c.if-left-eq0.false)) (omega (arith, count))
 
 pub invariant_of-self-else-left-eq0-clause-body_fits : goal.invariant_of-self-else-left-eq0-clause-body_fits
 invariant_of-self-else-left-eq0-clause-body_fits g c some =

@@ -1,4 +1,4 @@
-use Rattle.std.proofs.Common.{◌≡◌, ◌<◌, length, arith, ◌∙◌, sym, ap}
+use Rattle.std.proofs.Common.{◌≡◌, ◌<◌, length, arith, ◌∙◌, sym, ap, rules}
 use Rattle.std.proofs.lemmas.List.{take_all}
 use Rattle.pdu.specs.declared.head.PduHead.{PduHead}
 use Rattle.pdu.specs.Marks.{frame_kind, frame_length}
@@ -54,3 +54,12 @@ returns-clause-found g c p r s h q =
     let kind : c.read_pdu_head-head.result.kind ≡ frame_kind items = ap (λ (x : PduHead). x.kind) c.read_pdu_head-head.ensures ∙ ap frame_kind bytes in
     let n : c.read_pdu_head-head.result.length ≡ frame_length items = ap (λ (x : PduHead). x.length) c.read_pdu_head-head.ensures ∙ ap frame_length bytes in
     found_head_other _ _ _ _ items _ p r _ s _ _ _ _ h taken six kind n (omega (arith, c.if-head-eq0.false)) c.if-head-eq-DATA.false (c.on_head-2.ensures.does p q)
+
+pub on_head-requires : goal.on_head-requires
+on_head-requires g c = (search rules, c.requires.draft)
+
+pub on_head-requires-then-head-eq-DATA : goal.on_head-requires-then-head-eq-DATA
+on_head-requires-then-head-eq-DATA g c = (search rules, c.requires.draft)
+
+pub on_head-requires-2 : goal.on_head-requires-2
+on_head-requires-2 g c = (search rules, c.requires.draft)

@@ -1,10 +1,11 @@
-use Rattle.std.proofs.Common.{◌⊎◌, ◌≡◌, ◌<◌, ◌≤◌, ◌-◌, ℕ, List, length, take, get_or, arith, ◌∙◌, ap, refl, inl, inr}
+use Rattle.std.proofs.Common.{◌⊎◌, ◌≡◌, ◌<◌, ◌≤◌, ◌-◌, ℕ, List, length, take, get_or, arith, ◌∙◌, ap, refl, inl, inr, rules}
 use Rattle.std.proofs.lemmas.List.{length-take, take_all}
 use Rattle.byteorder.specs.Endian.{big_number}
 use Rattle.pdu.specs.Heads.{pdv_head_of}
 use Rattle.pdu.specs.Marks.{frame_kind}
 use Rattle.pdu.specs.declared.head.PdvHead.{PdvHead}
-use Rattle.engine.proofs.FoundLemmas.{found_pdv_part, found_pdv_short, found_bad, found_bad_end, found_pdv_head, found_pdv_whole}
+use Rattle.engine.proofs.TookLemmas.{drafts_then}
+use Rattle.engine.proofs.ValueLemmas.{found_pdv_part, found_pdv_short, found_bad, found_bad_end, found_pdv_head, found_pdv_whole}
 use Rattle.engine.proofs.association.Association.take_pdv_head.Goals as goal
 use Rattle.engine.proofs.association.Association.take_pdv_head.Goals.{then-head-lt2-via-then-head-lt2, then-head-lt2-via-else-head-lt2+then-head-left}
 
@@ -87,7 +88,7 @@ returns-clause-found g c p r rest h q =
     let two : c.read_pdv_head-head.result.length ≡ 2 = omega (arith, c.if-head-lt2.false, c.if-more-gt0.false) in
     rw (c.end_pdv-ended.ensures.ended, c.end_pdv-ended.ensures.framing, c.end_pdv-ended.ensures.head, c.clear-2.ensures)
     (found_pdv_whole _ _ c.args.left _ _ _ _ items _ _ p r part _ _ _ rest h taken c.requires.pdv six n two
-    (c.on_pdv_head.ensures.does p items six head q) _ c.on_pdv_head.ensures.settings _ (ap (λ (xs : List ℕ). get_or xs 4 0) c.deref-2.ensures.0) (λ x b long whole same w free. c.end_pdv-ended.ensures.does x b long whole same w free) within left)
+    (c.on_pdv_head.ensures.does p items six head q) _ c.on_pdv_head.ensures.settings _ (ap (λ (xs : List ℕ). get_or xs 4 0) c.deref-2.ensures.0) c.end_pdv-ended.ensures.does within left)
 
 pub invariant_of-self-2-clause-pdv_least : goal.invariant_of-self-2-clause-pdv_least
 invariant_of-self-2-clause-pdv_least g c = omega (arith, c.end_pdv-ended.ensures.pdv_least)
@@ -98,3 +99,15 @@ invariant_of-self-2-clause-data g c some = ap frame_kind (c.end_pdv-ended.ensure
 pub invariant_of-self-2-clause-body_fits : goal.invariant_of-self-2-clause-body_fits
 invariant_of-self-2-clause-body_fits g c some =
     let kind = ap frame_kind (c.end_pdv-ended.ensures.kept (omega (arith, some))) ∙ c.requires.data in λ due taken one. absurd (omega (arith, one, kind))
+
+pub on_bad-requires : goal.on_bad-requires
+on_bad-requires g c = (search rules, c.requires.draft)
+
+pub on_pdv_head-requires : goal.on_pdv_head-requires
+on_pdv_head-requires g c = (search rules, (c.requires.draft, omega (arith, c.if-head-lt2.false)))
+
+pub end_pdv-ended-requires : goal.end_pdv-ended-requires
+end_pdv-ended-requires g c = (search rules, (c.on_pdv_head.ensures.drafts.there, c.requires.head))
+
+pub returns-clause-drafts : goal.returns-clause-drafts
+returns-clause-drafts g c = drafts_then _ _ _ _ _ _ c.on_pdv_head.ensures.drafts c.end_pdv-ended.ensures.drafts

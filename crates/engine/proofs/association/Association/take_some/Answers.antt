@@ -1,19 +1,19 @@
-use Rattle.std.proofs.Common.{◌∙◌, ◌≡◌, true, false, sym, ap}
+use Rattle.std.proofs.Common.{◌∙◌, ◌≡◌, false, sym, ap}
 use Rattle.engine.specs.Held.{is_ended}
 use Rattle.engine.proofs.TookLemmas.{took_calm, took_goes, took_ends}
 use Rattle.engine.proofs.association.Association.take_some.Goals as goal
 
 pub returns-then-is_ended-clause-took : goal.returns-then-is_ended-clause-took
-returns-then-is_ended-clause-took g c p r rest h free = took_calm _ _ _ p r _ _ (sym (ap is_ended h.pends.state_is) ∙ sym c.is_ended.ensures ∙ c.if-is_ended.true) h
+returns-then-is_ended-clause-took g c p r rest h = took_calm _ _ _ p r _ _ (sym (ap is_ended h.pends.state_is) ∙ sym c.is_ended.ensures ∙ c.if-is_ended.true) h
 
 pub returns-in-Some-clause-took : goal.returns-in-Some-clause-took
-returns-in-Some-clause-took g c p r rest h free =
+returns-in-Some-clause-took g c p r rest h =
     let open_still : is_ended p.state ≡ false = sym (ap is_ended h.pends.state_is) ∙ sym c.is_ended.ensures ∙ c.if-is_ended.false in
     let found = c.take_part-count.ensures.found p r rest open_still h in
-    took_ends _ _ _ _ _ _ _ p r _ c.in-Some.kind _ _ _ (rw c.in-Some.is at found) (rw c.take_part-count.ensures.settings at c.on_end.ensures.does) free
+    took_ends _ _ _ _ _ _ _ p r _ c.in-Some.kind _ _ _ (rw c.in-Some.is at found) (rw c.take_part-count.ensures.settings at c.on_end.ensures.does)
 
 pub returns-in_default-clause-took : goal.returns-in_default-clause-took
-returns-in_default-clause-took g c p r rest h free =
+returns-in_default-clause-took g c p r rest h =
     let open_still : is_ended p.state ≡ false = sym (ap is_ended h.pends.state_is) ∙ sym c.is_ended.ensures ∙ c.if-is_ended.false in
     let found = c.take_part-count.ensures.found p r rest open_still h in
-    took_goes _ _ _ p r _ _ _ (rw c.in_default.is at found) free
+    took_goes _ _ _ p r _ _ _ (rw c.in_default.is at found)

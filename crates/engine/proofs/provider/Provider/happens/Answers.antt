@@ -9,20 +9,20 @@ use Rattle.engine.proofs.provider.Provider.happens.Goals as goal
 
 pub returns-clause-tries : goal.returns-clause-tries
 returns-clause-tries g c = λ p body begun h.
-    happened p c.args.event c.args.reason (answer_text c.args.answering) c.step-next.result.1 (kept_of c.args.self.now) (kept_of c.settle.new.self) body begun _ _ h
+    happened p c.args.event c.args.reason (answer_text c.args.answering) c.step-next.result.1 (kept_of c.args.self.now) (kept_of c.settle.new.self) body begun _ _ _ _ h
     (subst (λ (st : State). Stays st c.args.event) h.state_is c.requires.stays)
-    (subst (λ (st : State). Settles st c.step-next.result.1 (kept_of c.args.self.now) (kept_of c.settle.new.self)) c.step-next.ensures.state c.settle.ensures.settles)
+    (subst (λ (st : State). Settles st c.step-next.result.1 (kept_of c.args.self.now) (kept_of c.settle.new.self) (g.F.Filing.store c.args.filing.now) (g.F.Filing.store c.settle.new.filing)) c.step-next.ensures.state c.settle.ensures.settles)
     c.step-next.ensures.sends c.step-next.ensures.due
 
 pub returns-clause-body : goal.returns-clause-body
-returns-clause-body g c = λ e. settles_body c.step-next.result.0 c.step-next.result.1 (kept_of c.args.self.now) (kept_of c.settle.new.self) c.settle.ensures.settles e
+returns-clause-body g c = λ e. settles_body c.step-next.result.0 c.step-next.result.1 (kept_of c.args.self.now) (kept_of c.settle.new.self) _ _ c.settle.ensures.settles e
 
 pub returns-clause-body_fits : goal.returns-clause-body_fits
 returns-clause-body_fits g c = λ kind m h.
-    settles_body_fits (g.row.A - 12) c.step-next.result.0 c.step-next.result.1 (kept_of c.args.self.now) (kept_of c.settle.new.self) kind m c.settle.ensures.settles
+    settles_body_fits (g.row.A - 12) c.step-next.result.0 c.step-next.result.1 (kept_of c.args.self.now) (kept_of c.settle.new.self) _ _ kind m c.settle.ensures.settles
     (subst (λ (st : State). is_left st ≡ false → st ≡ c.args.self.now.state) (sym c.step-next.ensures.state) c.requires.stays) h
 
 pub returns-clause-fragment_fits : goal.returns-clause-fragment_fits
 returns-clause-fragment_fits g c = λ m h.
-    settles_fragment_fits c.step-next.result.0 c.step-next.result.1 (kept_of c.args.self.now) (kept_of c.settle.new.self) m c.settle.ensures.settles
+    settles_fragment_fits c.step-next.result.0 c.step-next.result.1 (kept_of c.args.self.now) (kept_of c.settle.new.self) _ _ m c.settle.ensures.settles
     (subst (λ (st : State). is_left st ≡ false → st ≡ c.args.self.now.state) (sym c.step-next.ensures.state) c.requires.stays) h

@@ -6,20 +6,21 @@ use Rattle.engine.specs.Progress.{nothing, done}
 use Rattle.engine.specs.Replies.{invalid}
 use Rattle.engine.specs.Timeline.{At}
 use Rattle.engine.specs.machine.Kept.{kept_of, settings_in, rooms_of}
-use Rattle.engine.proofs.TriesLemmas.{does_by, does_nothing, bad_is, takes_shown, none_counted_body, none_counted_pdv}
+use Rattle.engine.proofs.ShownLemmas.{takes_shown}
+use Rattle.engine.proofs.TriesLemmas.{does_by, does_nothing, bad_is, none_counted_body, none_counted_pdv}
 use Rattle.engine.proofs.provider.Provider.on_bad.Goals as goal
 
 pub returns-then-takes_pdvs-clause-does : goal.returns-then-takes_pdvs-clause-does
 returns-then-takes_pdvs-clause-does g c = λ p h.
     let rooms = rooms_of g.row.A g.row.C g.row.V g.row.D in
     let s = settings_in c.args.self.now in
-    let taken = sym (takes_shown (kept_of c.args.self.now) p [] [] h) ∙ sym c.takes_pdvs.ensures ∙ c.if-takes_pdvs.true in
-    does_by rooms s p (At BadPdv) (invalid p) (kept_of c.refuse.new.self) [] [] _ _ _ (bad_is rooms s p ∙ ap (λ (t : Bool). if t then invalid p else nothing p) taken) refl tt
+    let taken = sym (takes_shown (kept_of c.args.self.now) _ p [] [] h) ∙ sym c.takes_pdvs.ensures ∙ c.if-takes_pdvs.true in
+    does_by rooms s p (At BadPdv) (invalid p) (kept_of c.refuse.new.self) [] [] _ _ (bad_is rooms s p ∙ ap (λ (t : Bool). if t then invalid p else nothing p) taken) refl tt
     (c.refuse.ensures.tries p [] [] [] [] h (none_counted_body (done [] 6 p event.Invalid).next) (none_counted_pdv (done [] 6 p event.Invalid).next))
 
 pub returns-else-takes_pdvs-clause-does : goal.returns-else-takes_pdvs-clause-does
 returns-else-takes_pdvs-clause-does g c = λ p h.
     let rooms = rooms_of g.row.A g.row.C g.row.V g.row.D in
     let s = settings_in c.args.self.now in
-    let dropped = sym (takes_shown (kept_of c.args.self.now) p [] [] h) ∙ sym c.takes_pdvs.ensures ∙ c.if-takes_pdvs.false in
-    does_nothing rooms s p (At BadPdv) (kept_of c.args.self.now) [] [] _ _ (bad_is rooms s p ∙ ap (λ (t : Bool). if t then invalid p else nothing p) dropped) tt h
+    let dropped = sym (takes_shown (kept_of c.args.self.now) _ p [] [] h) ∙ sym c.takes_pdvs.ensures ∙ c.if-takes_pdvs.false in
+    does_nothing rooms s p (At BadPdv) (kept_of c.args.self.now) [] [] _ (bad_is rooms s p ∙ ap (λ (t : Bool). if t then invalid p else nothing p) dropped) tt h

@@ -1,20 +1,27 @@
--- The join has the part.
-use Rattle.std.proofs.Common.{◌∙◌, ◌-◌, ◌++◌, sym, subst, List, ℕ, [], true}
+-- The join has the part, and it is walked and goes to the draft.
+use Rattle.std.proofs.Common.{◌∙◌, ◌++◌, sym, subst, List, ℕ, []}
 use Rattle.dimse.specs.Joining.{Shows}
-use Rattle.engine.specs.machine.Messages.{with_join}
 use Rattle.engine.specs.machine.Kept.{kept_of, settings_in, rooms_of}
-use Rattle.engine.proofs.MessageLemmas.{aside_of, pends_joined, counted_taken, appends_none}
-use Rattle.engine.proofs.TriesLemmas.{takes_shown}
+use Rattle.engine.specs.machine.Storing.{stored_of}
+use Rattle.engine.proofs.StoreLemmas.{goes_drafts}
+use Rattle.engine.proofs.ShownLemmas.{takes_shown}
+use Rattle.engine.proofs.MessageLemmas.{counted_taken, pends_dropped}
+use Rattle.engine.proofs.DataLemmas.{does_append, appends_none}
 use Rattle.engine.proofs.provider.Provider.on_data.Goals as goal
 
 pub returns-then-takes_pdvs-clause-appends : goal.returns-then-takes_pdvs-clause-appends
 returns-then-takes_pdvs-clause-appends g c = λ p begun six h.
-    let rooms = rooms_of g.row.A g.row.C g.row.V g.row.D in
-    let s = settings_in c.args.self.now in
     let k = kept_of c.args.self.now in
-    let taken = sym (takes_shown k p [] begun h) ∙ sym c.takes_pdvs.ensures ∙ c.if-takes_pdvs.true in
-    let j = c.take.new.self in
+    let taken = sym (takes_shown k _ p [] begun h) ∙ sym c.takes_pdvs.ensures ∙ c.if-takes_pdvs.true in
     let was : Shows g.row.C k.join p.message begun = subst (λ (xs : List ℕ). Shows g.row.C k.join p.message xs) (counted_taken p begun taken) h.join_is in
-    let shows : Shows g.row.C j p.message (begun ++ c.args.part.now) = c.take.ensures.shows p.message begun was in
-    appends_none rooms s p (with_join j k) (begun ++ c.args.part.now) _ _
-    (pends_joined k p j (begun ++ c.args.part.now) (aside_of k p j begun h) (subst (λ (xs : List ℕ). Shows g.row.C j p.message xs) (sym (counted_taken p (begun ++ c.args.part.now) taken)) shows))
+    does_append (rooms_of g.row.A g.row.C g.row.V g.row.D) (settings_in c.args.self.now) p begun c.args.part.now k c.take.new.self (stored_of c.take-then-takes_pdvs.new.self) _ _ _ h taken six
+    (c.take.ensures.shows p.message begun was) c.take-then-takes_pdvs.ensures.goes_on
+
+pub returns-then-takes_pdvs-clause-drafts : goal.returns-then-takes_pdvs-clause-drafts
+returns-then-takes_pdvs-clause-drafts g c = goes_drafts c.args.part.now (stored_of c.args.self.now.storing) (stored_of c.take-then-takes_pdvs.new.self) _ _ c.take-then-takes_pdvs.ensures.goes_on
+
+pub returns-else-takes_pdvs-clause-appends : goal.returns-else-takes_pdvs-clause-appends
+returns-else-takes_pdvs-clause-appends g c = λ p begun six h.
+    let k = kept_of c.args.self.now in
+    let dropped = sym (takes_shown k _ p [] begun h) ∙ sym c.takes_pdvs.ensures ∙ c.if-takes_pdvs.false in
+    appends_none (rooms_of g.row.A g.row.C g.row.V g.row.D) (settings_in c.args.self.now) p k (begun ++ c.args.part.now) _ (pends_dropped k _ p [] begun (begun ++ c.args.part.now) dropped h)

@@ -3,11 +3,12 @@ use Rattle.std.proofs.Common.{[], List, ℕ, refl, sym, subst}
 use Rattle.pdu.specs.Marks.{End}
 use Rattle.engine.specs.Timeline.{At, good}
 use Rattle.engine.specs.Run.{at_entry}
+use Rattle.engine.specs.Devices.{devices}
 use Rattle.engine.specs.machine.Pends.{body_in}
 use Rattle.engine.specs.machine.Tries.{Tries}
 use Rattle.engine.specs.machine.Kept.{kept_of, settings_in, rooms_of}
 use Rattle.engine.proofs.TriesLemmas.{does_by}
-use Rattle.engine.proofs.RequestLemmas.{end_gone, end_files, tries_cleared}
+use Rattle.engine.proofs.WholeLemmas.{end_gone, end_files, tries_cleared}
 use Rattle.engine.proofs.provider.Provider.on_end.Goals as goal
 
 pub returns-clause-does : goal.returns-clause-does
@@ -16,6 +17,6 @@ returns-clause-does g c = λ p body h.
     let s = settings_in c.args.self.now in
     let given = at_entry rooms s p good (At (End c.args.kind body)) in
     let k = kept_of c.on_whole.new.self in
-    does_by rooms s p (At (End c.args.kind body)) given (record k { body = c.clear.new.self.items }) [] [] _ _ _ refl (end_files rooms s p c.args.kind body) tt
-    (subst (λ (b : List ℕ). Tries p given (record k { body = b }) [] [] (g.W.Wire.line c.args.wire.now) (g.W.Wire.line c.on_whole.new.wire)) (sym c.clear.ensures)
+    does_by rooms s p (At (End c.args.kind body)) given (record k { body = c.clear.new.self.items }) [] [] _ _ refl (end_files rooms s p c.args.kind body) tt
+    (subst (λ (b : List ℕ). Tries p given (record k { body = b }) [] [] (devices (g.W.Wire.line c.args.wire.now) (g.F.Filing.store c.args.filing.now)) (devices (g.W.Wire.line c.on_whole.new.wire) (g.F.Filing.store c.on_whole.new.filing))) (sym c.clear.ensures)
     (tries_cleared p given k (body_in c.args.kind body) _ _ (end_gone rooms s p c.args.kind body) (c.on_whole.ensures.tries p body h)))

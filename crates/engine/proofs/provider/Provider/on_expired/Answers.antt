@@ -9,4 +9,4 @@ use Rattle.engine.proofs.provider.Provider.on_expired.Goals as goal
 
 pub returns-clause-does : goal.returns-clause-does
 returns-clause-does g c = λ p body begun h.
-    does_by (rooms_of g.row.A g.row.C g.row.V g.row.D) (settings_in c.args.self.now) p TimedOut (done [] 0 p event.Expired) (kept_of c.happens.new.self) body begun _ _ _ refl refl tt (c.happens.ensures.tries p body begun h)
+    does_by (rooms_of g.row.A g.row.C g.row.V g.row.D) (settings_in c.args.self.now) p TimedOut (done [] 0 p event.Expired) (kept_of c.happens.new.self) body begun _ _ refl refl tt (c.happens.ensures.tries p body begun h)

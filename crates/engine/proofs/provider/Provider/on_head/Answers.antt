@@ -1,14 +1,14 @@
 -- The judged head is what the entry gives.
-use Rattle.std.proofs.Common.{[], List, refl, ap, sym, subst, ◌≡◌, ◌∙◌, ◌-◌, ℕ, false}
+use Rattle.std.proofs.Common.{rules, [], List, refl, ap, sym, subst, ◌≡◌, ◌∙◌, ◌-◌, ℕ, false}
 use Rattle.acceptor.specs.declared.state.State.{State}
 use Rattle.acceptor.specs.declared.event.Event.TheVariants as event
 use Rattle.pdu.specs.Marks.{Head}
 use Rattle.pdu.specs.Texts.{reject_text}
 use Rattle.engine.specs.Heads.{NoEvent, AtOnce, TooLong, head_event}
 use Rattle.engine.specs.Progress.{Progress, nothing, done, refusing}
+use Rattle.part10.specs.Store.{Store}
 use Rattle.engine.specs.machine.Pends.{Kept, Pends}
 use Rattle.engine.specs.Timeline.{At}
-use Rattle.engine.specs.machine.HeadEvents.{brings}
 use Rattle.engine.specs.machine.Kept.{kept_of, settings_in, rooms_of}
 use Rattle.engine.proofs.PendsLemmas.{pends_begins, tries_from}
 use Rattle.engine.proofs.HeadLemmas.{head_nothing, head_at_once, head_rejected}
@@ -16,8 +16,8 @@ use Rattle.engine.proofs.TriesLemmas.{does_by, tries_nothing, none_counted_body,
 use Rattle.engine.proofs.provider.Provider.on_head.Goals as goal
 
 -- a PDU begins, and no part of a body has come
-begun_pends : (k : Kept) (p : Progress) (b : List ℕ) → b ≡ [] → Pends k p [] [] → Pends (record k { refused = false; body = b }) (record p { refused = false }) [] []
-begun_pends k p b e h = subst (λ (x : List ℕ). Pends (record k { refused = false; body = x }) (record p { refused = false }) [] []) (sym e) (pends_begins k p h)
+begun_pends : (k : Kept) (store : Store) (p : Progress) (b : List ℕ) → b ≡ [] → Pends k store p [] [] → Pends (record k { refused = false; body = b }) store (record p { refused = false }) [] []
+begun_pends k store p b e h = subst (λ (x : List ℕ). Pends (record k { refused = false; body = x }) store (record p { refused = false }) [] []) (sym e) (pends_begins k store p h)
 
 pub returns-in-Nothing-clause-does : goal.returns-in-Nothing-clause-does
 returns-in-Nothing-clause-does g c = λ p h.
@@ -27,8 +27,8 @@ returns-in-Nothing-clause-does g c = λ p h.
     let k = record (kept_of c.args.self.now) { refused = false; body = c.clear.new.self.items } in
     let is : head_event (g.row.A - 12) s.max_pdu p.state c.args.kind c.args.length ≡ NoEvent =
     ap (λ (st : State). head_event (g.row.A - 12) s.max_pdu st c.args.kind c.args.length) (sym h.state_is) ∙ sym c.in-Nothing.ensures.brings in
-    does_by rooms s p (At (Head c.args.kind c.args.length)) (nothing q) k [] [] _ _ _ (head_nothing rooms s p c.args.kind c.args.length is) refl tt
-    (tries_from p q (nothing q) k [] [] _ _ (tries_nothing q k [] [] _ (begun_pends (kept_of c.args.self.now) p c.clear.new.self.items c.clear.ensures h)))
+    does_by rooms s p (At (Head c.args.kind c.args.length)) (nothing q) k [] [] _ _ (head_nothing rooms s p c.args.kind c.args.length is) refl tt
+    (tries_from p q (nothing q) k [] [] _ _ (tries_nothing q k [] [] _ (begun_pends (kept_of c.args.self.now) _ p c.clear.new.self.items c.clear.ensures h)))
 
 pub returns-in-AtOnce-clause-body : goal.returns-in-AtOnce-clause-body
 returns-in-AtOnce-clause-body g c = c.refuse.ensures.body c.clear.ensures
@@ -42,9 +42,9 @@ returns-in-AtOnce-clause-does g c = λ p h.
     let reason = c.in-AtOnce.reason in
     let is : head_event (g.row.A - 12) s.max_pdu p.state c.args.kind c.args.length ≡ AtOnce event reason =
     ap (λ (st : State). head_event (g.row.A - 12) s.max_pdu st c.args.kind c.args.length) (sym h.state_is) ∙ sym c.in-AtOnce.ensures.brings in
-    does_by rooms s p (At (Head c.args.kind c.args.length)) (refusing (done [] reason q event)) (kept_of c.refuse.new.self) [] [] _ _ _ (head_at_once rooms s p c.args.kind c.args.length event reason is) refl tt
+    does_by rooms s p (At (Head c.args.kind c.args.length)) (refusing (done [] reason q event)) (kept_of c.refuse.new.self) [] [] _ _ (head_at_once rooms s p c.args.kind c.args.length event reason is) refl tt
     (tries_from p q (refusing (done [] reason q event)) (kept_of c.refuse.new.self) [] [] _ _
-    (c.refuse.ensures.tries q [] [] [] [] (begun_pends (kept_of c.args.self.now) p c.clear.new.self.items c.clear.ensures h) (none_counted_body (done [] reason q event).next) (none_counted_pdv (done [] reason q event).next)))
+    (c.refuse.ensures.tries q [] [] [] [] (begun_pends (kept_of c.args.self.now) _ p c.clear.new.self.items c.clear.ensures h) (none_counted_body (done [] reason q event).next) (none_counted_pdv (done [] reason q event).next)))
 
 pub returns-in-TooLong-clause-body : goal.returns-in-TooLong-clause-body
 returns-in-TooLong-clause-body g c = c.refuse-in-TooLong.ensures.body c.clear.ensures
@@ -57,6 +57,9 @@ returns-in-TooLong-clause-does g c = λ p h.
     let given = done (reject_text 2 3 2) 0 q (event.Request false) in
     let is : head_event (g.row.A - 12) s.max_pdu p.state c.args.kind c.args.length ≡ TooLong =
     ap (λ (st : State). head_event (g.row.A - 12) s.max_pdu st c.args.kind c.args.length) (sym h.state_is) ∙ sym c.in-TooLong.ensures.brings in
-    does_by rooms s p (At (Head c.args.kind c.args.length)) (refusing given) (kept_of c.refuse-in-TooLong.new.self) [] [] _ _ _ (head_rejected rooms s p c.args.kind c.args.length is) refl tt
+    does_by rooms s p (At (Head c.args.kind c.args.length)) (refusing given) (kept_of c.refuse-in-TooLong.new.self) [] [] _ _ (head_rejected rooms s p c.args.kind c.args.length is) refl tt
     (tries_from p q (refusing given) (kept_of c.refuse-in-TooLong.new.self) [] [] _ _
-    (c.refuse-in-TooLong.ensures.tries q [] [] [] [] (begun_pends (kept_of c.args.self.now) p c.clear.new.self.items c.clear.ensures h) (none_counted_body given.next) (none_counted_pdv given.next)))
+    (c.refuse-in-TooLong.ensures.tries q [] [] [] [] (begun_pends (kept_of c.args.self.now) _ p c.clear.new.self.items c.clear.ensures h) (none_counted_body given.next) (none_counted_pdv given.next)))
+
+pub refuse-requires : goal.refuse-requires
+refuse-requires g c = (search rules, (c.requires.draft, c.in-AtOnce.ensures.stays c.in-AtOnce.event c.in-AtOnce.reason refl))

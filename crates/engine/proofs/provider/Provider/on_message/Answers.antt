@@ -1,10 +1,25 @@
--- The reply is sent, and the join is cleared.
-use Rattle.std.proofs.Common.{sym, ◌∙◌}
-use Rattle.engine.specs.machine.Kept.{kept_of}
-use Rattle.engine.proofs.MessageLemmas.{message_tries}
+-- The reply is sent, and nothing of the message is kept.
+use Rattle.std.proofs.Common.{sym, subst, ◌∙◌}
+use Rattle.acceptor.specs.declared.state.State.TheVariants.{Sta6}
+use Rattle.engine.specs.machine.Kept.{kept_of, settings_in, rooms_of}
+use Rattle.engine.specs.machine.Pends.{Kept}
+use Rattle.engine.specs.machine.Storing.{stored_of}
+use Rattle.engine.specs.machine.Tries.{Settles}
+use Rattle.engine.proofs.StoreLemmas.{drops_unfiled, drops_drafts, drafts_then}
+use Rattle.engine.proofs.EndedLemmas.{concludes}
 use Rattle.engine.proofs.provider.Provider.on_message.Goals as goal
 
-pub returns-clause-tries : goal.returns-clause-tries
-returns-clause-tries g c = λ p m aside same id.
-    message_tries p m c.reply-sent.result (kept_of c.args.self.now) (kept_of c.settle.new.self) c.clear.new.self _ _ aside c.requires.due c.clear.ensures c.settle.ensures.settles
-    (c.reply-sent.ensures.sends p m (aside.agreed (sym aside.state_is ∙ c.requires.due)) same id) (c.reply-sent.ensures.due p m (aside.agreed (sym aside.state_is ∙ c.requires.due)) same id)
+pub returns-clause-concludes : goal.returns-clause-concludes
+returns-clause-concludes g c = λ p m come aside has same id walks draft.
+    let six = c.requires.due in
+    let z = stored_of c.leave.new.self in
+    let ended = c.reply-sent.ensures.ended p m come (aside.agreed (sym aside.state_is ∙ six)) has same id walks draft in
+    concludes (rooms_of g.row.A g.row.C g.row.V g.row.D) (settings_in c.args.self.now) p m come c.reply-sent.result (kept_of c.args.self.now) (kept_of c.settle.new.self) c.clear.new.self z _ _ _ _ _ _
+    aside six c.clear.ensures c.leave.ensures.nothing ended (drops_unfiled _ _ _ c.leave.ensures.drops)
+    (subst (λ (x : Kept). Settles Sta6 c.reply-sent.result (record x { join = c.clear.new.self; storing = z }) (kept_of c.settle.new.self) (g.F.Filing.store c.leave.new.filing) (g.F.Filing.store c.settle.new.filing))
+    c.reply-sent.ensures.kept c.settle.ensures.settles)
+
+pub returns-clause-drafts : goal.returns-clause-drafts
+returns-clause-drafts g c =
+    drafts_then _ _ _ _ _ _ c.reply-sent.ensures.drafts
+    (drafts_then _ _ _ _ _ _ (drops_drafts _ _ _ (stored_of c.leave.new.self) c.leave.ensures.nothing c.leave.ensures.drops) c.settle.ensures.drafts)

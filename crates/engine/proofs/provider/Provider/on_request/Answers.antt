@@ -22,9 +22,9 @@ returns-clause-tries g c = λ p body h unrefused.
     let rows = a.new.table.items in
     let given = given_up caller maximum rows old in
     let bytes = c.as_slice.ensures.value in
-    request_tries s p body a.result.0 a.result.1 old new caller maximum rows _ _ h c.requires.due unrefused
+    request_tries s p body a.result.0 a.result.1 old new caller maximum rows _ _ _ _ h c.requires.due unrefused
     (a.ensures.state ∙ ap (λ (b : List ℕ). (at_request s start b).next.state) bytes)
-    (subst (λ (b : List ℕ). Settles a.result.0 a.result.1 (record given { body = b }) new) c.clear.ensures c.settle.ensures.settles)
+    (subst (λ (b : List ℕ). Settles a.result.0 a.result.1 (record given { body = b }) new (g.F.Filing.store c.args.filing.now) (g.F.Filing.store c.settle.new.filing)) c.clear.ensures c.settle.ensures.settles)
     (λ six. subst (λ (b : List ℕ). Agreed (record given { state = Sta6 }) (record_of b)) bytes
     (record { caller = a.ensures.caller six; maximum = a.ensures.maximum six; contexts = a.ensures.contexts six; count = a.ensures.count six }))
     (subst (λ (b : List ℕ). Sends (at_request s start b).sent a.result.1 (g.W.Wire.line c.args.wire.now) (g.W.Wire.line a.new.wire)) bytes a.ensures.sends)

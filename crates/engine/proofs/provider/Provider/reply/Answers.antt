@@ -1,27 +1,39 @@
--- The reply is that of the definition.
-use Rattle.std.proofs.Common.{◌≡◌, ◌∙◌, ◌-◌, ◌<◌, ap, sym, subst, List, ℕ, length, None, Ok, OnErr}
-use Rattle.pdu.specs.Sent.{Sends}
+-- The reply is that of the definition, and the finding is the verdict.
+use Rattle.std.proofs.Common.{◌≡◌, ◌∙◌, ap, sym, List, Ok}
 use Rattle.pdu.specs.Items.{record_of}
 use Rattle.negotiate.specs.declared.table.ContextRow.{ContextRow}
 use Rattle.negotiate.specs.Contexts.{context_of}
 use Rattle.negotiate.specs.ContextRows.{context_in}
 use Rattle.dimse.specs.Reading.{command_in}
-use Rattle.engine.proofs.MessageLemmas.{replied_sent, reply_some, on_failure}
+use Rattle.engine.specs.machine.Kept.{settings_in, rooms_of}
+use Rattle.engine.specs.machine.Storing.{stored_of, finding_of}
+use Rattle.engine.proofs.EndedLemmas.{unread_ended, echo_ended, judged_store, store_ended, is_store, is_maximum}
 use Rattle.engine.proofs.provider.Provider.reply.Goals as goal
 
-pub returns-in-Ok-clause-sends : goal.returns-in-Ok-clause-sends
-returns-in-Ok-clause-sends g c = λ p m a same id.
-    let e : command_in m.command ≡ Ok c.in-Ok.command = ap command_in (sym (c.command.ensures.value ∙ same)) ∙ sym c.read_command.ensures.exact ∙ c.in-Ok.is in
-    let accepted : c.context_of-accepted.result ≡ context_of (record_of p.request) m.context =
-    c.context_of-accepted.ensures ∙ ap (λ (rows : List ContextRow). context_in rows c.args.context) c.as_slice.ensures.value ∙ a.contexts c.args.context ∙ ap (context_of (record_of p.request)) id in
-    let text = replied_sent p m c.in-Ok.command c.reply_status-status.result c.args.context c.args.self.now.peer_max c.context_of-accepted.result e c.reply_status-status.ensures.status accepted id a.maximum in
-    subst (λ (t : List ℕ). Sends t c.write_response.result (g.W.Wire.line c.args.wire.now) (g.W.Wire.line c.write_response.new.wire)) text c.write_response.ensures.sends
+pub returns-in_default-clause-ended : goal.returns-in_default-clause-ended
+returns-in_default-clause-ended g c = λ p m come agreed has same id walks draft.
+    unread_ended (rooms_of g.row.A g.row.C g.row.V g.row.D) (settings_in c.args.self.now) p m come _ _ c.in_default.field-0
+    (ap command_in (sym (c.command.ensures.value ∙ same)) ∙ sym c.read_command.ensures.exact ∙ c.in_default.is)
 
-pub returns-in-Ok-clause-due : goal.returns-in-Ok-clause-due
-returns-in-Ok-clause-due g c = λ p m a same id.
+pub returns-then-field-eq-C_ECHO-clause-ended : goal.returns-then-field-eq-C_ECHO-clause-ended
+returns-then-field-eq-C_ECHO-clause-ended g c = λ p m come agreed has same id walks draft.
     let e : command_in m.command ≡ Ok c.in-Ok.command = ap command_in (sym (c.command.ensures.value ∙ same)) ∙ sym c.read_command.ensures.exact ∙ c.in-Ok.is in
-    let accepted : c.context_of-accepted.result ≡ context_of (record_of p.request) m.context =
-    c.context_of-accepted.ensures ∙ ap (λ (rows : List ContextRow). context_in rows c.args.context) c.as_slice.ensures.value ∙ a.contexts c.args.context ∙ ap (context_of (record_of p.request)) id in
-    let text = replied_sent p m c.in-Ok.command c.reply_status-status.result c.args.context c.args.self.now.peer_max c.context_of-accepted.result e c.reply_status-status.ensures.status accepted id a.maximum in
-    subst (λ (t : List ℕ). OnErr c.write_response.result (0 < length t)) text
-    (on_failure c.write_response.result _ (reply_some c.in-Ok.command c.reply_status-status.result None c.args.context c.args.self.now.peer_max))
+    let accepted : c.context_of.result ≡ context_of (record_of p.request) m.context =
+    c.context_of.ensures ∙ ap (λ (rows : List ContextRow). context_in rows c.args.context) c.as_slice.ensures.value ∙ agreed.contexts c.args.context ∙ ap (context_of (record_of p.request)) id in
+    echo_ended (rooms_of g.row.A g.row.C g.row.V g.row.D) (settings_in c.args.self.now) p m come _ _ _ _ c.in-Ok.command c.echo_status-status.result c.args.context c.args.self.now.peer_max c.context_of.result
+    e (sym c.field.ensures.value ∙ c.if-field-eq-C_ECHO.true) c.echo_status-status.ensures accepted id agreed.maximum c.write_response.ensures.sends
+
+pub write_response-requires-2 : goal.write_response-requires-2
+write_response-requires-2 g c = is_maximum c.args.self.now.peer_max c.args.self.now.answerable
+
+pub returns-clause-drafts : goal.returns-clause-drafts
+returns-clause-drafts g c = c.end-ended.ensures.drafts
+
+pub returns-clause-ended : goal.returns-clause-ended
+returns-clause-ended g c = λ p m come agreed has same id walks draft.
+    let e : command_in m.command ≡ Ok c.in-Ok.command = ap command_in (sym (c.command.ensures.value ∙ same)) ∙ sym c.read_command.ensures.exact ∙ c.in-Ok.is in
+    let kind = is_store c.in-Ok.command.field c.in-Ok.command.with_data c.in-Ok.command.instance c.field.ensures.kind (λ echo. c.if-field-eq-C_ECHO.false (c.field.ensures.value ∙ echo)) in
+    let f = finding_of c.end-ended.result in
+    store_ended (rooms_of g.row.A g.row.C g.row.V g.row.D) (settings_in c.args.self.now) p m come c.in-Ok.command f _ _ _ _ _ c.args.context c.args.self.now.peer_max e kind.0 id agreed.maximum
+    (judged_store g.row.D c.args.self.now.config.max_data p.request m come c.in-Ok.command p.filing_failed f _ _ (stored_of c.args.self.now.storing) walks draft has e kind c.end-ended.ensures.unsupported c.end-ended.ensures.ends)
+    c.write_response-2.ensures.sends

@@ -1,0 +1,43 @@
+-- Verdicts on data sets that break a rule.
+use Rattle.std.proofs.Common.{◌≡◌, ℕ, ◌^◌, Bool, List, length, Option, Some, None, refl, subst, nat_eq, codes}
+use Rattle.element.specs.declared.syntax.Syntax.{Syntax}
+use Rattle.element.specs.declared.syntax.Syntax.TheVariants.{Implicit, Explicit}
+use Rattle.element.specs.Header.{need, is_whole, header_at}
+use Rattle.element.specs.Vr.{is_short}
+use Rattle.dictionary.specs.Tags.{row_of}
+use Rattle.dictionary.specs.Classes.{class_named}
+use Rattle.negotiate.specs.declared.proposals.Context.{Context}
+use Rattle.dimse.specs.Command.{CommandRecord}
+use Rattle.sequence.specs.declared.fault.Fault.{Fault}
+use Rattle.sequence.specs.Rules.{broken_tag, broken_header, broken}
+use Rattle.sequence.specs.Walk.{Told, Tells, going, refused}
+use Rattle.sequence.specs.Examples.{past_item, level_past_item, third_level, pixels}
+use Rattle.sequence.specs.machine.Machine.{due, arrive, begin_value, begin_level, leave, take_header, headed, read, run}
+use Rattle.sequence.specs.machine.Keeping.{keep_header, keeps}
+use Rattle.sequence.proofs.Public.{report_computed, bytes_tried}
+use Rattle.engine.specs.Stores.{IsOfContext, Verdict, limits}
+use Rattle.engine.specs.VerdictExamples.{ct_in, ct_store, VerdictsOnFaults}
+use Rattle.engine.specs.machine.Judged.{of_fault}
+use Rattle.engine.proofs.JudgedLemmas.{rule_found}
+
+-- the verdict on a data set of which a refusal is reported
+pub fault_told : (depth most : ℕ) (context : Context) (command : CommandRecord) (set : List ℕ) (failed : Bool) (told : Told) (fault : Fault) → IsOfContext context command → Tells context.syntax (limits depth most) set told → told.fault ≡ Some fault
+    → Verdict depth most context command set failed (of_fault fault)
+fault_told depth most context command set failed told fault of (going ok o) e = absurd cc
+fault_told depth most context command set failed told fault of (refused {p = p} {u = u} {rule = rule} {tag = tag} f o) e =
+    let same : ◌≡◌ {A = Fault} (record { number = rule; place = length p; tag = tag }) fault = cc in
+    subst (λ (z : Fault). Verdict depth most context command set failed (of_fault z)) same
+    (rule_found context command depth most set p u rule (length p) tag failed of f (nat_eq rule 18) (nat_eq rule 19) refl refl)
+
+of_ct : (syntax : Syntax) → IsOfContext (ct_in syntax) ct_store
+unfolding class_named
+of_ct syntax = record { named = refl; storage = refl }
+
+pub verdicts_on_faults : VerdictsOnFaults
+unfolding need is_whole header_at is_short row_of broken_tag broken_header broken due arrive begin_value begin_level leave take_header headed read run keep_header keeps
+verdicts_on_faults = (
+  λ failed. fault_told 64 (2 ^ 40) (ct_in Implicit) ct_store past_item failed _ _ (of_ct Implicit) (report_computed Implicit (limits 64 (2 ^ 40)) past_item (bytes_tried past_item refl)) refl,
+  λ failed. fault_told 64 (2 ^ 40) (ct_in Implicit) ct_store level_past_item failed _ _ (of_ct Implicit) (report_computed Implicit (limits 64 (2 ^ 40)) level_past_item (bytes_tried level_past_item refl)) refl,
+  λ failed. fault_told 2 (2 ^ 40) (ct_in Implicit) ct_store third_level failed _ _ (of_ct Implicit) (report_computed Implicit (limits 2 (2 ^ 40)) third_level (bytes_tried third_level refl)) refl,
+  λ failed. fault_told 64 (2 ^ 40) (ct_in Explicit) ct_store pixels failed _ _ (of_ct Explicit) (report_computed Explicit (limits 64 (2 ^ 40)) pixels (bytes_tried pixels refl)) refl,
+)

@@ -1,0 +1,5 @@
+use Rattle.engine.proofs.StoreLawLemmas.{filed_by_itself}
+use Rattle.engine.proofs.laws.a_store_is_filed_by_itself.Goals as goal
+
+pub returns : goal.returns
+returns c = filed_by_itself

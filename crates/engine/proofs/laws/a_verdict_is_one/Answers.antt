@@ -1,0 +1,5 @@
+use Rattle.engine.proofs.OneVerdict.{a_verdict_is_one}
+use Rattle.engine.proofs.laws.a_verdict_is_one.Goals as goal
+
+pub returns : goal.returns
+returns c = a_verdict_is_one

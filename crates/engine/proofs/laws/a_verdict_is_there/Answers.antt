@@ -1,0 +1,5 @@
+use Rattle.engine.proofs.VerdictLemmas.{a_verdict_is_there}
+use Rattle.engine.proofs.laws.a_verdict_is_there.Goals as goal
+
+pub returns : goal.returns
+returns c = a_verdict_is_there

@@ -1,0 +1,83 @@
+-- What follows for stores: there is one verdict on each; no good image is refused; and what is filed for a store depends
+-- on nothing but itself and its sender's title.
+use Rattle.std.specs.Prelude.{◌≡◌, ℕ, Bool, false, List, [], ◌∷◌, Option, Some, None, Ok}
+use Rattle.element.specs.Numbers.{IsBytes}
+use Rattle.element.specs.declared.syntax.Syntax.{Syntax}
+use Rattle.pdu.specs.Items.{record_of}
+use Rattle.dimse.specs.Command.{CommandRecord}
+use Rattle.dimse.specs.Messages.{Message}
+use Rattle.dimse.specs.Reading.{command_in}
+use Rattle.dimse.specs.Reply.{reply_bytes}
+use Rattle.dimse.specs.Status.{success}
+use Rattle.negotiate.specs.declared.proposals.Context.{Context}
+use Rattle.negotiate.specs.Contexts.{context_of}
+use Rattle.negotiate.specs.Settings.{Settings}
+use Rattle.part10.specs.File.{File}
+use Rattle.sequence.specs.Wanted.{kept_of}
+use Rattle.sequence.specs.Ending.{IsWhole}
+use Rattle.engine.specs.Timeline.{Finding, Happened, good}
+use Rattle.engine.specs.Progress.{Progress}
+use Rattle.engine.specs.Replies.{some_or_nothing}
+use Rattle.engine.specs.Stores.{IsOfContext, Names, NamesInstance, Verdict, wanted, limits, class_tag}
+use Rattle.engine.specs.Run.{Rooms, gives}
+use Rattle.engine.specs.Fair.{IsFair, message_at}
+
+-- ---- verdicts
+
+-- there is a verdict on every store
+abbrev pub AVerdictIsThere : Type 0
+AVerdictIsThere = (depth most : ℕ) (context : Context) (command : CommandRecord) (data_set : List ℕ) (failed : Bool) → IsBytes data_set → (finding : Finding) × Verdict depth most context command data_set failed finding
+
+-- and no other one
+abbrev pub AVerdictIsOne : Type 0
+AVerdictIsOne = (depth most : ℕ) (context : Context) (command : CommandRecord) (data_set : List ℕ) (failed : Bool) (one other : Finding) → IsBytes data_set
+    → Verdict depth most context command data_set failed one → Verdict depth most context command data_set failed other → one ≡ other
+
+-- ---- good images
+
+-- a store ends at this entry: this message, whose command stands in this accepted context
+pub record EndsAt (p : Progress) (h : Happened) (m : Message) (command : CommandRecord) (context : Context) : Type 0 where
+  pub ended : message_at p h.0 ≡ Some m
+  pub spelled : command_in m.command ≡ Ok command
+  pub store : command.field ≡ 0x0001
+  pub accepted : context_of (record_of p.request) m.context ≡ Some context
+
+-- A good image: it is sent under its own class and instance, in an accepted context of that class, as a whole data set
+-- within the limits.
+pub record IsGoodImage (depth most : ℕ) (context : Context) (command : CommandRecord) (data_set : List ℕ) : Type 0 where
+  pub of_context : IsOfContext context command
+  pub whole : IsWhole context.syntax (limits depth most) data_set
+  pub own_class : Names (kept_of wanted whole.elements) class_tag command.class
+  pub own_instance : NamesInstance (kept_of wanted whole.elements) command
+
+-- no device failed in the message up to the end of this entry
+pub record IsCalm (p : Progress) (h : Happened) : Type 0 where
+  pub before : p.filing_failed ≡ false
+  pub filing : h.1.filing ≡ false
+  pub wire : h.1.wire ≡ None
+
+-- the file of a store with these bytes, from a sender with this title
+abbrev pub file_of : CommandRecord → Syntax → List ℕ → List ℕ → List ℕ
+file_of command syntax title data_set = File (record { class = command.class; instance = some_or_nothing command.instance; syntax = syntax; calling = record { 0 = title } }) data_set
+
+-- A good image is answered by success, and its file is put, in any association, wherever its last byte comes: no verdict
+-- but success may stand beside it where no device fails.
+abbrev pub NoGoodImageIsRefused : Type 0
+NoGoodImageIsRefused =
+    (rooms : Rooms) (s : Settings) (p : Progress) (h : Happened) (m : Message) (command : CommandRecord) (context : Context)
+    → EndsAt p h m command context → IsGoodImage rooms.depth s.max_data context command m.set → IsCalm p h → IsFair rooms s p h
+    → (h.1.finding ≡ good)
+    × ((gives rooms s p h).files ≡ file_of command context.syntax (record_of p.request).calling m.set ∷ [])
+    × ((gives rooms s p h).sent ≡ reply_bytes command success None m.context (record_of p.request).maximum)
+
+-- ---- what is filed
+
+-- Of two stores with the same bytes, in contexts of the same transfer syntax, from senders with the same title, the same
+-- is filed where they succeed, whatever else comes in their associations, before them or after.
+abbrev pub FiledByItself : Type 0
+FiledByItself =
+    (rooms rooms2 : Rooms) (s s2 : Settings) (p p2 : Progress) (h h2 : Happened) (m m2 : Message) (command command2 : CommandRecord) (context context2 : Context)
+    → EndsAt p h m command context → EndsAt p2 h2 m2 command2 context2
+    → m.command ≡ m2.command → m.set ≡ m2.set → context.syntax ≡ context2.syntax → (record_of p.request).calling ≡ (record_of p2.request).calling
+    → h.1.finding.status ≡ success → h2.1.finding.status ≡ success
+    → (gives rooms s p h).files ≡ (gives rooms2 s2 p2 h2).files

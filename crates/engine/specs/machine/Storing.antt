@@ -1,0 +1,95 @@
+-- What an association keeps of the data of a message, and what the calls on it do.
+use Rattle.std.specs.Prelude.{◌≡◌, ℕ, Bool, true, false, not, ◌||◌, List, [], ◌++◌}
+use Rattle.element.specs.declared.syntax.Syntax.{Syntax}
+use Rattle.sequence.specs.declared.walker.Walker.{Walker}
+use Rattle.sequence.specs.Rules.{Limits}
+use Rattle.sequence.specs.Taken.{StandsAt, syntax_of, limits_of, told_by}
+use Rattle.dimse.specs.Command.{CommandRecord}
+use Rattle.dimse.specs.Messages.{Begun}
+use Rattle.dimse.specs.Status.{success}
+use Rattle.negotiate.specs.declared.proposals.Context.{Context}
+use Rattle.part10.specs.Store.{Store, stepped, appended, committed, without_draft, failed}
+use Rattle.engine.specs.declared.stores.Storing.{Storing}
+use Rattle.engine.specs.declared.stores.Storing.TheVariants as storing
+use Rattle.engine.specs.declared.stores.StoreStatus.{StoreStatus}
+use Rattle.engine.specs.Fair.{InStore}
+use Rattle.engine.specs.Stores.{IsOfContext, Verdict, limits}
+use Rattle.engine.specs.Timeline.{Finding}
+
+-- what contracts see of it: nothing, or a walker that takes the data set, and whether its draft is in the filing
+pub data Stored : Type 0 where
+  Nothing : Stored
+  Walking : {V D : ℕ} → (walker : Walker V D) → (drafting : Bool) → Stored
+
+abbrev pub stored_of : {V D : ℕ} → Storing V D → Stored
+stored_of storing.Nothing = Nothing
+stored_of (storing.DataSet walker drafting) = Walking walker drafting
+
+abbrev pub drafting_in : Stored → Bool
+drafting_in Nothing = false
+drafting_in (Walking walker drafting) = drafting
+
+-- how many bytes are held of the data set
+abbrev pub held_in : Stored → ℕ
+held_in Nothing = 0
+held_in (Walking walker drafting) = (told_by walker).held
+
+-- a walker of a data set in this syntax, held to these limits, took these bytes of it
+pub record Takes {V D : ℕ} (walker : Walker V D) (syntax : Syntax) (lim : Limits) (set : List ℕ) : Type 0 where
+  pub stands : StandsAt walker set
+  pub syntax_is : syntax_of walker ≡ syntax
+  pub limits_are : limits_of walker ≡ lim
+
+-- Of a message in the association of this request: the data of a store whose class is its context's are walked, and of
+-- others nothing is kept.
+pub data Walks (depth most : ℕ) (request : List ℕ) (message : Begun) : Stored → Type 0 where
+  not_walked : (InStore request message → ⊥) → Walks depth most request message Nothing
+  walked : {V D : ℕ} {walker : Walker V D} {drafting : Bool} → (store : InStore request message)
+      → Takes walker store.context.syntax (limits depth most) store.set → Walks depth most request message (Walking walker drafting)
+
+abbrev pub finding_of : StoreStatus → Finding
+finding_of s = record { status = s.status; detail = s.detail }
+
+-- ---- calls
+
+-- a draft is begun and gets these bytes; or a filing call failed
+abbrev pub Begins : List ℕ → Bool → Store → Store → Type 0
+Begins head true old new = new ≡ stepped (λ shelf. record { files = shelf.files; draft = head }) true old
+Begins head false old new = new ≡ failed old
+
+-- a walk with its draft begins
+abbrev pub BeginsStore : Syntax → Limits → List ℕ → Stored → Store → Store → Type 0
+BeginsStore syntax lim head Nothing old new = ⊥
+BeginsStore syntax lim head (Walking walker drafting) old new = Takes walker syntax lim [] × Begins head drafting old new
+
+-- a draft gets these bytes more, or the filing fails in it; without a draft the filing stays as it is
+abbrev pub Grows : List ℕ → Bool → Bool → Store → Store → Type 0
+Grows bytes false drafting_new old new = (drafting_new ≡ false) × (new ≡ old)
+Grows bytes true true old new = new ≡ stepped (appended bytes) true old
+Grows bytes true false old new = new ≡ failed old
+
+-- a part of the data set came
+abbrev pub GoesOn : List ℕ → Stored → Stored → Store → Store → Type 0
+GoesOn part Nothing now old new = (now ≡ Nothing) × (new ≡ old)
+GoesOn part (Walking before drafting) Nothing old new = ⊥
+GoesOn part (Walking before drafting) (Walking after drafting_new) old new =
+    ((syntax : Syntax) (lim : Limits) (set : List ℕ) → Takes before syntax lim set → Takes after syntax lim (set ++ part))
+    × Grows part drafting drafting_new old new
+
+-- the draft is dropped, if there is one
+abbrev pub Drops : Bool → Store → Store → Type 0
+Drops true old new = new ≡ stepped without_draft false old
+Drops false old new = new ≡ old
+
+-- the draft of a store with this finding: a success was committed; a failed commit leaves none; else it is dropped
+pub data EndsDraft (drafting : Bool) (finding : Finding) (old new : Store) : Bool → Type 0 where
+  filed : drafting ≡ true → finding.status ≡ success → new ≡ stepped committed false old → EndsDraft drafting finding old new false
+  commit_failed : drafting ≡ true → new ≡ failed old → EndsDraft drafting finding old new true
+  dropped : (finding.status ≡ success → ⊥) → Drops drafting old new → EndsDraft drafting finding old new false
+
+-- The data set is whole: this is the verdict on the store, and this came of its draft. `commit_failed` says whether
+-- the filing failed at the end; it failed before where no draft is there.
+pub record EndsStore (depth most : ℕ) (context : Context) (command : CommandRecord) (set : List ℕ) (drafting : Bool) (finding : Finding) (old new : Store) : Type 0 where
+  pub failed_then : Bool
+  pub draft : EndsDraft drafting finding old new failed_then
+  pub verdict : IsOfContext context command → Verdict depth most context command set (failed_then || not drafting) finding

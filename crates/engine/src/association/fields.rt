@@ -1,0 +1,78 @@
+//! The fields of an association, each with its type: bytes that came are held in `head`, `pdv`, `body`, `caller`, by
+//! the join and by the walker alone. A further field does not compile here before it is named.
+
+use super::Association;
+use crate::framing::Framing;
+use crate::provider::Provider;
+use crate::stores::Storing;
+use acceptor::State;
+use arrayvec::ArrayVec;
+use dimse::Join;
+use negotiate::{Config, ContextRow};
+use sequence::Walker;
+
+fn fields<const A: usize, const C: usize, const V: usize, const D: usize>(
+    association: &Association<A, C, V, D>,
+) {
+    let Association {
+        framing,
+        head,
+        pdv,
+        provider,
+    } = association;
+    let _: &ArrayVec<u8, 6> = head;
+    let _: &ArrayVec<u8, 6> = pdv;
+    framing_fields(framing);
+    provider_fields(provider);
+}
+
+fn framing_fields(framing: &Framing) {
+    match framing {
+        Framing::Head => {}
+        Framing::Body { left } => {
+            let _: &u32 = left;
+        }
+        Framing::PdvHead { left } => {
+            let _: &u32 = left;
+        }
+        Framing::Fragment { left, more } => {
+            let _: &u32 = left;
+            let _: &u32 = more;
+        }
+    }
+}
+
+fn provider_fields<const A: usize, const C: usize, const V: usize, const D: usize>(
+    provider: &Provider<A, C, V, D>,
+) {
+    let Provider {
+        config,
+        state,
+        refused,
+        caller,
+        peer_max,
+        table,
+        body,
+        join,
+        storing,
+    } = provider;
+    let _: &Config = config;
+    let _: &State = state;
+    let _: &bool = refused;
+    let _: &[u8; 16] = caller;
+    let _: &u32 = peer_max;
+    let _: &ArrayVec<ContextRow, 128> = table;
+    let _: &ArrayVec<u8, A> = body;
+    let _: &Join<C> = join;
+    storing_fields(storing);
+}
+
+fn storing_fields<const V: usize, const D: usize>(storing: &Storing<V, D>) {
+    match storing {
+        Storing::Nothing => {}
+        Storing::DataSet { walker, drafting } => {
+            let _: &Walker<V, D> = walker;
+            let _: &bool = drafting;
+        }
+    }
+}

@@ -1,0 +1,344 @@
+//! The data of a C-STORE: they are walked as they come, and go to the draft of a file.
+ghost use Rattle.std.specs.Prelude.{◌≡◌, ◌≤◌, ◌+◌, ◌*◌, ◌^◌, ◌++◌, List, ℕ, Bool, true, false, Some, None};
+ghost use Rattle.element.specs.declared.syntax.Syntax.{Syntax};
+ghost use Rattle.part10.specs.File.{head};
+ghost use Rattle.sequence.specs.Rules.{Limits};
+ghost use Rattle.sequence.specs.Taken.{told_by};
+ghost use Rattle.sequence.specs.machine.Stored.{wanted_tags};
+ghost use Rattle.engine.specs.Drafts.{IsThere, Drafts};
+ghost use Rattle.engine.specs.Replies.{some_or_nothing};
+ghost use Rattle.engine.specs.Stores as spelling;
+ghost use Rattle.engine.specs.Stores.{IsOfContext, Names, NamesInstance, limits};
+ghost use Rattle.engine.specs.machine.Storing.{Nothing, Begins, BeginsStore, Grows, Takes, finding_of, stored_of};
+ghost use Rattle.engine.specs.machine.Judged.{Commits, Compared, JudgedBy, of_fault};
+
+use dictionary::class_of;
+use dimse::{CLASS_MISMATCH, Command, Detail, INSTANCE_MISMATCH, status};
+use element::{AeTitle, Tag, Uid};
+use negotiate::Context;
+use part10::{Filing, Meta, meta_bytes};
+use sequence::{Fault, Walker, Want, Wanted};
+
+/// SOP Class UID.
+const CLASS: Tag = Tag(0x0008, 0x0016);
+
+/// SOP Instance UID.
+const INSTANCE: Tag = Tag(0x0008, 0x0018);
+
+/// The room for the value of a wanted tag: a unique identifier has at most so many bytes.
+const UID_ROOM: u32 = 64;
+
+/// What is kept of the data of a message.
+#[derive(Drop)]
+pub(crate) enum Storing<const V: usize, const D: usize> {
+    /// No data set is due, or that of a store whose class is not its context's.
+    Nothing,
+    /// A data set is walked. Its draft is in the filing until a filing call fails.
+    DataSet {
+        walker: Walker<V, D>,
+        drafting: bool,
+    },
+}
+
+/// The status of the reply to a store, and the cause of a failure where the reply names it.
+#[derive(Clone, Copy)]
+pub(crate) struct StoreStatus {
+    pub(crate) status: u16,
+    pub(crate) detail: Option<Detail>,
+}
+
+impl StoreStatus {
+    /// A status that names no cause.
+    fn of(status: u16) -> StoreStatus
+        ensures { result ≡ record { status = status; detail = None } }
+    {
+        StoreStatus {
+            status,
+            detail: None,
+        }
+    }
+
+    /// A failure and its cause.
+    fn caused(status: u16, number: u8, tag: Tag) -> StoreStatus
+        ensures { result ≡ record { status = status; detail = Some (record { number = number; tag = tag }) } }
+    {
+        StoreStatus {
+            status,
+            detail: Some(Detail { number, tag }),
+        }
+    }
+}
+
+/// Whether the class of a store is that of its presentation context, and one of storage.
+pub(crate) fn is_of_context(context: &Context, command: &Command) -> bool
+    ensures yes { result ≡ true → IsOfContext context.now command.now }
+    ensures no { result ≡ false → IsOfContext context.now command.now → ⊥ }
+{
+    match class_of(command.class().as_bytes()) {
+        Some(class) => class == context.class && class.is_storage(),
+        None => false,
+    }
+}
+
+/// What is wanted of a data set.
+fn wanted() -> Wanted
+    ensures { wanted_tags result ≡ spelling.wanted }
+{
+    let wants = [
+        Want {
+            tag: CLASS,
+            room: UID_ROOM,
+        },
+        Want {
+            tag: INSTANCE,
+            room: UID_ROOM,
+        },
+    ];
+    match Wanted::of(&wants) {
+        Some(wanted) => wanted,
+        None => unreachable!(),
+    }
+}
+
+/// Begins a draft, which gets the file header; whether it is there.
+fn begin_draft<F: Filing>(header: &[u8], filing: &mut F) -> bool
+    ensures { Begins header.now result (F.store filing.old) (F.store filing.new) }
+{
+    match filing.begin() {
+        Ok(()) => filing.append(header).is_ok(),
+        Err(_) => false,
+    }
+}
+
+/// Begins the draft of a store in this context, which gets the file header, and the walk of its data.
+pub(crate) fn begin_store<const V: usize, const D: usize, F: Filing>(
+    context: &Context,
+    command: &Command,
+    caller: AeTitle,
+    max_data: u64,
+    filing: &mut F,
+) -> Storing<V, D>
+    requires least_kept { 140 ≤ V }
+    requires greatest_kept { V ≤ 2 ^ 24 }
+    requires least_levels { 2 ≤ D }
+    requires greatest_levels { D ≤ 2 ^ 24 }
+    requires most_data { max_data ≤ 2 ^ 48 }
+    ensures begins { command.now.with_data ≡ true → BeginsStore context.now.syntax (limits D max_data)
+        (head (record { class = command.now.class; instance = some_or_nothing command.now.instance; syntax = context.now.syntax; calling = caller }))
+        (stored_of result) (F.store filing.old) (F.store filing.new) }
+    ensures no_store { command.now.with_data ≡ false → (stored_of result ≡ Nothing) × (F.store filing.new ≡ F.store filing.old) }
+{
+    if command.field() != Command::C_STORE {
+        return Storing::Nothing;
+    }
+    let Some(instance) = command.instance() else {
+        return Storing::Nothing;
+    };
+    let meta = Meta {
+        class: command.class().copied(),
+        instance: instance.copied(),
+        syntax: context.syntax,
+        calling: caller,
+    };
+    let header = meta_bytes(&meta);
+    let drafting = begin_draft(header.as_slice(), filing);
+    Storing::DataSet {
+        walker: Walker::new(context.syntax, wanted(), max_data),
+        drafting,
+    }
+}
+
+/// Walks the part to its end, or to a refusal. A step takes nothing only after one.
+fn walk<const V: usize, const D: usize>(walker: &mut Walker<V, D>, part: &[u8])
+    ensures { (syntax : Syntax) (lim : Limits) (set : List ℕ) → Takes walker.old syntax lim set → Takes walker.new syntax lim (set ++ part.now) }
+{
+    let mut rest = part;
+    while !rest.is_empty() {
+        let (taken, _) = walker.step(rest);
+        if taken == 0 {
+            break;
+        }
+        let (_, more) = rest.split_at(taken);
+        rest = more;
+    }
+}
+
+/// Adds a part of the data set to the draft, if there is one; whether it is still there.
+fn extend_draft<F: Filing>(part: &[u8], drafting: bool, filing: &mut F) -> bool
+    requires there { IsThere drafting (F.store filing.old) }
+    ensures { Grows part.now drafting result (F.store filing.old) (F.store filing.new) }
+{
+    if drafting && !part.is_empty() {
+        filing.append(part).is_ok()
+    } else {
+        drafting
+    }
+}
+
+/// Whether the data set names this identifier by this tag.
+fn names<const V: usize, const D: usize>(walker: &Walker<V, D>, tag: Tag, uid: &Uid) -> bool
+    ensures yes { result ≡ true → Names (told_by walker.now).kept tag uid.now }
+    ensures no { result ≡ false → Names (told_by walker.now).kept tag uid.now → ⊥ }
+{
+    match walker.kept(tag) {
+        Some(value) => match Uid::read(value) {
+            Some(named) => named == *uid,
+            None => false,
+        },
+        None => false,
+    }
+}
+
+/// The failure that a fault of the data set is.
+fn failure_of(fault: Fault) -> StoreStatus
+    ensures { finding_of result ≡ of_fault fault }
+{
+    match fault.number {
+        Fault::TOO_DEEP | Fault::TOO_LONG => StoreStatus::of(status::OUT_OF_RESOURCES),
+        number => StoreStatus::caused(status::CANNOT_UNDERSTAND, number, fault.tag),
+    }
+}
+
+/// Whether the data set names the command's instance.
+fn names_instance<const V: usize, const D: usize>(walker: &Walker<V, D>, command: &Command) -> bool
+    ensures yes { result ≡ true → NamesInstance (told_by walker.now).kept command.now }
+    ensures no { result ≡ false → NamesInstance (told_by walker.now).kept command.now → ⊥ }
+{
+    match command.instance() {
+        Some(instance) => names(walker, INSTANCE, instance),
+        None => false,
+    }
+}
+
+/// Compares the class and the instance that the data set names with those of the command.
+fn compare<const V: usize, const D: usize>(
+    walker: &Walker<V, D>,
+    command: &Command,
+) -> Result<(), StoreStatus>
+    ensures { Compared (told_by walker.now).kept command.now result }
+{
+    if !names(walker, CLASS, command.class()) {
+        return Err(StoreStatus::caused(status::DATA_SET_MISMATCH, CLASS_MISMATCH, CLASS));
+    }
+    if !names_instance(walker, command) {
+        return Err(StoreStatus::caused(status::DATA_SET_MISMATCH, INSTANCE_MISMATCH, INSTANCE));
+    }
+    Ok(())
+}
+
+/// Judges a data set at its end: its first fault, and whether it names what the command names.
+fn judge<const V: usize, const D: usize>(
+    walker: &Walker<V, D>,
+    command: &Command,
+) -> Result<(), StoreStatus>
+    ensures { JudgedBy walker.now command.now result }
+{
+    match walker.finish() {
+        Err(fault) => Err(failure_of(fault)),
+        Ok(()) => compare(walker, command),
+    }
+}
+
+/// Makes a file of the draft.
+fn commit<F: Filing>(filing: &mut F) -> StoreStatus
+    requires there { (F.store filing.old).has_draft ≡ true }
+    ensures { Commits (finding_of result) (F.store filing.old) (F.store filing.new) }
+{
+    match filing.commit() {
+        Ok(()) => StoreStatus::of(status::SUCCESS),
+        Err(_) => StoreStatus::of(status::OUT_OF_RESOURCES),
+    }
+}
+
+impl<const V: usize, const D: usize> Storing<V, D> {
+    ghost use Rattle.std.specs.Prelude.{◌≡◌, ◌≤◌, ◌+◌, ◌*◌, List, ℕ, Bool, None};
+    ghost use Rattle.sequence.specs.declared.walker.Walker.{Walker};
+    ghost use Rattle.dimse.specs.Status.{class_not_supported};
+    ghost use Rattle.negotiate.specs.declared.proposals.Context.{Context};
+    ghost use Rattle.engine.specs.machine.Judged.{Judged};
+    ghost use Rattle.engine.specs.machine.Storing.{Nothing, Walking, Takes, GoesOn, Drops, EndsStore, stored_of, drafting_in, held_in, finding_of};
+
+    /// Whether the draft is in the filing.
+    pub(crate) fn drafting(&self) -> bool
+        ensures { result ≡ drafting_in (stored_of self.now) }
+    {
+        match self {
+            Storing::Nothing => false,
+            Storing::DataSet { drafting, .. } => *drafting,
+        }
+    }
+
+    /// How many bytes the walk holds.
+    pub(crate) fn held(&self) -> usize
+        ensures value { result ≡ held_in (stored_of self.now) }
+        ensures bound { result ≤ V + 16 * D }
+    {
+        match self {
+            Storing::Nothing => 0,
+            Storing::DataSet { walker, .. } => walker.held(),
+        }
+    }
+
+    /// Takes a part of the data set: it is walked, and added to the draft.
+    pub(crate) fn take<F: Filing>(&mut self, part: &[u8], filing: &mut F)
+        requires there { IsThere (drafting_in (stored_of self.old)) (F.store filing.old) }
+        ensures goes_on { GoesOn part.now (stored_of self.old) (stored_of self.new) (F.store filing.old) (F.store filing.new) }
+    {
+        match self {
+            Storing::Nothing => {}
+            Storing::DataSet { walker, drafting } => {
+                walk(walker, part);
+                *drafting = extend_draft(part, *drafting, filing);
+            }
+        }
+    }
+
+    /// What is wrong with the data set, if it is whole.
+    fn judged(&self, command: &Command) -> Result<(), StoreStatus>
+        ensures { Judged command.now (stored_of self.now) result }
+    {
+        match self {
+            Storing::Nothing => Err(StoreStatus::of(status::CLASS_NOT_SUPPORTED)),
+            Storing::DataSet { walker, .. } => judge(walker, command),
+        }
+    }
+
+    /// The data set is whole: judges it, and commits or drops its draft.
+    pub(crate) fn end<F: Filing>(&mut self, command: &Command, filing: &mut F) -> StoreStatus
+        requires there { IsThere (drafting_in (stored_of self.old)) (F.store filing.old) }
+        ensures nothing { stored_of self.new ≡ Nothing }
+        ensures unsupported { stored_of self.old ≡ Nothing → (finding_of result ≡ record { status = class_not_supported; detail = None }) × (F.store filing.new ≡ F.store filing.old) }
+        ensures ends { (W E : ℕ) (walker : Walker W E) (drafting : Bool) (context : Context) (depth most : ℕ) (set : List ℕ) → stored_of self.old ≡ Walking walker drafting
+            → Takes walker context.syntax (spelling.limits depth most) set
+            → EndsStore depth most context command.now set drafting (finding_of result) (F.store filing.old) (F.store filing.new) }
+        ensures drafts { Drafts (drafting_in (stored_of self.old)) (F.store filing.old) (drafting_in (stored_of self.new)) (F.store filing.new) }
+    {
+        let drafting = self.drafting();
+        match self.judged(command) {
+            Ok(()) => {
+                *self = Storing::Nothing;
+                if drafting {
+                    commit(filing)
+                } else {
+                    StoreStatus::of(status::OUT_OF_RESOURCES)
+                }
+            }
+            Err(failure) => {
+                self.leave(filing);
+                failure
+            }
+        }
+    }
+
+    /// The message is left: its draft is dropped.
+    pub(crate) fn leave<F: Filing>(&mut self, filing: &mut F)
+        requires there { IsThere (drafting_in (stored_of self.old)) (F.store filing.old) }
+        ensures nothing { stored_of self.new ≡ Nothing }
+        ensures drops { Drops (drafting_in (stored_of self.old)) (F.store filing.old) (F.store filing.new) }
+    {
+        if self.drafting() {
+            filing.discard();
+        }
+        *self = Storing::Nothing;
+    }
+}
