@@ -5,15 +5,8 @@ use Rattle.std.proofs.lemmas.Bool.{and_parts}
 use Rattle.std.proofs.lemmas.Bool.Decides.{nat_tests}
 use Rattle.std.proofs.lemmas.List.{drop-replicate}
 use Rattle.element.specs.Padding.{is_space, without_trailing}
-use Rattle.element.proofs.Trimming.{trailing_dropped, trailing_kept}
 use Rattle.dicomdir.specs.FileId.{is_id_character, is_component, before_parts, parts_of, is_file_id, filled}
 use Rattle.dicomdir.specs.FileIdRoom.{IsKept}
-
-pub space_dropped : (xs : List ℕ) (n : ℕ) → n < length xs → is_space (get_or xs n 0) ≡ true → without_trailing is_space (take (n + 1) xs) ≡ without_trailing is_space (take n xs)
-space_dropped xs n lt e = trailing_dropped is_space xs n lt e
-
-pub rest_kept : (xs : List ℕ) (n : ℕ) → n < length xs → is_space (get_or xs n 0) ≡ false → without_trailing is_space (take (n + 1) xs) ≡ take (n + 1) xs
-rest_kept xs n lt e = trailing_kept is_space xs n lt e
 
 -- the first part, of which characters may still come in front
 abbrev pub first_size : List (List ℕ) → ℕ

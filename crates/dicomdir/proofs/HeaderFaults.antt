@@ -5,7 +5,7 @@ use Rattle.element.specs.Vr.{is_short}
 use Rattle.part10.specs.declared.meta_fault.MetaFault.TheVariants.{NotPart10, OtherSyntax}
 use Rattle.part10.specs.MetaText.{SpellsMeta, HasMeta}
 use Rattle.part10.specs.Examples.{least_header, least_said}
-use Rattle.part10.proofs.Examples.{no_headers, other_syntax_is_a_fault, least_read}
+use Rattle.part10.proofs.Public.{no_headers, other_syntax_is_a_fault, least_read}
 use Rattle.dicomdir.specs.CheckFault.{in_header, in_syntax}
 use Rattle.dicomdir.specs.HeaderFaults.{HeaderFaults}
 

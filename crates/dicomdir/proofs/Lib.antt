@@ -8,3 +8,16 @@ pub mod Places
 pub mod Within
 pub mod Sizes
 pub mod Kept
+pub mod HeadLemmas
+pub mod UnreachedLemmas
+pub mod WalkLemmas
+pub mod Linking
+pub mod FaultFree
+pub mod OneTree
+pub mod HeaderChecks
+pub mod KeptLemmas
+pub mod KeysLemmas
+pub mod RecordLemmas
+pub mod GroupingLemmas
+pub mod GroupingSteps
+pub mod LayingLemmas

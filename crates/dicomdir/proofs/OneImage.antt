@@ -5,7 +5,7 @@ use Rattle.element.specs.Vr.{is_short}
 use Rattle.part10.specs.declared.meta.Meta.{Meta}
 use Rattle.part10.specs.File.{head, meta_group, instance_elements, implementation_elements, title_element}
 use Rattle.part10.specs.MetaText.{SpellsMeta, said_of}
-use Rattle.part10.proofs.MetaLemmas.{head_is_read}
+use Rattle.part10.proofs.Public.{head_is_read}
 use Rattle.sequence.specs.Tree.{Elements}
 use Rattle.dicomdir.specs.TreeOf.{Forest, no_nodes, node, TreeOf}
 use Rattle.dicomdir.specs.Directory.{IsExplicitFile, IsDirectoryFile, Record, carried, records_of}

@@ -13,11 +13,11 @@ pub not_true : (b : Bool) → not b ≡ true → b ≡ false
 not_true true e = absurd cc
 not_true false e = refl
 
-second_true : (a b c : Bool) → b ≡ true → (a || (b || c)) ≡ true
+pub second_true : (a b c : Bool) → b ≡ true → (a || (b || c)) ≡ true
 second_true true b c e = refl
 second_true false b c e = rw e refl
 
-third_true : (a b c : Bool) → c ≡ true → (a || (b || c)) ≡ true
+pub third_true : (a b c : Bool) → c ≡ true → (a || (b || c)) ≡ true
 third_true true b c e = refl
 third_true false true c e = refl
 third_true false false c e = e
@@ -87,7 +87,7 @@ step most records way reached offset es lower next nonzero stands new fit_there 
 pub same_place : (x : ℕ) → nat_eq x x ≡ true
 same_place x = grind (arith, nat_tests)
 
-regrouped : (a b c d : Bool) → (c || (b || (a || d))) ≡ ((a || (b || c)) || d)
+pub regrouped : (a b c d : Bool) → (c || (b || (a || d))) ≡ ((a || (b || c)) || d)
 regrouped true true true d = refl
 regrouped true true false d = refl
 regrouped true false true d = refl

@@ -13,11 +13,11 @@ use Rattle.dicomdir.specs.DirFault.{is_one_of}
 use Rattle.dicomdir.specs.NoFault.{NodesAreRecords}
 use Rattle.dicomdir.proofs.Walking.{not_true, not_place, same_place}
 
-or_second : (a b : Bool) → b ≡ true → (a || b) ≡ true
+pub or_second : (a b : Bool) → b ≡ true → (a || b) ≡ true
 or_second true b e = refl
 or_second false b e = e
 
-or_first : (a b : Bool) → a ≡ true → (a || b) ≡ true
+pub or_first : (a b : Bool) → a ≡ true → (a || b) ≡ true
 or_first true b e = refl
 or_first false b e = absurd cc
 
@@ -47,7 +47,7 @@ still_one x p (q ∷ qs) other e = by (nat_eq p q) refl (nat_eq x q) refl (still
     by false same true here rest e = or_first (nat_eq x q) (is_one_of x (without p qs)) here
     by false same false here rest e = or_second (nat_eq x q) (is_one_of x (without p qs)) (rest e)
 
-no_more : (ps qs : List ℕ) → is_distinct ps ≡ true → ((x : ℕ) → is_one_of x ps ≡ true → is_one_of x qs ≡ true) → length ps ≤ length qs
+pub no_more : (ps qs : List ℕ) → is_distinct ps ≡ true → ((x : ℕ) → is_one_of x ps ≡ true → is_one_of x qs ≡ true) → length ps ≤ length qs
 no_more [] qs distinct all = omega arith
 no_more (p ∷ ps) qs distinct all =
     let parts = and_parts (not (is_one_of p ps)) (is_distinct ps) distinct in
@@ -60,15 +60,15 @@ no_more (p ∷ ps) qs distinct all =
 
 -- the places of records
 
-abbrev places : List Record → List ℕ
+abbrev pub places : List Record → List ℕ
 places [] = []
 places (r ∷ records) = r.place ∷ places records
 
-length_places : (records : List Record) → length (places records) ≡ length records
+pub length_places : (records : List Record) → length (places records) ≡ length records
 length_places [] = refl
 length_places (r ∷ records) = ap suc (length_places records)
 
-stands_there : (p : ℕ) (records : List Record) (es : Elements) → record_at p records ≡ Some es → is_one_of p (places records) ≡ true
+pub stands_there : (p : ℕ) (records : List Record) (es : Elements) → record_at p records ≡ Some es → is_one_of p (places records) ≡ true
 stands_there p [] es e = absurd cc
 stands_there p (r ∷ records) es e = by (nat_eq r.place p) refl (stands_there p records es) e
   where
@@ -77,7 +77,7 @@ stands_there p (r ∷ records) es e = by (nat_eq r.place p) refl (stands_there p
     by true same rest e = or_first (nat_eq p r.place) (is_one_of p (places records)) (grind (arith, nat_tests, same))
     by false same rest e = or_second (nat_eq p r.place) (is_one_of p (places records)) (rest e)
 
-either : (a b c : Bool) → (a ≡ true → c ≡ true) → (b ≡ true → c ≡ true) → (a || b) ≡ true → c ≡ true
+pub either : (a b c : Bool) → (a ≡ true → c ≡ true) → (b ≡ true → c ≡ true) → (a || b) ≡ true → c ≡ true
 either true b c f g e = f refl
 either false b c f g e = g e
 
@@ -117,7 +117,7 @@ none_at_zero place (item h es is) some =
     let here : nat_eq 0 place ≡ false = grind (arith, nat_tests, some) in
     rw (here, rest) refl
 
-none_in : (f : Found) (records : List Record) → records_in f ≡ Some records → is_one_of 0 (places records) ≡ false
+pub none_in : (f : Found) (records : List Record) → records_in f ≡ Some records → is_one_of 0 (places records) ≡ false
 none_in missing records e = absurd cc
 none_in (value_at place v) records e = absurd cc
 none_in (items_at place h is) records e =

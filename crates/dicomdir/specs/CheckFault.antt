@@ -1,5 +1,5 @@
 -- What is first found wrong with a file that ought to be a directory (this product's own profile).
-use Rattle.std.specs.Prelude.{◌≡◌, ℕ, ◌+◌, ◌^◌, List, [], length, Some, nat_eq, if◌then◌else◌}
+use Rattle.std.specs.Prelude.{◌≡◌, ℕ, ◌≤◌, ◌+◌, ◌^◌, List, [], length, Some, nat_eq, if◌then◌else◌}
 use Rattle.element.specs.declared.syntax.Syntax.TheVariants.{Implicit, Explicit}
 use Rattle.element.specs.declared.tag.Tag.{Tag}
 use Rattle.dictionary.specs.Syntaxes.{syntax_uid}
@@ -8,12 +8,25 @@ use Rattle.part10.specs.MetaText.{Said, HasMeta, MetaFaultOf, fault_number}
 use Rattle.sequence.specs.Tree.{Elements, DataSet}
 use Rattle.sequence.specs.Rules.{Limits, no_tag}
 use Rattle.sequence.specs.FirstFault.{IsUnbroken, FirstFault, EndFault}
+use Rattle.sequence.specs.Ending.{IsWhole}
 use Rattle.dicomdir.specs.Directory.{IsExplicitFile}
 use Rattle.dicomdir.specs.DirFault.{Fault, directory_fault}
+use Rattle.dicomdir.specs.declared.fault.DirFault.{DirFault}
 
 -- what the data set is held to: 64 open levels and 2^48 bytes; no value of it is kept
 abbrev pub check_limits : Limits
 check_limits = record { wanted = []; depth = 64; bytes = 2 ^ 48 }
+
+-- a file header that names Explicit stands before these bytes of the file
+pub record HasHeader (file back : List ℕ) : Type 0 where
+  pub front : List ℕ
+  pub explicit : IsExplicitFile file front back
+
+-- after such a file header the file is a whole data set within the limits
+pub record HasDataSet (file : List ℕ) : Type 0 where
+  pub back : List ℕ
+  pub header : HasHeader file back
+  pub whole : IsWhole Explicit check_limits back
 
 -- where a fault of the file header is told: at its letters, and else behind them
 abbrev pub place_of_meta_fault : ℕ → ℕ
@@ -31,3 +44,14 @@ pub data CheckFault (file : List ℕ) : ℕ → ℕ → Tag → Type 0 where
   in_directory : {front back : List ℕ} {elements : Elements} {f : Fault} → IsExplicitFile file front back
       → IsUnbroken Explicit check_limits back → DataSet Explicit 0 elements back
       → directory_fault (length front) elements ≡ Some f → CheckFault file f.number f.place no_tag
+
+-- a fault of the root, the records or their offsets
+pub record IsOfRecords (f : DirFault) : Type 0 where
+  pub number : 60 ≤ f.number
+  pub tag : f.tag ≡ no_tag
+
+-- memory ran out; or it is the first fault of the file header or the data set; or these have none
+pub data IsRefused (file : List ℕ) (f : DirFault) : Type 0 where
+  no_memory : f.number ≡ 67 → IsRefused file f
+  first_fault : CheckFault file f.number f.place f.tag → IsRefused file f
+  of_records : HasDataSet file → IsOfRecords f → IsRefused file f

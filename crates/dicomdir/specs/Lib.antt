@@ -18,3 +18,13 @@ pub mod Kept
 pub mod KeptExamples
 pub mod NodesInUse
 pub mod NodesInUseExamples
+pub mod machine
+pub mod Followed
+pub mod TreeNodes
+pub mod KeptLaws
+pub mod Keys
+pub mod KeysOf
+pub mod Levels
+pub mod Grouping
+pub mod RecordText
+pub mod Laying

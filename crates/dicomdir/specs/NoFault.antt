@@ -1,9 +1,9 @@
 -- What the faults of a directory have to do with its links (this product's own profile).
-use Rattle.std.specs.Prelude.{◌≡◌, ℕ, ◌≤◌, false, length, None}
+use Rattle.std.specs.Prelude.{◌≡◌, ℕ, ◌≤◌, false, List, length, None}
 use Rattle.sequence.specs.Tree.{Elements}
 use Rattle.dicomdir.specs.TreeOf.{Forest, count_of}
 use Rattle.dicomdir.specs.Directory.{Node}
-use Rattle.dicomdir.specs.Linked.{LinkedElements, IsAllReached, places_of}
+use Rattle.dicomdir.specs.Linked.{Linked, LinkedElements, IsAllReached, places_of}
 use Rattle.dicomdir.specs.DirFault.{directory_fault, is_one_of}
 
 -- of a linked directory the nodes are no more than the records, and none is at place 0
@@ -18,3 +18,17 @@ LinkedHasNoFault =
     (start : ℕ) (elements : Elements) (tree : Forest Node) (linked : LinkedElements start elements tree)
     → IsAllReached linked
     → directory_fault start elements ≡ None
+
+-- the records are linked to a tree, which leaves none in use out
+pub record IsSound (start : ℕ) (elements : Elements) : Type 0 where
+  pub tree : Forest Node
+  pub linked : LinkedElements start elements tree
+  pub all_reached : IsAllReached linked
+
+-- a directory without a fault has such a tree
+abbrev pub NoFaultIsLinked : Type 0
+NoFaultIsLinked = (start : ℕ) (elements : Elements) → directory_fault start elements ≡ None → IsSound start elements
+
+-- a file is linked to one tree at most
+abbrev pub OneTreeOfFile : Type 0
+OneTreeOfFile = (file : List ℕ) (tree other : Forest Node) → Linked file tree → Linked file other → tree ≡ other

@@ -1,9 +1,9 @@
 //! File IDs.
-ghost use Rattle.std.specs.Prelude.{◌≡◌, ◌≤◌, ◌&&◌, nat_le, length};
-ghost use Rattle.element.specs.Padding.{is_space, without_trailing};
+ghost use Rattle.std.specs.Prelude.{◌≡◌, ◌≤◌, ◌&&◌, true, nat_le, length};
 ghost use Rattle.dicomdir.specs.FileId.{file_id_of};
 ghost use Rattle.dicomdir.specs.FileId as spelling;
 
+use element::without_trailing_spaces;
 use std::marker::Model;
 
 /// A file ID: one to eight components of one to eight capital letters, digits and underscores, with
@@ -41,17 +41,6 @@ fn is_component_size(size: usize) -> bool
     ensures { result ≡ (nat_le 1 size && nat_le size 8) }
 {
     1 <= size && size <= 8
-}
-
-#[tactic(auto, using(crate::proofs::FileIds::space_dropped, crate::proofs::FileIds::rest_kept))]
-fn without_trailing_spaces(bytes: &[u8]) -> &[u8]
-    ensures { result.now ≡ without_trailing is_space bytes.now }
-{
-    let mut end = bytes.len();
-    while end > 0 && bytes[end - 1] == b' ' {
-        end -= 1;
-    }
-    &bytes[..end]
 }
 
 #[tactic(auto, using(crate::proofs::FileIds::good_before_end, crate::proofs::FileIds::size_before_end, crate::proofs::FileIds::count_before_end, crate::proofs::FileIds::good_before, crate::proofs::FileIds::size_before, crate::proofs::FileIds::count_before, crate::proofs::FileIds::is_file_id_by_parts))]
@@ -109,7 +98,9 @@ impl FileId {
 
     /// Returns its components, with a backslash between them.
     pub fn text(&self) -> &[u8]
-        ensures { result.now ≡ self.now }
+        ensures value { result.now ≡ self.now }
+        ensures known { spelling.is_file_id self.now ≡ true }
+        ensures room { length self.now ≤ 71 }
     {
         &self.bytes[..self.size]
     }

@@ -3,7 +3,8 @@ ghost use Rattle.dicomdir.specs.NodesInUseExamples.{OneImageHasNodes};
 ghost use Rattle.dicomdir.specs.Groups.{RowsAreGrouped, FileIdsAreRead};
 ghost use Rattle.dicomdir.specs.HeaderFaults.{HeaderFaults};
 ghost use Rattle.dicomdir.specs.KeptExamples.{InactiveRecords};
-ghost use Rattle.dicomdir.specs.NoFault.{LinkedHasNoFault, NodesAreRecords};
+ghost use Rattle.dicomdir.specs.KeptLaws.{KeptAreInUse};
+ghost use Rattle.dicomdir.specs.NoFault.{LinkedHasNoFault, NodesAreRecords, NoFaultIsLinked, OneTreeOfFile};
 ghost use Rattle.dicomdir.specs.OneImage.{OneImageIsLinked, OneImageFaults, PreambleCounts, RecordFaults, NoRowsAreLinked};
 ghost use Rattle.dicomdir.specs.PlacesExamples.{PlacesAreAssigned, SizesAreTrue};
 
@@ -59,6 +60,16 @@ pub fn linked_has_no_fault()
     ensures { LinkedHasNoFault }
 {}
 
+/// The records of a directory without a fault are linked to a tree, which leaves none in use out.
+pub fn no_fault_is_linked()
+    ensures { NoFaultIsLinked }
+{}
+
+/// A file is linked to one tree at most.
+pub fn one_tree_of_a_file()
+    ensures { OneTreeOfFile }
+{}
+
 /// Records stand depth first, without gaps: the directory that the definitions lay down of one image
 /// is the known one, byte by byte.
 pub fn places_are_assigned()
@@ -74,6 +85,11 @@ pub fn sizes_are_true()
 /// Inactive records are followed as any other, and keep neither themselves nor what is below them.
 pub fn inactive_records()
     ensures { InactiveRecords }
+{}
+
+/// The files that a tree keeps are those of its nodes in use with no inactive node above.
+pub fn kept_are_in_use()
+    ensures { KeptAreInUse }
 {}
 
 /// The directory of one image has these four records, with their places and levels.

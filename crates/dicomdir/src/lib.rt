@@ -2,7 +2,28 @@
 //! and when their records are linked as they have to be.
 #![tactic(auto)]
 
+mod build_groups;
+mod build_plan;
+mod checking;
+mod fault;
 mod file_id;
+mod found;
+mod kept_files;
+mod keys;
 pub mod laws;
+mod level;
+mod links;
+mod record_bytes;
+mod records;
+mod row;
+mod skip;
+mod tree;
 
+pub use checking::check;
+pub use fault::DirFault;
 pub use file_id::FileId;
+pub use kept_files::kept_of;
+pub use keys::Keys;
+pub use row::Row;
+pub use skip::Skip;
+pub use tree::{Tree, TreeRecord};

@@ -1,0 +1,141 @@
+-- A directory without a fault is linked to a tree.
+use Rattle.std.proofs.Common.{◌≡◌, ℕ, suc, ◌+◌, ◌<◌, Bool, true, false, not, ◌&&◌, ◌||◌, List, [], ◌∷◌, length, Option, Some, None, is_some, refl, sym, ap, subst, ◌∙◌, arith, eqb-true, nat_eq, if◌then◌else◌}
+use Rattle.std.specs.List.{list_any, list_all}
+use Rattle.std.specs.Str.{bytes_eq}
+use Rattle.std.proofs.lemmas.Bool.{and_parts, and_from}
+use Rattle.std.proofs.lemmas.Bool.Decides.{nat_tests}
+use Rattle.byteorder.specs.Endian.{little_number}
+use Rattle.sequence.specs.Tree.{Elements}
+use Rattle.dicomdir.specs.TreeOf.{Forest}
+use Rattle.dicomdir.specs.Directory.{Found, missing, value_at, items_at, found, number_in, Record, header_size, records_at, records_in, carried, first_offset, last_offset, records_of, next_offset, lower_offset, has_record, has_file_id, is_use_flag}
+use Rattle.dicomdir.specs.Linked.{PlacedNode, nodes_of, places_of, last_place_behind, record_at, are_records, LinkedElements}
+use Rattle.dicomdir.specs.DirFault.{Fault, fault, ◌or_else◌, offset_fault, records_fault, root_fault, record_fault, each_fault, Walked, stopped, went, walk, is_one_of, or_zero, place_in, unreached_fault, end_fault, root_way, links_fault, records_then_links, directory_fault}
+use Rattle.dicomdir.specs.Followed.{forest_from}
+use Rattle.dicomdir.specs.NoFault.{IsSound, NoFaultIsLinked}
+use Rattle.dicomdir.proofs.Linking.{IsIn, HaveOffsets, Reaches, reaches}
+
+both_none : (a b : Option Fault) → (a or_else b) ≡ None → (a ≡ None) × (b ≡ None)
+both_none None b e = (refl, e)
+both_none (Some x) b e = absurd cc
+
+offset_some : (start : ℕ) (f : Found) → offset_fault start f ≡ None → number_in 4 f ≡ Some (or_zero (number_in 4 f))
+offset_some start missing e = absurd cc
+offset_some start (value_at place v) e = by (nat_eq (length v) 4) e
+  where
+    by : (b : Bool) → (if b then None else fault 68 place) ≡ None → (if b then Some (little_number 4 v) else None) ≡ Some (or_zero (if b then Some (little_number 4 v) else None))
+    by true e = refl
+    by false e = absurd cc
+offset_some start (items_at place h is) e = absurd cc
+
+pub record HasRecords (f : Found) : Type 0 where
+  pub records : List Record
+  pub are : records_in f ≡ Some records
+
+records_some : (start : ℕ) (f : Found) → records_fault start f ≡ None → HasRecords f
+records_some start missing e = absurd cc
+records_some start (value_at place v) e = absurd cc
+records_some start (items_at place h is) e = record { records = records_at (place + header_size h) is; are = refl }
+
+good_record : (r : Record) → record_fault r ≡ None → (has_record r.elements && has_file_id r.elements) ≡ true
+good_record r e = by (has_record r.elements) (has_file_id r.elements) e
+  where
+    by : (a b : Bool) → (if not a then fault 68 r.place else (if not b then fault 65 r.place else None)) ≡ None → (a && b) ≡ true
+    by true true e = refl
+    by true false e = absurd cc
+    by false b e = absurd cc
+
+each_good : (records : List Record) → each_fault records ≡ None → are_records records ≡ true
+each_good [] e = refl
+each_good (r ∷ records) e =
+    let parts = both_none (record_fault r) (each_fault records) e in
+    and_from (has_record r.elements && has_file_id r.elements) (are_records records) (good_record r parts.0) (each_good records parts.1)
+
+have_offsets : (records : List Record) → are_records records ≡ true → HaveOffsets records
+have_offsets [] good p es e = absurd cc
+have_offsets (r ∷ records) good p es e =
+    let parts = and_parts (has_record r.elements && has_file_id r.elements) (are_records records) good in
+    let both = and_parts (has_record r.elements) (has_file_id r.elements) parts.0 in
+    by (nat_eq r.place p) both.0 (have_offsets records parts.1 p es) e
+  where
+    offsets : has_record r.elements ≡ true → (is_some (lower_offset r.elements) ≡ true) × (is_some (next_offset r.elements) ≡ true)
+    offsets h =
+        let sides = and_parts (is_some (next_offset r.elements) && is_use_flag (number_in 2 (found 0x00041410 0 r.elements))) (is_some (lower_offset r.elements) && not (bytes_eq (carried r.elements).kind [])) h in
+        let left = and_parts (is_some (next_offset r.elements)) (is_use_flag (number_in 2 (found 0x00041410 0 r.elements))) sides.0 in
+        let right = and_parts (is_some (lower_offset r.elements)) (not (bytes_eq (carried r.elements).kind [])) sides.1 in
+        (right.0, left.0)
+
+    by : (b : Bool) → has_record r.elements ≡ true
+        → (record_at p records ≡ Some es → (is_some (lower_offset es) ≡ true) × (is_some (next_offset es) ≡ true))
+        → (if b then Some r.elements else record_at p records) ≡ Some es → (is_some (lower_offset es) ≡ true) × (is_some (next_offset es) ≡ true)
+    by true h rest e = let same : r.elements ≡ es = cc in subst (λ z. (is_some (lower_offset z) ≡ true) × (is_some (next_offset z) ≡ true)) same (offsets h)
+    by false h rest e = rest e
+
+-- the walk ended, the last record of the root is the named one, and all in use were reached
+pub record EndsWell (start : ℕ) (es : Elements) (records : List Record) (w : Walked) : Type 0 where
+  pub reached : List ℕ
+  pub last : ℕ
+  pub is : w ≡ went reached last
+  pub last_is : or_zero (last_offset start es) ≡ last
+  pub all : unreached_fault reached records ≡ None
+
+ends_well : (start : ℕ) (es : Elements) (records : List Record) (w : Walked) → end_fault start es records w ≡ None → EndsWell start es records w
+ends_well start es records (stopped f) e = absurd cc
+ends_well start es records (went reached last) e =
+    let parts = both_none (if nat_eq (or_zero (last_offset start es)) last then None else fault 60 (place_in (found 0x00041202 start es))) (unreached_fault reached records) e in
+    record { reached = reached; last = last; is = refl; last_is = by (nat_eq (or_zero (last_offset start es)) last) refl parts.0; all = parts.1 }
+  where
+    by : (b : Bool) → nat_eq (or_zero (last_offset start es)) last ≡ b → (if b then None else fault 60 (place_in (found 0x00041202 start es))) ≡ None → or_zero (last_offset start es) ≡ last
+    by true same e = eqb-true (or_zero (last_offset start es)) last same
+    by false same e = absurd cc
+
+all_there : (nodes more : List ℕ) (records : List Record) → ((p : ℕ) → is_one_of p more ≡ (is_one_of p nodes || false)) → unreached_fault more records ≡ None
+    → list_all (λ r. not (carried r.elements).in_use || list_any (nat_eq r.place) nodes) records ≡ true
+all_there nodes more [] members e = refl
+all_there nodes more (r ∷ records) members e =
+    by (not (carried r.elements).in_use) (is_one_of r.place more) (is_one_of r.place nodes) (members r.place) (all_there nodes more records members) e
+  where
+    by : (inactive a b : Bool) → a ≡ (b || false)
+        → (unreached_fault more records ≡ None → list_all (λ r. not (carried r.elements).in_use || list_any (nat_eq r.place) nodes) records ≡ true)
+        → (if inactive || a then unreached_fault more records else fault 63 r.place) ≡ None
+        → ((inactive || b) && list_all (λ r. not (carried r.elements).in_use || list_any (nat_eq r.place) nodes) records) ≡ true
+    by true a b same rest e = rest e
+    by false true true same rest e = rest e
+    by false true false same rest e = absurd cc
+    by false false b same rest e = absurd cc
+
+sound : (start : ℕ) (es : Elements) (records : List Record) → records_of start es ≡ Some records → first_offset start es ≡ Some (or_zero (first_offset start es))
+    → last_offset start es ≡ Some (or_zero (last_offset start es)) → (each_fault records or_else links_fault start es records) ≡ None → IsSound start es
+sound start es records are first_some last_some e =
+    let parts = both_none (each_fault records) (links_fault start es records) e in
+    let good = each_good records parts.0 in
+    let first : ℕ = or_zero (first_offset start es) in
+    let most : ℕ = suc (length records) in
+    let ends = ends_well start es records (walk most records (root_way start es) [] first) parts.1 in
+    let nowhere : IsIn records [] = record { distinct = refl; inside = λ p h. absurd cc } in
+    let went_there = reaches most records (have_offsets records good) (root_way start es) [] first ends.reached ends.last nowhere (omega arith) ends.is in
+    let placed : Forest PlacedNode = forest_from most records first in
+    record {
+      tree = nodes_of placed;
+      linked = record {
+        records = records;
+        placed = placed;
+        has_records = are;
+        good = good;
+        tree_is = refl;
+        linked = went_there.linked;
+        distinct = went_there.distinct;
+        names_first = first_some ∙ ap (λ z. Some z) (sym went_there.first);
+        names_last = last_some ∙ ap (λ z. Some z) (ends.last_is ∙ sym went_there.last_is);
+      };
+      all_reached = all_there (places_of placed) ends.reached records went_there.members ends.all;
+    }
+
+pub no_fault_is_linked : NoFaultIsLinked
+unfolding directory_fault
+no_fault_is_linked start es e =
+    let parts = both_none (root_fault start es) (records_then_links start es (records_of start es)) e in
+    let root = both_none (offset_fault start (found 0x00041200 start es)) (offset_fault start (found 0x00041202 start es) or_else records_fault start (found 0x00041220 start es)) parts.0 in
+    let rest = both_none (offset_fault start (found 0x00041202 start es)) (records_fault start (found 0x00041220 start es)) root.1 in
+    let has = records_some start (found 0x00041220 start es) rest.1 in
+    let links : (each_fault has.records or_else links_fault start es has.records) ≡ None = ap (λ z. records_then_links start es z) (sym has.are) ∙ parts.1 in
+    sound start es has.records has.are (offset_some start (found 0x00041200 start es) root.0) (offset_some start (found 0x00041202 start es) rest.0) links

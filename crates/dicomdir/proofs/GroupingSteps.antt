@@ -1,0 +1,84 @@
+-- What one more row does to the keys of a set and to the groups of rows.
+use Rattle.std.proofs.Common.{◌≡◌, ℕ, zero, suc, ◌+◌, ◌<◌, ◌≤◌, Bool, true, false, cond, not, ◌||◌, List, [], ◌∷◌, ◌++◌, map, take, drop, get_or, set, length, Vec, refl, sym, ap, ap₂, ◌∙◌, append_assoc, add-one, arith}
+use Rattle.std.specs.Borrow.{Bor}
+use Rattle.std.specs.List.{list_any, position_or_len}
+use Rattle.std.specs.Str.{bytes_eq}
+use Rattle.std.proofs.lemmas.List.{append-nil, map-append, length-map, length-append, take_all}
+use Rattle.dicomdir.specs.Grouping.{rows_at, row_groups, groups_of}
+use Rattle.dicomdir.specs.TreeOf.{rows_with}
+use Rattle.dicomdir.specs.Row.{Row}
+use Rattle.dicomdir.proofs.GroupingLemmas.{Grouped, grouped_old, grouped_new}
+
+abbrev pub texts : {A : Type 0} → List (Vec ℕ A) → List (List ℕ)
+texts keys = map (λ v. v.items) keys
+
+any_texts : {A : Type 0} (k : List ℕ) (keys : List (Vec ℕ A)) → list_any (λ y. bytes_eq k y.items) keys ≡ list_any (bytes_eq k) (texts keys)
+any_texts k [] = refl
+any_texts k (x ∷ keys) = ap (λ (b : Bool). bytes_eq k x.items || b) (any_texts k keys)
+
+place_texts : {A : Type 0} (k : List ℕ) (keys : List (Vec ℕ A)) → position_or_len (λ y. bytes_eq k y.items) keys ≡ position_or_len (bytes_eq k) (texts keys)
+place_texts k [] = refl
+place_texts k (x ∷ keys) = ap (λ (n : ℕ). cond (not (bytes_eq k x.items)) (1 + n) 0) (place_texts k keys)
+
+-- the row at the index comes after those before it
+taken : (rows : List (Bor Row)) (i : ℕ) (row : Bor Row) → i < length rows → row ≡ get_or rows i row → take (suc i) (rows_at rows) ≡ take i (rows_at rows) ++ row.now ∷ []
+taken [] i row lt is = absurd (omega (arith, lt))
+taken (r ∷ rows) zero row lt is = ap (λ (x : Bor Row). x.now ∷ []) (sym is)
+taken (r ∷ rows) (suc i) row lt is = ap (λ (rs : List Row). r.now ∷ rs) (taken rows i row (omega (arith, lt)) is)
+
+pub row_put : {A : Type 0} (groups : List (Vec (Bor Row) A)) (n : ℕ) (d g : Vec (Bor Row) A) (row : Bor Row) → n < length groups → g.items ≡ (get_or groups n d).items ++ row ∷ []
+    → row_groups (set groups n g) ≡ set (row_groups groups) n (get_or (row_groups groups) n [] ++ row.now ∷ [])
+row_put [] n d g row lt is = absurd (omega (arith, lt))
+row_put (x ∷ groups) zero d g row lt is = ap (λ (rs : List (Bor Row)). rows_at rs ∷ row_groups groups) is ∙ ap (λ (rs : List Row). rs ∷ row_groups groups) (map-append (λ r. r.now) x.items (row ∷ []))
+row_put (x ∷ groups) (suc n) d g row lt is = ap (λ (gs : List (List Row)). rows_at x.items ∷ gs) (row_put groups n d g row (omega (arith, lt)) is)
+
+step_by : (b : Bool) (key_of : Row → List ℕ) (done : List Row) (row : Row) (keys new : List (List ℕ)) (groups g1 g2 : List (List Row)) (n : ℕ)
+    → list_any (bytes_eq (key_of row)) keys ≡ b → Grouped key_of done keys groups
+    → new ≡ cond b keys (keys ++ key_of row ∷ []) → n ≡ position_or_len (bytes_eq (key_of row)) keys
+    → g1 ≡ cond (not b) (groups ++ [] ∷ []) groups → g2 ≡ set g1 n (get_or g1 n [] ++ row ∷ [])
+    → Grouped key_of (done ++ row ∷ []) new g2
+step_by true key_of done row keys new groups g1 g2 n any g is place opened put =
+    rw (put, opened, place, is) (grouped_old key_of done row keys groups g any)
+step_by false key_of done row keys new groups g1 g2 n any g is place opened put =
+    rw (put, opened, place, is) (grouped_new key_of done row keys groups g any)
+
+pick : {A : Type 0} (b : Bool) (keys : List (Vec ℕ A)) (v : Vec ℕ A) → texts (cond b keys (keys ++ v ∷ [])) ≡ cond b (texts keys) (texts keys ++ v.items ∷ [])
+pick true keys v = refl
+pick false keys v = map-append (λ x. x.items) keys (v ∷ [])
+
+pub step : {A : Type 0} (key_of : Row → List ℕ) (rows : List (Bor Row)) (i : ℕ) (row : Bor Row) (keys new : List (Vec ℕ A)) (v : Vec ℕ A) (groups g1 g2 : List (List Row)) (n : ℕ) (is_new : Bool)
+    → i < length rows → row ≡ get_or rows i row → v.items ≡ key_of row.now
+    → Grouped key_of (take i (rows_at rows)) (texts keys) groups
+    → new ≡ cond (list_any (λ y. bytes_eq v.items y.items) keys) keys (keys ++ v ∷ [])
+    → n ≡ position_or_len (λ y. bytes_eq v.items y.items) keys
+    → is_new ≡ not (list_any (λ y. bytes_eq v.items y.items) keys)
+    → g1 ≡ cond is_new (groups ++ [] ∷ []) groups → g2 ≡ set g1 n (get_or g1 n [] ++ row.now ∷ [])
+    → Grouped key_of (take (suc i) (rows_at rows)) (texts new) g2
+step key_of rows i row keys new v groups g1 g2 n is_new lt is key g news place newness opened put =
+    let k = key_of row.now in
+    let b = list_any (bytes_eq k) (texts keys) in
+    let any : list_any (λ y. bytes_eq v.items y.items) keys ≡ b = any_texts v.items keys ∙ ap (λ (t : List ℕ). list_any (bytes_eq t) (texts keys)) key in
+    let at : n ≡ position_or_len (bytes_eq k) (texts keys) = place ∙ place_texts v.items keys ∙ ap (λ (t : List ℕ). position_or_len (bytes_eq t) (texts keys)) key in
+    let new_texts : texts new ≡ cond b (texts keys) (texts keys ++ k ∷ []) =
+    ap texts news ∙ pick (list_any (λ y. bytes_eq v.items y.items) keys) keys v ∙ ap₂ (λ (c : Bool) (t : List ℕ). cond c (texts keys) (texts keys ++ t ∷ [])) any key in
+    let opens : g1 ≡ cond (not b) (groups ++ [] ∷ []) groups = opened ∙ ap (λ (c : Bool). cond c (groups ++ [] ∷ []) groups) (newness ∙ ap not any) in
+    let whole = step_by b key_of (take i (rows_at rows)) row.now (texts keys) (texts new) groups g1 g2 n refl g new_texts at opens put in
+    rw (taken rows i row lt is) whole
+
+pub finished : (key_of : Row → List ℕ) (rows : List (Bor Row)) (n : ℕ) (keys : List (List ℕ)) (groups : List (List Row)) → length rows ≤ n
+    → Grouped key_of (take n (rows_at rows)) keys groups → groups ≡ groups_of key_of (rows_at rows)
+finished key_of rows n keys groups le g =
+    let all : take n (rows_at rows) ≡ rows_at rows = take_all n (rows_at rows) (omega (arith, le, length-map rows (λ (r : Bor Row). r.now))) in
+    let whole : Grouped key_of (rows_at rows) keys groups = rw all at g in
+    whole.each ∙ ap (map (λ k. rows_with key_of k (rows_at rows))) whole.seen
+
+opened_by : (b : Bool) (groups : List (List Row)) → length (cond b (groups ++ [] ∷ []) groups) ≡ length groups + cond b 1 0
+opened_by true groups = length-append groups ([] ∷ [])
+opened_by false groups = omega arith
+
+pub opened_length : (b : Bool) (key_of : Row → List ℕ) (done : List Row) (keys : List (List ℕ)) (groups g1 : List (List Row)) → Grouped key_of done keys groups
+    → g1 ≡ cond b (groups ++ [] ∷ []) groups → length g1 ≡ length keys + cond b 1 0
+opened_length b key_of done keys groups g1 g e =
+    let a = opened_by b groups in
+    let l = length-map keys (λ k. rows_with key_of k done) in
+    omega (arith, ap length e, a, ap length g.each, l)

@@ -1,0 +1,47 @@
+-- What the nodes of a tree keep.
+use Rattle.std.proofs.Common.{◌≡◌, ℕ, suc, ◌+◌, ◌<◌, Bool, true, false, List, [], ◌∷◌, ◌++◌, length, drop, get_or, map, refl, sym, ap, subst, ◌∙◌, arith, if◌then◌else◌}
+use Rattle.std.proofs.lemmas.List.{append_assoc, append-nil, drop_more, drop_all}
+use Rattle.dicomdir.specs.TreeOf.{Forest, no_nodes, node}
+use Rattle.dicomdir.specs.Directory.{Node}
+use Rattle.dicomdir.specs.Linked.{PlacedNode, nodes_of}
+use Rattle.dicomdir.specs.NodesInUse.{LevelNode, nodes_in_use}
+use Rattle.dicomdir.specs.Kept.{pruned, images_of, file_id_of_image}
+use Rattle.dicomdir.specs.TreeNodes.{kept_in, node_of}
+use Rattle.dicomdir.specs.declared.tree.TreeRecord.{TreeRecord}
+use Rattle.dicomdir.specs.KeptLaws.{KeptAreInUse}
+
+kept_append : (xs ys : List LevelNode) → kept_in (xs ++ ys) ≡ kept_in xs ++ kept_in ys
+kept_append [] ys = refl
+kept_append (x ∷ xs) ys =
+    ap (λ z. file_id_of_image x.carries ++ z) (kept_append xs ys)
+    ∙ sym (append_assoc (file_id_of_image x.carries) (kept_in xs) (kept_in ys))
+
+pub kept_are_in_use : KeptAreInUse
+kept_are_in_use level no_nodes = refl
+kept_are_in_use level (node n below next) = by n.carries.in_use (kept_are_in_use (suc level) below) (kept_are_in_use level next)
+  where
+    by : (b : Bool) → images_of (pruned (nodes_of below)) ≡ kept_in (nodes_in_use (suc level) below) → images_of (pruned (nodes_of next)) ≡ kept_in (nodes_in_use level next)
+        → images_of (if b then node n.carries (pruned (nodes_of below)) (pruned (nodes_of next)) else pruned (nodes_of next))
+        ≡ kept_in (if b then record { place = n.place; level = level; carries = n.carries } ∷ (nodes_in_use (suc level) below ++ nodes_in_use level next) else nodes_in_use level next)
+    by true low nxt =
+        ap (λ z. file_id_of_image n.carries ++ z)
+        (ap (λ z. z ++ images_of (pruned (nodes_of next))) low
+        ∙ (ap (λ z. kept_in (nodes_in_use (suc level) below) ++ z) nxt ∙ sym (kept_append (nodes_in_use (suc level) below) (nodes_in_use level next))))
+    by false low nxt = nxt
+
+-- of the records from an index on
+abbrev pub kept_from : ℕ → List TreeRecord → List (List ℕ)
+kept_from i records = kept_in (map node_of (drop i records))
+
+pub kept_one_more : (records : List TreeRecord) (i : ℕ) (d : TreeRecord) (kept one : List (List ℕ)) → i < length records
+    → one ≡ file_id_of_image (node_of (get_or records i d)).carries → kept ++ kept_from i records ≡ kept_in (map node_of records)
+    → (kept ++ one) ++ kept_from (i + 1) records ≡ kept_in (map node_of records)
+kept_one_more records i d kept one within is all =
+    let first : kept_from i records ≡ one ++ kept_from (i + 1) records =
+    ap (λ z. kept_in (map node_of z)) (drop_more records i d within) ∙ ap (λ z. z ++ kept_from (i + 1) records) (sym is) in
+    append_assoc kept one (kept_from (i + 1) records) ∙ (ap (λ z. kept ++ z) (sym first) ∙ all)
+
+pub kept_whole : (records : List TreeRecord) (kept : List (List ℕ)) → kept ++ kept_from (length records) records ≡ kept_in (map node_of records) → kept ≡ kept_in (map node_of records)
+kept_whole records kept all =
+    let none : drop (length records) records ≡ [] = drop_all (length records) records (omega arith) in
+    sym (append-nil kept) ∙ (ap (λ z. kept ++ kept_in (map node_of z)) (sym none) ∙ all)

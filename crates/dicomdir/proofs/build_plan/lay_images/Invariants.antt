@@ -1,0 +1,14 @@
+use Rattle.std.proofs.Common.{◌≤◌, length, drop}
+use Rattle.dicomdir.specs.Grouping.{rows_at}
+use Rattle.dicomdir.specs.Laying.{Lays}
+use Rattle.dicomdir.specs.TreeOf.{images}
+use Rattle.dicomdir.proofs.build_plan.lay_images.Given as goal
+
+abbrev pub invariant-loop-at : goal.invariant-loop-at
+invariant-loop-at g l = record {
+  within : l.at ≤ length l.rows;
+  laid : Lays (images (rows_at (drop l.at l.rows))) l.fn.plan.entries.items l.plan.entries.items l.fn.plan.size l.plan.size l.chain.first l.chain.last;
+}
+
+abbrev pub decreases-loop-at : goal.decreases-loop-at
+decreases-loop-at g l = l.at

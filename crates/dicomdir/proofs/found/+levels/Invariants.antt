@@ -1,0 +1,26 @@
+use Rattle.std.proofs.Common.{◌≤◌, ◌+◌, ◌*◌, length}
+use Rattle.dicomdir.proofs.found.+levels.Given as goal
+
+abbrev pub decreases-after_content : goal.decreases-after_content
+decreases-after_content l = 2 * length l.text.now + 1
+
+abbrev pub decreases-after_elements : goal.decreases-after_elements
+decreases-after_elements l = 2 * length l.text.now
+
+abbrev pub decreases-after_item : goal.decreases-after_item
+decreases-after_item l = 2 * length l.text.now + 1
+
+abbrev pub decreases-after_items : goal.decreases-after_items
+decreases-after_items l = 2 * length l.text.now
+
+abbrev pub invariant-after_elements-loop-head : goal.invariant-after_elements-loop-head
+invariant-after_elements-loop-head l = length l.rest ≤ length l.text
+
+abbrev pub decreases-after_elements-loop-head : goal.decreases-after_elements-loop-head
+decreases-after_elements-loop-head l = length l.rest
+
+abbrev pub invariant-after_items-loop-head : goal.invariant-after_items-loop-head
+invariant-after_items-loop-head l = length l.rest ≤ length l.text
+
+abbrev pub decreases-after_items-loop-head : goal.decreases-after_items-loop-head
+decreases-after_items-loop-head l = length l.rest

@@ -1,0 +1,17 @@
+use Rattle.std.proofs.Common.{◌≡◌, arith, sym, ◌∙◌}
+use Rattle.element.specs.Header.{need}
+use Rattle.element.specs.declared.size.Need.TheVariants.{Size}
+use Rattle.sequence.proofs.Public.{need_least}
+use Rattle.dicomdir.proofs.HeadLemmas.{head_whole}
+use Rattle.dicomdir.proofs.found.head_of.Goals as goal
+
+pub read_header-requires : goal.read_header-requires
+read_header-requires c =
+    let is : need c.args.syntax c.args.text.now ≡ Size c.in-Size.size = grind (arith, c.need.ensures, c.in-Size.is) in
+    let fits = c.if-size-text.true in
+    head_whole c.args.syntax c.args.text.now c.in-Size.size is (omega (arith, fits))
+
+pub returns-then-size-text-clause-some : goal.returns-then-size-text-clause-some
+returns-then-size-text-clause-some c =
+    let is : need c.args.syntax c.args.text.now ≡ Size c.in-Size.size = grind (arith, c.need.ensures, c.in-Size.is) in
+    need_least c.args.syntax c.args.text.now c.in-Size.size is

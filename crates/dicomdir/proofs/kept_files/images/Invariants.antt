@@ -1,0 +1,7 @@
+use Rattle.std.proofs.Common.{◌≡◌, ◌++◌, map}
+use Rattle.dicomdir.specs.TreeNodes.{node_of, kept_in}
+use Rattle.dicomdir.proofs.KeptLemmas.{kept_from}
+use Rattle.dicomdir.proofs.kept_files.images.Given as goal
+
+abbrev pub invariant-loop-record : goal.invariant-loop-record
+invariant-loop-record g l = l.kept.items ++ kept_from l.record-index l.records ≡ kept_in (map node_of l.records)

@@ -1,0 +1,144 @@
+//! Lays the records of a directory down, last record first.
+ghost use Rattle.std.specs.Prelude.{◌≡◌, ◌+◌, [], IfOk, IfErr, if◌then◌else◌, nat_eq};
+ghost use Rattle.dicomdir.specs.Grouping.{rows_at};
+ghost use Rattle.dicomdir.specs.Laying.{StopsFor, Adds, Lays};
+ghost use Rattle.dicomdir.specs.TreeOf.{images};
+ghost use Rattle.dicomdir.specs.Levels.{record_for, forest_for};
+ghost use Rattle.dicomdir.specs.Places.{record_size, forest_size};
+
+use crate::Row;
+use crate::build_groups::groups;
+use crate::level::Level;
+use crate::record_bytes::record_bytes;
+use std::alloc::Allocator;
+
+/// Why no directory is laid down.
+#[derive(Clone, Copy, Debug, PartialEq, Eq)]
+pub(crate) enum Stop {
+    /// The records have 2^32 bytes or more.
+    TooLarge,
+    /// An allocation was refused.
+    OutOfMemory,
+}
+
+/// A record. Its offsets are counted from the end of the file, since that alone is known while the
+/// records are laid down; 0 means none.
+#[derive(Drop)]
+pub(crate) struct Entry<'r, A: Allocator> {
+    pub(crate) level: Level,
+    pub(crate) row: &'r Row<A>,
+    pub(crate) start: u32,
+    pub(crate) next: u32,
+    pub(crate) lower: u32,
+}
+
+/// The first and the last record of a chain, from the end of the file; 0 means none.
+#[derive(Clone, Copy, Debug)]
+pub(crate) struct Chain {
+    pub(crate) first: u32,
+    pub(crate) last: u32,
+}
+
+impl Chain {
+    /// Returns the chain with one more record before it.
+    fn after(self, start: u32) -> Chain
+        ensures first { result.first ≡ start }
+        ensures last { result.last ≡ (if nat_eq self.first 0 then start else self.last) }
+    {
+        Chain {
+            first: start,
+            last: if self.first == 0 { start } else { self.last },
+        }
+    }
+}
+
+/// The records that are laid down, the last of the file first, and how many bytes they have.
+#[derive(Drop)]
+pub(crate) struct Plan<'r, A: Allocator> {
+    pub(crate) entries: Vec<Entry<'r, A>, A>,
+    pub(crate) size: u32,
+}
+
+impl<'r, A: Allocator> Plan<'r, A> {
+    pub(crate) fn new(alloc: A) -> Plan<'r, A>
+        ensures entries { result.entries.items ≡ [] }
+        ensures size { result.size ≡ 0 }
+    {
+        Plan {
+            entries: Vec::new(alloc),
+            size: 0,
+        }
+    }
+
+    /// Puts a record before those that are laid down, and returns where it starts.
+    #[tactic(auto, using(crate::proofs::LayingLemmas::record_length))]
+    fn add(&mut self, level: Level, row: &'r Row<A>, next: u32, lower: u32) -> Result<u32, Stop>
+        ensures added { IfOk result (λ start. Adds level row.now next lower start self.old.entries.items self.new.entries.items) }
+        ensures size { IfOk result (λ start. self.new.size ≡ self.old.size + record_size (record_for level row.now)) }
+        ensures start { IfOk result (λ start. start ≡ self.new.size) }
+        ensures stops { IfErr result (StopsFor (self.old.size + record_size (record_for level row.now))) }
+    {
+        let record = record_bytes(level, row, 0, 0);
+        let Some(size) = self.size.checked_add(record.len() as u32) else {
+            return Err(Stop::TooLarge);
+        };
+        let entry = Entry {
+            level,
+            row,
+            start: size,
+            next,
+            lower,
+        };
+        if self.entries.push(entry).is_err() {
+            return Err(Stop::OutOfMemory);
+        }
+        self.size = size;
+        Ok(size)
+    }
+}
+
+/// Lays down a record for each row, as images.
+fn lay_images<'r, A: Allocator>(plan: &mut Plan<'r, A>, rows: &[&'r Row<A>]) -> Result<Chain, Stop>
+    ensures laid { IfOk result (λ chain. Lays (images (rows_at rows.now)) plan.old.entries.items plan.new.entries.items plan.old.size plan.new.size chain.first chain.last) }
+    ensures stops { IfErr result (StopsFor (plan.old.size + forest_size (images (rows_at rows.now)))) }
+{
+    let mut chain = Chain { first: 0, last: 0 };
+    let mut at = rows.len();
+    while at > 0 {
+        at -= 1;
+        let start = plan.add(Level::Image, rows[at], chain.first, 0)?;
+        chain = chain.after(start);
+    }
+    Ok(chain)
+}
+
+/// Lays down the records of rows at a level and below it: a record for each group, with the keys of
+/// its first row.
+pub(crate) fn lay<'r, A: Allocator + Copy>(
+    alloc: A,
+    plan: &mut Plan<'r, A>,
+    rows: &[&'r Row<A>],
+    level: Level,
+) -> Result<Chain, Stop>
+    ensures laid { IfOk result (λ chain. Lays (forest_for level (rows_at rows.now)) plan.old.entries.items plan.new.entries.items plan.old.size plan.new.size chain.first chain.last) }
+    ensures stops { IfErr result (StopsFor (plan.old.size + forest_size (forest_for level (rows_at rows.now)))) }
+{
+    if level.is_image() {
+        return lay_images(plan, rows);
+    }
+    let Ok(groups) = groups(alloc, rows, level) else {
+        return Err(Stop::OutOfMemory);
+    };
+    let mut chain = Chain { first: 0, last: 0 };
+    let mut at = groups.len();
+    while at > 0 {
+        at -= 1;
+        let group = groups[at].as_slice();
+        if let Some(row) = group.first() {
+            let below = lay(alloc, plan, group, level.below())?;
+            let start = plan.add(level, row, chain.first, below.first)?;
+            chain = chain.after(start);
+        }
+    }
+    Ok(chain)
+}

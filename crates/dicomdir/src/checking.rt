@@ -1,0 +1,142 @@
+//! Checks directories.
+ghost use Rattle.std.specs.Prelude.{◌≡◌, ◌≤◌, ◌<◌, ◌+◌, ◌^◌, ℕ, List, ◌≢◌, length, IsOk, IfOk, IfErr};
+ghost use Rattle.element.specs.declared.syntax.Syntax.TheVariants.{Explicit};
+ghost use Rattle.sequence.specs.Ending.{IsWhole, Fails};
+ghost use Rattle.dicomdir.specs.CheckFault.{check_limits, CheckFault, HasHeader, HasDataSet, IsOfRecords, IsRefused};
+ghost use Rattle.dicomdir.specs.machine.Steps.{header_fault_of};
+
+use crate::fault::DirFault;
+use crate::found::{Element, find};
+use crate::links::{Root, follow};
+use crate::records::read_records;
+use crate::tree::Tree;
+use element::{Syntax, Tag};
+use part10::{MetaFault, read_meta};
+use sequence::{Fault, Step, Walker, Wanted};
+use std::alloc::Allocator;
+
+/// Returns the fault of a file header. No read of a slice fails, so `ReadFailed` does not come.
+fn header_fault(fault: MetaFault) -> DirFault
+    ensures { result ≡ header_fault_of fault }
+{
+    match fault {
+        MetaFault::NotPart10 => DirFault::at(50, 128),
+        MetaFault::BadMeta => DirFault::at(51, 132),
+        MetaFault::OtherSyntax => DirFault::at(53, 132),
+        MetaFault::ReadFailed => DirFault::out_of_memory(),
+    }
+}
+
+/// Reads the file header of a file in Explicit VR Little Endian, and returns what follows it.
+#[tactic(auto, using(crate::proofs::HeaderChecks::header_check, crate::proofs::HeaderChecks::implicit_check, crate::proofs::HeaderChecks::explicit_check))]
+fn after_header(bytes: &[u8]) -> Result<&[u8], DirFault>
+    ensures read { IfOk result (λ rest. HasHeader bytes.now rest.now) }
+    ensures fault { IfErr result (λ f. f.number ≢ 67 → CheckFault bytes.now f.number f.place f.tag) }
+{
+    let mut rest = bytes;
+    match read_meta(&mut rest) {
+        Err(fault) => Err(header_fault(fault)),
+        Ok(meta) => match meta.syntax {
+            Syntax::Explicit => Ok(rest),
+            Syntax::Implicit => Err(DirFault::at(53, 132)),
+        },
+    }
+}
+
+/// Walks a data set in Explicit VR Little Endian.
+fn walk(text: &[u8]) -> Result<(), Fault>
+    ensures good { IsOk result → IsWhole Explicit check_limits text.now }
+    ensures fails { IfErr result (λ fault. Fails Explicit check_limits text.now fault) }
+{
+    let mut walker = Walker::<256, 64>::new(Syntax::Explicit, Wanted::none(), 1 << 48);
+    let mut rest = text;
+    while !rest.is_empty() {
+        let (count, step) = walker.step(rest);
+        if let Step::Refused(fault) = step {
+            return Err(fault);
+        }
+        rest = &rest[count..];
+    }
+    walker.finish()
+}
+
+/// Reads an offset of the root.
+fn root_offset(element: &Element, start: u64) -> Result<(u64, u32), DirFault>
+    ensures { IfErr result IsOfRecords }
+{
+    match element {
+        Element::Missing => Err(DirFault::at(DirFault::BAD_RECORD, start)),
+        Element::Items { place, .. } => Err(DirFault::at(DirFault::BAD_RECORD, *place)),
+        Element::Value { place, .. } => match element.long() {
+            Some(offset) => Ok((*place, offset)),
+            None => Err(DirFault::at(DirFault::BAD_RECORD, *place)),
+        },
+    }
+}
+
+/// Checks the elements of a directory, of which the first stands at `start`.
+fn check_elements<'a, A: Allocator + Copy>(
+    alloc: A,
+    start: u64,
+    text: &'a [u8],
+) -> Result<Tree<'a, A>, DirFault>
+    requires { start + length text.now < 2 ^ 64 }
+    ensures { IfErr result IsOfRecords }
+{
+    let (first_place, first) = root_offset(
+        &find(Syntax::Explicit, Tag(0x0004, 0x1200), start, text),
+        start,
+    )?;
+    let (last_place, last) = root_offset(
+        &find(Syntax::Explicit, Tag(0x0004, 0x1202), start, text),
+        start,
+    )?;
+    match find(Syntax::Explicit, Tag(0x0004, 0x1220), start, text) {
+        Element::Missing => Err(DirFault::at(DirFault::BAD_RECORD, start)),
+        Element::Value { place, .. } => Err(DirFault::at(DirFault::BAD_RECORD, place)),
+        Element::Items {
+            first: records_place,
+            syntax,
+            text,
+            ..
+        } => {
+            let root = Root {
+                first,
+                first_place,
+                last,
+                last_place,
+            };
+            let mut records = Vec::new(alloc);
+            read_records(syntax, records_place, text, &mut records)?;
+            let mut tree = Vec::new(alloc);
+            follow(alloc, records.as_slice(), &root, &mut tree)?;
+            Ok(Tree::new(tree))
+        }
+    }
+}
+
+/// Checks a directory (PS3.3 annex F) in Explicit VR Little Endian, with defined or undefined lengths, and returns its
+/// tree: the records in use with no inactive record above them.
+///
+/// The faults of the file header come first (50, 51, 53), then those of the data set (10 to 20), at 64 open levels and
+/// 2^48 bytes. Then the root and each record must have their elements (68), and a record in use a valid file ID where it
+/// needs one (65). Then the offsets are followed from the root, the lower one before the next one: each must be the
+/// place of a record (60) that was not reached before (61, 62) and fits its level (64); the root's last record must be
+/// the named one (60), and no record in use may be left over (63). An inactive record is followed as any other, and need
+/// not fit its level. 67 comes where the allocator refuses a growth.
+#[tactic(auto, using(crate::proofs::HeaderChecks::header_refused, crate::proofs::HeaderChecks::data_set_check, crate::proofs::HeaderChecks::header_before, crate::proofs::WalkLemmas::fault_within))]
+pub fn check<'a, A: Allocator + Copy>(alloc: A, bytes: &'a [u8]) -> Result<Tree<'a, A>, DirFault>
+    ensures whole { IsOk result → HasDataSet bytes.now }
+    ensures fault { IfErr result (IsRefused bytes.now) }
+{
+    let text = after_header(bytes)?;
+    let start = (bytes.len() - text.len()) as u64;
+    if let Err(fault) = walk(text) {
+        return Err(DirFault {
+            number: fault.number,
+            place: start + fault.place,
+            tag: fault.tag,
+        });
+    }
+    check_elements(alloc, start, text)
+}

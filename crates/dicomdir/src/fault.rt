@@ -1,0 +1,67 @@
+//! What is wrong with a directory.
+ghost use Rattle.std.specs.Prelude.{◌≡◌};
+ghost use Rattle.sequence.specs.Rules.{no_tag};
+
+use element::Tag;
+use std::fmt;
+use std::fmt::{Display, Formatter};
+
+/// Why a directory is not accepted, or not built.
+#[derive(Clone, Copy, Debug, PartialEq, Eq)]
+pub struct DirFault {
+    /// Which rule: 10 to 20 are those of a data set (`sequence::Fault`), 50, 51 and 53 those of a file header
+    /// (`part10::MetaFault`), and 60 to 68 the constants of this type.
+    pub number: u8,
+    /// The byte that it concerns, counted from the file's first byte; 0 for 66 and 67.
+    pub place: u64,
+    /// The tag that a fault of the data set concerns; (0000,0000) for all others.
+    pub tag: Tag,
+}
+
+impl DirFault {
+    /// An offset is no record's place. It is reported at the record that has the offset, or at the header of the
+    /// root's element.
+    pub const BAD_OFFSET: u8 = 60;
+
+    /// An offset leads back: to the record that has it, to one before that in its chain, or to one above.
+    pub const CYCLE: u8 = 61;
+
+    /// An offset leads to another record that was reached before.
+    pub const TWICE_REACHED: u8 = 62;
+
+    /// A record in use that no offset leads to.
+    pub const UNREACHED: u8 = 63;
+
+    /// A record's type does not fit its level.
+    pub const WRONG_LEVEL: u8 = 64;
+
+    /// A file ID is invalid, or an image has none.
+    pub const BAD_FILE_ID: u8 = 65;
+
+    /// A file of 2^32 bytes or more.
+    pub const TOO_LARGE: u8 = 66;
+
+    /// The allocator refused a growth.
+    pub const OUT_OF_MEMORY: u8 = 67;
+
+    /// An element that the root or a record must have is missing, or its value has the wrong size.
+    pub const BAD_RECORD: u8 = 68;
+
+    /// Returns a fault of the links or records at a place of the file.
+    pub(crate) fn at(number: u8, place: u64) -> DirFault
+        ensures { result ≡ record { number = number; place = place; tag = no_tag } }
+    {
+        DirFault {
+            number,
+            place,
+            tag: Tag(0, 0),
+        }
+    }
+
+    /// Returns the fault that the allocator refused a growth.
+    pub(crate) fn out_of_memory() -> DirFault
+        ensures { result ≡ record { number = 67; place = 0; tag = no_tag } }
+    {
+        DirFault::at(DirFault::OUT_OF_MEMORY, 0)
+    }
+}

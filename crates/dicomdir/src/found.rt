@@ -1,0 +1,202 @@
+//! Elements and items in the text of a data set that is known to be good.
+ghost use Rattle.std.specs.Prelude.{◌≡◌, ◌≤◌, ◌<◌, ◌+◌, ◌^◌, ℕ, List, ◌++◌, length, drop, IfSome, Some};
+ghost use Rattle.dicomdir.specs.machine.Heads.{head_at};
+ghost use Rattle.dicomdir.specs.machine.Texts.{EndsBefore};
+
+use byteorder::{ByteOrder, LittleEndian};
+use element::{Header, Need, Syntax, Tag, need, read_header};
+use sequence::{Shape, shape_of};
+
+const UNDEFINED: u32 = 0xffff_ffff;
+
+/// A header, and how many bytes spell it.
+#[derive(Clone, Copy)]
+pub(crate) struct Head {
+    pub header: Header,
+    pub size: usize,
+}
+
+/// Returns the bytes after so many.
+pub(crate) fn after(text: &[u8], count: usize) -> &[u8]
+    ensures { result.now ≡ drop count text.now }
+{
+    if count <= text.len() {
+        &text[count..]
+    } else {
+        &[]
+    }
+}
+
+/// Reads the header at the front of the bytes.
+#[tactic(auto, using(crate::proofs::HeadLemmas::head_whole, crate::proofs::HeadLemmas::head_some))]
+pub(crate) fn head_of(syntax: Syntax, text: &[u8]) -> Option<Head>
+    ensures value { result ≡ head_at syntax text.now }
+    ensures some { IfSome result (λ r. 8 ≤ r.size) }
+    ensures within { IfSome result (λ r. r.size ≤ length text.now) }
+{
+    match need(syntax, text) {
+        Need::More | Need::BadVr => None,
+        Need::Size(size) => {
+            if size <= text.len() {
+                Some(Head {
+                    header: read_header(syntax, text),
+                    size,
+                })
+            } else {
+                None
+            }
+        }
+    }
+}
+
+/// Returns the bytes after what an element's header announces.
+#[cycle(levels)]
+pub(crate) fn after_content(syntax: Syntax, header: Header, text: &[u8]) -> &[u8]
+    ensures within { length result.now ≤ length text.now }
+{
+    if header.length != UNDEFINED {
+        return after(text, header.length as usize);
+    }
+    match shape_of(syntax, &header) {
+        Shape::Sequence(inner) => after_items(inner, text),
+        Shape::Value | Shape::NotAllowed => &[],
+    }
+}
+
+/// Returns the bytes after items and the delimitation after them.
+#[cycle(levels)]
+fn after_items(syntax: Syntax, text: &[u8]) -> &[u8]
+    ensures within { length result.now ≤ length text.now }
+{
+    let mut rest = text;
+    while let Some(head) = head_of(syntax, rest) {
+        let next = after(rest, head.size);
+        if head.header.tag != Tag::ITEM {
+            return next;
+        }
+        rest = after_item(syntax, head.header, next);
+    }
+    &[]
+}
+
+/// Returns the bytes after what an item's header announces.
+#[cycle(levels)]
+pub(crate) fn after_item(syntax: Syntax, header: Header, text: &[u8]) -> &[u8]
+    ensures within { length result.now ≤ length text.now }
+{
+    if header.length != UNDEFINED {
+        return after(text, header.length as usize);
+    }
+    after_elements(syntax, text)
+}
+
+/// Returns the bytes after elements and the delimitation after them.
+#[cycle(levels)]
+fn after_elements(syntax: Syntax, text: &[u8]) -> &[u8]
+    ensures within { length result.now ≤ length text.now }
+{
+    let mut rest = text;
+    while let Some(head) = head_of(syntax, rest) {
+        let next = after(rest, head.size);
+        if head.header.tag.is_marker() {
+            return next;
+        }
+        rest = after_content(syntax, head.header, next);
+    }
+    &[]
+}
+
+/// The first bytes that a header announces: all up to the end of the text where its length is undefined.
+pub(crate) fn content_of(header: Header, text: &[u8]) -> &[u8]
+    ensures within { length result.now ≤ length text.now }
+{
+    let length = header.length as usize;
+    if header.length != UNDEFINED && length <= text.len() {
+        &text[..length]
+    } else {
+        text
+    }
+}
+
+/// What stands under a tag.
+#[derive(Clone, Copy)]
+pub(crate) enum Element<'a> {
+    Missing,
+    Value {
+        place: u64,
+        value: &'a [u8],
+    },
+    Items {
+        place: u64,
+        first: u64,
+        syntax: Syntax,
+        text: &'a [u8],
+    },
+}
+
+fn element_at<'a>(syntax: Syntax, head: Head, place: u64, text: &'a [u8]) -> Element<'a>
+    requires { place + head.size < 2 ^ 64 }
+    ensures end { EndsBefore (place + head.size + length text.now) result }
+{
+    let text = content_of(head.header, text);
+    match shape_of(syntax, &head.header) {
+        Shape::Sequence(inner) => Element::Items {
+            place,
+            first: place + head.size as u64,
+            syntax: inner,
+            text,
+        },
+        Shape::Value | Shape::NotAllowed => Element::Value { place, value: text },
+    }
+}
+
+/// Finds the element with a tag among elements of which the first stands at `place`.
+pub(crate) fn find<'a>(syntax: Syntax, tag: Tag, place: u64, text: &'a [u8]) -> Element<'a>
+    requires { place + length text.now < 2 ^ 64 }
+    ensures end { EndsBefore (place + length text.now) result }
+{
+    let mut rest = text;
+    while let Some(head) = head_of(syntax, rest) {
+        let next = after(rest, head.size);
+        if head.header.tag.is_marker() {
+            return Element::Missing;
+        }
+        if head.header.tag == tag {
+            let place = place + (text.len() - rest.len()) as u64;
+            return element_at(syntax, head, place, next);
+        }
+        rest = after_content(syntax, head.header, next);
+    }
+    Element::Missing
+}
+
+impl<'a> Element<'a> {
+    /// Returns the number in a value of four bytes.
+    pub fn long(&self) -> Option<u32> {
+        match self {
+            Element::Value { value, .. } if value.len() == 4 => Some(LittleEndian::read_u32(value)),
+            _ => None,
+        }
+    }
+
+    /// Returns the number in a value of two bytes.
+    pub fn short(&self) -> Option<u16> {
+        match self {
+            Element::Value { value, .. } if value.len() == 2 => Some(LittleEndian::read_u16(value)),
+            _ => None,
+        }
+    }
+
+    /// Returns the value, if there is one.
+    pub fn value(&self) -> Option<&'a [u8]> {
+        match self {
+            Element::Value { value, .. } => Some(value),
+            _ => None,
+        }
+    }
+
+    /// Returns whether no element has the tag.
+    pub fn is_missing(&self) -> bool {
+        matches!(self, Element::Missing)
+    }
+}

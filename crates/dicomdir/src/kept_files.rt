@@ -1,0 +1,51 @@
+//! The files that a directory keeps.
+ghost use Rattle.std.specs.Prelude.{◌≡◌, map, IfOk, IfErr};
+ghost use Rattle.sequence.specs.Rules.{no_tag};
+ghost use Rattle.dicomdir.specs.Kept.{listed, file_id_of_image};
+ghost use Rattle.dicomdir.specs.TreeNodes.{node_of, tree_nodes, kept_in};
+
+use crate::fault::DirFault;
+use crate::file_id::FileId;
+use crate::records::is_text;
+use crate::tree::{Tree, TreeRecord};
+use std::alloc::Allocator;
+
+/// Returns the file ID of a record whose type is IMAGE.
+fn image_id(record: &TreeRecord) -> Option<FileId>
+    ensures { listed result ≡ file_id_of_image (node_of record.now).carries }
+{
+    if is_text(record.kind(), b"IMAGE") {
+        record.file_id()
+    } else {
+        None
+    }
+}
+
+/// Returns the file IDs of the records whose type is IMAGE.
+#[tactic(auto, using(crate::proofs::KeptLemmas::kept_one_more, crate::proofs::KeptLemmas::kept_whole))]
+fn images<A: Allocator + Copy>(alloc: A, records: &[TreeRecord]) -> Result<Vec<FileId, A>, DirFault>
+    ensures kept { IfOk result (λ kept. kept.items ≡ kept_in (map node_of records.now)) }
+    ensures fault { IfErr result (λ f. f ≡ record { number = 67; place = 0; tag = no_tag }) }
+{
+    let mut kept = Vec::new(alloc);
+    for record in records {
+        if let Some(file_id) = image_id(record) {
+            if kept.push(file_id).is_err() {
+                return Err(DirFault::out_of_memory());
+            }
+        }
+    }
+    Ok(kept)
+}
+
+/// Returns the file IDs of a tree's records of type IMAGE, in the tree's order; 67 where the allocator refuses a
+/// growth.
+pub fn kept_of<'a, A: Allocator + Copy>(
+    alloc: A,
+    tree: &Tree<'a, A>,
+) -> Result<Vec<FileId, A>, DirFault>
+    ensures kept { IfOk result (λ kept. kept.items ≡ kept_in (tree_nodes tree.now)) }
+    ensures fault { IfErr result (λ f. f ≡ record { number = 67; place = 0; tag = no_tag }) }
+{
+    images(alloc, tree.records())
+}

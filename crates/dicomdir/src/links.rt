@@ -1,0 +1,272 @@
+//! Follows the offsets of a directory's records.
+ghost use Rattle.std.specs.Prelude.{◌≡◌, ◌≤◌, ◌<◌, ◌&&◌, not, nat_eq, if◌then◌else◌, ℕ, List, length, IfOk, IfErr, IfSome, get_or, true, false};
+ghost use Rattle.dicomdir.specs.CheckFault.{IsOfRecords};
+ghost use Rattle.dicomdir.specs.Linked as linked;
+
+use crate::fault::DirFault;
+use crate::records::{Entry, is_text};
+use crate::tree::TreeRecord;
+use std::alloc::Allocator;
+
+/// The offsets of the root, and where its two elements stand.
+#[derive(Clone, Copy)]
+pub(crate) struct Root {
+    pub first: u32,
+    pub first_place: u64,
+    pub last: u32,
+    pub last_place: u64,
+}
+
+/// A record that was reached, in a chain that has not ended.
+#[derive(Clone, Copy)]
+struct Mark {
+    place: u64,
+    next: u32,
+    /// Whether it is the first of its chain.
+    begins: bool,
+    level: u8,
+    /// Whether no inactive record is above it.
+    shown: bool,
+}
+
+/// An offset that comes next.
+#[derive(Clone, Copy)]
+struct Step {
+    offset: u32,
+    begins: bool,
+    level: u8,
+    shown: bool,
+}
+
+fn is_upper_kind(kind: &[u8]) -> bool
+    ensures { result ≡ linked.is_upper_kind kind.now }
+{
+    is_text(kind, b"PATIENT") || is_text(kind, b"STUDY") || is_text(kind, b"SERIES")
+}
+
+fn fits_level(level: u8, kind: &[u8]) -> bool
+    ensures { result ≡ linked.fits_level level kind.now }
+{
+    if level == 1 {
+        is_text(kind, b"PATIENT")
+    } else if level == 2 {
+        is_text(kind, b"STUDY")
+    } else if level == 3 {
+        is_text(kind, b"SERIES")
+    } else {
+        level == 4 && !is_upper_kind(kind)
+    }
+}
+
+/// Returns whether a record may stand on a level; an inactive one may stand on any.
+fn fits(level: u8, entry: &Entry) -> bool {
+    !entry.in_use || fits_level(level, entry.kind)
+}
+
+/// Returns the level below; those below an image's are alike.
+fn below(level: u8) -> u8 {
+    if level < 5 { level + 1 } else { 5 }
+}
+
+/// Returns the index of the record at a place.
+fn index_of(entries: &[Entry], place: u32) -> Option<usize>
+    ensures within { IfSome result (λ at. at < length entries.now) }
+{
+    let place = u64::from(place);
+    match entries.binary_search_by_key(&place, |entry| entry.place) {
+        Ok(at) => Some(at),
+        Err(_) => None,
+    }
+}
+
+/// Returns whether an offset leads back along the trail: to a record of its last chain, or to one above that.
+fn leads_back(trail: &[Mark], offset: u32) -> bool {
+    let mut in_chain = true;
+    let mut is_above = false;
+    let mut at = trail.len();
+    while at > 0 {
+        at -= 1;
+        let mark = trail[at];
+        if (in_chain || is_above) && mark.place == u64::from(offset) {
+            return true;
+        }
+        is_above = mark.begins;
+        in_chain = in_chain && !mark.begins;
+    }
+    false
+}
+
+/// Drops the last chain of the trail.
+fn leave_chain<A: Allocator + Copy>(trail: &mut Vec<Mark, A>)
+    ensures fewer { 0 < length trail.old.items → length trail.new.items < length trail.old.items }
+{
+    while let Some(mark) = trail.pop() {
+        if mark.begins {
+            return;
+        }
+    }
+}
+
+/// Returns the next offset of the trail, and drops the chains that are at their end. `last` becomes the last record of
+/// the last chain that was dropped.
+fn climb<A: Allocator + Copy>(trail: &mut Vec<Mark, A>, last: &mut u64) -> Option<Step> {
+    while let Some(mark) = trail.last() {
+        if mark.next != 0 {
+            return Some(Step {
+                offset: mark.next,
+                begins: false,
+                level: mark.level,
+                shown: mark.shown,
+            });
+        }
+        *last = mark.place;
+        leave_chain(trail);
+    }
+    None
+}
+
+fn none_reached<A: Allocator + Copy>(alloc: A, count: usize) -> Result<Vec<bool, A>, DirFault>
+    ensures size { IfOk result (λ reached. length reached.items ≡ count) }
+    ensures fault { IfErr result IsOfRecords }
+{
+    let mut reached = Vec::new(alloc);
+    for _ in 0..count {
+        if reached.push(false).is_err() {
+            return Err(DirFault::out_of_memory());
+        }
+    }
+    Ok(reached)
+}
+
+/// Returns where a fault of the next offset is reported.
+fn told_of(trail: &[Mark], root: &Root) -> u64 {
+    match trail.last() {
+        Some(mark) => mark.place,
+        None => root.first_place,
+    }
+}
+
+/// Returns the index of the record that an offset leads to, or what is wrong with the offset.
+fn target(
+    entries: &[Entry],
+    reached: &[bool],
+    trail: &[Mark],
+    root: &Root,
+    step: &Step,
+) -> Result<usize, DirFault>
+    requires { length reached.now ≡ length entries.now }
+    ensures within { IfOk result (λ at. at < length entries.now) }
+    ensures first { IfOk result (λ at. get_or reached.now at true ≡ false) }
+    ensures fault { IfErr result IsOfRecords }
+{
+    let told = told_of(trail, root);
+    let Some(at) = index_of(entries, step.offset) else {
+        return Err(DirFault::at(DirFault::BAD_OFFSET, told));
+    };
+    if reached[at] {
+        if leads_back(trail, step.offset) {
+            return Err(DirFault::at(DirFault::CYCLE, told));
+        }
+        return Err(DirFault::at(DirFault::TWICE_REACHED, told));
+    }
+    if !fits(step.level, &entries[at]) {
+        return Err(DirFault::at(DirFault::WRONG_LEVEL, entries[at].place));
+    }
+    Ok(at)
+}
+
+/// Adds a record that is reached to the trail and, where it is in use with no inactive record above it, to the tree.
+fn reach<'a, A: Allocator + Copy>(
+    entry: &Entry<'a>,
+    step: &Step,
+    trail: &mut Vec<Mark, A>,
+    tree: &mut Vec<TreeRecord<'a>, A>,
+) -> Result<(), DirFault>
+    ensures { IfErr result IsOfRecords }
+{
+    let mark = Mark {
+        place: entry.place,
+        next: entry.next,
+        begins: step.begins,
+        level: step.level,
+        shown: step.shown,
+    };
+    if trail.push(mark).is_err() {
+        return Err(DirFault::out_of_memory());
+    }
+    if step.shown && entry.in_use {
+        let record = TreeRecord::new(entry.place, step.level, entry.kind, entry.file_id);
+        if tree.push(record).is_err() {
+            return Err(DirFault::out_of_memory());
+        }
+    }
+    Ok(())
+}
+
+/// Returns the offset that comes after a record that was reached: its lower one, or else the next one of the trail.
+fn step_after<A: Allocator + Copy>(
+    entry: &Entry,
+    step: &Step,
+    trail: &mut Vec<Mark, A>,
+    last: &mut u64,
+) -> Option<Step> {
+    if entry.lower != 0 {
+        return Some(Step {
+            offset: entry.lower,
+            begins: true,
+            level: below(step.level),
+            shown: step.shown && entry.in_use,
+        });
+    }
+    climb(trail, last)
+}
+
+fn first_step(root: &Root) -> Option<Step> {
+    if root.first == 0 {
+        return None;
+    }
+    Some(Step {
+        offset: root.first,
+        begins: true,
+        level: 1,
+        shown: true,
+    })
+}
+
+/// Follows the offsets from the root, depth first, the lower one before the next one, and adds the records of the tree.
+#[tactic(auto, using(crate::proofs::UnreachedLemmas::left_fewer))]
+pub(crate) fn follow<'a, A: Allocator + Copy>(
+    alloc: A,
+    entries: &[Entry<'a>],
+    root: &Root,
+    tree: &mut Vec<TreeRecord<'a>, A>,
+) -> Result<(), DirFault>
+    ensures { IfErr result IsOfRecords }
+{
+    let mut reached = none_reached(alloc, entries.len())?;
+    let mut trail = Vec::new(alloc);
+    let mut last = 0;
+    let mut pending = first_step(root);
+    while let Some(step) = pending {
+        let at = target(entries, reached.as_slice(), trail.as_slice(), root, &step)?;
+        reached[at] = true;
+        reach(&entries[at], &step, &mut trail, tree)?;
+        pending = step_after(&entries[at], &step, &mut trail, &mut last);
+    }
+    if u64::from(root.last) != last {
+        return Err(DirFault::at(DirFault::BAD_OFFSET, root.last_place));
+    }
+    all_reached(entries, reached.as_slice())
+}
+
+/// Refuses the first record in use that was not reached.
+fn all_reached(entries: &[Entry], reached: &[bool]) -> Result<(), DirFault>
+    ensures { IfErr result IsOfRecords }
+{
+    for (entry, is_reached) in entries.iter().zip(reached) {
+        if entry.in_use && !*is_reached {
+            return Err(DirFault::at(DirFault::UNREACHED, entry.place));
+        }
+    }
+    Ok(())
+}

@@ -1,0 +1,121 @@
+//! The records of a directory, with what a check needs of them.
+ghost use Rattle.std.specs.Prelude.{◌≡◌, ◌≤◌, ◌<◌, ◌+◌, ◌^◌, ℕ, List, length, IfErr};
+ghost use Rattle.dicomdir.specs.CheckFault.{IsOfRecords};
+ghost use Rattle.std.specs.Str.{bytes_eq};
+
+use crate::fault::DirFault;
+use crate::file_id::FileId;
+use crate::found::{Element, after, after_item, content_of, find, head_of};
+use element::{Syntax, Tag, unpadded};
+use std::alloc::Allocator;
+
+/// A record: its place, its offsets, and what it says.
+#[derive(Clone, Copy)]
+pub(crate) struct Entry<'a> {
+    pub place: u64,
+    pub next: u32,
+    pub lower: u32,
+    pub in_use: bool,
+    pub kind: &'a [u8],
+    pub file_id: Option<FileId>,
+}
+
+/// Returns whether the bytes are this text.
+pub(crate) fn is_text(bytes: &[u8], text: &[u8]) -> bool
+    ensures { result ≡ bytes_eq bytes.now text.now }
+{
+    bytes == text
+}
+
+/// Returns whether a record is in use; `None` where the flag is neither that nor inactive.
+fn use_of(flag: Option<u16>) -> Option<bool> {
+    match flag {
+        Some(0xffff) => Some(true),
+        Some(0) => Some(false),
+        _ => None,
+    }
+}
+
+fn kind_of<'a>(element: &Element<'a>) -> &'a [u8] {
+    match element.value() {
+        Some(value) => unpadded(value),
+        None => &[],
+    }
+}
+
+fn file_id_of<'a>(element: &Element<'a>) -> Option<FileId> {
+    match element.value() {
+        Some(value) => FileId::read(value),
+        None => None,
+    }
+}
+
+/// Reads the record of an item with these elements; `None` where it lacks something.
+fn entry_of<'a>(syntax: Syntax, place: u64, text: &'a [u8]) -> Option<Entry<'a>> {
+    let next = find(syntax, Tag(0x0004, 0x1400), 0, text).long()?;
+    let in_use = use_of(find(syntax, Tag(0x0004, 0x1410), 0, text).short())?;
+    let lower = find(syntax, Tag(0x0004, 0x1420), 0, text).long()?;
+    let kind = kind_of(&find(syntax, Tag(0x0004, 0x1430), 0, text));
+    if kind.is_empty() {
+        return None;
+    }
+    let file_id = file_id_of(&find(syntax, Tag(0x0004, 0x1500), 0, text));
+    Some(Entry {
+        place,
+        next,
+        lower,
+        in_use,
+        kind,
+        file_id,
+    })
+}
+
+/// Returns whether the record has the file ID that it needs.
+fn has_file_id(entry: &Entry, element: &Element) -> bool {
+    !entry.in_use
+        || entry.file_id.is_some()
+        || (element.is_missing() && !is_text(entry.kind, b"IMAGE"))
+}
+
+/// Reads the record at a place.
+fn read_record<'a>(syntax: Syntax, place: u64, text: &'a [u8]) -> Result<Entry<'a>, DirFault>
+    ensures { IfErr result IsOfRecords }
+{
+    let Some(entry) = entry_of(syntax, place, text) else {
+        return Err(DirFault::at(DirFault::BAD_RECORD, place));
+    };
+    if !has_file_id(&entry, &find(syntax, Tag(0x0004, 0x1500), 0, text)) {
+        return Err(DirFault::at(DirFault::BAD_FILE_ID, place));
+    }
+    Ok(entry)
+}
+
+/// Reads the records of items of which the first stands at `first`, and adds them.
+pub(crate) fn read_records<'a, A: Allocator + Copy>(
+    syntax: Syntax,
+    first: u64,
+    text: &'a [u8],
+    records: &mut Vec<Entry<'a>, A>,
+) -> Result<(), DirFault>
+    requires { first + length text.now < 2 ^ 64 }
+    ensures { IfErr result IsOfRecords }
+{
+    let mut rest = text;
+    while let Some(head) = head_of(syntax, rest) {
+        if head.header.tag != Tag::ITEM {
+            return Ok(());
+        }
+        let next = after(rest, head.size);
+        let place = first + (text.len() - rest.len()) as u64;
+        match read_record(syntax, place, content_of(head.header, next)) {
+            Err(fault) => return Err(fault),
+            Ok(record) => {
+                if records.push(record).is_err() {
+                    return Err(DirFault::out_of_memory());
+                }
+            }
+        }
+        rest = after_item(syntax, head.header, next);
+    }
+    Ok(())
+}
