@@ -1,28 +1,40 @@
 //! DCMBOX, a DICOM storage receiver: the program.
 #![tactic(auto)]
 
-mod arguments;
-mod command_line;
+mod check;
+mod checkdir;
+mod counted;
 mod error;
+mod faults;
 mod folder;
 mod hexadecimal;
+mod inspect;
 mod limits;
+mod outcome;
 mod replay;
 mod serve;
 mod settings;
+mod show;
 mod socket;
 #[cfg(test)]
 mod tests;
-mod words;
+mod timer;
+mod walk;
 
 use crate::error::ProgramError;
 use crate::folder::open_folder;
+use crate::inspect::{Inspection, inspect};
+use crate::outcome::Outcome;
 use crate::settings::{replay_settings, serve_settings};
-use crate::words::{Job, WordsError};
+use arguments::{Job, WordsError, read_words};
 use log::sink::Console;
 use log::{Level, Logged};
 use std::env;
+use std::io::ErrorKind;
 use std::process::ExitCode;
+
+/// The status where a fault was found.
+const FAULTY: u8 = 1;
 
 /// The status where the arguments are invalid.
 const REFUSED: u8 = 2;
@@ -31,23 +43,66 @@ const REFUSED: u8 = 2;
 const FAILED: u8 = 3;
 
 /// Does what the arguments say.
-fn perform(rt: &HostRuntime, job: &Job) -> Result<(), ProgramError> {
+fn perform(rt: &HostRuntime, job: &Job) -> Result<Outcome, ProgramError> {
     match job {
-        Job::Replay(arguments) => {
-            let settings = replay_settings(rt.alloc(), arguments)?;
-            replay::replay(rt, &settings)
-        }
         Job::Serve(arguments) => {
             let settings = serve_settings(rt.alloc(), arguments)?;
             let mut filing = open_folder(*rt, settings.out, settings.layout, settings.sync)?;
             let logged = Logged::new(rt, Level::Info, Console(rt));
-            serve::serve(&logged, &settings, &mut filing)
+            serve::serve(&logged, &settings, &mut filing)?;
+            Ok(Outcome::Good)
+        }
+        Job::Replay(arguments) => {
+            let settings = replay_settings(rt.alloc(), arguments)?;
+            replay::replay(rt, &settings)?;
+            Ok(Outcome::Good)
+        }
+        Job::Show(arguments) => inspect(rt, arguments.file, Inspection::Show),
+        Job::Check(arguments) => inspect(rt, arguments.file, Inspection::Check),
+        Job::CheckDir(arguments) => inspect(rt, arguments.file, Inspection::Directory),
+    }
+}
+
+/// Returns what an error is about: a file, a folder or a port.
+fn subject<'a>(job: &Job<'a>, error: &ProgramError) -> &'a str {
+    match (job, error) {
+        (Job::Serve(arguments), ProgramError::Folder(_)) => arguments.out,
+        (Job::Serve(arguments), ProgramError::Listen(_)) => arguments.port,
+        (Job::Replay(arguments), ProgramError::Folder(_)) => arguments.out,
+        (Job::Replay(arguments), _) => arguments.file,
+        (Job::Show(arguments), _) => arguments.file,
+        (Job::Check(arguments), _) => arguments.file,
+        (Job::CheckDir(arguments), _) => arguments.file,
+        _ => "",
+    }
+}
+
+/// Tells of an error, and returns the status. A reader that closed the output has read enough.
+fn report(rt: &HostRuntime, subject: &str, error: ProgramError) -> ExitCode {
+    match error {
+        ProgramError::Words(WordsError::Shown(text)) => match print!(rt; "{text}") {
+            Ok(()) => ExitCode::SUCCESS,
+            Err(error) if error.kind() == ErrorKind::BrokenPipe => ExitCode::SUCCESS,
+            Err(_) => ExitCode::from(FAILED),
+        },
+        ProgramError::Words(WordsError::Refused(text)) => {
+            let _ = eprint!(rt; "{text}");
+            ExitCode::from(REFUSED)
+        }
+        ProgramError::Write(error) if error.kind() == ErrorKind::BrokenPipe => ExitCode::SUCCESS,
+        error => {
+            let _ = if subject.is_empty() {
+                eprintln!(rt; "dcmbox: {error}")
+            } else {
+                eprintln!(rt; "dcmbox: {subject}: {error}")
+            };
+            ExitCode::from(FAILED)
         }
     }
 }
 
 /// Reads the arguments and does what they say.
-fn run_words(rt: &HostRuntime) -> Result<(), ProgramError> {
+fn run_words(rt: &HostRuntime) -> Result<ExitCode, ProgramError> {
     let mut owned = Vec::new(rt.alloc());
     for word in env::args(rt).map_err(ProgramError::Arguments)? {
         owned.push(word)?;
@@ -56,24 +111,17 @@ fn run_words(rt: &HostRuntime) -> Result<(), ProgramError> {
     for word in &owned {
         words.push(word.as_str())?;
     }
-    let job = words::read_words(rt.alloc(), words.as_slice())?;
-    perform(rt, &job)
+    let job = read_words(rt.alloc(), words.as_slice())?;
+    match perform(rt, &job) {
+        Ok(Outcome::Good) => Ok(ExitCode::SUCCESS),
+        Ok(Outcome::Faulty) => Ok(ExitCode::from(FAULTY)),
+        Err(error) => Ok(report(rt, subject(&job, &error), error)),
+    }
 }
 
 fn main(rt: HostRuntime) -> ExitCode {
     match run_words(&rt) {
-        Ok(()) => ExitCode::SUCCESS,
-        Err(ProgramError::Words(WordsError::Shown(text))) => match print!(rt; "{text}") {
-            Ok(()) => ExitCode::SUCCESS,
-            Err(_) => ExitCode::from(FAILED),
-        },
-        Err(ProgramError::Words(WordsError::Refused(text))) => {
-            let _ = eprint!(rt; "{text}");
-            ExitCode::from(REFUSED)
-        }
-        Err(error) => {
-            let _ = eprintln!(rt; "dcmbox: {error}");
-            ExitCode::from(FAILED)
-        }
+        Ok(status) => status,
+        Err(error) => report(&rt, "", error),
     }
 }

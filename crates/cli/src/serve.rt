@@ -7,11 +7,12 @@ use engine::run;
 use jiff::Timestamp;
 use log::{Log, error, info};
 use part10::FolderFiling;
+use std::cell::Cell;
 use std::fs::File;
 use std::io;
-use std::net::{Net, TcpListener, TcpStream};
+use std::net::{Net, SocketAddr, TcpListener, TcpStream};
 use std::rt::Files;
-use std::time::{Clock, Instant};
+use std::time::{Clock, Duration, Instant};
 
 /// Serves the association of one connection, and logs when it ended, its peer, how it stands, how
 /// many bytes it holds, how many files it put and drafts it dropped, how many bytes it received and
@@ -19,16 +20,17 @@ use std::time::{Clock, Instant};
 fn associate<R: Log + Clock, S: Files<File = File> + Alloc + Clone + Drop>(
     rt: &R,
     stream: &TcpStream,
+    peer: SocketAddr,
     settings: &Serve,
     filing: &mut FolderFiling<S>,
 ) -> io::Result<()> {
     stream.set_nodelay(true)?;
     stream.set_write_timeout(Some(settings.timeouts.idle))?;
-    let peer = stream.peer_addr()?;
     let started = Instant::now(rt)?;
     let (committed, dropped) = (filing.committed(), filing.dropped());
-    let mut source = SocketSource::new(rt, stream, settings.timeouts);
-    let mut wire = StreamWire::new(stream);
+    let has_sent = Cell::new(false);
+    let mut source = SocketSource::new(rt, stream, settings.timeouts, &has_sent);
+    let mut wire = StreamWire::new(stream, &has_sent);
     let report = run::<REQUEST, COMMAND, VALUES, DEPTH, _, _, _>(
         &mut source,
         &settings.config,
@@ -59,12 +61,16 @@ pub fn serve_one<R: Log + Clock, S: Files<File = File> + Alloc + Clone + Drop>(
     settings: &Serve,
     filing: &mut FolderFiling<S>,
 ) -> io::Result<()> {
-    let (stream, _peer) = listener.accept()?;
-    if let Err(failure) = associate(rt, &stream, settings, filing) {
-        error!(rt; "the connection failed: {failure}");
+    let (stream, peer) = listener.accept()?;
+    if let Err(failure) = associate(rt, &stream, peer, settings, filing) {
+        error!(rt; "{peer} the connection failed: {failure}");
     }
     Ok(())
 }
+
+/// How long the box waits after a connection that could not be accepted, so that a lasting failure
+/// does not keep it busy.
+const PAUSE_MILLISECONDS: u64 = 100;
 
 /// Serves associations until the program is ended, or only one where that was asked for. A
 /// connection that could not be accepted is logged.
@@ -78,7 +84,10 @@ pub fn serve<
         match serve_one(rt, &listener, settings, filing) {
             Ok(()) if settings.once => return Ok(()),
             Ok(()) => {}
-            Err(failure) => error!(rt; "a connection could not be accepted: {failure}"),
+            Err(failure) => {
+                error!(rt; "a connection could not be accepted: {failure}");
+                rt.sleep(Duration::from_millis(PAUSE_MILLISECONDS));
+            }
         }
     }
     Ok(())

@@ -1,9 +1,9 @@
 //! What the values of arguments mean.
 ghost use Rattle.std.specs.Prelude.{◌<◌, ◌≤◌, IfOk};
 
-use crate::arguments::{ReplayArguments, ServeArguments};
-use crate::socket::Timeouts;
-use crate::words::WordsError;
+use crate::limits::MOST_DATA;
+use crate::timer::Timeouts;
+use arguments::{ReplayArguments, ServeArguments, WordsError};
 use arrayvec::ArrayVec;
 use element::AeTitle;
 use negotiate::Config;
@@ -140,9 +140,6 @@ fn layout_of(alloc: Global, per: Option<&str>) -> Result<Layout, WordsError> {
         files: files as u32,
     }))
 }
-
-/// The longest data set that can be asked for: 2^48 bytes.
-const MOST_DATA: u64 = 281_474_976_710_656;
 
 /// Reads a time of 1 second to a day.
 fn seconds(alloc: Global, option: &str, text: &str) -> Result<Duration, WordsError> {

@@ -1,25 +1,15 @@
 //! The socket of a served association: where its inputs come from, and where it sends.
 ghost use Rattle.std.specs.Prelude.{◌≡◌, ◌≤◌, None, length, take};
 
+use crate::limits::PIECE;
+use crate::timer::{Timeouts, Timer};
 use element::count::Count;
 use engine::{Input, Source};
 use pdu::{Wire, WireFailed};
+use std::cell::Cell;
 use std::io::{ErrorKind, Read, Write};
 use std::net::TcpStream;
-use std::time::{Clock, Duration, Instant};
-
-/// The bytes that one read takes at most.
-pub const PIECE: usize = 65536;
-
-/// How long a peer is waited for.
-#[derive(Clone, Copy, Debug)]
-pub struct Timeouts {
-    /// The ARTIM timer (PS3.8 section 9.1.5): from its start to its expiry, however often the peer
-    /// sends meanwhile.
-    pub artim: Duration,
-    /// Without a byte from the peer in an established association, or while the peer takes none.
-    pub idle: Duration,
-}
+use std::time::{Clock, Duration};
 
 /// Takes the inputs of an association from a socket: a read that fails or ends is the transport's
 /// close; silence is the timer's expiry while the timer runs, else the local user's abort.
@@ -27,9 +17,9 @@ pub struct Timeouts {
 pub struct SocketSource<'a, R: Clock> {
     rt: &'a R,
     stream: &'a TcpStream,
-    timeouts: Timeouts,
-    /// When the ARTIM timer started, while it runs.
-    started: Option<Instant>,
+    timer: Timer,
+    /// Whether the association has sent anything.
+    has_sent: &'a Cell<bool>,
     /// The read timeout that the socket has.
     timeout: Option<Duration>,
     room: [u8; PIECE],
@@ -39,12 +29,18 @@ pub struct SocketSource<'a, R: Clock> {
 }
 
 impl<'a, R: Clock> SocketSource<'a, R> {
-    pub fn new(rt: &'a R, stream: &'a TcpStream, timeouts: Timeouts) -> SocketSource<'a, R> {
+    /// Returns the source of a new association, whose wire notes in `has_sent` that it has sent.
+    pub fn new(
+        rt: &'a R,
+        stream: &'a TcpStream,
+        timeouts: Timeouts,
+        has_sent: &'a Cell<bool>,
+    ) -> SocketSource<'a, R> {
         SocketSource {
             rt,
             stream,
-            timeouts,
-            started: None,
+            timer: Timer::new(timeouts),
+            has_sent,
             timeout: None,
             room: [0; PIECE],
             len: 0,
@@ -55,22 +51,6 @@ impl<'a, R: Clock> SocketSource<'a, R> {
     /// Returns how many bytes were received.
     pub fn received(&self) -> u64 {
         self.received
-    }
-
-    /// Returns how long the next read may wait, or `None` once the ARTIM timer has expired.
-    fn time_left(&mut self, timer: bool) -> Option<Duration> {
-        if !timer {
-            self.started = None;
-            return Some(self.timeouts.idle);
-        }
-        let Some(started) = self.started else {
-            self.started = Instant::now(self.rt).ok();
-            return Some(self.timeouts.artim);
-        };
-        let Ok(elapsed) = started.elapsed(self.rt) else {
-            return Some(self.timeouts.artim);
-        };
-        self.timeouts.artim.checked_sub(elapsed)
     }
 
     /// Has the next read wait so long, but at least a millisecond: no time at all is no timeout.
@@ -90,14 +70,15 @@ impl<R: Clock> Source for SocketSource<'_, R> {
     ghost last = { λ s. take s.len s.room };
 
     fn next(&mut self, timer: bool) -> Input {
-        let Some(time) = self.time_left(timer) else {
-            return Input::Expired;
-        };
-        if !self.wait(time) {
-            return Input::Closed;
-        }
         let mut stream = self.stream;
         for _ in 0..u64::MAX {
+            let has_sent = self.has_sent.get();
+            let Some(time) = self.timer.time_left(self.rt, timer, has_sent) else {
+                return Input::Expired;
+            };
+            if !self.wait(time) {
+                return Input::Closed;
+            }
             match stream.read(&mut self.room) {
                 Ok(0) => return Input::Closed,
                 Ok(len) => {
@@ -126,24 +107,28 @@ impl<R: Clock> Source for SocketSource<'_, R> {
 
 /// Sends to a stream.
 #[derive(Drop)]
-pub struct StreamWire<W: Write + Drop> {
+pub struct StreamWire<'a, W: Write + Drop> {
     stream: W,
+    /// Whether anything was sent.
+    has_sent: &'a Cell<bool>,
     failures: Count,
 }
 
-impl<W: Write + Drop> StreamWire<W> {
-    pub fn new(stream: W) -> StreamWire<W> {
+impl<'a, W: Write + Drop> StreamWire<'a, W> {
+    pub fn new(stream: W, has_sent: &'a Cell<bool>) -> StreamWire<'a, W> {
         StreamWire {
             stream,
+            has_sent,
             failures: Count::new(),
         }
     }
 }
 
-impl<W: Write + Drop> Wire for StreamWire<W> {
+impl<W: Write + Drop> Wire for StreamWire<'_, W> {
     ghost line = { λ w. record { sent = None; failures = w.failures.total } };
 
     fn send(&mut self, bytes: &[u8]) -> Result<(), WireFailed> {
+        self.has_sent.set(true);
         if self.stream.write_all(bytes).is_err() {
             self.failures.add_one();
             return Err(WireFailed);

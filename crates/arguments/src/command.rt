@@ -1,0 +1,298 @@
+//! The commands that the program knows.
+ghost use Rattle.std.specs.Prelude.{◌≡◌, IfOk, false, Some, [], ◌∷◌, codes};
+ghost use Rattle.clap.specs.declared.builder.command.Command.TheViews.{out-Command as fields_of};
+ghost use Rattle.clap.specs.Walk.{rule_of};
+ghost use Rattle.clap.specs.Simple.{app_of, new_app};
+ghost use Rattle.arguments.specs.CommandLine.{the_command, replay_app, listening_app, limited_app, serve_app, file_app, positional, needed, optional, free, repeated, flag_rule};
+
+use clap::{Arg, ArgAction, Command};
+use std::alloc::{AllocError, Global};
+
+/// Returns a positional argument that has to be given.
+fn positional_argument<'a>(alloc: Global, name: &'a str, help: &'a str) -> Arg<'a>
+    ensures rule { rule_of result ≡ positional name.entry.now }
+    ensures local { result.global ≡ false }
+{
+    Arg::new(alloc, name).required(true).help(help)
+}
+
+/// Returns an option that has to be given.
+fn needed_option<'a>(alloc: Global, name: &'a str, value: &'a str, help: &'a str) -> Arg<'a>
+    ensures rule { rule_of result ≡ needed name.entry.now }
+    ensures local { result.global ≡ false }
+{
+    Arg::new(alloc, name)
+        .long(name)
+        .value_name(value)
+        .required(true)
+        .help(help)
+}
+
+/// Returns an option, and its value where it is not given.
+fn option<'a>(
+    alloc: Global,
+    name: &'a str,
+    value: &'a str,
+    default: &'a str,
+    help: &'a str,
+) -> Arg<'a>
+    ensures rule { rule_of result ≡ optional name.entry.now default.entry.now }
+    ensures local { result.global ≡ false }
+{
+    Arg::new(alloc, name)
+        .long(name)
+        .value_name(value)
+        .default_value(default)
+        .help(help)
+}
+
+/// Returns an option that may be left out.
+fn free_option<'a>(alloc: Global, name: &'a str, value: &'a str, help: &'a str) -> Arg<'a>
+    ensures rule { rule_of result ≡ free name.entry.now }
+    ensures local { result.global ≡ false }
+{
+    Arg::new(alloc, name)
+        .long(name)
+        .value_name(value)
+        .help(help)
+}
+
+/// Returns an option that may be given more than once.
+fn repeated_option<'a>(alloc: Global, name: &'a str, value: &'a str, help: &'a str) -> Arg<'a>
+    ensures rule { rule_of result ≡ repeated name.entry.now }
+    ensures local { result.global ≡ false }
+{
+    Arg::new(alloc, name)
+        .long(name)
+        .value_name(value)
+        .action(ArgAction::Append)
+        .help(help)
+}
+
+/// Returns an option without a value.
+fn flag<'a>(alloc: Global, name: &'a str, help: &'a str) -> Arg<'a>
+    ensures rule { rule_of result ≡ flag_rule name.entry.now }
+    ensures local { result.global ≡ false }
+{
+    Arg::new(alloc, name)
+        .long(name)
+        .action(ArgAction::SetTrue)
+        .help(help)
+}
+
+/// Returns a command without arguments; its help ends with the example.
+fn new_command<'a>(alloc: Global, name: &'a str, about: &'a str, example: &'a str) -> Command<'a>
+    ensures app { app_of result ≡ new_app name.entry.now }
+    ensures local { (fields_of result).has_globals ≡ false }
+{
+    Command::new(alloc, name).about(about).after_help(example)
+}
+
+fn replay_command<'a>(alloc: Global) -> Result<Command<'a>, AllocError>
+    ensures app { IfOk result (λ c. app_of c ≡ replay_app) }
+    ensures local { IfOk result (λ c. (fields_of c).has_globals ≡ false) }
+{
+    let file = positional_argument(alloc, "FILE", "The recorded bytes of one association");
+    let out = needed_option(alloc, "out", "DIR", "The folder that received files go to");
+    let ae = option(
+        alloc,
+        "ae",
+        "TITLE",
+        "DCMBOX",
+        "The AE title that a peer has to call",
+    );
+    let cut = option(
+        alloc,
+        "cut",
+        "BYTES",
+        "4096",
+        "How many bytes are taken at a time, from 1 to 65536",
+    );
+    let per = free_option(
+        alloc,
+        "per",
+        "FILES",
+        "Files into folders of so many, from 1 to 9999",
+    );
+    let command = new_command(
+        alloc,
+        "replay",
+        "Runs a recorded association, and prints what is sent in hexadecimal",
+        "Example: dcmbox replay echo.bin --out received",
+    );
+    command.arg(file)?.arg(out)?.arg(ae)?.arg(cut)?.arg(per)
+}
+
+/// Returns `serve` with who is served where; the function below adds the rest.
+fn listening_command<'a>(alloc: Global) -> Result<Command<'a>, AllocError>
+    ensures app { IfOk result (λ c. app_of c ≡ listening_app) }
+    ensures local { IfOk result (λ c. (fields_of c).has_globals ≡ false) }
+{
+    let port = needed_option(
+        alloc,
+        "port",
+        "PORT",
+        "The TCP port to listen on, from 1 to 65535",
+    );
+    let out = needed_option(alloc, "out", "DIR", "The folder that received files go to");
+    let bind = option(
+        alloc,
+        "bind",
+        "ADDRESS",
+        "127.0.0.1",
+        "The address to listen on",
+    );
+    let ae = option(
+        alloc,
+        "ae",
+        "TITLE",
+        "DCMBOX",
+        "The AE title that a peer has to call",
+    );
+    let caller = repeated_option(
+        alloc,
+        "caller",
+        "TITLE",
+        "An AE title that may call, up to 16 times; any may where none is given",
+    );
+    let command = new_command(
+        alloc,
+        "serve",
+        "Receives images from scanners, one association after the other",
+        "Example: dcmbox serve --port 11112 --out received --bind 0.0.0.0 --ae DCMBOX --caller SCANNER1",
+    );
+    command.arg(port)?.arg(out)?.arg(bind)?.arg(ae)?.arg(caller)
+}
+
+/// Returns `serve` with its timeouts and limits.
+fn limited_command<'a>(alloc: Global) -> Result<Command<'a>, AllocError>
+    ensures app { IfOk result (λ c. app_of c ≡ limited_app) }
+    ensures local { IfOk result (λ c. (fields_of c).has_globals ≡ false) }
+{
+    let timeout = option(
+        alloc,
+        "timeout",
+        "SECONDS",
+        "30",
+        "How long the ARTIM timer runs, from 1 to 86400",
+    );
+    let idle = option(
+        alloc,
+        "idle",
+        "SECONDS",
+        "600",
+        "How long an association may be silent, from 1 to 86400",
+    );
+    let max_pdu = option(
+        alloc,
+        "max-pdu",
+        "BYTES",
+        "16384",
+        "The longest P-DATA-TF PDU that is taken, from 1024 to 131072",
+    );
+    let max_data = option(
+        alloc,
+        "max-data",
+        "BYTES",
+        "1099511627776",
+        "The longest data set that is taken, from 1024 to 2^48",
+    );
+    let command = listening_command(alloc)?;
+    command.arg(timeout)?.arg(idle)?.arg(max_pdu)?.arg(max_data)
+}
+
+fn serve_command<'a>(alloc: Global) -> Result<Command<'a>, AllocError>
+    ensures app { IfOk result (λ c. app_of c ≡ serve_app) }
+    ensures local { IfOk result (λ c. (fields_of c).has_globals ≡ false) }
+{
+    let per = free_option(
+        alloc,
+        "per",
+        "FILES",
+        "Files into folders of so many, from 1 to 9999",
+    );
+    let no_sync = flag(
+        alloc,
+        "no-sync",
+        "Answers a store before its file is surely on the disk",
+    );
+    let once = flag(alloc, "once", "Ends after one association");
+    let command = limited_command(alloc)?;
+    command.arg(per)?.arg(no_sync)?.arg(once)
+}
+
+/// Returns a command that takes one file.
+fn file_command<'a>(
+    alloc: Global,
+    name: &'a str,
+    about: &'a str,
+    help: &'a str,
+    example: &'a str,
+) -> Result<Command<'a>, AllocError>
+    ensures app { IfOk result (λ c. app_of c ≡ file_app name.entry.now) }
+    ensures local { IfOk result (λ c. (fields_of c).has_globals ≡ false) }
+{
+    let file = positional_argument(alloc, "FILE", help);
+    new_command(alloc, name, about, example).arg(file)
+}
+
+fn show_command<'a>(alloc: Global) -> Result<Command<'a>, AllocError>
+    ensures app { IfOk result (λ c. app_of c ≡ file_app (codes "show")) }
+    ensures local { IfOk result (λ c. (fields_of c).has_globals ≡ false) }
+{
+    file_command(
+        alloc,
+        "show",
+        "Lists the elements of a DICOM file, without their values",
+        "A DICOM file",
+        "Example: dcmbox show received/I0000001",
+    )
+}
+
+fn check_command<'a>(alloc: Global) -> Result<Command<'a>, AllocError>
+    ensures app { IfOk result (λ c. app_of c ≡ file_app (codes "check")) }
+    ensures local { IfOk result (λ c. (fields_of c).has_globals ≡ false) }
+{
+    file_command(
+        alloc,
+        "check",
+        "Checks a DICOM file: its first fault, and the values that break the rules of their VR",
+        "A DICOM file",
+        "Example: dcmbox check received/I0000001",
+    )
+}
+
+fn checkdir_command<'a>(alloc: Global) -> Result<Command<'a>, AllocError>
+    ensures app { IfOk result (λ c. app_of c ≡ file_app (codes "checkdir")) }
+    ensures local { IfOk result (λ c. (fields_of c).has_globals ≡ false) }
+{
+    file_command(
+        alloc,
+        "checkdir",
+        "Checks a DICOMDIR, and lists its records",
+        "A DICOMDIR",
+        "Example: dcmbox checkdir received/DICOMDIR",
+    )
+}
+
+/// Returns the commands that the program knows.
+pub fn command<'a>(alloc: Global) -> Result<Command<'a>, AllocError>
+    ensures { IfOk result (λ c. app_of c ≡ the_command) }
+{
+    let serve = serve_command(alloc)?;
+    let replay = replay_command(alloc)?;
+    let show = show_command(alloc)?;
+    let check = check_command(alloc)?;
+    let checkdir = checkdir_command(alloc)?;
+    let command = Command::new(alloc, "dcmbox")
+        .version("0.1.0")
+        .about("A DICOM storage receiver whose behaviour is proved")
+        .after_help("Help on a command, with an example: dcmbox help COMMAND")
+        .subcommand_required(true);
+    command
+        .subcommand(serve)?
+        .subcommand(replay)?
+        .subcommand(show)?
+        .subcommand(check)?
+        .subcommand(checkdir)
+}

@@ -1,0 +1,109 @@
+//! The command line.
+ghost use Rattle.std.specs.Prelude.{◌≡◌, IfOk, IfSome, Some, map};
+ghost use Rattle.clap.specs.Matches.{found_of};
+ghost use Rattle.clap.specs.Simple.{subcommand_of};
+ghost use Rattle.clap.specs.Walk.{rows_of};
+ghost use Rattle.arguments.specs.CommandLine.{the_command, Names};
+
+use crate::command::command;
+use crate::values::{
+    FileArguments, MOST_VALUES, ReplayArguments, ServeArguments, file_arguments, replay_arguments,
+    serve_arguments,
+};
+use clap::error::ErrorKind;
+use clap::{ArgMatches, Error};
+use std::alloc::{AllocError, Global};
+use thiserror::Error as ThisError;
+
+/// What the arguments ask for.
+#[derive(Debug, Drop)]
+pub enum Job<'a> {
+    /// Serve associations.
+    Serve(ServeArguments<'a>),
+    /// Run a recorded association again.
+    Replay(ReplayArguments<'a>),
+    /// List the elements of a file.
+    Show(FileArguments<'a>),
+    /// Check a file and its values.
+    Check(FileArguments<'a>),
+    /// Check a directory and list its records.
+    CheckDir(FileArguments<'a>),
+}
+
+/// Why there is no job.
+#[derive(Debug, Drop, ThisError)]
+pub enum WordsError {
+    /// Help or the version was asked for: this text.
+    #[error("{0}")]
+    Shown(String),
+    /// The arguments are invalid, as this text says.
+    #[error("{0}")]
+    Refused(String),
+    #[error("out of memory")]
+    Memory(#[from(alloc)] AllocError),
+}
+
+/// Returns clap's error as this program reports it: help and the version are shown, the others are
+/// refusals.
+fn refusal(alloc: Global, error: Error) -> WordsError {
+    let text = match format!(in alloc; "{error}") {
+        Ok(text) => text,
+        Err(error) => return WordsError::Memory(error),
+    };
+    match error.kind() {
+        ErrorKind::DisplayHelp | ErrorKind::DisplayVersion => WordsError::Shown(text),
+        ErrorKind::OutOfMemory => WordsError::Memory(AllocError),
+        _ => WordsError::Refused(text),
+    }
+}
+
+/// The only arguments that clap takes and this program does not: more titles than it keeps.
+fn too_many(alloc: Global) -> WordsError {
+    match format!(in alloc; "error: --caller may be given {MOST_VALUES} times at most\n") {
+        Ok(text) => WordsError::Refused(text),
+        Err(error) => WordsError::Memory(error),
+    }
+}
+
+/// Returns the job of a subcommand, or `None` for more titles than the program keeps.
+fn job_of<'a>(name: &str, matches: &ArgMatches<'a>) -> Option<Job<'a>>
+    ensures { IfSome result (λ job. Names job (Some (name.now, rows_of (found_of matches.now)))) }
+{
+    if name == "serve" {
+        return Some(Job::Serve(serve_arguments(matches)?));
+    }
+    if name == "replay" {
+        return Some(Job::Replay(replay_arguments(matches)?));
+    }
+    if name == "show" {
+        return Some(Job::Show(file_arguments(matches)?));
+    }
+    if name == "check" {
+        return Some(Job::Check(file_arguments(matches)?));
+    }
+    if name == "checkdir" {
+        return Some(Job::CheckDir(file_arguments(matches)?));
+    }
+    None
+}
+
+/// Reads the arguments of the command line, of which the first is the program's name.
+///
+/// `named`: the subcommand, the values and the flags are those that clap's definition of a simple
+/// command gives for these arguments.
+pub fn read_words<'a>(alloc: Global, words: &'a [&'a str]) -> Result<Job<'a>, WordsError>
+    ensures named { IfOk result (λ job. Names job (subcommand_of the_command (map (λ w. w.now) words.entry.now))) }
+{
+    let command = command(alloc)?;
+    let matches = match command.try_get_matches_from(words) {
+        Ok(matches) => matches,
+        Err(error) => return Err(refusal(alloc, error)),
+    };
+    let Some((name, inner)) = matches.subcommand() else {
+        return Err(too_many(alloc));
+    };
+    match job_of(name, inner) {
+        Some(job) => Ok(job),
+        None => Err(too_many(alloc)),
+    }
+}

@@ -1,8 +1,0 @@
-use Rattle.std.proofs.Common.{ap, ◌∙◌, true}
-use Rattle.clap.specs.Walk.{Rule, rule_of}
-use Rattle.cli.proofs.command_line.positional_argument.Goals as goal
-
-pub returns-clause-rule : goal.returns-clause-rule
-returns-clause-rule c =
-    ap rule_of c.help.ensures ∙ ap rule_of c.required.ensures
-    ∙ ap (λ (r : Rule). record r { required = true }) c.new.ensures.rule

@@ -1,0 +1,76 @@
+//! The line that ends an inspection which found a fault.
+use dicomdir::DirFault;
+use element::Tag;
+use part10::MetaFault;
+use sequence::Fault;
+use std::io::Write;
+use std::{fmt, io};
+
+/// A tag as it is printed: group and element in hexadecimal.
+#[derive(Clone, Copy)]
+pub struct TagText(pub Tag);
+
+impl fmt::Display for TagText {
+    fn fmt<W: fmt::Write>(&self, f: &mut fmt::Formatter<W>) -> fmt::Result {
+        let TagText(Tag(group, element)) = *self;
+        write!(f, "{group:04x},{element:04x}")
+    }
+}
+
+/// Writes the line of a fault in the header of a file: at the letters, or after them.
+pub fn write_meta_fault<O: Write>(fault: MetaFault, out: &mut O) -> io::Result<()> {
+    let number = fault.number();
+    let place = match fault {
+        MetaFault::NotPart10 => 128,
+        _ => 132,
+    };
+    let name = fault.name();
+    writeln!(out, "fault {number} {name} at {place}")
+}
+
+/// Writes the line of a fault in a data set that begins at this place of its file.
+pub fn write_fault<O: Write>(fault: Fault, start: u64, out: &mut O) -> io::Result<()> {
+    let number = fault.number;
+    let name = fault.name();
+    let place = start.saturating_add(fault.place);
+    let tag = TagText(fault.tag);
+    writeln!(out, "fault {number} {name} at {place} tag {tag}")
+}
+
+/// Returns the name of what is wrong with a directory.
+fn dir_name_of(fault: DirFault) -> &'static str {
+    match fault.number {
+        50 => "NotPart10",
+        51 => "BadMeta",
+        53 => "OtherSyntax",
+        DirFault::BAD_OFFSET => "BadOffset",
+        DirFault::CYCLE => "Cycle",
+        DirFault::TWICE_REACHED => "TwiceReached",
+        DirFault::UNREACHED => "Unreached",
+        DirFault::WRONG_LEVEL => "WrongLevel",
+        DirFault::BAD_FILE_ID => "BadFileId",
+        DirFault::TOO_LARGE => "TooLarge",
+        DirFault::OUT_OF_MEMORY => "OutOfMemory",
+        DirFault::BAD_RECORD => "BadRecord",
+        number => {
+            let fault = Fault {
+                number,
+                place: fault.place,
+                tag: fault.tag,
+            };
+            fault.name()
+        }
+    }
+}
+
+/// Writes the line of a fault of a directory; its places count from the file's first byte.
+pub fn write_dir_fault<O: Write>(fault: DirFault, out: &mut O) -> io::Result<()> {
+    let DirFault { number, place, tag } = fault;
+    let name = dir_name_of(fault);
+    write!(out, "fault {number} {name} at {place}")?;
+    if 10 <= number && number <= 21 {
+        let tag = TagText(tag);
+        write!(out, " tag {tag}")?;
+    }
+    writeln!(out)
+}

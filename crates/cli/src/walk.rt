@@ -1,0 +1,140 @@
+//! A file, walked from its first byte to its last in fixed memory.
+use crate::counted::Counted;
+use crate::error::ProgramError;
+use crate::faults::{write_fault, write_meta_fault};
+use crate::limits::{DEPTH, MOST_DATA, PIECE, VALUES};
+use crate::outcome::Outcome;
+use element::{Header, Syntax};
+use part10::{Meta, MetaFault, read_meta};
+use sequence::{Fault, Step, Walker, Wanted};
+use std::io;
+use std::io::{Read, Write};
+
+/// What is printed of a file while it is walked.
+pub trait Listing<O: Write> {
+    /// After the file's header.
+    fn on_meta(&mut self, meta: &Meta, out: &mut O) -> io::Result<()>;
+
+    /// At each header of an element, an item or a delimitation: its place in the file, and how many
+    /// levels are open before it.
+    fn on_header(
+        &mut self,
+        place: u64,
+        levels: usize,
+        header: &Header,
+        out: &mut O,
+    ) -> io::Result<()>;
+
+    /// At bytes of the value of the last header.
+    fn on_bytes(&mut self, bytes: &[u8], out: &mut O) -> io::Result<()>;
+
+    /// At the end of a file without a fault, which has so many bytes.
+    fn on_end(&mut self, length: u64, out: &mut O) -> io::Result<()>;
+}
+
+/// Returns how many bytes a header has (PS3.5 section 7.1).
+fn size_of_header(header: &Header) -> u64 {
+    let vr = header.vr;
+    match vr {
+        Some(vr) if vr.is_long() => 12,
+        _ => 8,
+    }
+}
+
+/// Tells of a header that ends at `end`.
+fn tell_header<L: Listing<O>, O: Write>(
+    end: u64,
+    levels: usize,
+    header: &Header,
+    listing: &mut L,
+    out: &mut O,
+) -> io::Result<()> {
+    let place = end.saturating_sub(size_of_header(header));
+    listing.on_header(place, levels, header, out)
+}
+
+/// Walks a piece of a data set that begins at `start` of its file; stops at a fault.
+fn walk_piece<L: Listing<O>, O: Write>(
+    walker: &mut Walker<VALUES, DEPTH>,
+    piece: &[u8],
+    start: u64,
+    listing: &mut L,
+    out: &mut O,
+) -> io::Result<Option<Fault>> {
+    let mut rest = piece;
+    // Each step takes at least one byte, or refuses.
+    for _ in 0..piece.len() {
+        if rest.is_empty() {
+            break;
+        }
+        let levels = walker.levels();
+        let (count, step) = walker.step(rest);
+        rest = &rest[count..];
+        let end = start.saturating_add(walker.place());
+        match step {
+            Step::More => {}
+            Step::Element(header) => tell_header(end, levels, &header, listing, out)?,
+            Step::Opened(header) => tell_header(end, levels, &header, listing, out)?,
+            Step::Closed(header) => tell_header(end, levels, &header, listing, out)?,
+            Step::Run(bytes) => listing.on_bytes(bytes, out)?,
+            Step::Refused(fault) => return Ok(Some(fault)),
+        }
+    }
+    Ok(None)
+}
+
+/// Walks the data set that the reader goes on with; returns its first fault.
+fn walk_data_set<R: Read, L: Listing<O>, O: Write>(
+    input: &mut Counted<'_, R>,
+    syntax: Syntax,
+    listing: &mut L,
+    out: &mut O,
+) -> Result<Option<Fault>, ProgramError> {
+    let start = input.count();
+    let mut walker = Walker::<VALUES, DEPTH>::new(syntax, Wanted::none(), MOST_DATA);
+    let mut room = [0; PIECE];
+    for _ in 0..u64::MAX {
+        let len = input.read_some(&mut room)?;
+        if len == 0 {
+            break;
+        }
+        let found = walk_piece(&mut walker, &room[..len], start, listing, out);
+        if let Some(fault) = found.map_err(ProgramError::Write)? {
+            return Ok(Some(fault));
+        }
+    }
+    Ok(walker.finish().err())
+}
+
+/// Lists a file that the reader gives, up to its first fault, which has a line of its own.
+///
+/// Fails if the file can't be read or the output can't be written.
+pub fn list<R: Read, L: Listing<O>, O: Write>(
+    input: &mut R,
+    listing: &mut L,
+    out: &mut O,
+) -> Result<Outcome, ProgramError> {
+    let mut input = Counted::new(input);
+    let meta = match read_meta(&mut input) {
+        Ok(meta) => meta,
+        Err(MetaFault::ReadFailed) => return Err(input.into_error()),
+        Err(fault) => {
+            write_meta_fault(fault, out).map_err(ProgramError::Write)?;
+            return Ok(Outcome::Faulty);
+        }
+    };
+    listing.on_meta(&meta, out).map_err(ProgramError::Write)?;
+    let start = input.count();
+    match walk_data_set(&mut input, meta.syntax, listing, out)? {
+        Some(fault) => {
+            write_fault(fault, start, out).map_err(ProgramError::Write)?;
+            Ok(Outcome::Faulty)
+        }
+        None => {
+            listing
+                .on_end(input.count(), out)
+                .map_err(ProgramError::Write)?;
+            Ok(Outcome::Good)
+        }
+    }
+}

@@ -1,0 +1,41 @@
+# Completion of dcmbox in bash.
+_dcmbox() {
+  local current=${COMP_WORDS[COMP_CWORD]} previous=${COMP_WORDS[COMP_CWORD - 1]} options
+  COMPREPLY=()
+  if [ "$COMP_CWORD" -eq 1 ]; then
+    mapfile -t COMPREPLY < <(compgen -W 'serve replay show check checkdir help --help --version' -- "$current")
+    return
+  fi
+  case $previous in
+    --out)
+      compopt -o filenames
+      mapfile -t COMPREPLY < <(compgen -d -- "$current")
+      return
+      ;;
+    --bind)
+      mapfile -t COMPREPLY < <(compgen -W '127.0.0.1 0.0.0.0 ::' -- "$current")
+      return
+      ;;
+    --port | --ae | --caller | --timeout | --idle | --max-pdu | --max-data | --per | --cut)
+      return
+      ;;
+  esac
+  case ${COMP_WORDS[1]} in
+    serve) options='--port --out --bind --ae --caller --timeout --idle --max-pdu --max-data --per --no-sync --once --help' ;;
+    replay) options='--out --ae --cut --per --help' ;;
+    show | check | checkdir) options='--help' ;;
+    help) options='serve replay show check checkdir' ;;
+    *) return ;;
+  esac
+  if [[ $current == -* || ${COMP_WORDS[1]} == help ]]; then
+    mapfile -t COMPREPLY < <(compgen -W "$options" -- "$current")
+    return
+  fi
+  case ${COMP_WORDS[1]} in
+    replay | show | check | checkdir)
+      compopt -o filenames
+      mapfile -t COMPREPLY < <(compgen -f -- "$current")
+      ;;
+  esac
+}
+complete -F _dcmbox dcmbox
