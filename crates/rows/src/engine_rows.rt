@@ -225,22 +225,3 @@ fn a_local_abort(rt: HostRuntime) -> Result<(), Fail> {
     assert_eq!(rt; wire.sent().len(), ACCEPT.len() + ABORT.len());
     Ok(())
 }
-
-#[test]
-fn a_peer_that_takes_eight_bytes(rt: HostRuntime) -> Result<(), Fail> {
-    let alloc = rt.alloc();
-    let mut request = Vec::new(alloc);
-    request.extend_from_slice(REQUEST.get(..157).ok_or("short")?)?;
-    request.extend_from_slice(&[0, 0, 0, 8])?;
-    request.extend_from_slice(REQUEST.get(161..).ok_or("short")?)?;
-    let mut wire = MemoryWire::new(alloc);
-    let mut filing = MemoryFiling::new(alloc);
-    let mut association = Receiver::open(&config());
-    association.feed(request.as_slice(), &mut wire, &mut filing);
-    association.feed(ECHO, &mut wire, &mut filing);
-    let reply = wire.sent().get(ACCEPT.len()..).ok_or("short")?;
-    assert_eq!(rt; reply.len(), 39 * 14);
-    assert!(rt; reply.starts_with(&[4, 0, 0, 0, 0, 8, 0, 0, 0, 4, 1, 1, 0, 0]));
-    assert!(rt; reply.ends_with(&[4, 0, 0, 0, 0, 8, 0, 0, 0, 4, 1, 3, 0, 0]));
-    Ok(())
-}

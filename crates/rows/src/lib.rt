@@ -5,6 +5,8 @@
 #[cfg(test)]
 mod acceptor_rows;
 #[cfg(test)]
+mod dicomdir_check;
+#[cfg(test)]
 mod dicomdir_rows;
 #[cfg(test)]
 mod dictionary_rows;
@@ -30,3 +32,11 @@ mod readme_rows;
 mod sequence_faults;
 #[cfg(test)]
 mod sequence_rows;
+#[cfg(test)]
+mod store_devices;
+#[cfg(test)]
+mod store_failures;
+#[cfg(test)]
+mod store_rows;
+#[cfg(test)]
+mod store_texts;

@@ -273,7 +273,7 @@ fn accepted(rt: HostRuntime) -> Result<(), Fail> {
     let alloc = rt.alloc();
     let known = config("SCANNER1")?;
     assert_eq!(rt;
-        judged(&known.same(), alloc, 1, OURS, APPLICATION, [0, 0, 0, 8])?,
+        judged(&known.copied(), alloc, 1, OURS, APPLICATION, [0, 0, 0, 8])?,
         Answer::Accept
     );
     let anyone = Config::new(known.ae, ArrayVec::new(), 1024, 1024);

@@ -77,10 +77,10 @@ fn numbers_go_on(rt: HostRuntime) -> Result<(), Fail> {
     assert_eq!(rt; count(&rt, dir)?, 8);
     drop(filing);
     put(&rt, dir, "I0000041", b"found")?;
-    // A draft that was left is no part of the next file.
+    // A draft that was left is removed, and is no part of the next file.
     put(&rt, dir, "DRAFT", b"a long draft that was left")?;
     let mut filing = FolderFiling::open(rt, dir)?.without_sync();
-    assert!(rt; holds(&rt, dir, "DRAFT", b"a long draft that was left")?);
+    assert!(rt; fs::metadata(&rt, "numbers_go_on/DRAFT").is_err());
     assert!(rt; is_filed(&mut filing, b"third"));
     assert!(rt; holds(&rt, dir, "I0000042", b"third")?);
     assert_eq!(rt; (filing.committed(), filing.dropped()), (1, 0));

@@ -307,10 +307,10 @@ fn lengths_take_no_room(rt: HostRuntime) -> Result<(), Fail> {
 #[test]
 fn faults_have_numbers_and_names(rt: HostRuntime) -> Result<(), Fail> {
     let rows = [
-        (MetaFault::NotPart10, 50, "NotPart10"),
-        (MetaFault::BadMeta, 51, "BadMeta"),
-        (MetaFault::OtherSyntax, 53, "OtherSyntax"),
-        (MetaFault::ReadFailed, 54, "ReadFailed"),
+        (MetaFault::NotPart10, 50, "50 NotPart10"),
+        (MetaFault::BadMeta, 51, "51 BadMeta"),
+        (MetaFault::OtherSyntax, 53, "53 OtherSyntax"),
+        (MetaFault::ReadFailed, 54, "54 ReadFailed"),
     ];
     for (fault, number, name) in rows {
         assert_eq!(rt; fault.number(), number);

@@ -1,8 +1,9 @@
-//! For each fault of a data set a text that has it, beside a good one that differs little; and the shapes of elements in
-//! Implicit that no other row has.
+//! For each fault of a data set a text that has it, beside a good one that differs little; the shapes of elements in
+//! Implicit that no other row has; and how faults are named and printed.
 
 use element::{Syntax, Tag};
-use sequence::{Fault, Walker, Want, Wanted};
+use sequence::{Fault, Step, Walker, Want, Wanted};
+use std::alloc::AllocError;
 
 /// A faulty text and a good one, for a walker of two levels that wants (0008,0018) with a room of four bytes.
 struct Case {
@@ -140,7 +141,7 @@ const CASES: [Case; 12] = [
     },
 ];
 
-fn take(walker: &mut Walker<140, 2>, piece: &[u8]) {
+fn take<const D: usize>(walker: &mut Walker<140, D>, piece: &[u8]) {
     let mut rest = piece;
     for _ in 0..piece.len() {
         if rest.is_empty() {
@@ -210,4 +211,86 @@ fn shapes_in_implicit(rt: HostRuntime) {
     let element = b"\x09\x00\x01\x10\xff\xff\xff\xff\x08\x00\x60\x00";
     let refused = fault(15, 8, Tag(0x0008, 0x0060));
     assert!(rt; ends_at_every_cut(Syntax::Implicit, 1 << 40, element, Some(refused)));
+}
+
+/// Whether the walker repeats the refusal, whatever comes, and reports the same as before.
+fn repeats(w: &mut Walker<140, 2>, refused: Fault) -> bool {
+    let before = (w.levels(), w.place(), w.held());
+    for piece in [b"".as_slice(), b"\x08", b"\xfe\xff\x0d\xe0\x00\x00\x00\x00"] {
+        let (taken, step) = w.step(piece);
+        if taken != 0 || !matches!(step, Step::Refused(fault) if fault == refused) {
+            return false;
+        }
+    }
+    w.finish() == Err(refused) && (w.levels(), w.place(), w.held()) == before
+}
+
+#[test]
+fn a_refusal_stands(rt: HostRuntime) {
+    for case in &CASES {
+        if case.fault.number != Fault::TRUNCATED {
+            let wants = [Want {
+                tag: Tag(0x0008, 0x0018),
+                room: 4,
+            }];
+            match Wanted::of(&wants) {
+                None => assert!(rt; false),
+                Some(wanted) => {
+                    let limit = case.limit.min(1 << 40);
+                    let mut w: Walker<140, 2> = Walker::new(Syntax::Explicit, wanted, limit);
+                    take(&mut w, case.bad);
+                    assert!(rt; repeats(&mut w, case.fault));
+                }
+            }
+        }
+    }
+}
+
+/// A sequence and an item of undefined length, one of 65 pairs inside one another.
+const PAIR: [u8; 16] = *b"\x40\x00\x30\xa7\xff\xff\xff\xff\xfe\xff\x00\xe0\xff\xff\xff\xff";
+
+#[test]
+fn nested_past_the_limit_at_every_cut(rt: HostRuntime) {
+    let mut text = [0u8; 528];
+    for at in 0..text.len() {
+        text[at] = PAIR[at % 16];
+    }
+    let refused = fault(18, 512, Tag(0x0040, 0xa730));
+    for cut in 0..text.len() + 2 {
+        let mut w: Walker<140, 64> = Walker::new(Syntax::Implicit, Wanted::none(), 1 << 40);
+        if cut <= text.len() {
+            take(&mut w, &text[..cut]);
+            take(&mut w, &text[cut..]);
+        } else {
+            for byte in &text {
+                take(&mut w, &[*byte]);
+            }
+        }
+        assert!(rt; w.finish() == Err(refused));
+        assert_eq!(rt; (w.levels(), w.place(), w.held()), (64, 520, 1024));
+    }
+}
+
+#[test]
+fn names_of_faults(rt: HostRuntime) -> Result<(), AllocError> {
+    let printed = [
+        "10 BadVr at 0 tag 0008,0060",
+        "11 OddLength at 0 tag 0008,0060",
+        "12 Order at 10 tag 0008,0060",
+        "13 BadGroup at 0 tag 0002,0010",
+        "14 UndefinedLength at 0 tag 7fe0,0010",
+        "15 UnexpectedTag at 0 tag fffe,e000",
+        "16 DelimiterLength at 12 tag fffe,e0dd",
+        "17 Overrun at 12 tag fffe,e000",
+        "18 TooDeep at 20 tag 0008,1140",
+        "19 TooLong at 0 tag 0008,0060",
+        "20 Truncated at 9 tag 0008,0060",
+        "21 KeptTooLong at 0 tag 0008,0018",
+    ];
+    for (case, text) in CASES.iter().zip(printed) {
+        let fault = case.fault;
+        assert_eq!(rt; format!(in rt.alloc(); "{fault}")?.as_str(), text);
+    }
+    assert_eq!(rt; fault(22, 0, Tag(0, 0)).name(), "Unknown");
+    Ok(())
 }
