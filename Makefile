@@ -2,7 +2,11 @@
 PROGRAM := crates/cli/out/cli
 RECORDING := crates/cli/data/recordings/echo.bin
 
-.PHONY: run test check must-fail fmt gate-table clean
+# Where `make install` puts the program, its manual page, its completion and its systemd unit.
+PREFIX ?= /usr/local
+DESTDIR ?=
+
+.PHONY: run test interop bench check must-fail fmt gate-table clean install uninstall
 
 run: dcmbox
 	./dcmbox replay $(RECORDING) --out .
@@ -15,11 +19,23 @@ dcmbox: FORCE
 .PHONY: FORCE
 FORCE:
 
-# Proves every crate and its tests from nothing, tries the must-fail edits, runs the tests and the
-# program, and then tries the program with invalid arguments and missing files.
+# Looks at what the crates cite of each other, proves every crate and its tests from nothing, tries the
+# must-fail edits, runs the tests and the program, and then tries the program from outside: with
+# invalid arguments and missing files, and with the tools of DCMTK, which it installs where they are
+# missing.
 test:
+	tests/layers.sh
 	rt ci
 	tests/program.sh $(PROGRAM)
+	tests/interop.sh $(PROGRAM)
+
+# The tools of DCMTK against the program that is built.
+interop:
+	tests/interop.sh $(PROGRAM)
+
+# The program beside DCMTK's storescp and a floor that checks nothing: prints tables of ratios.
+bench: dcmbox
+	bench/bench.py ./dcmbox
 
 # One crate, with what earlier checks left: make check CRATE=pdu
 check:
@@ -36,6 +52,21 @@ fmt:
 # Runs the gate and prints what each crate cost, as the table of docs/GATE.md.
 gate-table:
 	tools/gate-table
+
+# Installs what `make run` built. A package sets DESTDIR to the folder that it packs.
+install:
+	@test -x dcmbox || { echo "there is no ./dcmbox: run 'make run' first"; exit 1; }
+	install -D -m 755 dcmbox $(DESTDIR)$(PREFIX)/bin/dcmbox
+	install -D -m 644 man/dcmbox.1 $(DESTDIR)$(PREFIX)/share/man/man1/dcmbox.1
+	install -D -m 644 packaging/dcmbox.bash $(DESTDIR)$(PREFIX)/share/bash-completion/completions/dcmbox
+	install -d $(DESTDIR)$(PREFIX)/lib/systemd/system
+	sed 's|@PREFIX@|$(PREFIX)|' packaging/dcmbox.service.in > $(DESTDIR)$(PREFIX)/lib/systemd/system/dcmbox.service
+	chmod 644 $(DESTDIR)$(PREFIX)/lib/systemd/system/dcmbox.service
+
+uninstall:
+	rm -f $(DESTDIR)$(PREFIX)/bin/dcmbox $(DESTDIR)$(PREFIX)/share/man/man1/dcmbox.1 \
+		$(DESTDIR)$(PREFIX)/share/bash-completion/completions/dcmbox \
+		$(DESTDIR)$(PREFIX)/lib/systemd/system/dcmbox.service
 
 clean:
 	rm -rf dcmbox crates/*/out

@@ -35,6 +35,11 @@ try() {
   fi
 }
 
+# hex FILE : the bytes that the file's hexadecimal text stands for.
+hex() {
+  printf "$(tr -d ' \n' <"$1" | sed 's/../\\x&/g')"
+}
+
 printf '' >empty.bin
 printf 'GET / HTTP/1.0\r\n\r\n' >text.bin
 head -c 200 "$recordings/echo.bin" >cut.bin
@@ -70,6 +75,34 @@ try 'a cut that is no number' 2 '' '.*--cut.*' replay empty.bin --out . --cut al
 try 'an empty title' 2 '' '.*--ae.*' replay empty.bin --out . --ae ''
 try 'a title that is too long' 2 '' '.*--ae.*' replay empty.bin --out . --ae SEVENTEENLETTERSX
 try 'folders of no files' 2 '' '.*--per.*' replay empty.bin --out . --per 0
+# A CT image of two elements, 336 bytes long, whose data set begins at byte 288.
+hex "$here/data/ct_image.hex" >ct.dcm
+head -c 330 ct.dcm >cut.dcm
+head -c 288 ct.dcm >header.dcm
+# A private element with control characters, and a code that breaks the rules of its VR.
+{ cat header.dcm; printf '\10\0\140\0CS\4\0c\33[m\11\0\1\20LT\4\0\33[2J'; } >control.dcm
+shown='class 1.2.840.10008.5.1.4.1.1.2
+instance 1.2.3
+syntax 1.2.840.10008.1.2.1
+'
+elements='0000000288 0008,0016 UI 26 SOPClassUID
+0000000322 0008,0018 UI 6 SOPInstanceUID
+'
+try 'a file is shown' 0 "$shown${elements}end 336" '' show ct.dcm
+try 'a cut file is shown' 1 "$shown${elements}fault 20 Truncated at 330 tag 0008,0018" '' show cut.dcm
+try 'no value is shown' 0 "${shown}0000000288 0008,0060 CS 4 Modality
+0000000300 0009,1001 LT 4 \?
+end 312" '' show control.dcm
+try 'a file is checked' 0 'good 336' '' check ct.dcm
+try 'a cut file is checked' 1 'fault 20 Truncated at 330 tag 0008,0018' '' check cut.dcm
+try 'a value is checked' 0 'note 0000000288 0008,0060 CS 1 BadCharacter
+good 312' '' check control.dcm
+try 'a file that is no DICOM file' 1 'fault 50 NotPart10 at 128' '' check text.bin
+try 'no file to show' 2 '' '.*FILE.*' show
+try 'two files to check' 2 '' '.*' check ct.dcm cut.dcm
+try 'help with an example' 0 '.*Example: dcmbox show .*' '' show --help
+try 'a missing file is shown' 3 '' 'dcmbox: missing.dcm: the file can.t be opened: .*check its name.*' show missing.dcm
+try 'a folder is checked' 3 '' 'dcmbox: \.: the file can.t be read: .*' check .
 try 'no port' 2 '' '.*--port.*' serve --out .
 try 'port 0' 2 '' '.*--port.*' serve --out . --port 0
 try 'a PDU that is too short' 2 '' '.*--max-pdu.*' serve --out . --port 11112 --max-pdu 1023
@@ -77,35 +110,42 @@ callers=()
 for _ in $(seq 17); do callers+=(--caller SCANNER1); done
 try 'too many titles' 2 '' '.*--caller.*16 times.*' serve --out . --port 11112 "${callers[@]}"
 try 'no time' 2 '' '.*--timeout.*' serve --out . --port 11112 --timeout 0
-try 'a folder that is not there' 3 '' 'dcmbox: the folder can.t be opened: .*' replay empty.bin --out missing
-try 'a file that is not there' 3 '' 'dcmbox: the file can.t be opened: .*' replay missing.bin --out .
-try 'a folder in place of a file' 3 '' 'dcmbox: the file can.t be read: .*' replay . --out .
+try 'a folder that is not there' 3 '' 'dcmbox: missing: the folder can.t be opened: .*create it.*' replay empty.bin --out missing
+try 'a file that is not there' 3 '' 'dcmbox: missing.bin: the file can.t be opened: .*' replay missing.bin --out .
+try 'a folder in place of a file' 3 '' 'dcmbox: \.: the file can.t be read: .*' replay . --out .
 
-# One association over TCP: the answer is that of the recording, and the log has one line.
-port=11112
-"$program" serve --port $port --out . --once --timeout 5 >out.txt 2>err.txt &
-server=$!
-answer=
-for _ in $(seq 50); do
-  if exec 3<>/dev/tcp/127.0.0.1/$port; then
-    cat "$recordings/echo.bin" >&3
-    answer=$(head -c 269 <&3 | od -An -v -tx1 | tr -d ' \n')
-    exec 3>&-
-    break
-  fi 2>/dev/null
-  sleep 0.1
+# report NAME : counts a test by the status of the last command.
+report() {
+  if [ "$?" -eq 0 ]; then
+    echo "ok $1"
+    passed=$((passed + 1))
+  else
+    echo "FAILED $1"
+    failed=$((failed + 1))
+  fi
+}
+
+# A listing of 1.4 MB, of which one line is read. The items of a sequence are its lines.
+printf '\376\377\0\340\0\0\0\0' >items.bin
+for _ in $(seq 15); do
+  cat items.bin items.bin >twice.bin
+  mv twice.bin items.bin
 done
-wait "$server"
-status=$?
-if [ "$status" -eq 0 ] && [ "$answer" = "$(head -n -1 "$here/../crates/cli/stdout" | tr -d '\n')" ] &&
-  [ ! -s out.txt ] && [ "$(grep -c 'Ended held 0 files 0 dropped 0 received 260 in' err.txt)" -eq 1 ]; then
-  echo 'ok an association over TCP'
-  passed=$((passed + 1))
-else
-  echo "FAILED an association over TCP: status $status, answer $answer, log:"
-  cat err.txt
-  failed=$((failed + 1))
-fi
+{ cat header.dcm; printf '\10\0\100\21SQ\0\0\377\377\377\377'; cat items.bin; printf '\376\377\335\340\0\0\0\0'; } >items.dcm
+"$program" show items.dcm 2>err.txt | head -1 >out.txt
+[ "${PIPESTATUS[0]}" -eq 0 ] && [ ! -s err.txt ] && [ "$(cat out.txt)" = 'class 1.2.840.10008.5.1.4.1.1.2' ]
+report 'a reader that has read enough'
+"$program" show items.dcm >/dev/full 2>err.txt
+[ "$?" -eq 3 ] && grep -q 'dcmbox: items.dcm: the output can.t be written' err.txt
+report 'a full disk'
+
+# A value of 1 GiB, which takes no room on the disk, in 16 MB of memory.
+{ cat header.dcm; printf '\340\177\20\0OW\0\0\0\0\0\100'; } >large.dcm
+truncate -s $((288 + 12 + 1073741824)) large.dcm
+[ "$(ulimit -v 16384 && "$program" check large.dcm)" = 'good 1073742124' ]
+report 'a large file in little memory'
+
+. "$here/associations.sh"
 
 # A recording of 1 GiB, which takes no room on the disk, and 400 MB of memory.
 truncate -s 1G large.bin

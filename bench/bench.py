@@ -1,0 +1,223 @@
+#!/usr/bin/env python3
+"""Measures `dcmbox serve` beside DCMTK's storescp and beside the floor, a sink that checks nothing.
+
+bench.py PROGRAM [--rounds N]
+
+Each round sends each corpus to each server, one after the other, so that what the machine does meanwhile falls on all of
+them. The table has the medians of the rounds as ratios to the sink's: wall time by the client's clock, processor time
+and peak resident memory of the server's process.
+"""
+import argparse
+import os
+import resource
+import shutil
+import socket
+import statistics
+import subprocess
+import sys
+import tempfile
+import time
+
+HERE = os.path.dirname(os.path.abspath(__file__))
+PORT = 11119
+CORPORA = [("ct", "200 CT of 512 KiB"), ("large", "one of 160 MB"), ("tiny", "2,000 of 1 KiB")]
+
+
+def compiled(work):
+    """Builds the client and the sink."""
+    for name in ("client", "sink"):
+        subprocess.run(["gcc", "-O2", "-o", f"{work}/{name}", f"{HERE}/{name}.c"], check=True)
+
+
+def servers(program, work):
+    """The servers by name, each as the words that start it over a folder."""
+    box = [program, "serve", "--port", str(PORT), "--out"]
+    return {
+        "sink": lambda folder: [f"{work}/sink", str(PORT), folder],
+        "dcmbox --no-sync": lambda folder: box + [folder, "--no-sync"],
+        "dcmbox": lambda folder: box + [folder],
+        "storescp": lambda folder: ["storescp", "-aet", "DCMBOX", "-od", folder, str(PORT)],
+        "storescp +B": lambda folder: ["storescp", "+B", "-aet", "DCMBOX", "-od", folder, str(PORT)],
+    }
+
+
+def is_listening():
+    """Whether a process listens at the port; without a connection, which would count as an association."""
+    wanted = f":{PORT:04X}"
+    for table in ("/proc/net/tcp", "/proc/net/tcp6"):
+        with open(table) as lines:
+            for line in lines:
+                fields = line.split()
+                if fields[1].endswith(wanted) and fields[3] == "0A":
+                    return True
+    return False
+
+
+def start(words, log):
+    server = subprocess.Popen(words, stdout=log, stderr=log)
+    while not is_listening():
+        if server.poll() is not None:
+            sys.exit(f"{words[0]} does not start")
+        time.sleep(0.002)
+    return server
+
+
+def stop(server):
+    """Ends a server, and returns its processor seconds and its peak memory in KiB."""
+    with open(f"/proc/{server.pid}/status") as status:
+        peak = next(int(line.split()[1]) for line in status if line.startswith("VmHWM"))
+    server.kill()
+    _, _, usage = os.wait4(server.pid, 0)
+    server.returncode = 0
+    return usage.ru_utime + usage.ru_stime, peak
+
+
+def measured(work, words_of, sender, log):
+    """Serves one sending, and returns wall seconds, processor seconds and peak memory."""
+    folder = tempfile.mkdtemp(dir=work)
+    server = start(words_of(folder), log)
+    seconds = sender(folder)
+    processor, peak = stop(server)
+    shutil.rmtree(folder)
+    return seconds, processor, peak
+
+
+def send(work, *words):
+    def sender(_folder):
+        client = subprocess.run([f"{work}/client", str(PORT), *words], stdout=subprocess.PIPE, check=True)
+        return float(client.stdout)
+
+    return sender
+
+
+def storescu(files):
+    def sender(_folder):
+        begun = time.monotonic()
+        subprocess.run(["storescu", "-aec", "DCMBOX", "127.0.0.1", str(PORT), *files], check=True)
+        return time.monotonic() - begun
+
+    return sender
+
+
+def medians(runs):
+    return [statistics.median(run[i] for run in runs) for i in range(3)]
+
+
+def ratio(value, floor):
+    return f"{value / floor:.2f}" if floor else "-"
+
+
+def table(title, names, results):
+    floor = results["sink"]
+    print(f"\n{title}\n")
+    print("| Server | Wall time | Processor time | Peak memory |")
+    print("|---|---|---|---|")
+    for name in names:
+        got = results[name]
+        print(f"| `{name}` | {ratio(got[0], floor[0])} | {ratio(got[1], floor[1])} | {got[2] / 1024:.1f} MiB |")
+    print(f"\nThe sink: {floor[0]:.3f} s by the clock, {floor[1]:.3f} s of processor time.")
+
+
+def compare(program, work, rounds, log):
+    starts = servers(program, work)
+    files = []
+    for n in range(60):
+        files.append(f"{work}/ct{n}.dcm")
+        subprocess.run([f"{work}/client", "--file", files[-1], "ct", str(n)], check=True)
+    senders = {title: send(work, name) for name, title in CORPORA}
+    senders["60 CT of 512 KiB by storescu"] = storescu(files)
+    runs = {(title, name): [] for title in senders for name in starts}
+    for _ in range(rounds):
+        for title, sender in senders.items():
+            for name, words_of in starts.items():
+                runs[title, name].append(measured(work, words_of, sender, log))
+    for title in senders:
+        table(title, starts, {name: medians(runs[title, name]) for name in starts})
+
+
+def growth(program, work, rounds, log):
+    """Cost by the bytes of an object, and by the number of stores."""
+    words_of = servers(program, work)["dcmbox --no-sync"]
+    print("\nGrowth of `dcmbox serve --no-sync`: processor seconds for each 100 MB of one object, and for each 1,000 stores\n")
+    print("| What | Processor time |")
+    print("|---|---|")
+    for size in (40_000_000, 160_000_000, 640_000_000):
+        runs = [measured(work, words_of, send(work, "large", "1", str(size)), log) for _ in range(rounds)]
+        print(f"| one object of {size // 1_000_000} MB | {medians(runs)[1] / (size / 1e8):.3f} s |")
+    for count in (1000, 2000, 4000):
+        runs = [measured(work, words_of, send(work, "tiny", str(count)), log) for _ in range(rounds)]
+        print(f"| {count} stores of 1 KiB | {medians(runs)[1] / (count / 1e3):.3f} s |")
+
+
+def filled(program, work, rounds, log):
+    """Cost of 500 stores into an empty folder and into one that has 20,000 files."""
+    words_of = servers(program, work)["dcmbox --no-sync"]
+    folder = tempfile.mkdtemp(dir=work)
+    results = {}
+    for there in (0, 20_000):
+        for n in range(1, there + 1):
+            open(f"{folder}/I{n:07d}", "w").close()
+        runs = []
+        for _ in range(rounds):
+            server = start(words_of(folder), log)
+            seconds = send(work, "tiny", "500")(folder)
+            runs.append((seconds, *stop(server)))
+        results[there] = medians(runs)
+    shutil.rmtree(folder)
+    print(f"\n500 stores into a folder of 20,000 files take {ratio(results[20_000][0], results[0][0])} times the wall time of 500 into an empty one.")
+
+
+def starting(program, work, rounds, log):
+    """From the start of the process to the first connection that is accepted."""
+    times = []
+    folder = tempfile.mkdtemp(dir=work)
+    words = servers(program, work)["dcmbox"](folder)
+    for _ in range(4 * rounds):
+        begun = time.monotonic()
+        server = subprocess.Popen(words, stdout=log, stderr=log)
+        while True:
+            try:
+                socket.create_connection(("127.0.0.1", PORT)).close()
+                break
+            except ConnectionRefusedError:
+                pass
+        times.append(time.monotonic() - begun)
+        stop(server)
+    print(f"\nFrom the start to the first connection: {statistics.median(times) * 1000:.1f} ms.")
+
+
+def walks(program, work, rounds):
+    """The walk alone: `check` and `show` of an object of 160 MB, beside `cat`."""
+    name = f"{work}/large.dcm"
+    subprocess.run([f"{work}/client", "--file", name, "large", "0"], check=True)
+    costs = {}
+    for words in (["cat", name], [program, "check", name], [program, "show", name]):
+        runs = []
+        for _ in range(rounds):
+            before = resource.getrusage(resource.RUSAGE_CHILDREN)
+            with open(f"{work}/copy", "wb") as out:
+                subprocess.run(words, stdout=out, check=True)
+            after = resource.getrusage(resource.RUSAGE_CHILDREN)
+            runs.append(after.ru_utime + after.ru_stime - before.ru_utime - before.ru_stime)
+        costs[words[1] if words[0] == program else "cat"] = statistics.median(runs)
+    print("\nThe walk of 160 MB in processor time, beside `cat` into a file:", end=" ")
+    print(", ".join(f"`{what}` {ratio(costs[what], costs['cat'])}" for what in ("check", "show")) + ".")
+
+
+def main():
+    words = argparse.ArgumentParser()
+    words.add_argument("program")
+    words.add_argument("--rounds", type=int, default=5)
+    given = words.parse_args()
+    program = os.path.abspath(given.program)
+    with tempfile.TemporaryDirectory() as work, open(os.devnull, "w") as log:
+        compiled(work)
+        compare(program, work, given.rounds, log)
+        growth(program, work, given.rounds, log)
+        filled(program, work, given.rounds, log)
+        starting(program, work, given.rounds, log)
+        walks(program, work, given.rounds)
+
+
+if __name__ == "__main__":
+    main()

@@ -1,0 +1,141 @@
+/* The objects of the benchmark: deterministic data sets in Explicit VR Little Endian. */
+#ifndef OBJECTS_H
+#define OBJECTS_H
+#include <stdint.h>
+#include <stdio.h>
+#include <string.h>
+
+#define CT_CLASS "1.2.840.10008.5.1.4.1.1.2"
+#define PATTERN 1048576
+
+/* What stands before the pixels of an object, and how many pixel bytes come after it, taken from a
+   repeated pattern. */
+struct object {
+  char instance[65];
+  size_t head;
+  uint64_t pixels;
+  unsigned char bytes[4096];
+};
+
+static unsigned char pattern[PATTERN];
+
+static inline void make_pattern(void) {
+  uint32_t x = 12345;
+  for (size_t i = 0; i < PATTERN; i++) {
+    x = x * 1664525u + 1013904223u;
+    pattern[i] = (unsigned char)(x >> 24);
+  }
+}
+
+static inline void put16(struct object *o, unsigned n) {
+  o->bytes[o->head++] = n & 255;
+  o->bytes[o->head++] = n >> 8;
+}
+
+static inline void put32(struct object *o, uint32_t n) {
+  put16(o, n & 65535);
+  put16(o, n >> 16);
+}
+
+static inline void put(struct object *o, const void *bytes, size_t n) {
+  memcpy(o->bytes + o->head, bytes, n);
+  o->head += n;
+}
+
+static inline void element(struct object *o, unsigned group, unsigned number, const char *vr, const char *text, char pad) {
+  size_t n = strlen(text);
+  put16(o, group);
+  put16(o, number);
+  put(o, vr, 2);
+  put16(o, (unsigned)(n + n % 2));
+  put(o, text, n);
+  if (n % 2) put(o, &pad, 1);
+}
+
+static inline void us(struct object *o, unsigned number, unsigned n) {
+  put16(o, 0x28);
+  put16(o, number);
+  put(o, "US", 2);
+  put16(o, 2);
+  put16(o, n);
+}
+
+/* A sequence of undefined length with one item of undefined length, so many deep, round one element. */
+static inline void nested(struct object *o, int depth) {
+  put16(o, 0x40);
+  put16(o, 0x0275);
+  put(o, "SQ\0\0", 4);
+  put32(o, 0xffffffff);
+  put16(o, 0xfffe);
+  put16(o, 0xe000);
+  put32(o, 0xffffffff);
+  element(o, 0x40, 0x0007, "LO", "a scheduled procedure step", ' ');
+  if (depth > 1) nested(o, depth - 1);
+  put16(o, 0xfffe);
+  put16(o, 0xe00d);
+  put32(o, 0);
+  put16(o, 0xfffe);
+  put16(o, 0xe0dd);
+  put32(o, 0);
+}
+
+/* Object number n; `tiny` has nested sequences and no pixels. */
+static inline void make_object(struct object *o, unsigned n, uint64_t pixels) {
+  char text[65];
+  o->head = 0;
+  o->pixels = pixels;
+  snprintf(o->instance, sizeof o->instance, "2.25.7.%u", n);
+  element(o, 8, 0x0008, "CS", "ORIGINAL\\PRIMARY\\AXIAL", ' ');
+  element(o, 8, 0x0016, "UI", CT_CLASS, 0);
+  element(o, 8, 0x0018, "UI", o->instance, 0);
+  element(o, 8, 0x0020, "DA", "20260101", ' ');
+  element(o, 8, 0x0030, "TM", "120000", ' ');
+  element(o, 8, 0x0050, "SH", "A1", ' ');
+  element(o, 8, 0x0060, "CS", "CT", ' ');
+  element(o, 8, 0x1030, "LO", "A study", ' ');
+  element(o, 0x10, 0x0010, "PN", "DOE^JOHN", ' ');
+  element(o, 0x10, 0x0020, "LO", "P1", ' ');
+  element(o, 0x18, 0x0050, "DS", "1.25", ' ');
+  element(o, 0x20, 0x000d, "UI", "2.25.7001", 0);
+  element(o, 0x20, 0x000e, "UI", "2.25.7002", 0);
+  element(o, 0x20, 0x0010, "SH", "S1", ' ');
+  element(o, 0x20, 0x0011, "IS", "1", ' ');
+  snprintf(text, sizeof text, "%u", n + 1);
+  element(o, 0x20, 0x0013, "IS", text, ' ');
+  if (pixels == 0) {
+    nested(o, 8);
+    return;
+  }
+  us(o, 2, 1);
+  element(o, 0x28, 4, "CS", "MONOCHROME2", ' ');
+  us(o, 0x10, 512);
+  us(o, 0x11, 512);
+  us(o, 0x100, 16);
+  us(o, 0x101, 12);
+  us(o, 0x102, 11);
+  us(o, 0x103, 0);
+  put16(o, 0x7fe0);
+  put16(o, 0x0010);
+  put(o, "OW\0\0", 4);
+  put32(o, (uint32_t)pixels);
+}
+
+/* The corpora: how many objects, and the bytes of pixels of each. */
+struct corpus {
+  const char *name;
+  unsigned count;
+  uint64_t pixels;
+};
+
+static const struct corpus corpora[] = {
+  {"ct", 200, 524288},
+  {"large", 1, 160000000},
+  {"tiny", 2000, 0},
+};
+
+static inline const struct corpus *corpus_of(const char *name) {
+  for (size_t i = 0; i < sizeof corpora / sizeof corpora[0]; i++)
+    if (strcmp(corpora[i].name, name) == 0) return &corpora[i];
+  return NULL;
+}
+#endif

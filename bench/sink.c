@@ -1,0 +1,120 @@
+/* The floor of the benchmark: answers PDUs and writes the bytes of each data set to a file of its own, checking nothing.
+   sink PORT FOLDER */
+#define _GNU_SOURCE
+#include <arpa/inet.h>
+#include <fcntl.h>
+#include <netinet/in.h>
+#include <netinet/tcp.h>
+#include <stdio.h>
+#include <stdlib.h>
+#include <string.h>
+#include <sys/socket.h>
+#include <unistd.h>
+
+#define ROOM 65536
+static unsigned char room[ROOM];
+static size_t from, to;
+
+static int fill(int fd) {
+  ssize_t n = read(fd, room, ROOM);
+  if (n <= 0) return 0;
+  from = 0;
+  to = (size_t)n;
+  return 1;
+}
+
+static int take(int fd, unsigned char *bytes, size_t n) {
+  while (n > 0) {
+    if (from == to && !fill(fd)) return 0;
+    size_t some = to - from < n ? to - from : n;
+    memcpy(bytes, room + from, some);
+    from += some;
+    bytes += some;
+    n -= some;
+  }
+  return 1;
+}
+
+/* What is left of a fragment goes to the file straight from the room. */
+static int pass(int fd, size_t n, int out) {
+  while (n > 0) {
+    if (from == to && !fill(fd)) return 0;
+    size_t some = to - from < n ? to - from : n;
+    if (write(out, room + from, some) != (ssize_t)some) return 0;
+    from += some;
+    n -= some;
+  }
+  return 1;
+}
+
+static size_t be32(unsigned char *p) { return ((size_t)p[0] << 24) | (p[1] << 16) | (p[2] << 8) | p[3]; }
+
+static const unsigned char accept_user[] =
+  "\x21\0\0\x1b\1\0\0\0\x40\0\0\x13" "1.2.840.10008.1.2.1" "\x50\0\0\x08\x51\0\0\x04\0\0\x40\0";
+
+static void answer_request(int fd, unsigned char *body) {
+  unsigned char text[256] = {2, 0};
+  size_t n = 74;
+  memcpy(text + 6, body, 68);
+  n += (size_t)sprintf((char *)text + n, "%c%c%c%c%s", 0x10, 0, 0, 21, "1.2.840.10008.3.1.1.1");
+  memcpy(text + n, accept_user, sizeof accept_user - 1);
+  n += sizeof accept_user - 1;
+  text[5] = (unsigned char)(n - 6);
+  if (write(fd, text, n) < 0) exit(1);
+}
+
+/* The reply to every store: success. */
+static void reply(int fd) {
+  static const unsigned char text[] =
+    "\4\0\0\0\0\x4c\0\0\0\x48\1\3" "\0\0\0\0\4\0\0\0\x38\0\0\0" "\0\0\2\0\2\0\0\0\x31\0"
+    "\0\0\0\1\2\0\0\0\1\x80" "\0\0\x20\1\2\0\0\0\0\0" "\0\0\0\x08\2\0\0\0\1\1" "\0\0\0\x09\2\0\0\0\0\0";
+  unsigned char bytes[sizeof text - 1];
+  memcpy(bytes, text, sizeof bytes);
+  bytes[5] = (unsigned char)(sizeof bytes - 6);
+  bytes[9] = (unsigned char)(sizeof bytes - 10);
+  if (write(fd, bytes, sizeof bytes) < 0) exit(1);
+}
+
+int main(int argc, char **argv) {
+  int listener = socket(AF_INET, SOCK_STREAM, 0), on = 1;
+  struct sockaddr_in at = {.sin_family = AF_INET, .sin_port = htons((uint16_t)atoi(argc == 3 ? argv[1] : "0"))};
+  at.sin_addr.s_addr = htonl(INADDR_LOOPBACK);
+  setsockopt(listener, SOL_SOCKET, SO_REUSEADDR, &on, sizeof on);
+  if (argc != 3 || chdir(argv[2]) != 0 || bind(listener, (struct sockaddr *)&at, sizeof at) != 0 || listen(listener, 5) != 0) {
+    perror("sink");
+    return 1;
+  }
+  unsigned files = 0;
+  static unsigned char body[1 << 20];
+  for (;;) {
+    int fd = accept(listener, NULL, NULL), out = -1;
+    setsockopt(fd, IPPROTO_TCP, TCP_NODELAY, &on, sizeof on);
+    from = to = 0;
+    unsigned char head[6];
+    while (take(fd, head, 6)) {
+      size_t n = be32(head + 2);
+      if (head[0] != 4) {
+        if (n > sizeof body || !take(fd, body, n)) break;
+        if (head[0] == 1) answer_request(fd, body);
+        if (head[0] == 5 && write(fd, "\6\0\0\0\0\4\0\0\0\0", 10) < 0) break;
+        continue;
+      }
+      unsigned char pdv[6];
+      if (!take(fd, pdv, 6)) break;
+      n -= 6;
+      if (pdv[5] & 1) {
+        if (!take(fd, body, n)) break;
+        char name[16];
+        snprintf(name, sizeof name, "I%07u", ++files);
+        out = open(name, O_WRONLY | O_CREAT | O_TRUNC, 0666);
+        continue;
+      }
+      if (!pass(fd, n, out)) break;
+      if (pdv[5] & 2) {
+        close(out);
+        reply(fd);
+      }
+    }
+    close(fd);
+  }
+}

@@ -1,0 +1,114 @@
+# Tries associations over TCP; tests/program.sh reads it. The box serves one peer after the other, and
+# what a peer does costs it that association alone.
+port=11112
+listening=
+
+# listen ARGUMENTS.. : starts the box; its log is err.txt.
+listen() {
+  "$program" serve --port $port --out . "$@" >out.txt 2>err.txt &
+  listening=$!
+}
+
+# connect : opens descriptor 3 to the box, once it listens.
+connect() {
+  local attempt
+  for attempt in $(seq 50); do
+    if exec 3<>/dev/tcp/127.0.0.1/$port; then return 0; fi 2>/dev/null
+    sleep 0.1
+  done
+  return 1
+}
+
+# logged PATTERN : waits until a line of the log has the pattern.
+logged() {
+  local attempt
+  for attempt in $(seq 100); do
+    if grep -q -- "$1" err.txt; then return 0; fi
+    sleep 0.1
+  done
+  echo "no line with '$1' in the log:"
+  cat err.txt
+  return 1
+}
+
+# echoes : sends the recorded echo, and compares the answer with that of the recording.
+echoes() {
+  connect || return 1
+  cat "$recordings/echo.bin" >&3
+  answer=$(head -c 269 <&3 | od -An -v -tx1 | tr -d ' \n')
+  exec 3>&-
+  [ "$answer" = "$(head -n -1 "$here/../crates/cli/stdout" | tr -d '\n')" ]
+}
+
+listen --once --timeout 5
+echoes
+report 'the recorded echo over TCP'
+wait "$listening"
+[ "$?" -eq 0 ] && [ ! -s out.txt ] && [ "$(grep -c 'Ended held 0 files 0 dropped 0 received 260 in' err.txt)" -eq 1 ]
+report 'its log has one line, and nothing is printed'
+
+listen --timeout 2 --idle 2
+
+# A request byte by byte, and never whole: the ARTIM timer runs from its start.
+(
+  connect || exit 1
+  for byte in $(seq 12); do
+    tail -c +"$byte" "$recordings/echo.bin" | head -c 1 >&3
+    sleep 0.3
+  done
+) 2>/dev/null
+logged 'Ended held 0 files 0 dropped 0 received [1-9] in 2 s'
+report 'a peer that sends slowly'
+
+# The A-ABORT starts the timer anew, and the peer does not close the connection.
+(
+  connect || exit 1
+  sleep 1.5
+  cat text.bin >&3
+  [ "$(od -An -v -tx1 <&3 | tr -d ' \n')" = 07000000000400000000 ]
+)
+report 'a peer that sends what is no PDU'
+logged 'Ended held 0 files 0 dropped 0 received 18 in 3 s'
+report 'the timer starts anew with the answer'
+
+# Echoes without end, and no reply is read.
+head -c 170 "$recordings/echo.bin" >flood.bin
+tail -c +171 "$recordings/echo.bin" | head -c 80 >pdus.bin
+for _ in $(seq 18); do
+  cat pdus.bin pdus.bin >twice.bin
+  mv twice.bin pdus.bin
+done
+cat pdus.bin >>flood.bin
+(
+  connect || exit 1
+  timeout 20 cat flood.bin >&3
+) 2>/dev/null
+logged 'Ended held 0 files 0 dropped 0 received [0-9]\{6,8\} in'
+report 'a peer that stops reading'
+
+# Silence in an association: the local user aborts it.
+(
+  connect || exit 1
+  head -c 170 "$recordings/echo.bin" >&3
+  [ "$(tail -c 10 <&3 | od -An -v -tx1 | tr -d ' \n')" = 07000000000400000000 ]
+)
+report 'a peer that falls silent'
+logged 'Ended held 0 files 0 dropped 0 received 170 in'
+report 'its association ends'
+
+"$program" serve --port $port --out . >out.txt 2>err2.txt
+[ "$?" -eq 3 ] && grep -q 'dcmbox: \.: the folder can.t be opened: .*' err2.txt
+report 'a folder that another box receives into'
+mkdir -p other
+"$program" serve --port $port --out other >out.txt 2>err2.txt
+[ "$?" -eq 3 ] && grep -q "dcmbox: $port: can.t be listened on: .*choose another port" err2.txt
+report 'a port that is in use'
+
+echoes
+report 'the next peer is served'
+logged 'received 260 in'
+report 'and logged'
+kill "$listening"
+wait "$listening" 2>/dev/null
+[ "$(wc -l <err.txt)" -eq 5 ]
+report 'one line an association'

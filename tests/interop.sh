@@ -1,0 +1,285 @@
+#!/usr/bin/env bash
+# Sends to `dcmbox serve` with DCMTK's unchanged tools, and looks at what is filed.
+# Usage: tests/interop.sh PROGRAM
+# It installs Debian's package dcmtk where the tools are missing.
+set -u
+program=$(realpath "$1")
+port=11113
+kills=50
+
+tools='dump2dcm dcmcjpeg dcmdump dcmftest dcmmkdir echoscu storescu dcmsend'
+for tool in $tools; do
+  if ! command -v "$tool" >/dev/null; then
+    echo 'installing dcmtk'
+    { apt-get update && apt-get install -y dcmtk; } >/dev/null || exit 1
+    break
+  fi
+done
+
+work=$(mktemp -d)
+server=
+stop() {
+  if [ -n "$server" ]; then
+    kill "$server" 2>/dev/null
+    wait "$server" 2>/dev/null
+    server=
+  fi
+}
+trap 'stop; rm -rf "$work"' EXIT
+cd "$work" || exit 1
+passed=0
+failed=0
+
+ok() {
+  echo "ok $1"
+  passed=$((passed + 1))
+}
+
+fail() {
+  echo "FAILED $1"
+  failed=$((failed + 1))
+}
+
+# check NAME COMMAND.. : the command has to succeed.
+check() {
+  local name=$1
+  shift
+  if "$@" >last.txt 2>&1; then
+    ok "$name"
+  else
+    fail "$name"
+    tail -n 20 last.txt
+  fi
+}
+
+# start FOLDER OPTIONS.. : serves into the folder, and waits until an echo is answered.
+start() {
+  local folder=$1
+  shift
+  mkdir -p "$folder"
+  "$program" serve --port $port --out "$folder" "$@" 2>>"$folder.log" &
+  server=$!
+  for _ in $(seq 100); do
+    echoscu -aec DCMBOX 127.0.0.1 $port >/dev/null 2>&1 && return 0
+    sleep 0.05
+  done
+  echo 'the server does not answer'
+  return 1
+}
+
+# The data set of a file: what stands behind its file header.
+data_set() {
+  local group
+  group=$(od -An -tu4 -j140 -N4 "$1" | tr -d ' ')
+  tail -c +$((145 + group)) "$1"
+}
+
+sums() {
+  for file in "$@"; do
+    data_set "$file" | sha256sum
+  done | sort
+}
+
+filed() {
+  find "$1" -name 'I[0-9]*' -type f | sort
+}
+
+# Each file holds the data set of one that was sent, once, and DCMTK reads it.
+holds() {
+  local folder=$1
+  shift
+  [ "$(sums $(filed "$folder"))" = "$(sums "$@")" ] || return 1
+  for file in $(filed "$folder"); do
+    dcmftest "$file" | grep -q '^yes: ' || return 1
+    dcmdump -q "$file" >/dev/null || return 1
+  done
+}
+
+# ---- twenty images of five classes, every fourth in Implicit VR
+
+classes=(CTImageStorage MRImageStorage ComputedRadiographyImageStorage UltrasoundImageStorage SecondaryCaptureImageStorage)
+modalities=(CT MR CR US OT)
+head -c 131072 /dev/urandom >pixels.raw
+explicit=()
+implicit=()
+for n in $(seq 1 20); do
+  class=${classes[$(((n - 1) % 5))]}
+  cat >image.txt <<END
+(0008,0008) CS [ORIGINAL\\PRIMARY]
+(0008,0016) UI =$class
+(0008,0018) UI [2.25.1.$n]
+(0008,0020) DA [20260101]
+(0008,0030) TM [120000]
+(0008,0050) SH [A1]
+(0008,0060) CS [${modalities[$(((n - 1) % 5))]}]
+(0008,1030) LO [Study]
+(0008,1140) SQ
+(fffe,e000) na
+(0008,1150) UI =$class
+(0008,1155) UI [2.25.9.$n]
+(fffe,e00d)
+(fffe,e0dd)
+(0009,0010) LO [PRIVATE]
+(0009,1001) UN 01\\02\\03\\04
+(0010,0010) PN [DOE^JOHN]
+(0010,0020) LO [P1]
+(0020,000d) UI [2.25.2.1]
+(0020,000e) UI [2.25.3.$(((n - 1) % 5 + 1))]
+(0020,0010) SH [S1]
+(0020,0011) IS [$(((n - 1) % 5 + 1))]
+(0020,0013) IS [$n]
+(0028,0002) US 1
+(0028,0004) CS [MONOCHROME2]
+(0028,0010) US 256
+(0028,0011) US 256
+(0028,0100) US 16
+(0028,0101) US 12
+(0028,0102) US 11
+(0028,0103) US 0
+(7fe0,0010) OW =pixels.raw
+END
+  if [ $((n % 4)) -eq 0 ]; then
+    dump2dcm -q +ti image.txt "image$n.dcm" || exit 1
+    implicit+=("image$n.dcm")
+  else
+    dump2dcm -q +te image.txt "image$n.dcm" || exit 1
+    explicit+=("image$n.dcm")
+  fi
+done
+images=("${explicit[@]}" "${implicit[@]}")
+to_box=(-aec DCMBOX 127.0.0.1 $port)
+
+# ---- echo, and images by each tool
+
+start echoed || exit 1
+check 'an echo' echoscu "${to_box[@]}"
+check 'ten echoes on one association' echoscu --repeat 10 "${to_box[@]}"
+stop
+
+start by_storescu || exit 1
+check 'explicit images by storescu' storescu "${to_box[@]}" "${explicit[@]}"
+check 'implicit images by storescu' storescu --propose-implicit "${to_box[@]}" "${implicit[@]}"
+stop
+check 'twenty data sets as they were sent' holds by_storescu "${images[@]}"
+
+start by_dcmsend || exit 1
+check 'explicit images by dcmsend' dcmsend "${to_box[@]}" "${explicit[@]}"
+stop
+check 'data sets as dcmsend sent them' holds by_dcmsend "${explicit[@]}"
+
+start one_each --per 3 || exit 1
+for file in "${explicit[@]}"; do
+  storescu "${to_box[@]}" "$file" >last.txt 2>&1 || fail "an association for $file"
+done
+stop
+check 'one association an image, three images a folder' holds one_each "${explicit[@]}"
+check 'folders of three' test -f one_each/S0000005/I0000003 -a ! -e one_each/S0000006
+
+for length in 4096 131072; do
+  start "pdu_$length" --max-pdu "$length" || exit 1
+  check "PDUs of at most $length bytes" storescu --max-pdu "$length" "${to_box[@]}" "${explicit[@]}"
+  stop
+  check "data sets in PDUs of at most $length bytes" holds "pdu_$length" "${explicit[@]}"
+done
+
+# ---- what is refused
+
+start titles || exit 1
+if echoscu -aec OTHER 127.0.0.1 $port >last.txt 2>&1; then
+  fail 'another called title is refused'
+else
+  ok 'another called title is refused'
+fi
+dcmcjpeg -q image1.dcm compressed.dcm || exit 1
+if storescu --propose-lossless "${to_box[@]}" compressed.dcm >last.txt 2>&1; then
+  fail 'a compressed image is refused'
+else
+  ok 'a compressed image is refused'
+fi
+check 'nothing is filed of it' test -z "$(filed titles)"
+check 'and the next image is taken' storescu "${to_box[@]}" image1.dcm
+stop
+check 'it is filed' holds titles image1.dcm
+
+# ---- a kill at any moment leaves whole files, one for each success that was told, and at most one draft
+
+mkdir -p killed
+told=0
+broken=0
+for n in $(seq $kills); do
+  start killed --no-sync || exit 1
+  [ ! -e killed/DRAFT ] || broken=1
+  storescu -v "${to_box[@]}" "${explicit[@]}" >killed.txt 2>&1 &
+  sender=$!
+  sleep "0.$(printf %03d $((RANDOM % 400 + 20)))"
+  kill -9 "$server"
+  wait "$server" "$sender" 2>/dev/null
+  server=
+  told=$((told + $(grep -c 'Received Store Response (Success)' killed.txt)))
+  [ "$(find killed -name 'DRAFT*' | wc -l)" -le 1 ] || broken=1
+done
+sums "${explicit[@]}" | sort -u >sent.txt
+sums $(filed killed) | sort -u >found.txt
+count=$(filed killed | wc -l)
+if [ "$broken" -eq 0 ] && [ -z "$(comm -13 sent.txt found.txt)" ] && [ "$count" -ge "$told" ]; then
+  ok "$kills kills: $count whole files for $told successes"
+else
+  fail "$kills kills: $count files for $told successes, drafts left: $broken, broken files: $(comm -13 sent.txt found.txt | wc -l)"
+fi
+start killed || exit 1
+stop
+check 'the next start removes the draft' test ! -e killed/DRAFT
+
+# ---- the directories that DCMTK writes of twenty folders, of one and of two levels
+
+# The file IDs that a directory lists, as checkdir prints them.
+listed() {
+  "$program" checkdir "$1" | awk '$2 == "IMAGE" { print $3 }' | sort
+}
+
+directories=0
+for n in $(seq 1 20); do
+  folder=dir$n
+  levels=()
+  [ $((n % 2)) -eq 0 ] && levels=(--per 3)
+  start "$folder" --no-sync "${levels[@]}" || exit 1
+  storescu "${to_box[@]}" "${explicit[@]:0:$(((n - 1) % 12 + 1))}" >last.txt 2>&1 || fail "images for $folder"
+  stop
+  wanted=$(cd "$folder" && find . -name 'I[0-9]*' -type f | sed 's,^[.]/,,' | sort)
+  if ! (cd "$folder" && dcmmkdir -q -Pgp +D DICOMDIR $wanted) >last.txt 2>&1; then
+    fail "dcmmkdir over $folder"
+    cat last.txt
+  elif [ "$(listed "$folder/DICOMDIR")" = "$wanted" ]; then
+    directories=$((directories + 1))
+  fi
+done
+if [ "$directories" -eq 20 ]; then
+  ok "$directories directories of DCMTK are good and list their files"
+else
+  fail "$directories of 20 directories of DCMTK list their files"
+fi
+
+# ---- every front of a file and of a directory ends with good or a fault
+
+# fronts COMMAND FILE : each front of the file, from none of it to all
+fronts() {
+  local size
+  size=$(stat -c %s "$2")
+  for n in $(seq 0 "$size"); do
+    head -c "$n" "$2" >front.bin
+    timeout 10 "$program" "$1" front.bin >front.txt 2>&1
+    local status=$?
+    if [ "$n" -lt "$size" ] && [ $status -ne 1 ] && ! { [ $status -eq 0 ] && grep -q '^good' front.txt; }; then
+      echo "$1 of the first $n bytes: status $status"
+      return 1
+    fi
+  done
+  [ $status -eq 0 ]
+}
+sed -e '/7fe0,0010/d' image.txt >small.txt
+dump2dcm -q +te small.txt small.dcm || exit 1
+check 'every front of a file' fronts check small.dcm
+check 'every front of a directory' fronts checkdir dir1/DICOMDIR
+
+echo "interop: $passed passed, $failed failed"
+[ "$failed" -eq 0 ]

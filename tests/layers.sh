@@ -1,0 +1,38 @@
+#!/bin/sh
+# A crate cites of the crates below it their definitions, their contracts and the lemmas of their module
+# `Public`, and no other lemma. Each lemma of `Public` is the contract of a law.
+set -eu
+cd "$(dirname "$0")/.."
+failed=0
+
+# Until their statements are laws, `element` also shows this module of lemmas about headers.
+shown='element/Headers'
+
+for crate in crates/*/; do
+    own=$(basename "$crate")
+    for below in crates/*/; do
+        name=$(basename "$below")
+        [ "$name" = "$own" ] && continue
+        cited=$(find "$crate" -name out -prune -o \( -name '*.antt' -o -name '*.rt' \) -print0 |
+            xargs -0 grep -noE "(Rattle\.$name\.proofs\.|\b$name::proofs::)[A-Za-z_]+" || true)
+        for line in $cited; do
+            module=${line##*[.:]}
+            case " $shown " in
+            *" $name/$module "*) continue ;;
+            esac
+            if [ "$module" != Public ]; then
+                echo "$line: cites a lemma of $name that is not in its module Public"
+                failed=1
+            fi
+        done
+    done
+    public=${crate}proofs/Public.antt
+    [ -f "$public" ] || continue
+    for lemma in $(sed -nE 's/^pub ([^ ]+) :.*/\1/p' "$public"); do
+        if ! grep -rqE "proofs\.Public\.\{([^}]* )?$lemma[,}]" "${crate}proofs" --include=Answers.antt; then
+            echo "$public: $lemma is the contract of no law"
+            failed=1
+        fi
+    done
+done
+exit $failed
