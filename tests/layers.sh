@@ -5,9 +5,6 @@ set -eu
 cd "$(dirname "$0")/.."
 failed=0
 
-# Until their statements are laws, `element` also shows this module of lemmas about headers.
-shown='element/Headers'
-
 for crate in crates/*/; do
     own=$(basename "$crate")
     for below in crates/*/; do
@@ -17,9 +14,6 @@ for crate in crates/*/; do
             xargs -0 grep -noE "(Rattle\.$name\.proofs\.|\b$name::proofs::)[A-Za-z_]+" || true)
         for line in $cited; do
             module=${line##*[.:]}
-            case " $shown " in
-            *" $name/$module "*) continue ;;
-            esac
             if [ "$module" != Public ]; then
                 echo "$line: cites a lemma of $name that is not in its module Public"
                 failed=1

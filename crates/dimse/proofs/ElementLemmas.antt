@@ -5,7 +5,7 @@ use Rattle.std.proofs.lemmas.List.{take_at, drop_at, take-append-drop, length-ap
 use Rattle.byteorder.specs.Endian.{little_number}
 use Rattle.byteorder.specs.Numbers.{little_number-reads_back}
 use Rattle.element.specs.Numbers.{le, IsBytes}
-use Rattle.element.proofs.Headers.{two_cells, four_cells}
+use Rattle.element.proofs.Public.{two_cells, four_cells}
 use Rattle.dimse.specs.Command.{CommandElement, IsElement, command_element_bytes}
 use Rattle.dimse.specs.Reading.{is_element, element_at}
 

@@ -11,22 +11,8 @@ use Rattle.element.specs.declared.size.Need.TheVariants.{More, Size, BadVr}
 use Rattle.element.specs.declared.syntax.Syntax.TheVariants.{Implicit, Explicit}
 use Rattle.element.specs.Numbers.{le, IsBytes}
 use Rattle.element.specs.Vr.{is_capital, is_short, vr_of, IsVrOrNone}
+use Rattle.element.specs.Needs.{caps, shorts, NeedIs, few, plain_eight, no_vr, refused, short_eight, long_twelve}
 use Rattle.element.specs.Header.{need, is_plain, is_marker, tag_bytes, tag_at, number_at, long_number_at, header_at, IsTag, SpellsHeader, plain, short, long, is_whole, has_size, fits_vr, header_fits, vr_bytes, header_bytes}
-
-abbrev pub caps : List ℕ → Bool
-caps b = is_capital (get_or b 4 0) && is_capital (get_or b 5 0)
-
-abbrev pub shorts : List ℕ → Bool
-shorts b = is_short (get_or b 4 0) (get_or b 5 0)
-
--- what need says, by its cases
-pub data NeedIs (s : Syntax) (b : List ℕ) : Need → Type 0 where
-  few : length b < 4 → NeedIs s b More
-  plain_eight : 4 ≤ length b → is_plain s (tag_at b) ≡ true → NeedIs s b (Size 8)
-  no_vr : 4 ≤ length b → is_plain s (tag_at b) ≡ false → length b < 6 → NeedIs s b More
-  refused : 6 ≤ length b → is_plain s (tag_at b) ≡ false → caps b ≡ false → NeedIs s b BadVr
-  short_eight : 6 ≤ length b → is_plain s (tag_at b) ≡ false → caps b ≡ true → shorts b ≡ true → NeedIs s b (Size 8)
-  long_twelve : 6 ≤ length b → is_plain s (tag_at b) ≡ false → caps b ≡ true → shorts b ≡ false → NeedIs s b (Size 12)
 
 pub need_is : (s : Syntax) (b : List ℕ) → NeedIs s b (need s b)
 unfolding need
@@ -77,9 +63,6 @@ pub whole_spelled : {s : Syntax} {h : Header} {b : List ℕ} → SpellsHeader s 
 unfolding is_whole
 whole_spelled {b = b} e = ap (λ z. has_size z (length b)) (need_spelled e) ∙ le-leb (length b) (length b) (omega arith)
 
-pub long_back : (n : ℕ) (b : List ℕ) → n < 2 ^ 32 → long_number_at (le n 4 ++ b) 0 ≡ n
-long_back n b lt = omega (arith, lt)
-
 pub read_spelled : {s : Syntax} {h : Header} {b : List ℕ} → SpellsHeader s h b → header_at s b ≡ h
 unfolding header_at
 read_spelled {s = s} (plain tag n fits p lt) =
@@ -122,6 +105,12 @@ size_on {s = s} {u = u} v (long_twelve le p c h) = long_twelve (omega (arith, le
 
 pub need_on : (s : Syntax) (u v : List ℕ) (k : ℕ) → need s u ≡ Size k → need s (u ++ v) ≡ Size k
 need_on s u v k e = is_need s (u ++ v) (Size k) (size_on v (subst (λ z. NeedIs s u z) e (need_is s u)))
+
+pub bad_on : (s : Syntax) (u v : List ℕ) → need s u ≡ BadVr → need s (u ++ v) ≡ BadVr
+bad_on s u v e = is_need s (u ++ v) BadVr (by (subst (λ z. NeedIs s u z) e (need_is s u)))
+  where
+    by : NeedIs s u BadVr → NeedIs s (u ++ v) BadVr
+    by (refused le p c) = refused (omega (arith, length-append u v)) (plain_on s u v false (omega arith) p) (vr_on (λ x y. is_capital x && is_capital y) u v false le c)
 
 -- no front of a spelling is whole
 pub front_spelled : {s : Syntax} {h : Header} (u : List ℕ) (x : ℕ) (v : List ℕ) → SpellsHeader s h (u ++ x ∷ v) → is_whole s u ≡ false
@@ -264,6 +253,12 @@ pub size_off : {s : Syntax} (u v : List ℕ) (k : ℕ) → k ≤ length u → Ne
 size_off {s = s} u v _ at (plain_eight le p) = plain_eight (omega arith) (plain_off s u v true (omega arith) p)
 size_off {s = s} u v _ at (short_eight le p c h) = short_eight (omega arith) (plain_off s u v false (omega arith) p) (vr_off (λ x y. is_capital x && is_capital y) u v true (omega arith) c) (vr_off is_short u v true (omega arith) h)
 size_off {s = s} u v _ at (long_twelve le p c h) = long_twelve (omega arith) (plain_off s u v false (omega arith) p) (vr_off (λ x y. is_capital x && is_capital y) u v true (omega arith) c) (vr_off is_short u v false (omega arith) h)
+
+-- six bytes say the size
+pub size_six : {s : Syntax} (u v : List ℕ) {k : ℕ} → 6 ≤ length u → NeedIs s (u ++ v) (Size k) → NeedIs s u (Size k)
+size_six {s = s} u v six (plain_eight le p) = plain_eight (omega arith) (plain_off s u v true (omega arith) p)
+size_six {s = s} u v six (short_eight le p c h) = short_eight six (plain_off s u v false (omega arith) p) (vr_off (λ x y. is_capital x && is_capital y) u v true six c) (vr_off is_short u v true six h)
+size_six {s = s} u v six (long_twelve le p c h) = long_twelve six (plain_off s u v false (omega arith) p) (vr_off (λ x y. is_capital x && is_capital y) u v true six c) (vr_off is_short u v false six h)
 
 number_on : (u v : List ℕ) (i : ℕ) → i + 1 < length u → number_at (u ++ v) i ≡ number_at u i
 number_on u v i lt =

@@ -2,3 +2,4 @@ pub mod Trimming
 pub mod Headers
 pub mod Written
 pub mod LastZero
+pub mod Public

@@ -21,9 +21,15 @@ kind_of_text vr =
     else (if pointwise nat_eq vr (codes "UI") then Identifier
     else Free)))))))
 
+-- words of two, four and eight bytes
+abbrev pub is_words : List ℕ → Bool
+is_words vr = is_one_of (codes "US" ∷ codes "SS" ∷ codes "OW" ∷ []) vr
+
+abbrev pub is_longs : List ℕ → Bool
+is_longs vr = is_one_of (codes "UL" ∷ codes "SL" ∷ codes "FL" ∷ codes "AT" ∷ codes "OL" ∷ codes "OF" ∷ []) vr
+
+abbrev pub is_doubles : List ℕ → Bool
+is_doubles vr = is_one_of (codes "FD" ∷ codes "SV" ∷ codes "UV" ∷ codes "OD" ∷ codes "OV" ∷ []) vr
+
 abbrev pub kind_of : List ℕ → Kind
-kind_of vr =
-    if is_one_of (codes "US" ∷ codes "SS" ∷ codes "OW" ∷ []) vr then Words
-    else (if is_one_of (codes "UL" ∷ codes "SL" ∷ codes "FL" ∷ codes "AT" ∷ codes "OL" ∷ codes "OF" ∷ []) vr then Longs
-    else (if is_one_of (codes "FD" ∷ codes "SV" ∷ codes "UV" ∷ codes "OD" ∷ codes "OV" ∷ []) vr then Doubles
-    else kind_of_text vr))
+kind_of vr = if is_words vr then Words else (if is_longs vr then Longs else (if is_doubles vr then Doubles else kind_of_text vr))

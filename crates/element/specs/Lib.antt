@@ -1,6 +1,7 @@
 pub mod Numbers
 pub mod Vr
 pub mod Header
+pub mod Needs
 pub mod Padding
 pub mod Uid
 pub mod Title

@@ -58,15 +58,36 @@ fn kind_of_text(vr: Vr) -> Kind
     }
 }
 
+/// Returns whether the values of a VR are words of two bytes.
+fn is_words(vr: Vr) -> bool
+    ensures { result ≡ rules.is_words vr }
+{
+    is_one_of(vr, &[Vr::US, Vr::SS, Vr::OW])
+}
+
+/// Returns whether the values of a VR are words of four bytes.
+fn is_longs(vr: Vr) -> bool
+    ensures { result ≡ rules.is_longs vr }
+{
+    is_one_of(vr, &[Vr::UL, Vr::SL, Vr::FL, Vr::AT, Vr::OL, Vr::OF])
+}
+
+/// Returns whether the values of a VR are words of eight bytes.
+fn is_doubles(vr: Vr) -> bool
+    ensures { result ≡ rules.is_doubles vr }
+{
+    is_one_of(vr, &[Vr::FD, Vr::SV, Vr::UV, Vr::OD, Vr::OV])
+}
+
 /// Returns the kind of the values of a VR.
 pub(crate) fn kind_of(vr: Vr) -> Kind
     ensures { result ≡ rules.kind_of vr }
 {
-    if is_one_of(vr, &[Vr::US, Vr::SS, Vr::OW]) {
+    if is_words(vr) {
         Kind::Words
-    } else if is_one_of(vr, &[Vr::UL, Vr::SL, Vr::FL, Vr::AT, Vr::OL, Vr::OF]) {
+    } else if is_longs(vr) {
         Kind::Longs
-    } else if is_one_of(vr, &[Vr::FD, Vr::SV, Vr::UV, Vr::OD, Vr::OV]) {
+    } else if is_doubles(vr) {
         Kind::Doubles
     } else {
         kind_of_text(vr)

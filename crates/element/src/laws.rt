@@ -11,42 +11,40 @@ pub fn tags_are_those_of_items()
     ensures sequence_end { Tag.SEQUENCE_DELIMITATION ≡ sequence_end_tag }
 {}
 
-/// The constants of `Vr` are spelled as they are named.
-pub fn named_vrs() -> [Vr; 27]
-    ensures { result ≡
-        codes "AE" ∷ codes "AS" ∷ codes "AT" ∷ codes "CS" ∷ codes "DA" ∷ codes "DS" ∷
-        codes "FD" ∷ codes "FL" ∷ codes "IS" ∷ codes "LO" ∷ codes "OB" ∷ codes "OD" ∷
-        codes "OF" ∷ codes "OL" ∷ codes "OV" ∷ codes "OW" ∷ codes "PN" ∷ codes "SH" ∷
-        codes "SL" ∷ codes "SQ" ∷ codes "SS" ∷ codes "SV" ∷ codes "TM" ∷ codes "UI" ∷
-        codes "UL" ∷ codes "US" ∷ codes "UV" ∷ [] }
+/// The constants of the VRs of names, codes and titles are spelled as they are named.
+pub fn text_vrs() -> [Vr; 6]
+    ensures { result ≡ codes "AE" ∷ codes "CS" ∷ codes "LO" ∷ codes "PN" ∷ codes "SH" ∷ codes "UI" ∷ [] }
+{
+    [Vr::AE, Vr::CS, Vr::LO, Vr::PN, Vr::SH, Vr::UI]
+}
+
+/// The constants of the VRs of dates, times and numbers as text are spelled as they are named.
+pub fn date_vrs() -> [Vr; 5]
+    ensures { result ≡ codes "AS" ∷ codes "DA" ∷ codes "DS" ∷ codes "IS" ∷ codes "TM" ∷ [] }
+{
+    [Vr::AS, Vr::DA, Vr::DS, Vr::IS, Vr::TM]
+}
+
+/// The constants of the VRs of numbers are spelled as they are named.
+pub fn number_vrs() -> [Vr; 9]
+    ensures { result ≡ codes "AT" ∷ codes "FD" ∷ codes "FL" ∷ codes "SL" ∷ codes "SS" ∷ codes "SV" ∷ codes "UL" ∷ codes "US" ∷ codes "UV" ∷ [] }
 {
     [
-        Vr::AE,
-        Vr::AS,
         Vr::AT,
-        Vr::CS,
-        Vr::DA,
-        Vr::DS,
         Vr::FD,
         Vr::FL,
-        Vr::IS,
-        Vr::LO,
-        Vr::OB,
-        Vr::OD,
-        Vr::OF,
-        Vr::OL,
-        Vr::OV,
-        Vr::OW,
-        Vr::PN,
-        Vr::SH,
         Vr::SL,
-        Vr::SQ,
         Vr::SS,
         Vr::SV,
-        Vr::TM,
-        Vr::UI,
         Vr::UL,
         Vr::US,
         Vr::UV,
     ]
+}
+
+/// The constants of the other VRs are spelled as they are named.
+pub fn other_vrs() -> [Vr; 7]
+    ensures { result ≡ codes "OB" ∷ codes "OD" ∷ codes "OF" ∷ codes "OL" ∷ codes "OV" ∷ codes "OW" ∷ codes "SQ" ∷ [] }
+{
+    [Vr::OB, Vr::OD, Vr::OF, Vr::OL, Vr::OV, Vr::OW, Vr::SQ]
 }

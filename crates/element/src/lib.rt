@@ -4,6 +4,7 @@
 
 pub mod count;
 mod header;
+pub mod header_laws;
 mod kinds;
 pub mod laws;
 mod padding;

@@ -1,5 +1,5 @@
 //! Reads headers.
-ghost use Rattle.std.specs.Prelude.{◌≡◌, ℕ, ◌+◌, ◌<◌, ◌≤◌, List, ◌++◌, length, take, IsTrue};
+ghost use Rattle.std.specs.Prelude.{◌≡◌, ℕ, ◌+◌, ◌<◌, ◌≤◌, List, ◌++◌, length, take, IsTrue, None};
 ghost use Rattle.element.specs.declared.header.Header.{Header};
 ghost use Rattle.element.specs.declared.size.Need.TheVariants.{Size};
 ghost use Rattle.element.specs.Header as spelling;
@@ -54,6 +54,34 @@ pub fn need(syntax: Syntax, bytes: &[u8]) -> Need
     }
 }
 
+/// Reads a header without a VR.
+fn plain_header(tag: Tag, bytes: &[u8]) -> Header
+    requires { 8 ≤ length bytes.now }
+    ensures { result ≡ record { tag = tag; vr = None; length = spelling.long_number_at bytes.now 4 } }
+{
+    Header {
+        tag,
+        vr: None,
+        length: LittleEndian::read_u32(&bytes[4..]),
+    }
+}
+
+/// Reads the length of two bytes after a VR.
+fn short_length(bytes: &[u8]) -> u32
+    requires { 8 ≤ length bytes.now }
+    ensures { result ≡ spelling.number_at bytes.now 6 }
+{
+    u32::from(LittleEndian::read_u16(&bytes[6..]))
+}
+
+/// Reads the length of four bytes after a VR and two reserved bytes.
+fn long_length(bytes: &[u8]) -> u32
+    requires { 12 ≤ length bytes.now }
+    ensures { result ≡ spelling.long_number_at bytes.now 8 }
+{
+    LittleEndian::read_u32(&bytes[8..])
+}
+
 #[tactic(auto, using(crate::proofs::Headers::whole_eight, crate::proofs::Headers::whole_twelve, crate::proofs::Headers::whole_capital), unfolding(crate::specs::Header::header_at))]
 fn front_header(syntax: Syntax, bytes: &[u8]) -> Header
     requires { IsTrue (spelling.is_whole syntax bytes.now) }
@@ -61,26 +89,16 @@ fn front_header(syntax: Syntax, bytes: &[u8]) -> Header
 {
     let tag = read_tag(bytes);
     if is_plain(syntax, tag) {
-        return Header {
-            tag,
-            vr: None,
-            length: LittleEndian::read_u32(&bytes[4..]),
-        };
+        return plain_header(tag, bytes);
     }
-    let vr = Vr::read([bytes[4], bytes[5]]);
-    if is_short(bytes[4], bytes[5]) {
-        Header {
-            tag,
-            vr,
-            length: u32::from(LittleEndian::read_u16(&bytes[6..])),
-        }
+    let (first, second) = (bytes[4], bytes[5]);
+    let vr = Vr::read([first, second]);
+    let length = if is_short(first, second) {
+        short_length(bytes)
     } else {
-        Header {
-            tag,
-            vr,
-            length: LittleEndian::read_u32(&bytes[8..]),
-        }
-    }
+        long_length(bytes)
+    };
+    Header { tag, vr, length }
 }
 
 /// Reads the header at the front of the bytes (PS3.5 sections 7.1.2, 7.1.3 and 7.5). `need` has to

@@ -4,7 +4,7 @@ use Rattle.std.proofs.lemmas.Bool.Decides.{nat_tests}
 use Rattle.element.specs.declared.syntax.Syntax.TheVariants.{Explicit}
 use Rattle.element.specs.declared.header.Header.{Header}
 use Rattle.element.specs.Header.{SpellsHeader}
-use Rattle.element.proofs.Headers.{one_spelling}
+use Rattle.element.proofs.Public.{one_spelling}
 use Rattle.part10.specs.machine.Reading.{IsElement, NoElement, NoHeader, is_next}
 
 next_is : (last : ℕ) (h : Header) (bytes value : List ℕ) → IsElement last h bytes value → is_next h last ≡ true

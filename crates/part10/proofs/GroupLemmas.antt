@@ -6,7 +6,7 @@ use Rattle.std.proofs.KnownBytes.{Consumes-trans}
 use Rattle.element.specs.declared.syntax.Syntax.TheVariants.{Explicit}
 use Rattle.element.specs.declared.header.Header.{Header}
 use Rattle.element.specs.Uid.{uid_of}
-use Rattle.element.proofs.Headers.{one_spelling}
+use Rattle.element.proofs.Public.{one_spelling}
 use Rattle.part10.specs.declared.reading.Element.{Element}
 use Rattle.part10.specs.declared.reading.Found.{Found}
 use Rattle.part10.specs.MetaText.{MetaElement, meta_element_of, MetaElements, no_more, element_then, uid_at}

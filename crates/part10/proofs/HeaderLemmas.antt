@@ -1,13 +1,13 @@
 -- The first eight bytes of a header, and its size.
-use Rattle.std.proofs.Common.{◌≡◌, ℕ, ◌+◌, ◌≤◌, ◌<◌, true, false, ◌&&◌, List, ◌++◌, length, take, sym, subst, ◌∙◌, ap, arith, length-append, IsTrue, le-leb, lit≤}
+use Rattle.std.proofs.Common.{◌≡◌, ℕ, ◌+◌, ◌≤◌, ◌<◌, List, ◌++◌, length, take, sym, subst, ◌∙◌, ap, arith, length-append, IsTrue, le-leb, lit≤}
 use Rattle.std.proofs.lemmas.List.{take_all}
 use Rattle.element.specs.declared.syntax.Syntax.{Syntax}
 use Rattle.element.specs.declared.syntax.Syntax.TheVariants.{Explicit}
 use Rattle.element.specs.declared.header.Header.{Header}
 use Rattle.element.specs.declared.size.Need.TheVariants.{Size}
-use Rattle.element.specs.Vr.{is_capital, is_short}
 use Rattle.element.specs.Header.{SpellsHeader, need, is_whole, has_size}
-use Rattle.element.proofs.Headers.{NeedIs, plain_eight, short_eight, long_twelve, need_is, is_need, need_on, plain_off, vr_off, spelled_need, spelled_long}
+use Rattle.element.specs.Needs.{NeedIs, plain_eight, short_eight, long_twelve}
+use Rattle.element.proofs.Public.{need_is, is_need, need_on, size_six, spelled_need, spelled_long}
 use Rattle.part10.specs.machine.Reading.{NoHeader}
 
 size_bounds : {s : Syntax} {b : List ℕ} {k : ℕ} → NeedIs s b (Size k) → (8 ≤ k) × (k ≤ 12)
@@ -22,17 +22,11 @@ pub whole_at : (s : Syntax) (b : List ℕ) (k : ℕ) → need s b ≡ Size k →
 unfolding is_whole
 whole_at s b k e le = ap (λ z. has_size z (length b)) e ∙ le-leb k (length b) le
 
--- six bytes say the size
-first_need : {s : Syntax} (u v : List ℕ) {k : ℕ} → 6 ≤ length u → NeedIs s (u ++ v) (Size k) → NeedIs s u (Size k)
-first_need {s = s} u v long (plain_eight le p) = plain_eight (omega arith) (plain_off s u v true (omega arith) p)
-first_need {s = s} u v long (short_eight le p c h) = short_eight long (plain_off s u v false (omega arith) p) (vr_off (λ x y. is_capital x && is_capital y) u v true long c) (vr_off is_short u v true long h)
-first_need {s = s} u v long (long_twelve le p c h) = long_twelve long (plain_off s u v false (omega arith) p) (vr_off (λ x y. is_capital x && is_capital y) u v true long c) (vr_off is_short u v false long h)
-
 -- the first eight bytes of what begins with a header say its size
 pub header_need : (h : Header) (bytes back u v : List ℕ) → SpellsHeader Explicit h bytes → u ++ v ≡ bytes ++ back → length u ≡ 8 → need Explicit u ≡ Size (length bytes)
 header_need h bytes back u v spells same eight =
     let whole : need Explicit (u ++ v) ≡ Size (length bytes) = spelled_need Explicit h bytes back (u ++ v) spells same in
-    is_need Explicit u (Size (length bytes)) (first_need u v (omega (arith, eight)) (subst (λ z. NeedIs Explicit (u ++ v) z) whole (need_is Explicit (u ++ v))))
+    is_need Explicit u (Size (length bytes)) (size_six u v (omega (arith, eight)) (subst (λ z. NeedIs Explicit (u ++ v) z) whole (need_is Explicit (u ++ v))))
 
 -- fewer than eight bytes are left
 pub short_front : (left : ℕ) (rest : List ℕ) → length rest < 8 → NoHeader left rest

@@ -11,7 +11,7 @@ use Rattle.element.specs.Header.{SpellsHeader, header_bytes}
 use Rattle.element.specs.Padding.{is_padding, is_empty, kept_before, without_trailing}
 use Rattle.element.specs.Title.{title_text}
 use Rattle.element.specs.Uid.{is_uid_character, is_uid, uid_of}
-use Rattle.element.proofs.Headers.{written_spells}
+use Rattle.element.proofs.Public.{written_spells}
 use Rattle.dictionary.specs.Implementation.{implementation_class_uid, implementation_version_name}
 use Rattle.dictionary.specs.Syntaxes.{syntax_uid}
 use Rattle.part10.specs.declared.meta.Meta.{Meta}

@@ -3,9 +3,10 @@ use Rattle.std.proofs.Common.{◌≡◌, ℕ, ◌+◌, ◌^◌, ◌<◌, List, [
 use Rattle.std.proofs.Math.Seq.{take-append_seam, drop-append_seam}
 use Rattle.element.specs.declared.syntax.Syntax.TheVariants.{Explicit}
 use Rattle.element.specs.declared.header.Header.{Header}
+use Rattle.element.specs.Numbers.{le}
 use Rattle.element.specs.Vr.{is_short}
 use Rattle.element.specs.Header.{SpellsHeader, long_number_at}
-use Rattle.element.proofs.Headers.{one_spelling, spelled_long, long_back}
+use Rattle.element.proofs.Public.{one_spelling, spelled_long}
 use Rattle.part10.specs.File.{length_element}
 use Rattle.part10.specs.MetaText.{Said, HasMeta, MetaElement, meta_element_of, MetaElements, no_more, element_then, uid_at, OneHeader}
 
@@ -40,7 +41,7 @@ length_size n = refl
 
 length_back : (n : ℕ) → n < 2 ^ 32 → long_number_at (drop 8 (length_element n)) 0 ≡ n
 unfolding is_short
-length_back n lt = long_back n [] lt
+length_back n lt = let same : long_number_at (le n 4 ++ []) 0 ≡ n = omega (arith, lt) in same
 
 pub same_length : (n m : ℕ) → n < 2 ^ 32 → m < 2 ^ 32 → length_element n ≡ length_element m → n ≡ m
 same_length n m lt lt2 same = sym (length_back n lt) ∙ (ap (λ z. long_number_at (drop 8 z) 0) same ∙ length_back m lt2)

@@ -6,7 +6,7 @@ use Rattle.std.specs.Str.{bytes_eq}
 use Rattle.byteorder.specs.Endian.{little_number}
 use Rattle.element.specs.Vr.{is_short}
 use Rattle.element.specs.Numbers.{le, IsBytes}
-use Rattle.element.proofs.Headers.{four_cells}
+use Rattle.element.proofs.Public.{four_cells}
 use Rattle.part10.specs.File.{length_element}
 use Rattle.part10.specs.MetaText.{HasLetters}
 use Rattle.part10.specs.machine.Reading.{IsPrefix, NoSize}

@@ -12,7 +12,7 @@ use Rattle.element.specs.declared.size.Need.{Need}
 use Rattle.element.specs.declared.size.Need.TheVariants.{More, Size, BadVr}
 use Rattle.element.specs.Numbers.{le, IsBytes}
 use Rattle.element.specs.Header.{SpellsHeader, need, header_at}
-use Rattle.element.proofs.Headers.{front_spells, spelled_need}
+use Rattle.element.proofs.Public.{front_spells, spelled_need}
 use Rattle.dictionary.specs.Syntaxes.{syntax_uid}
 use Rattle.part10.specs.declared.meta_fault.MetaFault.{MetaFault}
 use Rattle.part10.specs.declared.meta_fault.MetaFault.TheVariants.{NotPart10, BadMeta, OtherSyntax, ReadFailed}
