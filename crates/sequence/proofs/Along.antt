@@ -6,7 +6,8 @@ use Rattle.element.specs.declared.tag.Tag.{Tag}
 use Rattle.element.specs.declared.size.Need.TheVariants.{Size}
 use Rattle.element.specs.Header.{need, is_whole, header_at, SpellsHeader}
 use Rattle.element.specs.Vr.{is_short}
-use Rattle.element.proofs.Headers.{NeedIs, need_is, exact_spells}
+use Rattle.element.specs.Needs.{NeedIs}
+use Rattle.element.proofs.Public.{need_is, exact_spells}
 use Rattle.dictionary.specs.Tags.{row_of}
 use Rattle.sequence.specs.declared.level.Scope.{Scope}
 use Rattle.sequence.specs.declared.spot.Spot.{Spot}

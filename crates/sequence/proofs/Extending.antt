@@ -4,7 +4,8 @@ use Rattle.std.proofs.lemmas.List.{set-set, get_or-set_same, set-get_or}
 use Rattle.std.specs.Prelude.{Result, Ok, Err, OnOk, IsOk}
 use Rattle.sequence.specs.declared.wanted.Want.{Want}
 use Rattle.sequence.specs.Wanted.{rooms}
-use Rattle.sequence.specs.machine.Keeping.{absent, stored, counts, are_stored, is_latest, left_at}
+use Rattle.sequence.specs.Fields.{absent, stored}
+use Rattle.sequence.specs.machine.Keeping.{counts, are_stored, is_latest, left_at}
 use Rattle.sequence.specs.machine.Steps.{with_bytes}
 use Rattle.sequence.proofs.Storing.{pushed, push_facts}
 

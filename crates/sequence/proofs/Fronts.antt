@@ -10,8 +10,8 @@ use Rattle.sequence.specs.Shape.{is_undefined, undefined_length, shape}
 use Rattle.sequence.specs.Tree.{Elements, Items, IsElement, IsItem, DataSet, ItemList}
 use Rattle.sequence.specs.Open.{last_of, PathEntry, Tail, in_header, IsTail, header_tail, value_tail, left_of, sequence_entry, item_entry, IsOpenLevel, Nested, at_elements, in_sequence_of, in_item_of}
 use Rattle.sequence.specs.machine.Machine.{set_scope, sequence_scope, State, arrive, stop_of, begin_level, run}
-pub use Rattle.sequence.specs.machine.Holding.{stop_at, scope_at}
-use Rattle.element.proofs.Headers.{spelled_long}
+pub use Rattle.sequence.specs.Holding.{stop_at, scope_at}
+use Rattle.element.proofs.Public.{spelled_long}
 use Rattle.sequence.proofs.Runs.{Goes, goes_then, Holds, open_from_holds, holds_less, header_run, elements_run, items_run, taken_sequence, taken_item}
 
 -- the levels of a path, at a place

@@ -1,10 +1,11 @@
 -- What a walker reports and holds determines the machine's state, and the other way round.
-use Rattle.std.proofs.Common.{◌≡◌, ℕ, ◌+◌, ◌-◌, List, [], ◌∷◌, ◌++◌, length, Option, Some, None, refl, sym, ap, subst, ◌∙◌, arith, length-append}
+use Rattle.std.proofs.Common.{◌≡◌, ℕ, ◌+◌, ◌-◌, ◌<◌, ◌≤◌, List, [], ◌∷◌, ◌++◌, length, Option, Some, None, refl, sym, ap, subst, ◌∙◌, arith, length-append}
 use Rattle.element.specs.declared.syntax.Syntax.{Syntax}
 use Rattle.element.specs.declared.tag.Tag.{Tag}
 use Rattle.element.specs.declared.header.Header.{Header}
 use Rattle.element.specs.Numbers.{IsBytes}
 use Rattle.element.specs.Header.{number}
+use Rattle.sequence.specs.declared.level.Level.{Level}
 use Rattle.sequence.specs.declared.level.Scope.{Scope}
 use Rattle.sequence.specs.declared.fault.Fault.{Fault}
 use Rattle.sequence.specs.declared.wanted.Want.{Want}
@@ -12,23 +13,27 @@ use Rattle.sequence.specs.declared.stage.Stage.{Stage}
 use Rattle.sequence.specs.declared.stage.Stage.TheVariants as stages
 use Rattle.sequence.specs.declared.walker.Walker.{Walker}
 use Rattle.sequence.specs.Tree.{Elements}
-use Rattle.sequence.specs.Open.{PathEntry, Tail, in_header, in_value, Open}
+use Rattle.sequence.specs.Open.{PathEntry, Tail, in_header, in_value, IsTail, header_tail, value_tail, Nested, at_elements, in_sequence_of, in_item_of, Open}
 use Rattle.sequence.specs.Wanted.{Values, kept_of}
 use Rattle.sequence.specs.Rules.{Limits}
 use Rattle.sequence.specs.FirstFault.{IsUnbroken, FirstFault}
 use Rattle.sequence.specs.Walk.{Told, Tells, going, refused}
 use Rattle.sequence.specs.machine.Machine.{set_scope, State, at, Mode, Heading, Reading, Stopped, run, start}
 use Rattle.sequence.specs.machine.Keeping.{keeps, with_value}
-use Rattle.sequence.specs.machine.Stored.{wants_of, values_of}
-use Rattle.sequence.specs.machine.Holding.{scope_at, levels_at, with_begun, values_at, IsIn, IsWalked, whole_text, before_fault, Holds}
+use Rattle.sequence.specs.Stored.{wants_of, values_of}
+use Rattle.sequence.specs.Holding.{scope_at, levels_at, with_begun, header_begun, value_due, pending_of, values_at, Holding, holding_of, Holds, of_all, before_fault}
+use Rattle.sequence.specs.Fields.{scope_of, scopes_in, pending_by}
+use Rattle.sequence.specs.Taken.{holding_by}
+use Rattle.sequence.specs.machine.Scopes.{top_of, below_of}
+use Rattle.sequence.specs.machine.Spare.{head_room}
+use Rattle.sequence.specs.machine.Holding.{IsIn}
 use Rattle.sequence.specs.machine.State.{mode_of, top, below, state_of, kept_values, limits_of, syntax_of, fault_by, fault_of, told_by, HoldsFront, StandsAt}
 use Rattle.sequence.specs.machine.Standing.{IsStopped, StandsIn, Stands}
 use Rattle.sequence.proofs.Runs.{HasStopped}
 use Rattle.sequence.proofs.Plug.{IsFront}
 use Rattle.sequence.proofs.Telling.{all_over, all_is, open_due, due_open}
 use Rattle.sequence.proofs.Tales.{stands, goes_unbroken, stop_first, heading_at, reading_at, levels_is}
-use Rattle.sequence.proofs.Once.{one_path}
-use Rattle.sequence.proofs.Tellings.{one_fault}
+use Rattle.sequence.proofs.Tellings.{one_fault, one_holding}
 
 -- the levels of a path
 
@@ -72,8 +77,13 @@ pub record Walks {V D : ℕ} (w : Walker V D) (b : List ℕ) : Type 0 where
 
 -- from the machine
 
-abbrev Held : {V D : ℕ} → Walker V D → List ℕ → Elements → List PathEntry → ℕ → Tail → Type 0
-Held w b es path last tail = HoldsFront w (length b) es path last tail × IsIn w.stage w.header.items tail
+scopes_are : (root : Scope) (round : List Scope) (ls : List Level) → scopes_in (root ∷ round) ls ≡ top_of root ls ∷ below_of root round ls
+scopes_are root round [] = refl
+scopes_are root round (l ∷ ls) = scopes_are (scope_of l) (root ∷ round) ls
+
+no_header_kept : (header : List ℕ) → length header ≤ 0 → header ≡ []
+no_header_kept [] few = refl
+no_header_kept (x ∷ header) few = absurd (omega (arith, few))
 
 module _ {V D : ℕ} (w : Walker V D) (b : List ℕ) (h : Walks w b) where
   run_is : (stage : Stage) → w.stage ≡ stage → run (limits_of w) (start (syntax_of w)) b ≡ at (top w) (below w) w.place (mode_of stage w.place w.header.items)
@@ -85,66 +95,74 @@ module _ {V D : ℕ} (w : Walker V D) (b : List ℕ) (h : Walks w b) where
   not_stopped : (stage : Stage) → w.stage ≡ stage → (HasStopped (mode_of stage w.place w.header.items) → ⊥) → IsUnbroken (syntax_of w) (limits_of w) b
   not_stopped stage e on = goes_unbroken (syntax_of w) (limits_of w) b (λ k. on (subst (λ (z : State). HasStopped z.mode) (run_is stage e) k))
 
-  going_by : (stage : Stage) (es : Elements) (path : List PathEntry) (last : ℕ) (tail : Tail) → w.stage ≡ stage → fault_by stage ≡ None → Open (syntax_of w) b es path last tail → Held w b es path last tail
-  going_by (stages.Stopped fault) es path last tail e none o = absurd cc
-  going_by stages.Heading es path last tail e none o =
+  levels_are : scopes_in (w.root ∷ []) w.levels.items ≡ top w ∷ below w
+  levels_are = scopes_are w.root [] w.levels.items
+
+  pending_is : (stage : Stage) → w.stage ≡ stage → holding_by w ≡ record { levels = top w ∷ below w; pending = pending_by stage w.header.items; values = kept_values w }
+  pending_is stage e = λ i. record { levels = levels_are i; pending = pending_by (e i) w.header.items; values = kept_values w }
+
+  holds_by : (stage : Stage) → w.stage ≡ stage → Holds (syntax_of w) (limits_of w) b (holding_by w)
+  holds_by stages.Heading e =
       let k = (stands_in stages.Heading e).1 in
       let y = heading_at (syntax_of w) (limits_of w) (keeps (limits_of w) (start (syntax_of w)) [] b) (top w) (below w) _ w.header.items b k in
-      let q = one_path (syntax_of w) b y.front.elements es y.front.path path y.front.last last (in_header w.header.items) tail y.is_open o in (
-        record {
-          levels = front_levels y.front ∙ (λ i. with_begun (q.3 i) (levels_at (length b) (q.1 i) (syntax_of w) (q.2 i)));
-          values = h.values ∙ y.front.kept ∙ (λ i. values_at (wants_of w.kept) (q.0 i) (q.1 i) (q.3 i));
-        },
-        subst (λ z. IsIn z w.header.items tail) (sym e) (sym q.3),
-      )
-  going_by (stages.Value t n kept) es path last tail e none o =
+      let levels = front_levels y.front in
+      let values : kept_values w ≡ kept_of (wants_of w.kept) y.front.elements = h.values ∙ y.front.kept in
+      let same : holding_by w ≡ holding_of (syntax_of w) (wants_of w.kept) (length b) y.front.elements y.front.path y.front.last (in_header w.header.items) =
+      pending_is stages.Heading e ∙ (λ i. record { levels = levels i; pending = header_begun w.header.items; values = values i }) in
+      subst (λ z. Holds (syntax_of w) (limits_of w) b z) (sym same) (of_all (not_stopped stages.Heading e (λ z. z)) y.is_open)
+  holds_by (stages.Value t n kept) e =
       let r = (stands_in (stages.Value t n kept) e).1 in
       let y = reading_at (syntax_of w) (limits_of w) (keeps (limits_of w) (start (syntax_of w)) [] b) (top w) (below w) t n b r in
-      let q = one_path (syntax_of w) b y.front.elements es y.front.path path y.front.last last (in_value r.h r.v) tail y.is_open o in
       let levels : top w ∷ below w ≡ with_begun (in_value r.h r.v) (levels_at (length b) y.front.path (syntax_of w) y.front.last) = ap (λ z. z ∷ below w) r.top ∙ ap (with_begun (in_value r.h r.v)) (front_levels y.front) in
       let values : kept_values w ≡ values_at (wants_of w.kept) y.front.elements y.front.path (in_value r.h r.v) =
       h.values ∙ r.kept ∙ ap (λ z. with_value (limits_of w) (below w) (number r.h.tag) r.v z) y.front.kept ∙ value_at (limits_of w) (below w) y.front.path r.h r.v y.front.elements (levels_is y.front) in
-      let inside : IsIn (stages.Value t n kept) w.header.items (in_value r.h r.v) = (r.tagged, r.size) in (
-        record {
-          levels = levels ∙ (λ i. with_begun (q.3 i) (levels_at (length b) (q.1 i) (syntax_of w) (q.2 i)));
-          values = values ∙ (λ i. values_at (wants_of w.kept) (q.0 i) (q.1 i) (q.3 i));
-        },
-        subst (λ z. IsIn z w.header.items tail) (sym e) (subst (λ z. IsIn (stages.Value t n kept) w.header.items z) q.3 inside),
-      )
-
-  pub holds_going : (es : Elements) (path : List PathEntry) (last : ℕ) (tail : Tail) → fault_of w ≡ None → Open (syntax_of w) b es path last tail → HoldsFront w (length b) es path last tail × IsIn w.stage w.header.items tail
-  holds_going es path last tail none o = going_by w.stage es path last tail refl none o
-
-  refused_by : (stage : Stage) (p u : List ℕ) (rule : ℕ) (tag : Tag) (es : Elements) (path : List PathEntry) (last : ℕ) → w.stage ≡ stage → FirstFault (syntax_of w) (limits_of w) b p u rule tag → Open (syntax_of w) p es path last (in_header []) → HoldsFront w (length p) es path last (in_header [])
-  refused_by stages.Heading p u rule tag es path last e f o = absurd (fault_breaks f (not_stopped stages.Heading e (λ k. k)))
-  refused_by (stages.Value t n kept) p u rule tag es path last e f o = absurd (fault_breaks f (not_stopped (stages.Value t n kept) e (λ k. k)))
-  refused_by (stages.Stopped fault) p u rule tag es path last e f o =
+      let left : n ≡ r.h.length - length r.v = omega (arith, r.size) in
+      let tag = r.tagged in
+      let same : holding_by w ≡ holding_of (syntax_of w) (wants_of w.kept) (length b) y.front.elements y.front.path y.front.last (in_value r.h r.v) =
+      pending_is (stages.Value t n kept) e ∙ (λ i. record { levels = levels i; pending = value_due (tag i) (left i); values = values i }) in
+      subst (λ z. Holds (syntax_of w) (limits_of w) b z) (sym same) (of_all (not_stopped (stages.Value t n kept) e (λ z. z)) y.is_open)
+  holds_by (stages.Stopped fault) e =
       let k : IsStopped (syntax_of w) (limits_of w) (keeps (limits_of w) (start (syntax_of w)) [] b) (top w) (below w) w.place fault.number fault.place fault.tag b = stands_in (stages.Stopped fault) e in
       let first = stop_first (syntax_of w) (limits_of w) (keeps (limits_of w) (start (syntax_of w)) [] b) (top w) (below w) w.place fault.number fault.place fault.tag b h.bytes (run_is (stages.Stopped fault) e) k in
-      let same = one_fault (syntax_of w) (limits_of w) b k.before p k.u u fault.number rule fault.tag tag first f in
       let x = open_due (syntax_of w) (limits_of w) (keeps (limits_of w) (start (syntax_of w)) [] b) (top w) (below w) k.before k.due in
       let due = due_open (syntax_of w) (limits_of w) (keeps (limits_of w) (start (syntax_of w)) [] b) (top w) (below w) k.before k.due in
-      let q = one_path (syntax_of w) p x.elements es x.path path x.last last (in_header []) (in_header []) (subst (λ z. Open (syntax_of w) z x.elements x.path x.last (in_header [])) same.0 due) o in
-      record {
-        levels = front_levels x ∙ (λ i. levels_at (length (same.0 i)) (q.1 i) (syntax_of w) (q.2 i));
-        values = h.values ∙ x.kept ∙ (λ i. kept_of (wants_of w.kept) (q.0 i));
-      }
+      let levels = front_levels x in
+      let values : kept_values w ≡ kept_of (wants_of w.kept) x.elements = h.values ∙ x.kept in
+      let none : w.header.items ≡ [] = no_header_kept w.header.items (subst (λ z. length w.header.items ≤ head_room z) e w.few) in
+      let same : holding_by w ≡ holding_of (syntax_of w) (wants_of w.kept) (length k.before) x.elements x.path x.last (in_header []) =
+      pending_is (stages.Stopped fault) e ∙ (λ i. record { levels = levels i; pending = header_begun (none i); values = values i }) in
+      subst (λ z. Holds (syntax_of w) (limits_of w) b z) (sym same) (before_fault first due)
 
-  pub holds_refused : (p u : List ℕ) (rule : ℕ) (tag : Tag) (es : Elements) (path : List PathEntry) (last : ℕ) → FirstFault (syntax_of w) (limits_of w) b p u rule tag → Open (syntax_of w) p es path last (in_header []) → HoldsFront w (length p) es path last (in_header [])
-  holds_refused p u rule tag es path last f o = refused_by w.stage p u rule tag es path last refl f o
+  pub walker_holds : Holds (syntax_of w) (limits_of w) b (holding_by w)
+  walker_holds = holds_by w.stage refl
 
--- what a walker holds of the front that it went through
+-- what is held of a front
 
-pub walker_holds : {V D : ℕ} (w : Walker V D) (b : List ℕ) → Walks w b → Tells (syntax_of w) (limits_of w) b (told_by w) → (front : List ℕ) (es : Elements) (path : List PathEntry) (last : ℕ) (tail : Tail) → IsWalked (syntax_of w) (limits_of w) b front → Open (syntax_of w) front es path last tail
-    → Holds w front es path last tail
-walker_holds w b h t front es path last tail (whole_text ok) o =
-    let told = tells_going (syntax_of w) (limits_of w) b (told_by w) ok t in
-    record { opened = (holds_going w b h es path last tail told.fault o).0; begun = λ none. (holds_going w b h es path last tail none o).1 }
-walker_holds w b h t front es path last tail (before_fault {p = p} {u = u} {rule = rule} {tag = tag} f) o =
-    let told = tells_refused (syntax_of w) (limits_of w) b p u rule tag (told_by w) f t in
-    let same : in_header [] ≡ tail = (one_path (syntax_of w) p f.breaks.elements es f.breaks.path path f.breaks.last last (in_header []) tail f.breaks.due o).3 in
-    let here : Open (syntax_of w) p es path last (in_header []) = subst (Open (syntax_of w) p es path last) (sym same) o in
-    record { opened = subst (HoldsFront w (length p) es path last) same (holds_refused w b h p u rule tag es path last f here); begun = λ none. absurd (let k : ◌≡◌ {A = Option Fault} None (Some (record { number = rule; place = length p; tag = tag })) = sym none ∙ told.fault in cc) }
+abbrev begun_short : Tail → Type 0
+begun_short (in_header t) = Unit {0}
+begun_short (in_value h v) = length v < h.length
+
+tail_short : {s : Syntax} {last : ℕ} {tail : Tail} {t : List ℕ} → IsTail s last tail t → begun_short tail
+tail_short (header_tail part) = tt
+tail_short (value_tail v el sh lt) = lt
+
+nested_short : {s : Syntax} {b : List ℕ} {es : Elements} {path : List PathEntry} {last : ℕ} {tail : Tail} → Nested s b es path last tail → begun_short tail
+nested_short (at_elements set tail) = tail_short tail
+nested_short (in_sequence_of q level part) = tt
+nested_short (in_item_of q level it level2 deeper) = nested_short deeper
+
+in_tail : (stage : Stage) (header : List ℕ) (tail : Tail) → fault_by stage ≡ None → pending_by stage header ≡ pending_of tail → begun_short tail → IsIn stage header tail
+in_tail stages.Heading header (in_header t) none e short = let same : header ≡ t = cc in ap in_header (sym same)
+in_tail stages.Heading header (in_value h v) none e short = absurd cc
+in_tail (stages.Value tag left kept) header (in_header t) none e short = absurd cc
+in_tail (stages.Value tag left kept) header (in_value h v) none e short =
+    let tags : tag ≡ h.tag = cc in
+    let lefts : left ≡ h.length - length v = cc in
+    (tags, omega (arith, lefts, short))
+in_tail (stages.Stopped fault) header tail none e short = absurd cc
+
+front_by : {V D : ℕ} (w : Walker V D) (n : ℕ) (es : Elements) (path : List PathEntry) (last : ℕ) (tail : Tail) → holding_by w ≡ holding_of (syntax_of w) (wants_of w.kept) n es path last tail → HoldsFront w n es path last tail
+front_by w n es path last tail e = record { levels = sym (scopes_are w.root [] w.levels.items) ∙ ap (λ (z : Holding). z.levels) e; values = ap (λ (z : Holding). z.values) e }
 
 tells_unbroken : (s : Syntax) (lim : Limits) (b : List ℕ) (told : Told) → told.fault ≡ None → Tells s lim b told → IsUnbroken s lim b
 tells_unbroken s lim b told e (going ok o) = ok
@@ -154,12 +172,14 @@ tells_unbroken s lim b told e (refused f o) = absurd cc
 
 pub stands_going : {V D : ℕ} (w : Walker V D) (b : List ℕ) → StandsAt w b → (es : Elements) (path : List PathEntry) (last : ℕ) (tail : Tail) → fault_of w ≡ None → Open (syntax_of w) b es path last tail → HoldsFront w (length b) es path last tail × IsIn w.stage w.header.items tail
 stands_going w b h es path last tail none o =
-    let k = h.goes_on b es path last tail (whole_text (tells_unbroken (syntax_of w) (limits_of w) b (told_by w) none h.tells)) o in
-    (k.opened, k.begun none)
+    let e = one_holding (syntax_of w) (limits_of w) b (holding_by w) (holding_of (syntax_of w) (wants_of w.kept) (length b) es path last tail) h.holds (of_all (tells_unbroken (syntax_of w) (limits_of w) b (told_by w) none h.tells) o) in
+    (front_by w (length b) es path last tail e, in_tail w.stage w.header.items tail none (ap (λ (z : Holding). z.pending) e) (nested_short o.nested))
 
 stands_refused : {V D : ℕ} (w : Walker V D) (b : List ℕ) → StandsAt w b → (p u : List ℕ) (rule : ℕ) (tag : Tag) (es : Elements) (path : List PathEntry) (last : ℕ) → FirstFault (syntax_of w) (limits_of w) b p u rule tag → Open (syntax_of w) p es path last (in_header [])
     → HoldsFront w (length p) es path last (in_header [])
-stands_refused w b h p u rule tag es path last f o = (h.goes_on p es path last (in_header []) (before_fault f) o).opened
+stands_refused w b h p u rule tag es path last f o =
+    front_by w (length p) es path last (in_header [])
+    (one_holding (syntax_of w) (limits_of w) b (holding_by w) (holding_of (syntax_of w) (wants_of w.kept) (length p) es path last (in_header [])) h.holds (before_fault f o))
 
 -- back to the machine
 

@@ -1,14 +1,14 @@
 -- Headers that are not whole, and the byte that makes them whole.
-use Rattle.std.proofs.Common.{◌≡◌, ℕ, ◌<◌, ◌≤◌, ◌≢◌, true, false, ◌&&◌, List, [], ◌∷◌, ◌++◌, length, refl, sym, ap, subst, ◌∙◌, arith, leb-true, leb-false, length-append}
+use Rattle.std.proofs.Common.{◌≡◌, ℕ, ◌<◌, ◌≤◌, ◌≢◌, true, false, List, [], ◌∷◌, ◌++◌, length, refl, sym, ap, subst, ◌∙◌, arith, leb-true, leb-false, length-append}
 use Rattle.element.specs.declared.syntax.Syntax.{Syntax}
 use Rattle.element.specs.declared.tag.Tag.{Tag}
 use Rattle.element.specs.declared.header.Header.{Header}
 use Rattle.element.specs.declared.size.Need.{Need}
 use Rattle.element.specs.declared.size.Need.TheVariants.{More, Size, BadVr}
 use Rattle.std.proofs.lemmas.Bool.Decides.{nat_tests}
-use Rattle.element.specs.Vr.{is_capital}
 use Rattle.element.specs.Header.{need, is_marker, header_at, SpellsHeader, plain, short, long, is_whole, has_size}
-use Rattle.element.proofs.Headers.{NeedIs, few, plain_eight, no_vr, refused, short_eight, long_twelve, need_is, is_need, need_on, plain_on, vr_on, exact_spells, more_short, size_eight}
+use Rattle.element.specs.Needs.{NeedIs, few, plain_eight, no_vr, refused, short_eight, long_twelve}
+use Rattle.element.proofs.Public.{need_is, need_on, bad_on, exact_spells, more_short, size_eight}
 use Rattle.sequence.specs.Tree.{delimitation}
 use Rattle.sequence.specs.Open.{IsUnfinished}
 use Rattle.sequence.specs.machine.Standing.{IsBytes}
@@ -21,17 +21,6 @@ asked_by s t x k (Size j) e part good g at_most eight =
     let same : j ≡ k = cc in
     let lt = leb-false j (length t) part in
     omega (arith, lt, at_most, same, length-append t (x ∷ []))
-
-pub bad_by : {s : Syntax} {w : List ℕ} (v : List ℕ) {n : Need} → NeedIs s w n → n ≡ BadVr → NeedIs s (w ++ v) BadVr
-bad_by {s = s} {w = w} v (refused ge p c) e = refused (omega (arith, ge, length-append w v)) (plain_on s w v false (omega (arith, ge)) p) (vr_on (λ x y. is_capital x && is_capital y) w v false ge c)
-bad_by v (few lt) e = absurd cc
-bad_by v (plain_eight ge p) e = absurd cc
-bad_by v (no_vr ge p lt) e = absurd cc
-bad_by v (short_eight ge p c h) e = absurd cc
-bad_by v (long_twelve ge p c h) e = absurd cc
-
-bad_on : (s : Syntax) (w v : List ℕ) → need s w ≡ BadVr → need s (w ++ v) ≡ BadVr
-bad_on s w v e = is_need s (w ++ v) BadVr (bad_by v (need_is s w) e)
 
 -- what has just become whole spells the header that is read
 pub whole_spells : (s : Syntax) (t : List ℕ) (x : ℕ) → IsUnfinished s t → IsBytes (t ++ x ∷ []) → is_whole s (t ++ x ∷ []) ≡ true → SpellsHeader s (header_at s (t ++ x ∷ [])) (t ++ x ∷ [])

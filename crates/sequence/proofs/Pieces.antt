@@ -17,7 +17,8 @@ use Rattle.sequence.specs.Rules.{Limits, Broken, broken_due, same_tag}
 use Rattle.sequence.specs.machine.Machine.{State, at, arrive, due, due_by, spot_of, stops_at, stop_of, set_scope, sequence_scope, begin_value, begin_level, leave, begun, take_element, take_header, ArrivesAt, Reading, read, run}
 use Rattle.sequence.specs.machine.Scopes.{below_of}
 use Rattle.sequence.specs.machine.Keeping.{wanted_at, with_byte, keep_read, keeps}
-use Rattle.sequence.specs.machine.Spare.{is_kept, is_wanted_in}
+use Rattle.sequence.specs.Fields.{is_kept}
+use Rattle.sequence.specs.machine.Spare.{is_wanted_in}
 use Rattle.sequence.specs.machine.State.{mode_of}
 use Rattle.sequence.specs.machine.Steps.{with_bytes}
 use Rattle.sequence.proofs.Runs.{reading_run}

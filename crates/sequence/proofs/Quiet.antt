@@ -7,7 +7,8 @@ use Rattle.element.specs.declared.header.Header.{Header}
 use Rattle.element.specs.declared.size.Need.{Need}
 use Rattle.element.specs.declared.size.Need.TheVariants.{More, Size, BadVr}
 use Rattle.element.specs.Header.{is_plain, tag_at, need, has_size, header_at, is_whole}
-use Rattle.element.proofs.Headers.{NeedIs, few, plain_eight, no_vr, refused, short_eight, long_twelve, is_need, size_off, need_is, need_on, header_on, tag_on, tag_read, plain_off, more_short, whole_eight}
+use Rattle.element.specs.Needs.{NeedIs, few, plain_eight, no_vr, refused, short_eight, long_twelve}
+use Rattle.element.proofs.Public.{is_need, size_off, need_is, need_on, bad_on, header_on, tag_on, tag_read, more_short, whole_eight}
 use Rattle.sequence.specs.declared.spot.Spot.{Spot}
 use Rattle.sequence.specs.Rules.{Limits, Broken, broken_due, broken_tag, broken_need, broken_header, broken, ◌or_else◌, when}
 use Rattle.sequence.specs.declared.heading.End.{End}
@@ -16,7 +17,7 @@ use Rattle.sequence.specs.declared.reading.Front.{Front}
 use Rattle.sequence.specs.machine.Heading.{is_part, is_end, IsQuiet, IsRefused, IsRead, IsCount, IsExamined, IsEnd, IsFront, broken_whole}
 use Rattle.sequence.specs.Open.{IsUnfinished}
 use Rattle.sequence.proofs.Unbroken.{BreaksNone, none_first, when_none, unbroken_is, on_tail}
-use Rattle.sequence.proofs.Parts.{part_short, bad_by}
+use Rattle.sequence.proofs.Parts.{part_short}
 
 all_none : (a b c d : Broken) → a ≡ None → b ≡ None → c ≡ None → d ≡ None → (a or_else b or_else c or_else d) ≡ None
 all_none a b c d e f g h = rw (e, f, g, h) refl
@@ -61,7 +62,7 @@ steady lim spot u v ok part more four six =
     vr : 6 ≤ length (u ++ v) → is_plain spot.syntax (tag_at (u ++ v)) ≡ false → IsSide 6 (length u) (length (u ++ v)) → BreaksNone lim spot u → IsUnfinished spot.syntax u → broken_need spot (need spot.syntax (u ++ v)) (tag_at (u ++ v)) ≡ None
     vr le p (inl ge) k tail =
         let same = need_stays spot.syntax u v (need spot.syntax u) refl ge tail.good in
-        ap (λ z. broken_need spot z (tag_at (u ++ v))) same ∙ ap (broken_need spot (need spot.syntax u)) (tag_on u v (omega (arith, ge))) ∙ k.vr_ok ge (plain_off spot.syntax u v false (omega (arith, ge)) p)
+        ap (λ z. broken_need spot z (tag_at (u ++ v))) same ∙ ap (broken_need spot (need spot.syntax u)) (tag_on u v (omega (arith, ge))) ∙ k.vr_ok ge (ap (is_plain spot.syntax) (sym (tag_on u v (omega (arith, ge)))) ∙ p)
     vr le p (inr lt) k tail = absurd (omega (arith, le, lt))
 
 -- beginnings of some bytes
@@ -186,9 +187,6 @@ whole_unbroken lim spot t k h n size read ok =
     let q : is_plain spot.syntax h.tag ≡ false = ap (is_plain spot.syntax) tag-is ∙ p.1 in
     (λ i. broken_need spot (n i) (sym tag-is i)) ∙ when_none (not (is_plain spot.syntax h.tag)) (broken_need spot (Size k) h.tag) c.0 (ap not q)))
     (none_when (is_whole spot.syntax t) _ (λ e. (λ i. broken_header lim spot (size i) (sym read i)) ∙ c.1))
-
-bad_on : (s : Syntax) (u v : List ℕ) → need s u ≡ BadVr → need s (u ++ v) ≡ BadVr
-bad_on s u v e = is_need s (u ++ v) BadVr (bad_by v (subst (NeedIs s u) e (need_is s u)) refl)
 
 -- what is examined
 

@@ -6,7 +6,7 @@ use Rattle.element.specs.declared.tag.Tag.{Tag}
 use Rattle.element.specs.declared.header.Header.{Header}
 use Rattle.element.specs.declared.size.Need.TheVariants.{Size}
 use Rattle.element.specs.Header.{number, is_marker, is_whole, has_size, SpellsHeader, plain}
-use Rattle.element.proofs.Headers.{spelled_need, one_spelling}
+use Rattle.element.proofs.Public.{spelled_need, one_spelling}
 use Rattle.sequence.specs.Shape.{undefined_length, shape}
 use Rattle.sequence.specs.declared.shape.Shape.{Shape}
 use Rattle.sequence.specs.declared.shape.Shape.TheVariants.{Value, Sequence}

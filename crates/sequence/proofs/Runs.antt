@@ -15,7 +15,7 @@ use Rattle.sequence.specs.Open.{last_of}
 use Rattle.sequence.specs.Rules.{Broken, broken_due, broken}
 use Rattle.element.specs.Header.{is_whole}
 use Rattle.sequence.specs.machine.Machine.{set_scope, sequence_scope, Mode, Heading, Reading, Stopped, State, at, spot_of, due_by, due, arrive, stop_of, begin_value, begin_level, leave, stops_at, take_header, headed_by, headed, read, next, run}
-use Rattle.element.proofs.Headers.{whole_spelled, read_spelled, front_spelled, spelled_long}
+use Rattle.element.proofs.Public.{whole_spelled, read_spelled, front_spelled, spelled_long}
 
 abbrev pub HasStopped : Mode → Type 0
 HasStopped (Stopped n p t) = Unit {0}

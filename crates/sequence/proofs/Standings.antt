@@ -12,9 +12,10 @@ use Rattle.sequence.specs.Rules.{Limits}
 use Rattle.sequence.specs.Walk.{Told, Tells}
 use Rattle.sequence.specs.machine.Machine.{set_scope, State, at, Heading, next, run, start}
 use Rattle.sequence.specs.machine.Scopes.{top_of, below_of}
-use Rattle.sequence.specs.machine.Keeping.{keep, keeps, but_last, wanted_at, told_values}
-use Rattle.sequence.specs.machine.Spare.{head_room, is_kept, is_wanted_in}
-use Rattle.sequence.specs.machine.Stored.{values_of}
+use Rattle.sequence.specs.machine.Keeping.{keep, keeps, wanted_at}
+use Rattle.sequence.specs.Fields.{but_last, told_values, is_kept}
+use Rattle.sequence.specs.Stored.{values_of}
+use Rattle.sequence.specs.machine.Spare.{head_room, is_wanted_in}
 use Rattle.sequence.specs.machine.State.{mode_of, state_of, IsSameWalk, limits_of, syntax_of, fault_by, StandsAt}
 use Rattle.sequence.specs.machine.Standing.{IsBytes}
 use Rattle.sequence.proofs.Tops.{below_length}
@@ -54,7 +55,7 @@ walker_stands w b bytes state values =
     ∙ ap (λ z. told_in (limits_of w) z (values_of w.kept)) state
     ∙ ap (λ z. told_in (limits_of w) (run (limits_of w) (start (syntax_of w)) b) z) values))
     (tells (syntax_of w) (limits_of w) b bytes) in
-    record { bytes = bytes; tells = told; goes_on = walker_holds w b (record { bytes = bytes; state = state; values = values }) told }
+    record { bytes = bytes; tells = told; holds = walker_holds w b (record { bytes = bytes; state = state; values = values }) }
 
 pub no_bytes : IsBytes []
 no_bytes i = lit< tt

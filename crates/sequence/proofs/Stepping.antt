@@ -5,7 +5,7 @@ use Rattle.element.specs.declared.syntax.Syntax.{Syntax}
 use Rattle.element.specs.declared.tag.Tag.{Tag}
 use Rattle.element.specs.declared.header.Header.{Header}
 use Rattle.element.specs.Header.{is_marker, is_whole, header_at, SpellsHeader}
-use Rattle.element.proofs.Headers.{whole_spelled, front_spelled}
+use Rattle.element.proofs.Public.{whole_spelled, front_spelled}
 use Rattle.sequence.specs.declared.level.Scope.{Scope}
 use Rattle.sequence.specs.declared.spot.Spot.{Spot}
 use Rattle.sequence.specs.declared.stage.Stage.{Stage}
@@ -23,7 +23,8 @@ use Rattle.sequence.specs.Answering.{EndsHeader, EndsRun, EndsWith, of_header, o
 use Rattle.sequence.specs.Walk.{Told, Tells, going, refused}
 use Rattle.sequence.specs.machine.Machine.{State, at, ArrivesAt, Reading, run, start}
 use Rattle.sequence.specs.machine.Keeping.{keeps}
-use Rattle.sequence.specs.machine.Holding.{levels_at, IsIn}
+use Rattle.sequence.specs.Holding.{levels_at}
+use Rattle.sequence.specs.machine.Holding.{IsIn}
 use Rattle.sequence.specs.machine.Spare.{due_of}
 use Rattle.sequence.specs.machine.Made.{header_told, value_told}
 use Rattle.sequence.specs.machine.State.{mode_of, state_of, kept_values, top, below, IsSameWalk, limits_of, syntax_of, fault_by, fault_of, told_by, StandsAt}

@@ -3,7 +3,7 @@ use Rattle.std.proofs.Common.{◌≡◌, ℕ, suc, ◌+◌, ◌-◌, ◌<◌, �
 use Rattle.element.specs.declared.syntax.Syntax.{Syntax}
 use Rattle.element.specs.declared.tag.Tag.{Tag}
 use Rattle.element.specs.Header.{number, header_at, is_whole}
-use Rattle.element.proofs.Headers.{tag_read, spelled_long}
+use Rattle.element.proofs.Public.{tag_read, spelled_long}
 use Rattle.sequence.specs.declared.level.Scope.{Scope}
 use Rattle.sequence.specs.declared.spot.Spot.{Spot}
 use Rattle.sequence.specs.Tree.{no_elements, value, IsValue, DataSet, nothing, value_then}

@@ -4,7 +4,8 @@ use Rattle.std.proofs.lemmas.List.{take-append-le, drop-append-le, length-drop, 
 use Rattle.sequence.specs.declared.wanted.Want.{Want}
 use Rattle.element.specs.Header.{number}
 use Rattle.sequence.specs.Wanted.{Values, value_of, bytes_of, rooms, room_of, are_rising}
-use Rattle.sequence.specs.machine.Keeping.{with_byte, absent, is_absent, stored, counts, are_stored, all_absent, is_latest, left_at, place_from, but_last, told_values}
+use Rattle.sequence.specs.machine.Keeping.{with_byte, counts, are_stored, all_absent, is_latest, left_at, place_from}
+use Rattle.sequence.specs.Fields.{absent, is_absent, stored, but_last, told_values}
 
 both : (a b : Bool) → (a && b) ≡ true → (a ≡ true) × (b ≡ true)
 both true b e = (refl, e)

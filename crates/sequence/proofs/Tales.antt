@@ -1,22 +1,22 @@
 -- What is told after any bytes.
-use Rattle.std.proofs.Common.{◌≡◌, ℕ, zero, suc, ◌+◌, ◌*◌, ◌≤◌, ◌⊎◌, Bool, true, false, List, [], ◌∷◌, ◌++◌, length, Option, Some, None, refl, sym, ap, subst, ◌∙◌, inl, inr, arith, lit<, append_assoc, append-nil, length-append, if◌then◌else◌}
+use Rattle.std.proofs.Common.{◌≡◌, ℕ, zero, suc, ◌+◌, ◌*◌, ◌≤◌, ◌⊎◌, Bool, true, false, List, [], ◌∷◌, ◌++◌, length, Some, None, refl, sym, ap, subst, ◌∙◌, inl, inr, arith, lit<, append_assoc, append-nil, length-append, if◌then◌else◌}
 use Rattle.element.specs.declared.syntax.Syntax.{Syntax}
 use Rattle.element.specs.declared.tag.Tag.{Tag}
 use Rattle.element.specs.declared.header.Header.{Header}
 use Rattle.element.specs.Header.{number, is_whole}
 use Rattle.sequence.specs.declared.level.Scope.{Scope}
 use Rattle.sequence.specs.declared.spot.Spot.{Spot}
-use Rattle.sequence.specs.declared.fault.Fault.{Fault}
 use Rattle.sequence.specs.declared.wanted.Want.{Want}
 use Rattle.sequence.specs.Tree.{Elements, nothing}
 use Rattle.sequence.specs.Open.{PathEntry, Tail, in_header, in_value, Open}
 use Rattle.sequence.specs.Wanted.{Values, is_wanted, kept_of, bytes_of, begun_bytes, held_of}
 use Rattle.sequence.specs.Rules.{Limits, broken}
 use Rattle.sequence.specs.FirstFault.{IsNoLater, spot_behind, Breaks, IsUnbroken, FirstFault}
-use Rattle.sequence.specs.Walk.{Told, Tells, going, refused}
+use Rattle.sequence.specs.Walk.{Tells, going, refused}
 use Rattle.sequence.specs.machine.Machine.{set_scope, spot_of, arrive, due, State, at, Mode, Heading, Reading, Stopped, next, run, start}
-use Rattle.sequence.specs.machine.Reported.{fault_in, header_in, told_in}
-use Rattle.sequence.specs.machine.Keeping.{keep, keeps, with_value, wanted_at, but_last, whole_by}
+use Rattle.sequence.specs.machine.Reported.{told_in}
+use Rattle.sequence.specs.machine.Keeping.{keep, keeps, with_value, wanted_at}
+use Rattle.sequence.specs.Fields.{but_last}
 use Rattle.sequence.specs.machine.Standing.{IsBytes, at_root, AllHold, IsHeading, IsReading, IsStopped, StandsIn, Stands}
 use Rattle.sequence.proofs.Runs.{HasStopped, run_append, run_stopped}
 use Rattle.sequence.proofs.Arriving.{arrive_stands}

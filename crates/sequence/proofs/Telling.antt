@@ -6,7 +6,8 @@ use Rattle.element.specs.declared.header.Header.{Header}
 use Rattle.element.specs.declared.size.Need.{Need}
 use Rattle.element.specs.declared.size.Need.TheVariants.{Size, BadVr}
 use Rattle.element.specs.Header.{number, tag_at, need, is_whole, has_size}
-use Rattle.element.proofs.Headers.{NeedIs, few, plain_eight, no_vr, refused, short_eight, long_twelve, need_is}
+use Rattle.element.specs.Needs.{NeedIs, few, plain_eight, no_vr, refused, short_eight, long_twelve}
+use Rattle.element.proofs.Public.{need_is}
 use Rattle.sequence.specs.declared.level.Scope.{Scope}
 use Rattle.sequence.specs.declared.spot.Spot.{Spot}
 use Rattle.sequence.specs.declared.wanted.Want.{Want}

@@ -1,4 +1,4 @@
--- A text has one first fault, and one thing to tell.
+-- A text has one first fault, one thing to tell, and one thing to hold.
 use Rattle.std.proofs.Common.{◌≡◌, ℕ, List, [], ◌++◌, length, Some, None, sym, ap, subst, ◌∙◌, arith}
 use Rattle.element.specs.declared.syntax.Syntax.{Syntax}
 use Rattle.element.specs.declared.tag.Tag.{Tag}
@@ -8,6 +8,7 @@ use Rattle.sequence.specs.Wanted.{kept_of, held_of}
 use Rattle.sequence.specs.Rules.{Limits, Broken, broken}
 use Rattle.sequence.specs.FirstFault.{spot_behind, Breaks, FirstFault}
 use Rattle.sequence.specs.Walk.{Told, Tells, going, refused}
+use Rattle.sequence.specs.Holding.{Holding, Holds, of_all, before_fault, holding_of}
 use Rattle.sequence.proofs.Readings.{same_front}
 use Rattle.sequence.specs.machine.Machine.{run, start}
 use Rattle.sequence.specs.machine.Keeping.{keeps}
@@ -44,6 +45,17 @@ one_telling s lim b told told2 (refused {p = p} {u = u} {rule = rule} {tag = tag
     let k = one_fault s lim b p p2 u u2 rule rule2 tag tag2 f g in
     let m = one_path s p es es2 path path2 last last2 (in_header []) (in_header []) front (subst (λ z. Open s z es2 path2 last2 (in_header [])) (sym k.0) front2) in
     λ i. record { fault = Some (record { number = k.2 i; place = length (k.0 i); tag = k.3 i }); levels = length (m.1 i); place = length (k.0 i ++ k.1 i); held = held_of lim.wanted (m.0 i) (m.1 i) (in_header []); kept = kept_of lim.wanted (m.0 i) }
+
+pub one_holding : (s : Syntax) (lim : Limits) (b : List ℕ) (held held2 : Holding) → Holds s lim b held → Holds s lim b held2 → held ≡ held2
+one_holding s lim b held held2 (of_all {es = es} {path = path} {last = last} {tail = tail} ok front) (of_all {es = es2} {path = path2} {last = last2} {tail = tail2} ok2 front2) =
+    let k = one_path s b es es2 path path2 last last2 tail tail2 front front2 in
+    λ i. holding_of s lim.wanted (length b) (k.0 i) (k.1 i) (k.2 i) (k.3 i)
+one_holding s lim b held held2 (of_all ok front) (before_fault {p = p} {u = u} {rule = rule} {tag = tag} f front2) = absurd (ok p u f.rest rule tag f.text f.breaks)
+one_holding s lim b held held2 (before_fault {p = p} {u = u} {rule = rule} {tag = tag} f front) (of_all ok front2) = absurd (ok p u f.rest rule tag f.text f.breaks)
+one_holding s lim b held held2 (before_fault {p = p} {u = u} {rule = rule} {tag = tag} {es = es} {path = path} {last = last} f front) (before_fault {p = p2} {u = u2} {rule = rule2} {tag = tag2} {es = es2} {path = path2} {last = last2} g front2) =
+    let k = one_fault s lim b p p2 u u2 rule rule2 tag tag2 f g in
+    let m = one_path s p es es2 path path2 last last2 (in_header []) (in_header []) front (subst (λ z. Open s z es2 path2 last2 (in_header [])) (sym k.0) front2) in
+    λ i. holding_of s lim.wanted (length (k.0 i)) (m.0 i) (m.1 i) (m.2 i) (in_header [])
 
 pub some_telling : (s : Syntax) (lim : Limits) (b : List ℕ) → IsBytes b → (told : Told) × Tells s lim b told
 some_telling s lim b bytes = (told_in lim (run lim (start s) b) (keeps lim (start s) [] b), tells s lim b bytes)

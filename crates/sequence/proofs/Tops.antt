@@ -9,7 +9,8 @@ use Rattle.sequence.specs.declared.spot.Spot.{Spot}
 use Rattle.std.proofs.lemmas.List.{take_more, take_all, take-append-le, length-set}
 use Rattle.std.proofs.lemmas.Grind.{take-set_at}
 use Rattle.std.specs.List.{refill}
-use Rattle.sequence.specs.machine.Scopes.{scope_of, top_of, below_of, nearest_from}
+use Rattle.sequence.specs.Fields.{scope_of}
+use Rattle.sequence.specs.machine.Scopes.{top_of, below_of, nearest_from}
 
 pub top_push : (root : Scope) (ls : List Level) (l : Level) → top_of root (ls ++ l ∷ []) ≡ scope_of l
 top_push root [] l = refl

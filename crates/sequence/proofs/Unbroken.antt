@@ -2,7 +2,7 @@
 use Rattle.std.proofs.Common.{◌≡◌, ℕ, ◌≤◌, ◌≢◌, Bool, true, false, not, ◌&&◌, List, length, Some, None, nat_le, refl, sym, ap, ◌∙◌, le-leb}
 use Rattle.element.specs.declared.size.Need.TheVariants.{BadVr}
 use Rattle.element.specs.Header.{is_plain, tag_at, need, header_at, is_whole}
-use Rattle.element.proofs.Headers.{refused_long}
+use Rattle.element.proofs.Public.{refused_long}
 use Rattle.sequence.specs.declared.spot.Spot.{Spot}
 use Rattle.sequence.specs.Open.{IsUnfinished}
 use Rattle.sequence.specs.Rules.{Limits, Broken, broken_due, broken_tag, broken_need, broken_header, broken, ◌or_else◌, when}

@@ -1,13 +1,11 @@
 -- A header that keeps the rules does not stop the machine.
-use Rattle.std.proofs.Common.{◌≡◌, ℕ, suc, ◌+◌, ◌-◌, ◌%◌, ◌<◌, ◌≤◌, Bool, true, false, not, ◌&&◌, List, [], ◌∷◌, ◌++◌, length, Option, Some, None, nat_eq, nat_le, nat_lt, refl, sym, ap, subst, ◌∙◌, arith, append_assoc, append-nil, length-append, leb-true, ne_eqb, eq-eqb, if◌then◌else◌}
+use Rattle.std.proofs.Common.{◌≡◌, ℕ, suc, ◌+◌, ◌-◌, ◌%◌, ◌<◌, ◌≤◌, Bool, true, false, not, ◌&&◌, List, [], ◌∷◌, ◌++◌, length, Option, Some, None, nat_eq, nat_le, nat_lt, refl, sym, ap, subst, ◌∙◌, arith, append_assoc, append-nil, leb-true, ne_eqb, eq-eqb, if◌then◌else◌}
 use Rattle.std.proofs.lemmas.Bool.Decides.{nat_tests}
 use Rattle.element.specs.declared.header.Header.{Header}
 use Rattle.element.specs.declared.size.Need.{Need}
 use Rattle.element.specs.declared.size.Need.TheVariants.{More, Size, BadVr}
-use Rattle.element.specs.declared.syntax.Syntax.{Syntax}
 use Rattle.element.specs.Header.{is_marker, is_plain, tag_at, need, is_whole, header_at, SpellsHeader}
-use Rattle.element.specs.Vr.{is_capital}
-use Rattle.element.proofs.Headers.{NeedIs, refused, need_is, is_need, need_on, need_spelled, plain_on, vr_on, tag_on, tag_read, read_spelled, whole_spelled, front_spelled, spelled_long}
+use Rattle.element.proofs.Public.{need_on, bad_on, need_spelled, tag_on, tag_read, read_spelled, whole_spelled, front_spelled, spelled_long}
 use Rattle.sequence.specs.declared.level.Scope.{Scope}
 use Rattle.sequence.specs.declared.spot.Spot.{Spot}
 use Rattle.sequence.specs.Shape.{is_undefined, undefined_length, shape}
@@ -43,12 +41,6 @@ pub record KeepsRules (lim : Limits) (spot : Spot) (size : ℕ) (h : Header) : T
   pub room : passes spot.near size ≡ false
   pub tagged : broken_tag spot h.tag ≡ None
   pub sound : IsSound lim spot size h
-
-bad_on : (s : Syntax) (u v : List ℕ) → need s u ≡ BadVr → need s (u ++ v) ≡ BadVr
-bad_on s u v e = is_need s (u ++ v) BadVr (by (subst (λ z. NeedIs s u z) e (need_is s u)))
-  where
-    by : NeedIs s u BadVr → NeedIs s (u ++ v) BadVr
-    by (refused le p c) = refused (omega (arith, le, length-append u v)) (plain_on s u v false (omega (arith, le)) p) (vr_on (λ x y. is_capital x && is_capital y) u v false le c)
 
 -- so does each beginning of it
 pub keeps_rules : (lim : Limits) (spot : Spot) (h : Header) (hb : List ℕ) → SpellsHeader spot.syntax h hb → KeepsRules lim spot (length hb) h → Unbroken lim spot hb

@@ -3,7 +3,7 @@ use Rattle.std.proofs.Common.{◌≡◌, ℕ, ◌+◌, ◌-◌, ◌<◌, ◌≤�
 use Rattle.element.specs.declared.syntax.Syntax.{Syntax}
 use Rattle.element.specs.declared.header.Header.{Header}
 use Rattle.element.specs.Header.{number, is_marker, header_at, is_whole}
-use Rattle.element.proofs.Headers.{tag_read, whole_eight}
+use Rattle.element.proofs.Public.{tag_read, whole_eight}
 use Rattle.sequence.specs.declared.level.Scope.{Scope}
 use Rattle.sequence.specs.declared.level.Level.{Level}
 use Rattle.sequence.specs.declared.spot.Spot.{Spot}

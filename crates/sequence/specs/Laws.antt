@@ -14,6 +14,7 @@ use Rattle.sequence.specs.FirstFault.{IsUnbroken, FirstFault}
 use Rattle.sequence.specs.declared.walker.Walker.{Walker}
 use Rattle.sequence.specs.Taken.{StandsAt, fault_of}
 use Rattle.sequence.specs.Walk.{Told, Tells}
+use Rattle.sequence.specs.Holding.{Holding, Holds}
 use Rattle.sequence.specs.machine.Machine.{start, run}
 use Rattle.sequence.specs.machine.Keeping.{keeps}
 use Rattle.sequence.specs.machine.Reported.{told_in}
@@ -76,6 +77,10 @@ OneFault = (s : Syntax) (lim : Limits) (b p p2 u u2 : List ℕ) (rule rule2 : �
 -- there is at most one report after a text
 abbrev pub OneTelling : Type 0
 OneTelling = (s : Syntax) (lim : Limits) (b : List ℕ) (told told2 : Told) → Tells s lim b told → Tells s lim b told2 → told ≡ told2
+
+-- there is at most one thing to hold after a text
+abbrev pub OneHolding : Type 0
+OneHolding = (s : Syntax) (lim : Limits) (b : List ℕ) (held held2 : Holding) → Holds s lim b held → Holds s lim b held2 → held ≡ held2
 
 -- there is a report after every text of bytes
 abbrev pub SomeTelling : Type 0

@@ -10,6 +10,9 @@ pub mod Ending
 pub mod Answering
 pub mod Pieces
 pub mod Walk
+pub mod Holding
+pub mod Fields
+pub mod Stored
 pub mod Taken
 pub mod Examples
 pub mod Laws

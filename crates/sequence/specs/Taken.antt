@@ -1,19 +1,50 @@
--- That a walker took certain bytes (this product's own profile). What its fields mean is in `machine`, and no reader has
--- to believe it: the contracts of the functions that return them say what is reported, and of `goes_on` no clause says
--- more than that `new` establishes it and `step` preserves it.
-use Rattle.std.specs.Prelude.{ℕ, List}
+-- That a walker took certain bytes (this product's own profile).
+use Rattle.std.specs.Prelude.{ℕ, ◌+◌, ◌*◌, List, [], ◌∷◌, Option, length}
 use Rattle.element.specs.Numbers.{IsBytes}
+use Rattle.element.specs.declared.syntax.Syntax.{Syntax}
+use Rattle.sequence.specs.declared.fault.Fault.{Fault}
 use Rattle.sequence.specs.declared.walker.Walker.{Walker}
-use Rattle.sequence.specs.Walk.{Tells}
-use Rattle.sequence.specs.machine.Holding.{CanGoOn}
--- the limits of a walker, the syntax of its data set, its refusal, and what its functions report
-pub use Rattle.sequence.specs.machine.Fields.{limits_of, syntax_of, fault_of, told_by}
+use Rattle.sequence.specs.Wanted.{bytes_of}
+use Rattle.sequence.specs.Rules.{Limits}
+use Rattle.sequence.specs.Walk.{Told, Tells}
+use Rattle.sequence.specs.Holding.{Holding, Holds}
+use Rattle.sequence.specs.Fields.{scopes_in, is_kept, told_values, fault_by, pending_by}
+use Rattle.sequence.specs.Stored.{wants_of, values_of}
+
+-- what the walker is held to
+abbrev pub limits_of : {V D : ℕ} → Walker V D → Limits
+limits_of {D = D} w = record { wanted = wants_of w.kept; depth = D; bytes = w.limit }
+
+-- the syntax of its data set
+abbrev pub syntax_of : {V D : ℕ} → Walker V D → Syntax
+syntax_of w = w.root.syntax
+
+-- its refusal, if there is one
+abbrev pub fault_of : {V D : ℕ} → Walker V D → Option Fault
+fault_of w = fault_by w.stage
+
+-- what it reports: `levels`, `place`, `held` and `kept` return it
+abbrev pub told_by : {V D : ℕ} → Walker V D → Told
+told_by w = record {
+  fault = fault_by w.stage;
+  levels = length w.levels.items;
+  place = w.place;
+  held = length w.header.items + bytes_of (values_of w.kept) + 16 * length w.levels.items;
+  kept = told_values (is_kept w.stage) (values_of w.kept);
+}
+
+-- what it holds
+abbrev pub holding_by : {V D : ℕ} → Walker V D → Holding
+holding_by w = record {
+  levels = scopes_in (w.root ∷ []) w.levels.items;
+  pending = pending_by w.stage w.header.items;
+  values = values_of w.kept;
+}
 
 -- the walker took the bytes b, in whatever pieces
 pub record StandsAt {V D : ℕ} (w : Walker V D) (b : List ℕ) : Type 0 where
   pub bytes : IsBytes b
-  -- its functions report what there is to report after b: of b itself, and after a refusal of the part before the
-  -- faulty header
+  -- it reports what there is to report after b: of b itself, and after a refusal of the part before the faulty header
   pub tells : Tells (syntax_of w) (limits_of w) b (told_by w)
-  -- what it holds of that text is enough to go on from it
-  pub goes_on : CanGoOn w b
+  -- it holds, of the same text, the open levels with their ends and last tags, what is unfinished, and the wanted values
+  pub holds : Holds (syntax_of w) (limits_of w) b (holding_by w)

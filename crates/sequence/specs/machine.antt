@@ -5,7 +5,6 @@ pub mod Keeping
 pub mod Reported
 pub mod Judging
 pub mod Stored
-pub mod Fields
 pub mod Holding
 pub mod Spare
 pub mod Made

@@ -2,7 +2,8 @@
 ghost use Rattle.std.specs.Prelude.{◌≡◌, ◌≤◌, ◌<◌, ◌^◌, ◌+◌, ◌-◌, ◌++◌, ◌∷◌, [], IsTrue, IfSome, length, if◌then◌else◌, slice_set, true, option_map};
 ghost use Rattle.arrayvec.specs.ArrayVec.{array_vec_len};
 ghost use Rattle.sequence.specs.Wanted.{rooms, is_wanted, room_of, value_of};
-ghost use Rattle.sequence.specs.machine.Keeping.{stored, counts, absent, are_stored, is_latest, left_at, told_values};
+ghost use Rattle.sequence.specs.Fields.{stored, absent, told_values};
+ghost use Rattle.sequence.specs.machine.Keeping.{counts, are_stored, is_latest, left_at};
 ghost use Rattle.sequence.specs.machine.Steps.{with_bytes};
 ghost use Rattle.sequence.specs.Wanted.{bytes_of};
 
@@ -69,7 +70,8 @@ pub struct Keep<const V: usize> {
 impl<const V: usize> Keep<V> {
     ghost use Rattle.std.specs.Prelude.{◌≡◌, ◌≤◌, ◌<◌, ◌^◌, ◌+◌, ◌-◌, ◌++◌, ◌∷◌, [], IsTrue, IfSome, IsSome, ◌↔◌, length, if◌then◌else◌, is_some, option_map, true};
     ghost use Rattle.sequence.specs.Wanted.{is_wanted, room_of, value_of, bytes_of};
-    ghost use Rattle.sequence.specs.machine.Stored.{values_of, wants_of, left_of_keep};
+    ghost use Rattle.sequence.specs.Stored.{values_of, wants_of};
+    ghost use Rattle.sequence.specs.machine.Stored.{left_of_keep};
 
     /// Room for the values of the wanted tags.
     pub fn new(wanted: Wanted) -> Keep<V>

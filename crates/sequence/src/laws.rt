@@ -3,7 +3,7 @@
 ghost use Rattle.std.specs.Prelude.{◌≡◌, ◌∷◌, []};
 ghost use Rattle.sequence.specs.Rules.{bad_vr, odd_length, not_rising, bad_group, undefined_not_allowed, unexpected_tag, delimiter_length, overrun, too_deep, too_long, truncated, kept_too_long};
 ghost use Rattle.sequence.specs.Ending.{WholeBreaksNoRule, WholeHasNoFault, FaultIsFinal};
-ghost use Rattle.sequence.specs.Laws.{FaultStays, RefusalStays, ReportIsComputed, BytesAreTried, RefusedStands, OneTree, OnePath, EndsAreNested, WholeHasOpenInside, OneFault, OneTelling, SomeTelling, NothingIsUnbroken, NoHeader, LeastHeader, BytesAreJoined};
+ghost use Rattle.sequence.specs.Laws.{FaultStays, RefusalStays, ReportIsComputed, BytesAreTried, RefusedStands, OneTree, OnePath, EndsAreNested, WholeHasOpenInside, OneFault, OneTelling, OneHolding, SomeTelling, NothingIsUnbroken, NoHeader, LeastHeader, BytesAreJoined};
 ghost use Rattle.sequence.specs.Examples.{TwoOpenLevels, FourLevels, PastItsItem, TooDeep, UnknownContent, AlongOneStore, AlongFourLevels};
 
 use crate::fault::Fault;
@@ -101,6 +101,11 @@ pub fn one_fault()
 /// There is at most one report after a text.
 pub fn one_telling()
     ensures { OneTelling }
+{}
+
+/// There is at most one thing to hold after a text.
+pub fn one_holding()
+    ensures { OneHolding }
 {}
 
 /// There is a report after every text of bytes.

@@ -24,7 +24,7 @@ pub struct Level {
 
 impl Level {
     ghost use Rattle.std.specs.Prelude.{◌≡◌, ℕ, ◌<◌, ◌≤◌, ◌^◌, ◌+◌, ◌-◌, length, IfSome};
-    ghost use Rattle.sequence.specs.machine.Scopes.{scope_of};
+    ghost use Rattle.sequence.specs.Fields.{scope_of};
     ghost use Rattle.sequence.specs.machine.Machine.{stops_at};
 
     pub fn scope(self) -> Scope

@@ -4,7 +4,8 @@ ghost use Rattle.element.specs.Header.{number};
 ghost use Rattle.arrayvec.specs.ArrayVec.{array_vec_len};
 ghost use Rattle.sequence.specs.machine.Machine.{arrive, due, leave, stops_at, spot_of, less, is_none, begun, stop_of, set_scope, sequence_scope};
 ghost use Rattle.sequence.specs.declared.level.Scope.{Scope};
-ghost use Rattle.sequence.specs.machine.Scopes.{top_of, below_of, scope_of, nearest_from};
+ghost use Rattle.sequence.specs.machine.Scopes.{top_of, below_of, nearest_from};
+ghost use Rattle.sequence.specs.Fields.{scope_of};
 
 use crate::level::{Level, Scope};
 use crate::shape::UNDEFINED;

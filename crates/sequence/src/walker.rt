@@ -1,8 +1,10 @@
 //! The walker.
 ghost use Rattle.std.specs.Prelude.{◌≡◌, ℕ, ◌<◌, ◌≤◌, ◌^◌, ◌+◌, ◌-◌, ◌&&◌, ◌++◌, ◌∷◌, [], None, Some, length, take, IsTrue, IfSome, nat_eq, true, if◌then◌else◌};
 ghost use Rattle.arrayvec.specs.ArrayVec.{array_vec_len};
-ghost use Rattle.sequence.specs.machine.Spare.{owed, spare, head_room, due_of, due_kept, is_kept, is_wanted_in};
-ghost use Rattle.sequence.specs.machine.Stored.{wants_of, values_of, left_of_keep};
+ghost use Rattle.sequence.specs.machine.Spare.{owed, spare, head_room, due_of, due_kept, is_wanted_in};
+ghost use Rattle.sequence.specs.Fields.{is_kept};
+ghost use Rattle.sequence.specs.Stored.{wants_of, values_of};
+ghost use Rattle.sequence.specs.machine.Stored.{left_of_keep};
 ghost use Rattle.sequence.specs.Wanted.{is_wanted, room_of};
 ghost use Rattle.sequence.specs.Open.{in_header};
 ghost use Rattle.sequence.specs.machine.Scopes.{top_of, below_of};
@@ -104,7 +106,7 @@ impl<const V: usize, const D: usize> Walker<V, D> {
     ghost use Rattle.sequence.specs.Rules.{counted_length};
     ghost use Rattle.sequence.specs.Shape as shapes;
     ghost use Rattle.sequence.specs.Wanted.{room_of, rooms, value_of};
-    ghost use Rattle.sequence.specs.machine.Stored.{wanted_tags};
+    ghost use Rattle.sequence.specs.Stored.{wanted_tags};
     ghost use Rattle.sequence.specs.declared.fault.Fault.{Fault};
     ghost use Rattle.sequence.specs.machine.State.{state_of, kept_values, top, below, IsSameWalk, has_room, fits_wanted};
     ghost use Rattle.sequence.specs.Taken.{limits_of, syntax_of, fault_of, StandsAt};

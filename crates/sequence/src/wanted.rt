@@ -47,7 +47,7 @@ pub struct Wanted {
 }
 
 impl Wanted {
-    ghost use Rattle.sequence.specs.machine.Stored.{wanted_tags};
+    ghost use Rattle.sequence.specs.Stored.{wanted_tags};
 
     /// No tag is wanted.
     pub fn none() -> Wanted

@@ -1,5 +1,5 @@
 -- The values that the walk keeps, byte by byte.
-use Rattle.std.specs.Prelude.{ℕ, zero, suc, ◌+◌, ◌-◌, Bool, true, ◌&&◌, ◌||◌, List, [], ◌∷◌, ◌++◌, take, drop, Option, Some, None, if◌then◌else◌, nat_eq, nat_le}
+use Rattle.std.specs.Prelude.{ℕ, zero, suc, ◌+◌, ◌-◌, Bool, true, ◌&&◌, ◌||◌, List, [], ◌∷◌, ◌++◌, Option, Some, None, if◌then◌else◌, nat_eq, nat_le}
 use Rattle.element.specs.declared.header.Header.{Header}
 use Rattle.element.specs.Header.{number, is_marker, is_whole, header_at}
 use Rattle.sequence.specs.declared.level.Scope.{Scope}
@@ -9,6 +9,7 @@ use Rattle.sequence.specs.declared.shape.Shape.TheVariants.{Value, Sequence, Not
 use Rattle.sequence.specs.Shape.{shape}
 use Rattle.sequence.specs.Wanted.{Values, is_wanted}
 use Rattle.sequence.specs.Rules.{Limits, Broken, broken}
+use Rattle.sequence.specs.Fields.{is_absent, but_last}
 use Rattle.sequence.specs.machine.Machine.{Mode, Heading, Reading, Stopped, State, is_empty, spot_of, next}
 
 -- an element of the data set itself whose tag is wanted
@@ -55,29 +56,12 @@ keeps lim st values [] = values
 keeps lim st values (x ∷ xs) = keeps lim (next lim st x) (keep lim st values x) xs
 
 -- of the kept values, those that are whole
-abbrev pub but_last : Values → Values
-but_last [] = []
-but_last (one ∷ []) = []
-but_last (one ∷ two ∷ values) = one ∷ but_last (two ∷ values)
-
 abbrev pub whole_by : Limits → List Scope → Mode → Values → Values
 whole_by lim fs (Heading start t) values = values
 whole_by lim fs (Reading t n) values = if wanted_at lim fs (number t) then but_last values else values
 whole_by lim fs (Stopped n place t) values = values
 
--- how the values are stored: their lengths by the wanted tags, and their bytes one after another
-
--- FFFFFFFFH, of a value that did not come
-abbrev pub absent : ℕ
-absent = 0xffffffff
-
-abbrev pub is_absent : ℕ → Bool
-is_absent n = nat_eq n absent
-
-abbrev pub stored : List Want → List ℕ → List ℕ → Values
-stored [] lengths bytes = []
-stored (w ∷ ws) [] bytes = []
-stored (w ∷ ws) (n ∷ lengths) bytes = if is_absent n then stored ws lengths bytes else (number w.tag, take n bytes) ∷ stored ws lengths (drop n bytes)
+-- how the values are stored
 
 -- the bytes that these lengths count
 abbrev pub counts : List Want → List ℕ → ℕ
@@ -114,7 +98,3 @@ left_at (suc i) (w ∷ ws) (n ∷ lengths) = left_at i ws lengths
 abbrev pub place_from : ℕ → List Want → ℕ → Option ℕ
 place_from k [] t = None
 place_from k (w ∷ ws) t = if nat_eq (number w.tag) t then Some k else place_from (k + 1) ws t
-
--- with the values that are reported where the last one is begun or not
-abbrev pub told_values : Bool → Values → Values
-told_values begun values = if begun then but_last values else values

@@ -1,17 +1,9 @@
 -- The scopes of a list of levels, which has the innermost last.
-use Rattle.std.specs.Prelude.{ℕ, List, [], ◌∷◌, Option, Some, None, nat_eq, if◌then◌else◌}
-use Rattle.element.specs.declared.syntax.Syntax.TheVariants.{Implicit, Explicit}
+use Rattle.std.specs.Prelude.{ℕ, List, [], ◌∷◌, Option}
 use Rattle.sequence.specs.declared.level.Scope.{Scope}
 use Rattle.sequence.specs.declared.level.Level.{Level}
+use Rattle.sequence.specs.Fields.{scope_of}
 use Rattle.sequence.specs.machine.Machine.{nearer}
-
-abbrev pub scope_of : Level → Scope
-scope_of l = record {
-  in_sequence = nat_eq l.kind 1;
-  syntax = if nat_eq l.implicit 1 then Implicit else Explicit;
-  stop = if nat_eq l.end 0xffff_ffff_ffff_ffff then None else Some l.end;
-  last = l.last;
-}
 
 -- the innermost scope, over the root
 abbrev pub top_of : Scope → List Level → Scope

@@ -44,11 +44,6 @@ due_kept (Value tag left true) = left
 due_kept (Value tag left false) = 0
 due_kept (Stopped fault) = 0
 
-abbrev pub is_kept : Stage → Bool
-is_kept Heading = false
-is_kept (Value tag left kept) = kept
-is_kept (Stopped fault) = false
-
 -- whether the value is that of a wanted tag of the data set itself
 abbrev pub is_wanted_in : List Want → List Level → Stage → Bool
 is_wanted_in ws levels Heading = false

@@ -1,20 +1,7 @@
--- What a room for values holds.
-use Rattle.std.specs.Prelude.{ℕ, List}
+-- What a room for values has left.
+use Rattle.std.specs.Prelude.{ℕ}
 use Rattle.sequence.specs.declared.keep.Keep.{Keep}
-use Rattle.sequence.specs.declared.wanted.Want.{Want}
-use Rattle.sequence.specs.declared.wanted.Wanted.{Wanted}
-use Rattle.sequence.specs.Wanted.{Values}
-use Rattle.sequence.specs.machine.Keeping.{stored, left_at}
-
-abbrev pub wants_of : {V : ℕ} → Keep V → List Want
-wants_of k = k.wanted.list.items
-
-abbrev pub values_of : {V : ℕ} → Keep V → Values
-values_of k = stored k.wanted.list.items k.lengths k.bytes.items
+use Rattle.sequence.specs.machine.Keeping.{left_at}
 
 abbrev pub left_of_keep : {V : ℕ} → Keep V → ℕ
 left_of_keep k = left_at k.slot k.wanted.list.items k.lengths
-
--- the wanted tags with their rooms
-abbrev pub wanted_tags : Wanted → List Want
-wanted_tags wanted = wanted.list.items

@@ -1,6 +1,6 @@
 //! What a walker reports of the bytes that it took.
 ghost use Rattle.std.specs.Prelude.{◌≡◌};
-ghost use Rattle.sequence.specs.machine.Spare.{is_kept};
+ghost use Rattle.sequence.specs.Fields.{is_kept};
 
 use super::Walker;
 use crate::stage::Stage;

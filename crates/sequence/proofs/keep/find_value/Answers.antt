@@ -1,7 +1,7 @@
 use Rattle.std.proofs.Common.{rules, ◌≡◌, ◌<◌, ◌+◌, ◌∙◌, ap, length, drop, get_or, arith}
 use Rattle.std.proofs.lemmas.List.{length-drop}
 use Rattle.sequence.specs.Wanted.{value_of}
-use Rattle.sequence.specs.machine.Keeping.{stored}
+use Rattle.sequence.specs.Fields.{stored}
 use Rattle.sequence.proofs.Storing.{look_absent, look_on, size_absent, size_on, part_is}
 use Rattle.sequence.proofs.keep.find_value.Goals as goal
 use Rattle.sequence.proofs.keep.find_value.Goals.{then-size+else-number-tag, else-size}

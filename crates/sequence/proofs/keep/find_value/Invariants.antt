@@ -1,6 +1,7 @@
 use Rattle.std.proofs.Common.{◌≡◌, ◌≤◌, ◌-◌, length, drop}
 use Rattle.sequence.specs.Wanted.{value_of}
-use Rattle.sequence.specs.machine.Keeping.{stored, counts}
+use Rattle.sequence.specs.Fields.{stored}
+use Rattle.sequence.specs.machine.Keeping.{counts}
 use Rattle.sequence.proofs.keep.find_value.Given as goal
 
 abbrev pub invariant-loop-at : goal.invariant-loop-at

@@ -2,7 +2,7 @@ use Rattle.std.proofs.Common.{◌+◌, ◌≤◌, ◌∙◌, ap, arith, get_or, 
 use Rattle.arrayvec.specs.ArrayVec.{array_vec_len}
 use Rattle.sequence.proofs.Storing.{fit_left}
 use Rattle.sequence.proofs.Extending.{extended, extend_facts, on_ok}
-use Rattle.sequence.specs.machine.Keeping.{stored}
+use Rattle.sequence.specs.Fields.{stored}
 use Rattle.sequence.proofs.keep.Keep.extend.Given as given
 use Rattle.sequence.proofs.keep.Keep.extend.Goals as goal
 use Rattle.sequence.proofs.keep.Keep.extend.Goals.{After-try_extend_from_slice-fits}

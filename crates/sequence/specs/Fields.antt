@@ -1,0 +1,65 @@
+-- What is kept of levels, of values and of what is unfinished, in the words of the definitions.
+use Rattle.std.specs.Prelude.{ℕ, Bool, false, List, [], ◌∷◌, Option, Some, None, take, drop, nat_eq, if◌then◌else◌}
+use Rattle.element.specs.declared.syntax.Syntax.TheVariants.{Implicit, Explicit}
+use Rattle.element.specs.Header.{number}
+use Rattle.sequence.specs.declared.fault.Fault.{Fault}
+use Rattle.sequence.specs.declared.level.Level.{Level}
+use Rattle.sequence.specs.declared.level.Scope.{Scope}
+use Rattle.sequence.specs.declared.stage.Stage.{Stage}
+use Rattle.sequence.specs.declared.stage.Stage.TheVariants.{Heading, Value, Stopped}
+use Rattle.sequence.specs.declared.wanted.Want.{Want}
+use Rattle.sequence.specs.Wanted.{Values}
+use Rattle.sequence.specs.Holding.{Pending, header_begun, value_due}
+
+-- a level: the end FFFFFFFFFFFFFFFFH is that of an undefined length
+abbrev pub scope_of : Level → Scope
+scope_of l = record {
+  in_sequence = nat_eq l.kind 1;
+  syntax = if nat_eq l.implicit 1 then Implicit else Explicit;
+  stop = if nat_eq l.end 0xffff_ffff_ffff_ffff then None else Some l.end;
+  last = l.last;
+}
+
+-- levels, of which the innermost comes last, and what is round them, of which it comes first
+abbrev pub scopes_in : List Scope → List Level → List Scope
+scopes_in round [] = round
+scopes_in round (l ∷ ls) = scopes_in (scope_of l ∷ round) ls
+
+-- FFFFFFFFH, the length of a value that did not come
+abbrev pub absent : ℕ
+absent = 0xffffffff
+
+abbrev pub is_absent : ℕ → Bool
+is_absent n = nat_eq n absent
+
+-- values: their lengths in the order of the wanted tags, and their bytes one after another
+abbrev pub stored : List Want → List ℕ → List ℕ → Values
+stored [] lengths bytes = []
+stored (w ∷ ws) [] bytes = []
+stored (w ∷ ws) (n ∷ lengths) bytes = if is_absent n then stored ws lengths bytes else (number w.tag, take n bytes) ∷ stored ws lengths (drop n bytes)
+
+-- whether the last of them has begun and is not whole
+abbrev pub is_kept : Stage → Bool
+is_kept Heading = false
+is_kept (Value tag left kept) = kept
+is_kept (Stopped fault) = false
+
+abbrev pub but_last : Values → Values
+but_last [] = []
+but_last (one ∷ []) = []
+but_last (one ∷ two ∷ values) = one ∷ but_last (two ∷ values)
+
+-- those that are whole
+abbrev pub told_values : Bool → Values → Values
+told_values begun values = if begun then but_last values else values
+
+abbrev pub fault_by : Stage → Option Fault
+fault_by Heading = None
+fault_by (Value tag left kept) = None
+fault_by (Stopped fault) = Some fault
+
+-- what is unfinished: after a refusal no byte of a header is kept
+abbrev pub pending_by : Stage → List ℕ → Pending
+pending_by Heading header = header_begun header
+pending_by (Value tag left kept) header = value_due tag left
+pending_by (Stopped fault) header = header_begun header
