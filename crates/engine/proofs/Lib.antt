@@ -1,5 +1,6 @@
 pub mod StoryLemmas
 pub mod TimelineLemmas
+pub mod SizeLemmas
 pub mod StoreLemmas
 pub mod PendsLemmas
 pub mod TriesLemmas
@@ -25,6 +26,7 @@ pub mod VerdictLemmas
 pub mod OneVerdict
 pub mod StoreLawLemmas
 pub mod VerdictExamples
+pub mod StoreVerdicts
 pub mod CutLemmas
 pub mod RowsLemmas
 pub mod JudgedLemmas

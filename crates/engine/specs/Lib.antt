@@ -24,4 +24,5 @@ pub mod Recording
 pub mod Examples
 pub mod WholeExamples
 pub mod StoreExamples
+pub mod StoreVerdicts
 pub mod machine

@@ -88,7 +88,7 @@ impl<const A: usize, const C: usize, const V: usize, const D: usize> Association
     pub fn state(&self) -> State
         ensures { result ≡ state_of self.now }
     {
-        self.provider.state()
+        self.provider.state
     }
 
     /// Whether the ARTIM timer runs: while a request is due, and while the peer is to close the
@@ -220,7 +220,7 @@ impl<const A: usize, const C: usize, const V: usize, const D: usize> Association
     pub(crate) fn is_ended(&self) -> bool
         ensures { result ≡ holding.is_ended (state_of self.now) }
     {
-        matches!(self.state(), State::Sta1)
+        matches!(self.provider.state, State::Sta1)
     }
 
     /// Gives up the bytes of heads once the association has ended.

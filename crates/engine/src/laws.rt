@@ -2,6 +2,7 @@
 //! function that does nothing.
 ghost use Rattle.engine.specs.WholeExamples.{TheEchoRuns, TheRequestIsHeld, ItStandsEstablished, VerdictsOnStores};
 ghost use Rattle.engine.specs.StoreExamples.{AStoreIsFiled, AFilingFailsOnce, ACutReply, ACloseInADataSet, HeldInADataSet};
+ghost use Rattle.engine.specs.StoreVerdicts.{VerdictsOnOneImage, TheFileOfAStore};
 ghost use Rattle.engine.specs.VerdictExamples.{VerdictsOnFaults};
 ghost use Rattle.engine.specs.StoreLaws.{AVerdictIsThere, AVerdictIsOne, NoGoodImageIsRefused, FiledByItself};
 ghost use Rattle.engine.specs.Laws.{EntriesAppend, CutsDoNotShow, NothingAfterTheEnd};
@@ -46,6 +47,16 @@ pub fn a_store_is_filed_by_itself()
 /// Statuses and causes of stores whose data sets break a rule.
 pub fn verdicts_on_faults()
     ensures { VerdictsOnFaults }
+{}
+
+/// A CT image is stored, is not filed, or is not the one that the command names.
+pub fn verdicts_on_one_image()
+    ensures { VerdictsOnOneImage }
+{}
+
+/// The file of a CT image, byte for byte.
+pub fn the_file_of_a_store()
+    ensures { TheFileOfAStore }
 {}
 
 /// A request above its room is rejected at its head.

@@ -91,13 +91,6 @@ impl<const A: usize, const C: usize, const V: usize, const D: usize> Provider<A,
         }
     }
 
-    /// The state of the acceptor.
-    pub(crate) fn state(&self) -> State
-        ensures { result ≡ self.now.state }
-    {
-        self.state
-    }
-
     /// Whether the PDVs of the PDU that has begun count.
     pub(crate) fn takes_pdvs(&self) -> bool
         ensures { result ≡ takes_pdvs_in (kept_of self.now) }

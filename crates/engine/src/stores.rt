@@ -4,7 +4,7 @@ ghost use Rattle.element.specs.declared.syntax.Syntax.{Syntax};
 ghost use Rattle.part10.specs.File.{head};
 ghost use Rattle.sequence.specs.Rules.{Limits};
 ghost use Rattle.sequence.specs.Taken.{told_by};
-ghost use Rattle.sequence.specs.machine.Stored.{wanted_tags};
+ghost use Rattle.sequence.specs.Stored.{wanted_tags};
 ghost use Rattle.engine.specs.Drafts.{IsThere, Drafts};
 ghost use Rattle.engine.specs.Replies.{some_or_nothing};
 ghost use Rattle.engine.specs.Stores as spelling;

@@ -109,18 +109,16 @@ impl<const A: usize, const C: usize, const V: usize, const D: usize> Association
             return (count, None);
         };
         let head = read_pdu_head(bytes);
+        self.provider.on_head(head.kind, head.length, wire, filing);
         if head.length == 0 {
             self.head.clear();
-            self.provider.on_head(head.kind, 0, wire, filing);
             return (count, Some(head.kind));
         }
         if head.kind == DATA {
             self.framing = Framing::PdvHead { left: head.length };
-            self.provider.on_head(head.kind, head.length, wire, filing);
             return (count, None);
         }
         self.framing = Framing::Body { left: head.length };
-        self.provider.on_head(head.kind, head.length, wire, filing);
         (count, None)
     }
 

@@ -12,6 +12,7 @@ use Rattle.engine.specs.Stands.{Stands}
 use Rattle.engine.specs.Ran.{standing_of}
 use Rattle.engine.proofs.StillLemmas.{ended_is}
 use Rattle.engine.proofs.RanLemmas.{running_start, running_more, follows_all, answered_by}
+use Rattle.engine.proofs.SizeLemmas.{association_small}
 use Rattle.engine.proofs.running.run.Goals as goal
 use Rattle.engine.proofs.running.run.Goals.{in-Piece, in-Closed, in-Expired, in-LocalAbort, else-loop-turn-test, then-loop-turn-test+then-over}
 
@@ -72,3 +73,15 @@ returns-clause-ran g c =
           refl c.discard.ensures.leaves;
       no_draft = ap (λ (x : Store). x.has_draft) c.discard.ensures.leaves;
     }
+
+pub is_ended-over-requires : goal.is_ended-over-requires
+is_ended-over-requires g c = association_small c.loop-turn.association.provider
+
+pub artim-requires : goal.artim-requires
+artim-requires g c = association_small c.loop-turn.association.provider
+
+pub state-requires : goal.state-requires
+state-requires g c = association_small c.loop-turn.association.provider
+
+pub held-requires : goal.held-requires
+held-requires g c = association_small c.loop-turn.association.provider

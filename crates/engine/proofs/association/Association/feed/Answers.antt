@@ -1,6 +1,7 @@
 use Rattle.std.proofs.Common.{◌∙◌, sym}
 use Rattle.engine.specs.Inputs.{Bytes}
 use Rattle.engine.proofs.MovedLemmas.{moved_still, moved_feed}
+use Rattle.engine.proofs.SizeLemmas.{association_small}
 use Rattle.engine.proofs.association.Association.feed.Goals as goal
 
 pub returns-then-is_ended-clause-moved : goal.returns-then-is_ended-clause-moved
@@ -11,3 +12,9 @@ returns-clause-moved g c inputs story failed h =
     let dropped = c.drop_heads.ensures in
     moved_feed _ _ inputs story failed c.args.piece.now _ _ _ _ _ h c.take_all.ensures.took
     (record { kept = dropped.kept; same = dropped.same; framing_is = dropped.framing; head_is = dropped.head }) c.take_all.ensures.drafts
+
+pub is_ended-requires : goal.is_ended-requires
+is_ended-requires g c = association_small c.args.self.now.provider
+
+pub drop_heads-requires : goal.drop_heads-requires
+drop_heads-requires g c = association_small c.args.self.now.provider

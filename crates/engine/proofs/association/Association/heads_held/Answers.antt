@@ -2,6 +2,7 @@ use Rattle.std.proofs.Common.{◌≡◌, Bool, true, false, ◌∙◌, sym, ap, 
 use Rattle.engine.proofs.HeldLemmas.{pdv_part, heads_head, heads_body, heads_pdv, heads_fragment}
 use Rattle.engine.specs.machine.Kept.{kept_of}
 use Rattle.engine.specs.machine.Pends.{takes_pdvs_in}
+use Rattle.engine.proofs.SizeLemmas.{provider_small}
 use Rattle.engine.proofs.association.Association.heads_held.Goals as goal
 
 pub returns-in-Head-clause-value : goal.returns-in-Head-clause-value
@@ -26,3 +27,6 @@ returns-else-takes_pdvs-clause-value g c store r h =
 
 pub returns-in-Fragment-clause-value : goal.returns-in-Fragment-clause-value
 returns-in-Fragment-clause-value g c store r h = heads_fragment _ _ _ store r _ _ (rw c.in-Fragment.is at h)
+
+pub takes_pdvs-requires : goal.takes_pdvs-requires
+takes_pdvs-requires g c = provider_small c.args.self.now.provider

@@ -2,6 +2,7 @@ use Rattle.std.proofs.Common.{◌∙◌, sym, refl}
 use Rattle.engine.specs.Inputs.{UserAbort}
 use Rattle.engine.specs.Timeline.{Aborted}
 use Rattle.engine.proofs.MovedLemmas.{moved_still, moved_call}
+use Rattle.engine.proofs.SizeLemmas.{association_small}
 use Rattle.engine.proofs.association.Association.local_abort.Goals as goal
 
 pub returns-then-is_ended-clause-moved : goal.returns-then-is_ended-clause-moved
@@ -18,3 +19,9 @@ returns-clause-moved g c inputs story failed h =
     let dropped = c.drop_heads.ensures in
     moved_call _ _ inputs story failed UserAbort Aborted _ _ _ _ _ _ _ _ h (sym c.is_ended.ensures ∙ c.if-is_ended.false) refl refl c.on_local_abort.ensures.does
     (record { kept = dropped.kept; same = dropped.same; framing_is = dropped.framing; head_is = dropped.head }) c.on_local_abort.ensures.drafts
+
+pub is_ended-requires : goal.is_ended-requires
+is_ended-requires g c = association_small c.args.self.now.provider
+
+pub drop_heads-requires : goal.drop_heads-requires
+drop_heads-requires g c = association_small c.args.self.now.provider

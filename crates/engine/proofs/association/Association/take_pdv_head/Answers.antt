@@ -1,4 +1,4 @@
-use Rattle.std.proofs.Common.{◌⊎◌, ◌≡◌, ◌<◌, ◌≤◌, ◌-◌, ℕ, List, length, take, get_or, arith, ◌∙◌, ap, refl, inl, inr, rules}
+use Rattle.std.proofs.Common.{◌⊎◌, ◌≡◌, ◌<◌, ◌≤◌, ◌-◌, ℕ, List, length, take, get_or, arith, ◌∙◌, ap, refl, inl, inr}
 use Rattle.std.proofs.lemmas.List.{length-take, take_all}
 use Rattle.byteorder.specs.Endian.{big_number}
 use Rattle.pdu.specs.Heads.{pdv_head_of}
@@ -6,6 +6,7 @@ use Rattle.pdu.specs.Marks.{frame_kind}
 use Rattle.pdu.specs.declared.head.PdvHead.{PdvHead}
 use Rattle.engine.proofs.TookLemmas.{drafts_then}
 use Rattle.engine.proofs.ValueLemmas.{found_pdv_part, found_pdv_short, found_bad, found_bad_end, found_pdv_head, found_pdv_whole}
+use Rattle.engine.proofs.SizeLemmas.{provider_small}
 use Rattle.engine.proofs.association.Association.take_pdv_head.Goals as goal
 use Rattle.engine.proofs.association.Association.take_pdv_head.Goals.{then-head-lt2-via-then-head-lt2, then-head-lt2-via-else-head-lt2+then-head-left}
 
@@ -101,13 +102,13 @@ invariant_of-self-2-clause-body_fits g c some =
     let kind = ap frame_kind (c.end_pdv-ended.ensures.kept (omega (arith, some))) ∙ c.requires.data in λ due taken one. absurd (omega (arith, one, kind))
 
 pub on_bad-requires : goal.on_bad-requires
-on_bad-requires g c = (search rules, c.requires.draft)
+on_bad-requires g c = (provider_small c.args.self.now.provider, c.requires.draft)
 
 pub on_pdv_head-requires : goal.on_pdv_head-requires
-on_pdv_head-requires g c = (search rules, (c.requires.draft, omega (arith, c.if-head-lt2.false)))
+on_pdv_head-requires g c = (provider_small c.args.self.now.provider, (c.requires.draft, omega (arith, c.if-head-lt2.false)))
 
 pub end_pdv-ended-requires : goal.end_pdv-ended-requires
-end_pdv-ended-requires g c = (search rules, (c.on_pdv_head.ensures.drafts.there, c.requires.head))
+end_pdv-ended-requires g c = (provider_small c.args.self.now.provider, (c.on_pdv_head.ensures.drafts.there, c.requires.head))
 
 pub returns-clause-drafts : goal.returns-clause-drafts
 returns-clause-drafts g c = drafts_then _ _ _ _ _ _ c.on_pdv_head.ensures.drafts c.end_pdv-ended.ensures.drafts

@@ -1,6 +1,7 @@
 use Rattle.std.proofs.Common.{◌∙◌, ◌≡◌, false, sym, ap}
 use Rattle.engine.specs.Held.{is_ended}
 use Rattle.engine.proofs.TookLemmas.{took_calm, took_goes, took_ends}
+use Rattle.engine.proofs.SizeLemmas.{association_small}
 use Rattle.engine.proofs.association.Association.take_some.Goals as goal
 
 pub returns-then-is_ended-clause-took : goal.returns-then-is_ended-clause-took
@@ -17,3 +18,6 @@ returns-in_default-clause-took g c p r rest h =
     let open_still : is_ended p.state ≡ false = sym (ap is_ended h.pends.state_is) ∙ sym c.is_ended.ensures ∙ c.if-is_ended.false in
     let found = c.take_part-count.ensures.found p r rest open_still h in
     took_goes _ _ _ p r _ _ _ (rw c.in_default.is at found)
+
+pub is_ended-requires : goal.is_ended-requires
+is_ended-requires g c = association_small c.args.self.now.provider

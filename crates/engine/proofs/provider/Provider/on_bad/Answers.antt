@@ -8,6 +8,7 @@ use Rattle.engine.specs.Timeline.{At}
 use Rattle.engine.specs.machine.Kept.{kept_of, settings_in, rooms_of}
 use Rattle.engine.proofs.ShownLemmas.{takes_shown}
 use Rattle.engine.proofs.TriesLemmas.{does_by, does_nothing, bad_is, none_counted_body, none_counted_pdv}
+use Rattle.engine.proofs.SizeLemmas.{provider_small}
 use Rattle.engine.proofs.provider.Provider.on_bad.Goals as goal
 
 pub returns-then-takes_pdvs-clause-does : goal.returns-then-takes_pdvs-clause-does
@@ -24,3 +25,6 @@ returns-else-takes_pdvs-clause-does g c = λ p h.
     let s = settings_in c.args.self.now in
     let dropped = sym (takes_shown (kept_of c.args.self.now) _ p [] [] h) ∙ sym c.takes_pdvs.ensures ∙ c.if-takes_pdvs.false in
     does_nothing rooms s p (At BadPdv) (kept_of c.args.self.now) [] [] _ (bad_is rooms s p ∙ ap (λ (t : Bool). if t then invalid p else nothing p) dropped) tt h
+
+pub takes_pdvs-requires : goal.takes_pdvs-requires
+takes_pdvs-requires g c = provider_small c.args.self.now

@@ -7,6 +7,7 @@ use Rattle.engine.proofs.StoreLemmas.{goes_drafts}
 use Rattle.engine.proofs.ShownLemmas.{takes_shown}
 use Rattle.engine.proofs.MessageLemmas.{counted_taken, pends_dropped}
 use Rattle.engine.proofs.DataLemmas.{does_append, appends_none}
+use Rattle.engine.proofs.SizeLemmas.{provider_small}
 use Rattle.engine.proofs.provider.Provider.on_data.Goals as goal
 
 pub returns-then-takes_pdvs-clause-appends : goal.returns-then-takes_pdvs-clause-appends
@@ -25,3 +26,6 @@ returns-else-takes_pdvs-clause-appends g c = λ p begun six h.
     let k = kept_of c.args.self.now in
     let dropped = sym (takes_shown k _ p [] begun h) ∙ sym c.takes_pdvs.ensures ∙ c.if-takes_pdvs.false in
     appends_none (rooms_of g.row.A g.row.C g.row.V g.row.D) (settings_in c.args.self.now) p k (begun ++ c.args.part.now) _ (pends_dropped k _ p [] begun (begun ++ c.args.part.now) dropped h)
+
+pub takes_pdvs-requires : goal.takes_pdvs-requires
+takes_pdvs-requires g c = provider_small c.args.self.now

@@ -1,5 +1,5 @@
 -- The judged head is what the entry gives.
-use Rattle.std.proofs.Common.{rules, [], List, refl, ap, sym, subst, ◌≡◌, ◌∙◌, ◌-◌, ℕ, false}
+use Rattle.std.proofs.Common.{[], List, refl, ap, sym, subst, ◌≡◌, ◌∙◌, ◌-◌, ℕ, false}
 use Rattle.acceptor.specs.declared.state.State.{State}
 use Rattle.acceptor.specs.declared.event.Event.TheVariants as event
 use Rattle.pdu.specs.Marks.{Head}
@@ -13,6 +13,7 @@ use Rattle.engine.specs.machine.Kept.{kept_of, settings_in, rooms_of}
 use Rattle.engine.proofs.PendsLemmas.{pends_begins, tries_from}
 use Rattle.engine.proofs.HeadLemmas.{head_nothing, head_at_once, head_rejected}
 use Rattle.engine.proofs.TriesLemmas.{does_by, tries_nothing, none_counted_body, none_counted_pdv}
+use Rattle.engine.proofs.SizeLemmas.{provider_small}
 use Rattle.engine.proofs.provider.Provider.on_head.Goals as goal
 
 -- a PDU begins, and no part of a body has come
@@ -62,4 +63,4 @@ returns-in-TooLong-clause-does g c = λ p h.
     (c.refuse-in-TooLong.ensures.tries q [] [] [] [] (begun_pends (kept_of c.args.self.now) _ p c.clear.new.self.items c.clear.ensures h) (none_counted_body given.next) (none_counted_pdv given.next)))
 
 pub refuse-requires : goal.refuse-requires
-refuse-requires g c = (search rules, (c.requires.draft, c.in-AtOnce.ensures.stays c.in-AtOnce.event c.in-AtOnce.reason refl))
+refuse-requires g c = (provider_small c.args.self.now, (c.requires.draft, c.in-AtOnce.ensures.stays c.in-AtOnce.event c.in-AtOnce.reason refl))

@@ -20,6 +20,7 @@ use Rattle.engine.proofs.TriesLemmas.{does_by, does_nothing}
 use Rattle.engine.proofs.MessageLemmas.{entry_of, pdv_taken, pdv_dropped, pdv_comes, pends_dropped, goes_of, ends_of, refuses_of, due_of, counted_taken, pends_going_on, aside_of, aside_joined, taken_state, aborted_pdv, aborted_body, verdict_by, verdict_none, tries_still}
 use Rattle.engine.proofs.EndedLemmas.{does_concluded}
 use Rattle.engine.proofs.DataLemmas.{does_due}
+use Rattle.engine.proofs.SizeLemmas.{provider_small}
 use Rattle.engine.proofs.provider.Provider.on_pdv.Goals as goal
 
 pub returns-then-not-takes_pdvs-clause-does : goal.returns-then-not-takes_pdvs-clause-does
@@ -111,3 +112,6 @@ returns-in-Err-clause-does g c = λ p begun six whole id h.
     does_by rooms s p (At (entry_of begun)) (user_aborts p) (kept_of c.refuse.new.self) [] [] _ _
     (pdv_taken rooms s p good begun taken ∙ pdv_comes p good begun (Refuses c.in-Err.field-0) got.0) refl (verdict_by rooms s p p good begun (Refuses c.in-Err.field-0) taken got.0 tt)
     (c.refuse.ensures.tries p [] begun [] [] pends (aborted_body p taken) (aborted_pdv p begun taken))
+
+pub takes_pdvs-requires : goal.takes_pdvs-requires
+takes_pdvs-requires g c = provider_small c.args.self.now

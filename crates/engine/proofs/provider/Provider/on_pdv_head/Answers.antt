@@ -19,6 +19,7 @@ use Rattle.engine.specs.machine.Kept.{kept_of, settings_in, rooms_of}
 use Rattle.engine.proofs.ShownLemmas.{takes_shown}
 use Rattle.engine.proofs.TriesLemmas.{does_by, does_nothing, none_counted_body, none_counted_pdv}
 use Rattle.engine.proofs.MessageLemmas.{head_taken, head_dropped, head_unaccepted, head_accepted, pends_dropped, context_shown, join_between, judged_none, judged_some, pends_headed}
+use Rattle.engine.proofs.SizeLemmas.{provider_small}
 use Rattle.engine.proofs.provider.Provider.on_pdv_head.Goals as goal
 
 pub returns-then-not-takes_pdvs-clause-does : goal.returns-then-not-takes_pdvs-clause-does
@@ -80,3 +81,6 @@ returns-in-Err-clause-does g c = λ p begun six head h.
     does_by rooms s p (At (head_mark begun)) (user_aborts p) (kept_of c.refuse-in-Err.new.self) [] begun _ _
     (head_taken rooms s p _ _ _ taken ∙ head_accepted g.row.C p _ (get_or begun 4 0) _ c.in-Some.field-0 (Some c.in-Err.field-0) some wrong) refl tt
     (c.refuse-in-Err.ensures.tries p [] [] [] begun pends (none_counted_body (done [] 0 p event.UserAborts).next) (none_counted_pdv (done [] 0 p event.UserAborts).next))
+
+pub takes_pdvs-requires : goal.takes_pdvs-requires
+takes_pdvs-requires g c = provider_small c.args.self.now

@@ -1,0 +1,5 @@
+use Rattle.engine.proofs.SizeLemmas.{provider_small}
+use Rattle.engine.proofs.association.Association.drafting.Goals as goal
+
+pub drafting-requires : goal.drafting-requires
+drafting-requires g c = provider_small c.args.self.now.provider

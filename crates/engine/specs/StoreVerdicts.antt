@@ -1,0 +1,47 @@
+-- The verdict on one CT store, and its file, byte for byte (PS3.10 section 7.1).
+use Rattle.std.specs.Prelude.{◌≡◌, ℕ, ◌^◌, Bool, true, false, List, [], ◌∷◌, ◌++◌, length, replicate, Some, None, codes}
+use Rattle.element.specs.declared.syntax.Syntax.TheVariants.{Explicit}
+use Rattle.dimse.specs.Command.{CommandRecord}
+use Rattle.dimse.specs.Status.{data_set_mismatch}
+use Rattle.engine.specs.Timeline.{Finding, good}
+use Rattle.engine.specs.Run.{files_of}
+use Rattle.engine.specs.Stores.{Verdict, cause, instance_mismatch, instance_tag}
+use Rattle.engine.specs.Examples.{rooms, settings}
+use Rattle.engine.specs.StoreExamples.{data_set, accepted, a_store, the_set, unfiled}
+use Rattle.engine.specs.VerdictExamples.{ct_in}
+
+-- a C-STORE-RQ of a CT image with this instance
+abbrev pub store_of : List ℕ → CommandRecord
+store_of instance = record { class = codes "1.2.840.10008.5.1.4.1.1.2"; field = 1; message = 7; with_data = true; instance = Some instance }
+
+abbrev pub Comes : List ℕ → Bool → Finding → Type 0
+Comes instance failed finding = Verdict 64 (2 ^ 40) (ct_in Explicit) (store_of instance) data_set failed finding
+
+-- The data set is of the instance 1.2.3. Where the command names it too, the store is answered by success, or by A700 if a
+-- filing call failed; where it names another one, by A900.
+abbrev pub VerdictsOnOneImage : Type 0
+VerdictsOnOneImage =
+    Comes (codes "1.2.3") false good
+    × Comes (codes "1.2.3") true unfiled
+    × ((failed : Bool) → Comes (codes "1.2.9") failed (cause data_set_mismatch instance_mismatch instance_tag))
+
+-- an element of group 0002 with a short VR
+abbrev pub meta : ℕ → List ℕ → List ℕ → List ℕ
+meta number vr value = 2 ∷ 0 ∷ number ∷ 0 ∷ (vr ++ length value ∷ 0 ∷ value)
+
+-- its file: the preamble and the letters, group 0002 after its length of 144, and the data set as it was sent
+abbrev pub the_file : List ℕ
+the_file =
+    replicate 128 0 ++ codes "DICM"
+    ++ meta 0x00 (codes "UL") (144 ∷ 0 ∷ 0 ∷ 0 ∷ [])
+    ++ (2 ∷ 0 ∷ 1 ∷ 0 ∷ 79 ∷ 66 ∷ 0 ∷ 0 ∷ 2 ∷ 0 ∷ 0 ∷ 0 ∷ 0 ∷ 1 ∷ [])
+    ++ meta 0x02 (codes "UI") (codes "1.2.840.10008.5.1.4.1.1.2" ++ 0 ∷ [])
+    ++ meta 0x03 (codes "UI") (codes "1.2.3" ++ 0 ∷ [])
+    ++ meta 0x10 (codes "UI") (codes "1.2.840.10008.1.2.1" ++ 0 ∷ [])
+    ++ meta 0x12 (codes "UI") (codes "2.25.20260101" ++ 0 ∷ [])
+    ++ meta 0x13 (codes "SH") (codes "DCMBOX_1")
+    ++ meta 0x16 (codes "AE") (codes "SCANNER1")
+    ++ data_set
+
+abbrev pub TheFileOfAStore : Type 0
+TheFileOfAStore = files_of rooms settings accepted (a_store (the_set false good None)) ≡ the_file ∷ []
