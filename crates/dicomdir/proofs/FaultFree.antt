@@ -1,18 +1,17 @@
 -- A directory without a fault is linked to a tree.
-use Rattle.std.proofs.Common.{◌≡◌, ℕ, suc, ◌+◌, ◌<◌, Bool, true, false, not, ◌&&◌, ◌||◌, List, [], ◌∷◌, length, Option, Some, None, is_some, refl, sym, ap, subst, ◌∙◌, arith, eqb-true, nat_eq, if◌then◌else◌}
+use Rattle.std.proofs.Common.{◌≡◌, ℕ, suc, ◌+◌, Bool, true, false, not, ◌&&◌, ◌||◌, List, [], ◌∷◌, length, Option, Some, None, is_some, refl, sym, ap, subst, ◌∙◌, arith, eqb-true, nat_eq, if◌then◌else◌}
 use Rattle.std.specs.List.{list_any, list_all}
 use Rattle.std.specs.Str.{bytes_eq}
 use Rattle.std.proofs.lemmas.Bool.{and_parts, and_from}
-use Rattle.std.proofs.lemmas.Bool.Decides.{nat_tests}
 use Rattle.byteorder.specs.Endian.{little_number}
 use Rattle.sequence.specs.Tree.{Elements}
 use Rattle.dicomdir.specs.TreeOf.{Forest}
-use Rattle.dicomdir.specs.Directory.{Found, missing, value_at, items_at, found, number_in, Record, header_size, records_at, records_in, carried, first_offset, last_offset, records_of, next_offset, lower_offset, has_record, has_file_id, is_use_flag}
-use Rattle.dicomdir.specs.Linked.{PlacedNode, nodes_of, places_of, last_place_behind, record_at, are_records, LinkedElements}
+use Rattle.dicomdir.specs.Directory.{Found, missing, value_at, items_at, found, number_in, Record, header_size, records_at, records_in, carried, first_offset, last_offset, records_of, next_offset, lower_offset, has_record, has_file_id, is_use_flag, Node}
+use Rattle.dicomdir.specs.Linked.{PlacedNode, nodes_of, places_of, record_at, are_records, LinkedElements, IsAllReached}
 use Rattle.dicomdir.specs.DirFault.{Fault, fault, ◌or_else◌, offset_fault, records_fault, root_fault, record_fault, each_fault, Walked, stopped, went, walk, is_one_of, or_zero, place_in, unreached_fault, end_fault, root_way, links_fault, records_then_links, directory_fault}
 use Rattle.dicomdir.specs.Followed.{forest_from}
 use Rattle.dicomdir.specs.NoFault.{IsSound, NoFaultIsLinked}
-use Rattle.dicomdir.proofs.Linking.{IsIn, HaveOffsets, Reaches, reaches}
+use Rattle.dicomdir.proofs.Linking.{IsIn, HaveOffsets, reaches}
 
 both_none : (a b : Option Fault) → (a or_else b) ≡ None → (a ≡ None) × (b ≡ None)
 both_none None b e = (refl, e)
@@ -103,8 +102,15 @@ all_there nodes more (r ∷ records) members e =
     by false true false same rest e = absurd cc
     by false false b same rest e = absurd cc
 
+-- the tree that the records are linked to is the one that following their offsets goes through
+pub record IsSoundBy (start : ℕ) (es : Elements) (records : List Record) : Type 0 where
+  pub tree : Forest Node
+  pub linked : LinkedElements start es tree
+  pub all_reached : IsAllReached linked
+  pub placed_is : linked.placed ≡ forest_from (suc (length records)) records (or_zero (first_offset start es))
+
 sound : (start : ℕ) (es : Elements) (records : List Record) → records_of start es ≡ Some records → first_offset start es ≡ Some (or_zero (first_offset start es))
-    → last_offset start es ≡ Some (or_zero (last_offset start es)) → (each_fault records or_else links_fault start es records) ≡ None → IsSound start es
+    → last_offset start es ≡ Some (or_zero (last_offset start es)) → (each_fault records or_else links_fault start es records) ≡ None → IsSoundBy start es records
 sound start es records are first_some last_some e =
     let parts = both_none (each_fault records) (links_fault start es records) e in
     let good = each_good records parts.0 in
@@ -128,7 +134,18 @@ sound start es records are first_some last_some e =
         names_last = last_some ∙ ap (λ z. Some z) (ends.last_is ∙ sym went_there.last_is);
       };
       all_reached = all_there (places_of placed) ends.reached records went_there.members ends.all;
+      placed_is = refl;
     }
+
+-- where no fault is found, with the records that there are
+pub sound_by : (start : ℕ) (es : Elements) (records : List Record) → records_of start es ≡ Some records → directory_fault start es ≡ None → IsSoundBy start es records
+unfolding directory_fault
+sound_by start es records are e =
+    let parts = both_none (root_fault start es) (records_then_links start es (records_of start es)) e in
+    let root = both_none (offset_fault start (found 0x00041200 start es)) (offset_fault start (found 0x00041202 start es) or_else records_fault start (found 0x00041220 start es)) parts.0 in
+    let rest = both_none (offset_fault start (found 0x00041202 start es)) (records_fault start (found 0x00041220 start es)) root.1 in
+    let links : (each_fault records or_else links_fault start es records) ≡ None = ap (λ z. records_then_links start es z) (sym are) ∙ parts.1 in
+    sound start es records are (offset_some start (found 0x00041200 start es) root.0) (offset_some start (found 0x00041202 start es) rest.0) links
 
 pub no_fault_is_linked : NoFaultIsLinked
 unfolding directory_fault
@@ -137,5 +154,5 @@ no_fault_is_linked start es e =
     let root = both_none (offset_fault start (found 0x00041200 start es)) (offset_fault start (found 0x00041202 start es) or_else records_fault start (found 0x00041220 start es)) parts.0 in
     let rest = both_none (offset_fault start (found 0x00041202 start es)) (records_fault start (found 0x00041220 start es)) root.1 in
     let has = records_some start (found 0x00041220 start es) rest.1 in
-    let links : (each_fault has.records or_else links_fault start es has.records) ≡ None = ap (λ z. records_then_links start es z) (sym has.are) ∙ parts.1 in
-    sound start es has.records has.are (offset_some start (found 0x00041200 start es) root.0) (offset_some start (found 0x00041202 start es) rest.0) links
+    let by = sound_by start es has.records has.are e in
+    record { tree = by.tree; linked = by.linked; all_reached = by.all_reached }

@@ -4,7 +4,6 @@ use Rattle.std.specs.List.{list_all}
 use Rattle.std.proofs.lemmas.Bool.{and_parts}
 use Rattle.std.proofs.lemmas.Bool.Decides.{nat_tests}
 use Rattle.std.proofs.lemmas.List.{drop-replicate}
-use Rattle.element.specs.Padding.{is_space, without_trailing}
 use Rattle.dicomdir.specs.FileId.{is_id_character, is_component, before_parts, parts_of, is_file_id, filled}
 use Rattle.dicomdir.specs.FileIdRoom.{IsKept}
 

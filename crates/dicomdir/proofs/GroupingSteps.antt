@@ -1,9 +1,9 @@
 -- What one more row does to the keys of a set and to the groups of rows.
-use Rattle.std.proofs.Common.{◌≡◌, ℕ, zero, suc, ◌+◌, ◌<◌, ◌≤◌, Bool, true, false, cond, not, ◌||◌, List, [], ◌∷◌, ◌++◌, map, take, drop, get_or, set, length, Vec, refl, sym, ap, ap₂, ◌∙◌, append_assoc, add-one, arith}
+use Rattle.std.proofs.Common.{◌≡◌, ℕ, zero, suc, ◌+◌, ◌<◌, ◌≤◌, Bool, true, false, cond, not, ◌||◌, List, [], ◌∷◌, ◌++◌, map, take, get_or, set, length, Vec, refl, sym, ap, ap₂, ◌∙◌, arith}
 use Rattle.std.specs.Borrow.{Bor}
 use Rattle.std.specs.List.{list_any, position_or_len}
 use Rattle.std.specs.Str.{bytes_eq}
-use Rattle.std.proofs.lemmas.List.{append-nil, map-append, length-map, length-append, take_all}
+use Rattle.std.proofs.lemmas.List.{map-append, length-map, length-append, take_all}
 use Rattle.dicomdir.specs.Grouping.{rows_at, row_groups, groups_of}
 use Rattle.dicomdir.specs.TreeOf.{rows_with}
 use Rattle.dicomdir.specs.Row.{Row}
@@ -12,7 +12,7 @@ use Rattle.dicomdir.proofs.GroupingLemmas.{Grouped, grouped_old, grouped_new}
 abbrev pub texts : {A : Type 0} → List (Vec ℕ A) → List (List ℕ)
 texts keys = map (λ v. v.items) keys
 
-any_texts : {A : Type 0} (k : List ℕ) (keys : List (Vec ℕ A)) → list_any (λ y. bytes_eq k y.items) keys ≡ list_any (bytes_eq k) (texts keys)
+pub any_texts : {A : Type 0} (k : List ℕ) (keys : List (Vec ℕ A)) → list_any (λ y. bytes_eq k y.items) keys ≡ list_any (bytes_eq k) (texts keys)
 any_texts k [] = refl
 any_texts k (x ∷ keys) = ap (λ (b : Bool). bytes_eq k x.items || b) (any_texts k keys)
 
@@ -42,7 +42,7 @@ step_by true key_of done row keys new groups g1 g2 n any g is place opened put =
 step_by false key_of done row keys new groups g1 g2 n any g is place opened put =
     rw (put, opened, place, is) (grouped_new key_of done row keys groups g any)
 
-pick : {A : Type 0} (b : Bool) (keys : List (Vec ℕ A)) (v : Vec ℕ A) → texts (cond b keys (keys ++ v ∷ [])) ≡ cond b (texts keys) (texts keys ++ v.items ∷ [])
+pub pick : {A : Type 0} (b : Bool) (keys : List (Vec ℕ A)) (v : Vec ℕ A) → texts (cond b keys (keys ++ v ∷ [])) ≡ cond b (texts keys) (texts keys ++ v.items ∷ [])
 pick true keys v = refl
 pick false keys v = map-append (λ x. x.items) keys (v ∷ [])
 

@@ -1,5 +1,5 @@
 -- What a file header says of a check.
-use Rattle.std.proofs.Common.{◌≡◌, ◌≢◌, ◌≤◌, ◌<◌, ◌+◌, ◌-◌, ℕ, Bool, true, false, nat_eq, eqb-true, List, ◌++◌, length, Some, refl, sym, ap, subst, ◌∙◌, arith}
+use Rattle.std.proofs.Common.{◌≡◌, ◌≢◌, ◌≤◌, ◌+◌, ◌-◌, ℕ, Bool, true, false, nat_eq, eqb-true, List, length, Some, refl, ap, subst, ◌∙◌, arith, sym}
 use Rattle.std.proofs.lemmas.List.{length-append}
 use Rattle.std.proofs.lemmas.Bool.Decides.{nat_tests}
 use Rattle.element.specs.declared.syntax.Syntax.TheVariants.{Implicit, Explicit}
@@ -10,9 +10,9 @@ use Rattle.part10.specs.declared.meta_fault.MetaFault.TheVariants.{NotPart10, Ba
 use Rattle.part10.specs.MetaText.{said_of, TakesMeta, Refuses}
 use Rattle.sequence.specs.Rules.{no_tag}
 use Rattle.sequence.specs.declared.fault.Fault.{Fault}
-use Rattle.sequence.specs.Ending.{IsWhole, Fails, breaks_rule, ends_early}
+use Rattle.sequence.specs.Ending.{Fails, breaks_rule, ends_early}
 use Rattle.dicomdir.specs.declared.fault.DirFault.{DirFault}
-use Rattle.dicomdir.specs.CheckFault.{CheckFault, check_limits, HasHeader, HasDataSet, IsRefused, IsOfRecords, no_memory, first_fault, of_records, in_header, in_syntax, in_data_set, at_the_end}
+use Rattle.dicomdir.specs.CheckFault.{CheckFault, check_limits, HasHeader, IsAtNone, in_header, in_syntax, in_data_set, at_the_end}
 use Rattle.dicomdir.specs.machine.Steps.{header_fault_of}
 
 pub header_check : (file : List ℕ) (fault : MetaFault) → Refuses fault (Some file) → (header_fault_of fault).number ≢ 67
@@ -21,6 +21,12 @@ header_check file NotPart10 r some = in_header NotPart10 r
 header_check file BadMeta r some = in_header BadMeta r
 header_check file OtherSyntax r some = in_header OtherSyntax r
 header_check file ReadFailed r some = absurd (some refl)
+
+pub header_at_none : (fault : MetaFault) (f : DirFault) → f ≡ header_fault_of fault → IsAtNone f
+header_at_none NotPart10 f is e = absurd (let other : 50 ≡ 67 = sym (ap (λ z. z.number) is) ∙ e in omega (arith, other))
+header_at_none BadMeta f is e = absurd (let other : 51 ≡ 67 = sym (ap (λ z. z.number) is) ∙ e in omega (arith, other))
+header_at_none OtherSyntax f is e = absurd (let other : 53 ≡ 67 = sym (ap (λ z. z.number) is) ∙ e in omega (arith, other))
+header_at_none ReadFailed f is e = (ap (λ z. z.place) is, ap (λ z. z.tag) is)
 
 pub implicit_check : (file rest : List ℕ) (meta : Meta) → TakesMeta (said_of meta) (Some file) (Some rest) → meta.syntax ≡ Implicit → CheckFault file 53 132 no_tag
 implicit_check file rest meta takes is =
@@ -48,13 +54,5 @@ data_set_check {file = file} {back = back} h fault start from (ends_early {tag =
     let place : length file ≡ start + length back = omega (arith, whole, from) in
     subst (λ z. CheckFault file 20 z tag) place (at_the_end h.explicit end)
 
-not_same : (n m : ℕ) → nat_eq n m ≡ false → n ≢ m
+pub not_same : (n m : ℕ) → nat_eq n m ≡ false → n ≢ m
 not_same n m e same = let yes : nat_eq n m ≡ true = grind (arith, nat_tests, same) in absurd cc
-
--- a fault of the file header
-pub header_refused : (file : List ℕ) (f : DirFault) → (f.number ≢ 67 → CheckFault file f.number f.place f.tag) → IsRefused file f
-header_refused file f told = by (nat_eq f.number 67) refl
-  where
-    by : (b : Bool) → nat_eq f.number 67 ≡ b → IsRefused file f
-    by true e = no_memory (eqb-true f.number 67 e)
-    by false e = first_fault (told (not_same f.number 67 e))

@@ -1,9 +1,8 @@
 -- What the nodes of a tree keep.
-use Rattle.std.proofs.Common.{◌≡◌, ℕ, suc, ◌+◌, ◌<◌, Bool, true, false, List, [], ◌∷◌, ◌++◌, length, drop, get_or, map, refl, sym, ap, subst, ◌∙◌, arith, if◌then◌else◌}
+use Rattle.std.proofs.Common.{◌≡◌, ℕ, suc, ◌+◌, ◌<◌, Bool, true, false, List, [], ◌∷◌, ◌++◌, length, drop, get_or, map, refl, sym, ap, ◌∙◌, arith, if◌then◌else◌}
 use Rattle.std.proofs.lemmas.List.{append_assoc, append-nil, drop_more, drop_all}
-use Rattle.dicomdir.specs.TreeOf.{Forest, no_nodes, node}
-use Rattle.dicomdir.specs.Directory.{Node}
-use Rattle.dicomdir.specs.Linked.{PlacedNode, nodes_of}
+use Rattle.dicomdir.specs.TreeOf.{no_nodes, node}
+use Rattle.dicomdir.specs.Linked.{nodes_of}
 use Rattle.dicomdir.specs.NodesInUse.{LevelNode, nodes_in_use}
 use Rattle.dicomdir.specs.Kept.{pruned, images_of, file_id_of_image}
 use Rattle.dicomdir.specs.TreeNodes.{kept_in, node_of}

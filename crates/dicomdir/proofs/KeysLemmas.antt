@@ -1,7 +1,6 @@
 -- The tests that a row's keys pass.
-use Rattle.std.proofs.Common.{◌≡◌, ℕ, Bool, true, false, cond, Option, Some, None, Result, Ok, Err, refl, sym, ap, ◌∙◌}
+use Rattle.std.proofs.Common.{◌≡◌, Bool, true, false, cond, Some, None, Ok, Err, ap, ◌∙◌}
 use Rattle.element.specs.declared.tag.Tag.{Tag}
-use Rattle.dicomdir.specs.declared.skip.Skip.{Skip}
 use Rattle.dicomdir.specs.declared.skip.Skip.TheVariants.{Fault, Missing}
 use Rattle.dicomdir.specs.Keys.{fits_rooms, first_empty, row_unless, checked_row}
 use Rattle.dicomdir.specs.Row.{Row}

@@ -4,7 +4,7 @@ use Rattle.std.proofs.lemmas.Bool.{and_parts}
 use Rattle.element.specs.declared.header.Header.{Header}
 use Rattle.element.specs.Vr.{is_capital, IsVrOrNone}
 use Rattle.element.specs.Header.{number, is_marker, header_bytes, header_fits, SpellsHeader}
-use Rattle.element.proofs.Headers.{written_spells}
+use Rattle.element.proofs.Public.{written_spells}
 use Rattle.sequence.specs.declared.shape.Shape.{Shape}
 use Rattle.sequence.specs.declared.shape.Shape.TheVariants.{Value, Sequence, NotAllowed}
 use Rattle.sequence.specs.Shape.{shape, undefined_length}

@@ -1,5 +1,5 @@
 -- Records that are laid down last record first have the text, the places and the size of the tree.
-use Rattle.std.proofs.Common.{◌≡◌, ℕ, zero, suc, ◌+◌, ◌-◌, ◌^◌, ◌≤◌, ◌<◌, Bool, true, false, cond, List, [], ◌∷◌, ◌++◌, length, map, drop, get_or, nat_eq, refl, sym, ap, ap₂, subst, slice_get, Option, Some, None, Vec, drop-cons, ◌∙◌, append_assoc, arith}
+use Rattle.std.proofs.Common.{◌≡◌, ℕ, zero, suc, ◌+◌, ◌-◌, ◌≤◌, ◌<◌, Bool, false, cond, List, [], ◌∷◌, ◌++◌, length, map, drop, get_or, nat_eq, refl, sym, ap, ap₂, subst, slice_get, Some, None, Vec, drop-cons, ◌∙◌, append_assoc, arith}
 use Rattle.std.proofs.lemmas.List.{append-nil, length-append}
 use Rattle.std.proofs.lemmas.Bool.Decides.{nat_tests}
 use Rattle.sequence.specs.Tree.{Elements, no_items}
@@ -16,7 +16,7 @@ use Rattle.dicomdir.specs.Levels.{record_for, key_for, forest_for, lower_level, 
 use Rattle.dicomdir.specs.Places.{record_size, forest_size, with_places, first_record_place, last_record_place, last_record_place_after}
 use Rattle.dicomdir.specs.RecordText.{record_text}
 use Rattle.dicomdir.specs.Row.{Row}
-use Rattle.dicomdir.specs.TreeOf.{Forest, no_nodes, node, count_of, group_node, group_nodes, grouped, rows_with, seen_after, images}
+use Rattle.dicomdir.specs.TreeOf.{Forest, no_nodes, node, group_node, group_nodes, rows_with, seen_after, images}
 
 none_is : (n : ℕ) → 0 < n → nat_eq n 0 ≡ false
 none_is n h = grind (arith, nat_tests)
@@ -24,7 +24,7 @@ none_is n h = grind (arith, nat_tests)
 place_is : (start size : ℕ) → 0 < size → place_from_end (start + size) size ≡ start
 place_is start size h = let e : start + size - size ≡ start = omega arith in ap (λ (b : Bool). cond b 0 (start + size - size)) (none_is size h) ∙ e
 
-laid_push : {A : Type 0} (total : ℕ) (es : List (Entry A)) (e : Entry A) → laid_text total (es ++ e ∷ []) ≡ entry_text total e ++ laid_text total es
+pub laid_push : {A : Type 0} (total : ℕ) (es : List (Entry A)) (e : Entry A) → laid_text total (es ++ e ∷ []) ≡ entry_text total e ++ laid_text total es
 laid_push total [] e = sym (append-nil (entry_text total e))
 laid_push total (x ∷ es) e = ap (λ (t : List ℕ). t ++ entry_text total x) (laid_push total es e) ∙ append_assoc (entry_text total e) (laid_text total es) (entry_text total x)
 

@@ -1,15 +1,14 @@
 -- Where following the offsets finds no fault, the records are linked to the forest that it goes through.
-use Rattle.std.proofs.Common.{◌≡◌, ℕ, zero, suc, ◌+◌, ◌<◌, ◌≤◌, Bool, true, false, not, ◌&&◌, ◌||◌, List, [], ◌∷◌, ◌++◌, length, Option, Some, None, is_some, refl, sym, ap, subst, ◌∙◌, arith, eqb-true, nat_eq, if◌then◌else◌}
+use Rattle.std.proofs.Common.{◌≡◌, ℕ, zero, suc, ◌+◌, ◌<◌, ◌≤◌, Bool, true, false, not, ◌||◌, List, [], ◌∷◌, ◌++◌, length, Option, Some, None, is_some, refl, sym, ap, subst, ◌∙◌, arith, eqb-true, nat_eq, if◌then◌else◌}
 use Rattle.std.proofs.lemmas.Bool.{and_parts, and_from, or_parts}
 use Rattle.std.proofs.lemmas.List.Folds.{list_any-append}
-use Rattle.std.proofs.lemmas.Bool.Decides.{nat_tests}
 use Rattle.sequence.specs.Tree.{Elements, no_elements}
 use Rattle.dicomdir.specs.TreeOf.{Forest, no_nodes, node}
 use Rattle.dicomdir.specs.Directory.{Record, carried, lower_offset, next_offset}
 use Rattle.dicomdir.specs.Linked.{PlacedNode, places_of, first_place, last_place_behind, is_distinct, record_at, fits, AreLinked}
 use Rattle.dicomdir.specs.DirFault.{Fault, fault, Way, leads_back, lower_way, next_way, Walked, stopped, went, with_reached, walk, is_one_of, last_before, or_zero, elements_at, named_fault}
 use Rattle.dicomdir.specs.Followed.{forest_from}
-use Rattle.dicomdir.proofs.Walking.{not_true, same_place, not_place, second_true, third_true, regrouped}
+use Rattle.dicomdir.proofs.Walking.{not_true, same_place, second_true, third_true, regrouped}
 use Rattle.dicomdir.proofs.Within.{places, length_places, no_more, stands_there, or_first, or_second, either}
 
 -- distinct places of records
@@ -37,11 +36,11 @@ Recursion most records =
     (way : Way) (reached : List ℕ) (offset : ℕ) (more : List ℕ) (last : ℕ) → IsIn records reached → length records < length reached + most
     → walk most records way reached offset ≡ went more last → Reaches records way reached offset (forest_from most records offset) more last
 
-when_yes : {A : Type 0} (b : Bool) (x y : A) → b ≡ true → (if b then x else y) ≡ x
+pub when_yes : {A : Type 0} (b : Bool) (x y : A) → b ≡ true → (if b then x else y) ≡ x
 when_yes true x y e = refl
 when_yes false x y e = absurd cc
 
-when_no : {A : Type 0} (b : Bool) (x y : A) → b ≡ false → (if b then x else y) ≡ y
+pub when_no : {A : Type 0} (b : Bool) (x y : A) → b ≡ false → (if b then x else y) ≡ y
 when_no true x y e = absurd cc
 when_no false x y e = refl
 
@@ -68,7 +67,7 @@ pub record Named (way : Way) (reached : List ℕ) (offset : ℕ) (o : Option Ele
   pub new : is_one_of offset reached ≡ false
   pub fit : fits way.level (carried elements) ≡ true
 
-named_none : (way : Way) (reached : List ℕ) (offset : ℕ) (o : Option Elements) → named_fault way reached offset o ≡ None → Named way reached offset o
+pub named_none : (way : Way) (reached : List ℕ) (offset : ℕ) (o : Option Elements) → named_fault way reached offset o ≡ None → Named way reached offset o
 named_none way reached offset None e = absurd cc
 named_none way reached offset (Some es) e = by (is_one_of offset reached) (fits way.level (carried es)) refl refl e
   where
@@ -120,7 +119,7 @@ clash : (b : Bool) → b ≡ true → b ≡ false → ⊥
 clash true e f = absurd cc
 clash false e f = absurd cc
 
-one_more_in : (records : List Record) (reached : List ℕ) (offset : ℕ) (es : Elements) → IsIn records reached → record_at offset records ≡ Some es → is_one_of offset reached ≡ false → IsIn records (offset ∷ reached)
+pub one_more_in : (records : List Record) (reached : List ℕ) (offset : ℕ) (es : Elements) → IsIn records reached → record_at offset records ≡ Some es → is_one_of offset reached ≡ false → IsIn records (offset ∷ reached)
 one_more_in records reached offset es inside stands new =
     let first : not (is_one_of offset reached) ≡ true = rw new refl in
     record {

@@ -1,5 +1,5 @@
 -- A file is linked to one tree at most.
-use Rattle.std.proofs.Common.{◌≡◌, ℕ, suc, Bool, true, false, List, [], ◌∷◌, ◌++◌, length, Option, Some, None, refl, sym, ap, subst, ◌∙◌, arith, nat_eq}
+use Rattle.std.proofs.Common.{◌≡◌, ℕ, suc, true, false, List, ◌++◌, length, Some, refl, sym, ap, subst, ◌∙◌}
 use Rattle.std.proofs.lemmas.List.{append_cancel_left}
 use Rattle.element.specs.declared.syntax.Syntax.TheVariants.{Explicit}
 use Rattle.part10.specs.MetaText.{HasMeta}
@@ -7,8 +7,8 @@ use Rattle.part10.proofs.Public.{one_header}
 use Rattle.sequence.specs.Tree.{Elements, DataSet}
 use Rattle.sequence.proofs.Public.{one_tree}
 use Rattle.dicomdir.specs.TreeOf.{Forest, no_nodes, node}
-use Rattle.dicomdir.specs.Directory.{Record, Node, carried, found, records_of, next_offset, lower_offset, first_offset, IsExplicitFile, IsDirectoryFile}
-use Rattle.dicomdir.specs.Linked.{Linked, LinkedElements, PlacedNode, nodes_of, first_place, record_at, IsRecordOf, AreLinked}
+use Rattle.dicomdir.specs.Directory.{Record, Node, carried, found, next_offset, lower_offset, IsExplicitFile}
+use Rattle.dicomdir.specs.Linked.{LinkedElements, PlacedNode, nodes_of, first_place, record_at, AreLinked}
 use Rattle.dicomdir.specs.DirFault.{is_one_of}
 use Rattle.dicomdir.specs.NoFault.{OneTreeOfFile}
 use Rattle.dicomdir.proofs.Within.{places, stands_there, none_in}

@@ -6,13 +6,10 @@ use Rattle.element.specs.declared.syntax.Syntax.{Syntax}
 use Rattle.element.specs.declared.syntax.Syntax.TheVariants.{Implicit, Explicit}
 use Rattle.element.specs.Header.{header_bytes}
 use Rattle.element.specs.Numbers.{le}
-use Rattle.element.specs.Padding.{is_empty, kept_before, without_trailing, is_padding, padded}
+use Rattle.element.specs.Padding.{is_empty, without_trailing, is_padding, padded}
 use Rattle.dictionary.specs.Syntaxes.{syntax_uid}
-use Rattle.sequence.specs.Tree.{Elements, no_elements, value}
-use Rattle.dicomdir.specs.declared.level.Level.{Level}
-use Rattle.dicomdir.specs.declared.level.Level.TheVariants.{Patient, Study, Series, Image}
+use Rattle.sequence.specs.Tree.{Elements, no_elements}
 use Rattle.dicomdir.specs.Layout.{spelled, with_offsets}
-use Rattle.dicomdir.specs.Levels.{record_for}
 use Rattle.dicomdir.specs.Record.{tag, field, record_of, character_set_key, text_key, uid_key, patient_record, study_record, series_record, image_record}
 use Rattle.dicomdir.specs.Row.{Row, key}
 use Rattle.dicomdir.specs.RecordText as text

@@ -14,7 +14,7 @@ use Rattle.dicomdir.specs.PlacesExamples.{SizesAreTrue}
 abbrev offset : ℕ → Elements → Elements
 offset l es = field (tag 0x0004 0x1420) (codes "UL") (le l 4) es
 
-offsets_size : (n l : ℕ) (es : Elements) → length (spelled (with_offsets n l es)) ≡ length (spelled (with_offsets 0 0 es))
+pub offsets_size : (n l : ℕ) (es : Elements) → length (spelled (with_offsets n l es)) ≡ length (spelled (with_offsets 0 0 es))
 unfolding is_short
 offsets_size n l no_elements = refl
 offsets_size n l (sequence h is es) = refl
@@ -25,7 +25,7 @@ offsets_size n l (value in_use flag es) =
     let d = length-append flag (spelled (offset 0 es)) in
     omega (arith, a, b, c, d)
 
-items_size : (place : ℕ) (f : Forest Elements) (others : Items) → length (spelled_items (record_items (with_places place f) others)) ≡ forest_size f + length (spelled_items others)
+pub items_size : (place : ℕ) (f : Forest Elements) (others : Items) → length (spelled_items (record_items (with_places place f) others)) ≡ forest_size f + length (spelled_items others)
 items_size place no_nodes others = omega arith
 items_size place (node es below next) others =
     let after = place + record_size es in

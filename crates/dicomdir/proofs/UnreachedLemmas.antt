@@ -1,5 +1,5 @@
 -- How many records are still to be reached.
-use Rattle.std.proofs.Common.{◌≡◌, ℕ, zero, suc, ◌<◌, ◌+◌, Bool, true, false, List, [], ◌∷◌, get_or, set, arith, if◌then◌else◌}
+use Rattle.std.proofs.Common.{◌≡◌, ℕ, zero, suc, ◌<◌, Bool, true, false, List, [], ◌∷◌, get_or, set, arith, if◌then◌else◌}
 
 abbrev pub left_in : List Bool → ℕ
 left_in [] = 0

@@ -163,7 +163,7 @@ going_on w v text rest n step g within stands answers syntax limits none =
       good = tells_none there.tells moved;
     }
 
-not_refused : (step : Step) → ((x : Fault) → step ≡ Refused x → ⊥) → refusal_of step ≡ None
+pub not_refused : (step : Step) → ((x : Fault) → step ≡ Refused x → ⊥) → refusal_of step ≡ None
 not_refused (Refused fault) other = absurd (other fault refl)
 not_refused More other = refl
 not_refused (Run run) other = refl

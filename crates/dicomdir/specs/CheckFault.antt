@@ -1,5 +1,5 @@
 -- What is first found wrong with a file that ought to be a directory (this product's own profile).
-use Rattle.std.specs.Prelude.{◌≡◌, ℕ, ◌≤◌, ◌+◌, ◌^◌, List, [], length, Some, nat_eq, if◌then◌else◌}
+use Rattle.std.specs.Prelude.{◌≡◌, ℕ, ◌+◌, ◌^◌, List, [], length, Some, nat_eq, if◌then◌else◌}
 use Rattle.element.specs.declared.syntax.Syntax.TheVariants.{Implicit, Explicit}
 use Rattle.element.specs.declared.tag.Tag.{Tag}
 use Rattle.dictionary.specs.Syntaxes.{syntax_uid}
@@ -45,13 +45,6 @@ pub data CheckFault (file : List ℕ) : ℕ → ℕ → Tag → Type 0 where
       → IsUnbroken Explicit check_limits back → DataSet Explicit 0 elements back
       → directory_fault (length front) elements ≡ Some f → CheckFault file f.number f.place no_tag
 
--- a fault of the root, the records or their offsets
-pub record IsOfRecords (f : DirFault) : Type 0 where
-  pub number : 60 ≤ f.number
-  pub tag : f.tag ≡ no_tag
-
--- memory ran out; or it is the first fault of the file header or the data set; or these have none
-pub data IsRefused (file : List ℕ) (f : DirFault) : Type 0 where
-  no_memory : f.number ≡ 67 → IsRefused file f
-  first_fault : CheckFault file f.number f.place f.tag → IsRefused file f
-  of_records : HasDataSet file → IsOfRecords f → IsRefused file f
+-- where memory ran out (67), no place and no tag are told
+abbrev pub IsAtNone : DirFault → Type 0
+IsAtNone f = f.number ≡ 67 → (f.place ≡ 0) × (f.tag ≡ no_tag)

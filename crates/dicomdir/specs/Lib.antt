@@ -24,7 +24,14 @@ pub mod TreeNodes
 pub mod KeptLaws
 pub mod Keys
 pub mod KeysOf
+pub mod RowOf
+pub mod Names
 pub mod Levels
 pub mod Grouping
 pub mod RecordText
 pub mod Laying
+pub mod RowLaws
+pub mod Built
+pub mod Written
+pub mod FiledLaws
+pub mod WrittenIsLinked

@@ -2,8 +2,15 @@
 ghost use Rattle.std.specs.Prelude.{◌≡◌, ◌≤◌, ◌<◌, ◌+◌, ◌^◌, ℕ, List, ◌≢◌, length, IsOk, IfOk, IfErr};
 ghost use Rattle.element.specs.declared.syntax.Syntax.TheVariants.{Explicit};
 ghost use Rattle.sequence.specs.Ending.{IsWhole, Fails};
-ghost use Rattle.dicomdir.specs.CheckFault.{check_limits, CheckFault, HasHeader, HasDataSet, IsOfRecords, IsRefused};
+ghost use Rattle.sequence.specs.Tree.{Elements, DataSet};
+ghost use Rattle.dicomdir.specs.CheckFault.{check_limits, CheckFault, HasHeader, HasDataSet, IsAtNone};
+ghost use Rattle.dicomdir.specs.Directory.{Found};
+ghost use Rattle.dicomdir.specs.DirFault.{offset_fault, directory_fault};
+ghost use Rattle.dicomdir.specs.NodesInUse.{HasNodes};
+ghost use Rattle.dicomdir.specs.TreeNodes.{tree_nodes};
+ghost use Rattle.dicomdir.specs.machine.Reading.{FailsAs, IsRootOffset, ChecksAs};
 ghost use Rattle.dicomdir.specs.machine.Steps.{header_fault_of};
+ghost use Rattle.dicomdir.specs.machine.Texts.{Finds};
 
 use crate::fault::DirFault;
 use crate::found::{Element, find};
@@ -28,9 +35,10 @@ fn header_fault(fault: MetaFault) -> DirFault
 }
 
 /// Reads the file header of a file in Explicit VR Little Endian, and returns what follows it.
-#[tactic(auto, using(crate::proofs::HeaderChecks::header_check, crate::proofs::HeaderChecks::implicit_check, crate::proofs::HeaderChecks::explicit_check))]
+#[tactic(auto, using(crate::proofs::HeaderChecks::header_check, crate::proofs::HeaderChecks::header_at_none, crate::proofs::HeaderChecks::implicit_check, crate::proofs::HeaderChecks::explicit_check))]
 fn after_header(bytes: &[u8]) -> Result<&[u8], DirFault>
     ensures read { IfOk result (λ rest. HasHeader bytes.now rest.now) }
+    ensures memory { IfErr result IsAtNone }
     ensures fault { IfErr result (λ f. f.number ≢ 67 → CheckFault bytes.now f.number f.place f.tag) }
 {
     let mut rest = bytes;
@@ -62,7 +70,8 @@ fn walk(text: &[u8]) -> Result<(), Fault>
 
 /// Reads an offset of the root.
 fn root_offset(element: &Element, start: u64) -> Result<(u64, u32), DirFault>
-    ensures { IfErr result IsOfRecords }
+    ensures read { IfOk result (λ r. (f : Found) → Finds element.now f → IsRootOffset start f r.0 r.1) }
+    ensures fails { IfErr result (λ fault. (f : Found) → Finds element.now f → FailsAs (offset_fault start f) fault) }
 {
     match element {
         Element::Missing => Err(DirFault::at(DirFault::BAD_RECORD, start)),
@@ -81,7 +90,8 @@ fn check_elements<'a, A: Allocator + Copy>(
     text: &'a [u8],
 ) -> Result<Tree<'a, A>, DirFault>
     requires { start + length text.now < 2 ^ 64 }
-    ensures { IfErr result IsOfRecords }
+    ensures whole { IfOk result (λ tree. (es : Elements) → DataSet Explicit 0 es text.now → ChecksAs start es (tree_nodes tree)) }
+    ensures fails { IfErr result (λ f. (es : Elements) → DataSet Explicit 0 es text.now → FailsAs (directory_fault start es) f) }
 {
     let (first_place, first) = root_offset(
         &find(Syntax::Explicit, Tag(0x0004, 0x1200), start, text),
@@ -123,13 +133,19 @@ fn check_elements<'a, A: Allocator + Copy>(
 /// needs one (65). Then the offsets are followed from the root, the lower one before the next one: each must be the
 /// place of a record (60) that was not reached before (61, 62) and fits its level (64); the root's last record must be
 /// the named one (60), and no record in use may be left over (63). An inactive record is followed as any other, and need
-/// not fit its level. 67 comes where the allocator refuses a growth.
-#[tactic(auto, using(crate::proofs::HeaderChecks::header_refused, crate::proofs::HeaderChecks::data_set_check, crate::proofs::HeaderChecks::header_before, crate::proofs::WalkLemmas::fault_within))]
+/// not fit its level. 67 comes where the allocator refuses a growth, with place 0 and no tag; any other fault is the
+/// first one in this order, whatever was allocated.
+#[tactic(auto, using(crate::proofs::HeaderChecks::data_set_check, crate::proofs::HeaderChecks::header_before, crate::proofs::WalkLemmas::fault_within, crate::proofs::RuleNumbers::fault_at_none))]
 pub fn check<'a, A: Allocator + Copy>(alloc: A, bytes: &'a [u8]) -> Result<Tree<'a, A>, DirFault>
     ensures whole { IsOk result → HasDataSet bytes.now }
-    ensures fault { IfErr result (IsRefused bytes.now) }
+    ensures nodes { IfOk result (λ tree. HasNodes bytes.now (tree_nodes tree)) }
+    ensures fault { IfErr result (λ f. f.number ≢ 67 → CheckFault bytes.now f.number f.place f.tag) }
+    ensures memory { IfErr result IsAtNone }
 {
-    let text = after_header(bytes)?;
+    let text = match after_header(bytes) {
+        Ok(text) => text,
+        Err(fault) => return Err(fault),
+    };
     let start = (bytes.len() - text.len()) as u64;
     if let Err(fault) = walk(text) {
         return Err(DirFault {

@@ -1,8 +1,11 @@
 //! What is wrong with a directory.
 ghost use Rattle.std.specs.Prelude.{◌≡◌};
 ghost use Rattle.sequence.specs.Rules.{no_tag};
+ghost use Rattle.dicomdir.specs.Names as names;
 
 use element::Tag;
+use part10::MetaFault;
+use sequence::Fault;
 use std::fmt;
 use std::fmt::{Display, Formatter};
 
@@ -58,10 +61,56 @@ impl DirFault {
         }
     }
 
+    /// Returns the fault that the file would be too large.
+    pub(crate) fn too_large() -> DirFault
+        ensures { result ≡ record { number = 66; place = 0; tag = no_tag } }
+    {
+        DirFault::at(DirFault::TOO_LARGE, 0)
+    }
+
     /// Returns the fault that the allocator refused a growth.
     pub(crate) fn out_of_memory() -> DirFault
         ensures { result ≡ record { number = 67; place = 0; tag = no_tag } }
     {
         DirFault::at(DirFault::OUT_OF_MEMORY, 0)
+    }
+
+    /// Returns the name of the rule, or `Unknown` if no rule has this number.
+    pub fn name(self) -> &'static str
+        ensures { result.now ≡ names.name_of self.number }
+    {
+        match self.number {
+            50 => MetaFault::NotPart10.name(),
+            51 => MetaFault::BadMeta.name(),
+            53 => MetaFault::OtherSyntax.name(),
+            DirFault::BAD_OFFSET => "BadOffset",
+            DirFault::CYCLE => "Cycle",
+            DirFault::TWICE_REACHED => "TwiceReached",
+            DirFault::UNREACHED => "Unreached",
+            DirFault::WRONG_LEVEL => "WrongLevel",
+            DirFault::BAD_FILE_ID => "BadFileId",
+            DirFault::TOO_LARGE => "TooLarge",
+            DirFault::OUT_OF_MEMORY => "OutOfMemory",
+            DirFault::BAD_RECORD => "BadRecord",
+            number => Fault {
+                number,
+                place: self.place,
+                tag: self.tag,
+            }
+            .name(),
+        }
+    }
+}
+
+/// The number and the name of the rule, the place, and the tag of a fault of the data set, as
+/// `17 Overrun at 346 tag 0008,0060`.
+impl Display for DirFault {
+    fn fmt<W: fmt::Write>(&self, f: &mut Formatter<W>) -> fmt::Result {
+        write!(f, "{} {} at {}", self.number, self.name(), self.place)?;
+        if 10 <= self.number && self.number <= 21 {
+            let Tag(group, element) = self.tag;
+            write!(f, " tag {group:04x},{element:04x}")?;
+        }
+        Ok(())
     }
 }

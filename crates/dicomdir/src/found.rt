@@ -1,7 +1,11 @@
 //! Elements and items in the text of a data set that is known to be good.
-ghost use Rattle.std.specs.Prelude.{◌≡◌, ◌≤◌, ◌<◌, ◌+◌, ◌^◌, ℕ, List, ◌++◌, length, drop, IfSome, Some};
+ghost use Rattle.std.specs.Prelude.{◌≡◌, ◌≤◌, ◌<◌, ◌+◌, ◌^◌, ℕ, List, ◌++◌, length, drop, IfSome, Some, option_map};
+ghost use Rattle.element.specs.Header.{number, IsTag};
+ghost use Rattle.sequence.specs.Tree.{Elements, Items, delimitation, item_end_tag, sequence_end_tag};
+ghost use Rattle.dicomdir.specs.Directory.{Found, header_size, found};
 ghost use Rattle.dicomdir.specs.machine.Heads.{head_at};
-ghost use Rattle.dicomdir.specs.machine.Texts.{EndsBefore};
+ghost use Rattle.dicomdir.specs.machine.Texts.{EndsBefore, ElementsThen, ItemsThen, HasElements, IsContent, IsItemContent, content_at, Finds};
+ghost use Rattle.dicomdir.specs.machine.Texts as texts;
 
 use byteorder::{ByteOrder, LittleEndian};
 use element::{Header, Need, Syntax, Tag, need, read_header};
@@ -53,6 +57,7 @@ pub(crate) fn head_of(syntax: Syntax, text: &[u8]) -> Option<Head>
 #[cycle(levels)]
 pub(crate) fn after_content(syntax: Syntax, header: Header, text: &[u8]) -> &[u8]
     ensures within { length result.now ≤ length text.now }
+    ensures after { (place : ℕ) (f : Found) (content rest : List ℕ) → IsContent syntax header place f content → text.now ≡ content ++ rest → result.now ≡ rest }
 {
     if header.length != UNDEFINED {
         return after(text, header.length as usize);
@@ -67,6 +72,7 @@ pub(crate) fn after_content(syntax: Syntax, header: Header, text: &[u8]) -> &[u8
 #[cycle(levels)]
 fn after_items(syntax: Syntax, text: &[u8]) -> &[u8]
     ensures within { length result.now ≤ length text.now }
+    ensures after { (items : Items) (rest : List ℕ) → ItemsThen syntax items (delimitation sequence_end_tag ++ rest) text.now → result.now ≡ rest }
 {
     let mut rest = text;
     while let Some(head) = head_of(syntax, rest) {
@@ -83,6 +89,7 @@ fn after_items(syntax: Syntax, text: &[u8]) -> &[u8]
 #[cycle(levels)]
 pub(crate) fn after_item(syntax: Syntax, header: Header, text: &[u8]) -> &[u8]
     ensures within { length result.now ≤ length text.now }
+    ensures after { (es : Elements) (content rest : List ℕ) → IsItemContent syntax header es content → text.now ≡ content ++ rest → result.now ≡ rest }
 {
     if header.length != UNDEFINED {
         return after(text, header.length as usize);
@@ -94,6 +101,7 @@ pub(crate) fn after_item(syntax: Syntax, header: Header, text: &[u8]) -> &[u8]
 #[cycle(levels)]
 fn after_elements(syntax: Syntax, text: &[u8]) -> &[u8]
     ensures within { length result.now ≤ length text.now }
+    ensures after { (es : Elements) (rest : List ℕ) → ElementsThen syntax 0 es (delimitation item_end_tag ++ rest) text.now → result.now ≡ rest }
 {
     let mut rest = text;
     while let Some(head) = head_of(syntax, rest) {
@@ -109,6 +117,7 @@ fn after_elements(syntax: Syntax, text: &[u8]) -> &[u8]
 /// The first bytes that a header announces: all up to the end of the text where its length is undefined.
 pub(crate) fn content_of(header: Header, text: &[u8]) -> &[u8]
     ensures within { length result.now ≤ length text.now }
+    ensures value { result.now ≡ content_at header text.now }
 {
     let length = header.length as usize;
     if header.length != UNDEFINED && length <= text.len() {
@@ -137,6 +146,7 @@ pub(crate) enum Element<'a> {
 fn element_at<'a>(syntax: Syntax, head: Head, place: u64, text: &'a [u8]) -> Element<'a>
     requires { place + head.size < 2 ^ 64 }
     ensures end { EndsBefore (place + head.size + length text.now) result }
+    ensures found { (f : Found) (content more : List ℕ) → head.size ≡ header_size head.header → IsContent syntax head.header place f content → text.now ≡ content ++ more → Finds result f }
 {
     let text = content_of(head.header, text);
     match shape_of(syntax, &head.header) {
@@ -152,8 +162,10 @@ fn element_at<'a>(syntax: Syntax, head: Head, place: u64, text: &'a [u8]) -> Ele
 
 /// Finds the element with a tag among elements of which the first stands at `place`.
 pub(crate) fn find<'a>(syntax: Syntax, tag: Tag, place: u64, text: &'a [u8]) -> Element<'a>
-    requires { place + length text.now < 2 ^ 64 }
+    requires room { place + length text.now < 2 ^ 64 }
+    requires is_tag { IsTag tag }
     ensures end { EndsBefore (place + length text.now) result }
+    ensures found { (es : Elements) → HasElements syntax es text.now → Finds result (found (number tag) place es) }
 {
     let mut rest = text;
     while let Some(head) = head_of(syntax, rest) {
@@ -172,7 +184,9 @@ pub(crate) fn find<'a>(syntax: Syntax, tag: Tag, place: u64, text: &'a [u8]) -> 
 
 impl<'a> Element<'a> {
     /// Returns the number in a value of four bytes.
-    pub fn long(&self) -> Option<u32> {
+    pub fn long(&self) -> Option<u32>
+        ensures { result ≡ texts.got_number 4 self.now }
+    {
         match self {
             Element::Value { value, .. } if value.len() == 4 => Some(LittleEndian::read_u32(value)),
             _ => None,
@@ -180,7 +194,9 @@ impl<'a> Element<'a> {
     }
 
     /// Returns the number in a value of two bytes.
-    pub fn short(&self) -> Option<u16> {
+    pub fn short(&self) -> Option<u16>
+        ensures { result ≡ texts.got_number 2 self.now }
+    {
         match self {
             Element::Value { value, .. } if value.len() == 2 => Some(LittleEndian::read_u16(value)),
             _ => None,
@@ -188,7 +204,9 @@ impl<'a> Element<'a> {
     }
 
     /// Returns the value, if there is one.
-    pub fn value(&self) -> Option<&'a [u8]> {
+    pub fn value(&self) -> Option<&'a [u8]>
+        ensures { option_map (λ v. v.now) result ≡ texts.got_value self.now }
+    {
         match self {
             Element::Value { value, .. } => Some(value),
             _ => None,
@@ -196,7 +214,9 @@ impl<'a> Element<'a> {
     }
 
     /// Returns whether no element has the tag.
-    pub fn is_missing(&self) -> bool {
+    pub fn is_missing(&self) -> bool
+        ensures { result ≡ texts.got_none self.now }
+    {
         matches!(self, Element::Missing)
     }
 }

@@ -1,5 +1,6 @@
 //! What holds of the definitions: each function has a law as its contract, and does nothing.
 ghost use Rattle.dicomdir.specs.NodesInUseExamples.{OneImageHasNodes};
+ghost use Rattle.dicomdir.specs.FiledLaws.{FiledHasRow};
 ghost use Rattle.dicomdir.specs.Groups.{RowsAreGrouped, FileIdsAreRead};
 ghost use Rattle.dicomdir.specs.HeaderFaults.{HeaderFaults};
 ghost use Rattle.dicomdir.specs.KeptExamples.{InactiveRecords};
@@ -7,6 +8,8 @@ ghost use Rattle.dicomdir.specs.KeptLaws.{KeptAreInUse};
 ghost use Rattle.dicomdir.specs.NoFault.{LinkedHasNoFault, NodesAreRecords, NoFaultIsLinked, OneTreeOfFile};
 ghost use Rattle.dicomdir.specs.OneImage.{OneImageIsLinked, OneImageFaults, PreambleCounts, RecordFaults, NoRowsAreLinked};
 ghost use Rattle.dicomdir.specs.PlacesExamples.{PlacesAreAssigned, SizesAreTrue};
+ghost use Rattle.dicomdir.specs.RowLaws.{KeysFit, OneRow};
+ghost use Rattle.dicomdir.specs.WrittenIsLinked.{WrittenIsLinked};
 
 /// The directory of one image, laid out byte by byte, is linked to the tree of its row.
 pub fn one_image_is_linked()
@@ -95,4 +98,26 @@ pub fn kept_are_in_use()
 /// The directory of one image has these four records, with their places and levels.
 pub fn one_image_has_nodes()
     ensures { OneImageHasNodes }
+{}
+
+/// A file has one row at most, or one reason why it has none.
+pub fn one_row_of_a_file()
+    ensures { OneRow }
+{}
+
+/// Values that fit the rooms with which a file is read fit those of a row.
+pub fn keys_fit_their_rooms()
+    ensures { KeysFit }
+{}
+
+/// A file that was filed gives the row of its class, its instance and its data set's values, where the
+/// data set is whole and within the limits of a row; or the first key that is missing there.
+pub fn a_filed_instance_has_its_row()
+    ensures { FiledHasRow }
+{}
+
+/// The directory that is written of rows is linked to their tree, with no record left over, and has no
+/// fault.
+pub fn written_is_linked()
+    ensures { WrittenIsLinked }
 {}

@@ -4,7 +4,9 @@
 
 mod build_groups;
 mod build_plan;
+mod built;
 mod checking;
+mod doubles;
 mod fault;
 mod file_id;
 mod found;
@@ -14,16 +16,22 @@ pub mod laws;
 mod level;
 mod links;
 mod record_bytes;
+mod record_writer;
 mod records;
+mod root_bytes;
 mod row;
+mod row_reading;
 mod skip;
 mod tree;
+mod writing;
 
+pub use built::{Built, build, write_dir};
 pub use checking::check;
 pub use fault::DirFault;
 pub use file_id::FileId;
 pub use kept_files::kept_of;
 pub use keys::Keys;
 pub use row::Row;
+pub use row_reading::rows_of;
 pub use skip::Skip;
 pub use tree::{Tree, TreeRecord};

@@ -1,7 +1,13 @@
 //! Follows the offsets of a directory's records.
-ghost use Rattle.std.specs.Prelude.{◌≡◌, ◌≤◌, ◌<◌, ◌&&◌, not, nat_eq, if◌then◌else◌, ℕ, List, length, IfOk, IfErr, IfSome, get_or, true, false};
-ghost use Rattle.dicomdir.specs.CheckFault.{IsOfRecords};
+ghost use Rattle.std.specs.Prelude.{◌≡◌, ◌≤◌, ◌<◌, ◌+◌, ◌++◌, ◌∷◌, [], min, ◌&&◌, not, nat_eq, if◌then◌else◌, ℕ, List, length, map, reverse, replicate, IsOk, IfOk, IfErr, IfSome, IfNone, get_or, slice_index_or, true, false};
+ghost use Rattle.sequence.specs.Rules.{no_tag};
+ghost use Rattle.dicomdir.specs.DirFault.{is_one_of};
 ghost use Rattle.dicomdir.specs.Linked as linked;
+ghost use Rattle.dicomdir.specs.TreeNodes.{node_of};
+ghost use Rattle.dicomdir.specs.machine.Entries.{AreFollowed, FailsToFollow, carried_by};
+ghost use Rattle.dicomdir.specs.machine.Survey.{own_node};
+ghost use Rattle.dicomdir.specs.machine.Trail.{above_of, chain_of, left_of, mark_of, told_at};
+ghost use Rattle.dicomdir.specs.machine.Turns.{AreAllReached, Begins, Climbs, IsWrongOffset, LeadsTo, GoesOn, IsLeftOver, IsNoPlace};
 
 use crate::fault::DirFault;
 use crate::records::{Entry, is_text};
@@ -59,18 +65,24 @@ fn fits_level(level: u8, kind: &[u8]) -> bool
 }
 
 /// Returns whether a record may stand on a level; an inactive one may stand on any.
-fn fits(level: u8, entry: &Entry) -> bool {
+fn fits(level: u8, entry: &Entry) -> bool
+    ensures { result ≡ linked.fits level (carried_by entry.now) }
+{
     !entry.in_use || fits_level(level, entry.kind)
 }
 
 /// Returns the level below; those below an image's are alike.
-fn below(level: u8) -> u8 {
+fn below(level: u8) -> u8
+    ensures { result ≡ min (level + 1) 5 }
+{
     if level < 5 { level + 1 } else { 5 }
 }
 
-/// Returns the index of the record at a place.
+/// Returns the index of the record at a place, by a binary search, since the places rise.
 fn index_of(entries: &[Entry], place: u32) -> Option<usize>
     ensures within { IfSome result (λ at. at < length entries.now) }
+    ensures found { IfSome result (λ at. (d : Entry) → (slice_index_or entries.now at d).place ≡ place) }
+    ensures absent { IfNone result (IsNoPlace entries.now place) }
 {
     let place = u64::from(place);
     match entries.binary_search_by_key(&place, |entry| entry.place) {
@@ -80,7 +92,9 @@ fn index_of(entries: &[Entry], place: u32) -> Option<usize>
 }
 
 /// Returns whether an offset leads back along the trail: to a record of its last chain, or to one above that.
-fn leads_back(trail: &[Mark], offset: u32) -> bool {
+fn leads_back(trail: &[Mark], offset: u32) -> bool
+    ensures { result ≡ is_one_of offset (chain_of (reverse trail.now) ++ above_of (reverse trail.now)) }
+{
     let mut in_chain = true;
     let mut is_above = false;
     let mut at = trail.len();
@@ -98,6 +112,7 @@ fn leads_back(trail: &[Mark], offset: u32) -> bool {
 
 /// Drops the last chain of the trail.
 fn leave_chain<A: Allocator + Copy>(trail: &mut Vec<Mark, A>)
+    ensures left { reverse trail.new.items ≡ left_of (reverse trail.old.items) }
     ensures fewer { 0 < length trail.old.items → length trail.new.items < length trail.old.items }
 {
     while let Some(mark) = trail.pop() {
@@ -109,7 +124,9 @@ fn leave_chain<A: Allocator + Copy>(trail: &mut Vec<Mark, A>)
 
 /// Returns the next offset of the trail, and drops the chains that are at their end. `last` becomes the last record of
 /// the last chain that was dropped.
-fn climb<A: Allocator + Copy>(trail: &mut Vec<Mark, A>, last: &mut u64) -> Option<Step> {
+fn climb<A: Allocator + Copy>(trail: &mut Vec<Mark, A>, last: &mut u64) -> Option<Step>
+    ensures climbs { Climbs (reverse trail.old.items) last.old (reverse trail.new.items) result last.new }
+{
     while let Some(mark) = trail.last() {
         if mark.next != 0 {
             return Some(Step {
@@ -126,8 +143,8 @@ fn climb<A: Allocator + Copy>(trail: &mut Vec<Mark, A>, last: &mut u64) -> Optio
 }
 
 fn none_reached<A: Allocator + Copy>(alloc: A, count: usize) -> Result<Vec<bool, A>, DirFault>
-    ensures size { IfOk result (λ reached. length reached.items ≡ count) }
-    ensures fault { IfErr result IsOfRecords }
+    ensures flags { IfOk result (λ reached. reached.items ≡ replicate count false) }
+    ensures memory { IfErr result (λ f. f ≡ record { number = 67; place = 0; tag = no_tag }) }
 {
     let mut reached = Vec::new(alloc);
     for _ in 0..count {
@@ -139,7 +156,9 @@ fn none_reached<A: Allocator + Copy>(alloc: A, count: usize) -> Result<Vec<bool,
 }
 
 /// Returns where a fault of the next offset is reported.
-fn told_of(trail: &[Mark], root: &Root) -> u64 {
+fn told_of(trail: &[Mark], root: &Root) -> u64
+    ensures { result ≡ told_at root.now.first_place (reverse trail.now) }
+{
     match trail.last() {
         Some(mark) => mark.place,
         None => root.first_place,
@@ -157,7 +176,9 @@ fn target(
     requires { length reached.now ≡ length entries.now }
     ensures within { IfOk result (λ at. at < length entries.now) }
     ensures first { IfOk result (λ at. get_or reached.now at true ≡ false) }
-    ensures fault { IfErr result IsOfRecords }
+    ensures good { IfOk result (LeadsTo root.now.first_place entries.now reached.now (reverse trail.now) step.now) }
+    ensures fault { IfErr result (IsWrongOffset root.now.first_place entries.now reached.now (reverse trail.now) step.now) }
+    ensures links { IfErr result (λ f. record { from : 60 ≤ f.number; to : f.number ≤ 64; tag : f.tag ≡ no_tag }) }
 {
     let told = told_of(trail, root);
     let Some(at) = index_of(entries, step.offset) else {
@@ -182,7 +203,9 @@ fn reach<'a, A: Allocator + Copy>(
     trail: &mut Vec<Mark, A>,
     tree: &mut Vec<TreeRecord<'a>, A>,
 ) -> Result<(), DirFault>
-    ensures { IfErr result IsOfRecords }
+    ensures mark { IsOk result → trail.new.items ≡ trail.old.items ++ mark_of entry.now step.now ∷ [] }
+    ensures node { IsOk result → map node_of tree.new.items ≡ map node_of tree.old.items ++ own_node step.now.shown step.now.level entry.now.place (carried_by entry.now) }
+    ensures memory { IfErr result (λ f. f ≡ record { number = 67; place = 0; tag = no_tag }) }
 {
     let mark = Mark {
         place: entry.place,
@@ -209,7 +232,9 @@ fn step_after<A: Allocator + Copy>(
     step: &Step,
     trail: &mut Vec<Mark, A>,
     last: &mut u64,
-) -> Option<Step> {
+) -> Option<Step>
+    ensures goes_on { GoesOn (reverse trail.old.items) (reverse trail.new.items) step.now result last.new entry.now }
+{
     if entry.lower != 0 {
         return Some(Step {
             offset: entry.lower,
@@ -221,7 +246,9 @@ fn step_after<A: Allocator + Copy>(
     climb(trail, last)
 }
 
-fn first_step(root: &Root) -> Option<Step> {
+fn first_step(root: &Root) -> Option<Step>
+    ensures { Begins root.now result }
+{
     if root.first == 0 {
         return None;
     }
@@ -234,6 +261,7 @@ fn first_step(root: &Root) -> Option<Step> {
 }
 
 /// Follows the offsets from the root, depth first, the lower one before the next one, and adds the records of the tree.
+/// Fails with the first fault of the links (60 to 64), or with 67 where the allocator refuses a growth.
 #[tactic(auto, using(crate::proofs::UnreachedLemmas::left_fewer))]
 pub(crate) fn follow<'a, A: Allocator + Copy>(
     alloc: A,
@@ -241,7 +269,8 @@ pub(crate) fn follow<'a, A: Allocator + Copy>(
     root: &Root,
     tree: &mut Vec<TreeRecord<'a>, A>,
 ) -> Result<(), DirFault>
-    ensures { IfErr result IsOfRecords }
+    ensures good { IsOk result → AreFollowed root.now entries.now tree.old.items tree.new.items }
+    ensures fails { IfErr result (FailsToFollow root.now entries.now) }
 {
     let mut reached = none_reached(alloc, entries.len())?;
     let mut trail = Vec::new(alloc);
@@ -249,9 +278,10 @@ pub(crate) fn follow<'a, A: Allocator + Copy>(
     let mut pending = first_step(root);
     while let Some(step) = pending {
         let at = target(entries, reached.as_slice(), trail.as_slice(), root, &step)?;
+        let entry = &entries[at];
         reached[at] = true;
-        reach(&entries[at], &step, &mut trail, tree)?;
-        pending = step_after(&entries[at], &step, &mut trail, &mut last);
+        reach(entry, &step, &mut trail, tree)?;
+        pending = step_after(entry, &step, &mut trail, &mut last);
     }
     if u64::from(root.last) != last {
         return Err(DirFault::at(DirFault::BAD_OFFSET, root.last_place));
@@ -261,10 +291,13 @@ pub(crate) fn follow<'a, A: Allocator + Copy>(
 
 /// Refuses the first record in use that was not reached.
 fn all_reached(entries: &[Entry], reached: &[bool]) -> Result<(), DirFault>
-    ensures { IfErr result IsOfRecords }
+    requires { length reached.now ≡ length entries.now }
+    ensures good { IsOk result → AreAllReached entries.now reached.now }
+    ensures fault { IfErr result (IsLeftOver entries.now reached.now) }
+    ensures links { IfErr result (λ f. record { number : f.number ≡ 63; tag : f.tag ≡ no_tag }) }
 {
-    for (entry, is_reached) in entries.iter().zip(reached) {
-        if entry.in_use && !*is_reached {
+    for (at, entry) in entries.iter().enumerate() {
+        if entry.in_use && !reached[at] {
             return Err(DirFault::at(DirFault::UNREACHED, entry.place));
         }
     }

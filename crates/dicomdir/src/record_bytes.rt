@@ -31,7 +31,7 @@ pub(crate) fn put(out: &mut RecordBytes, bytes: &[u8])
 
 /// Appends an element in Explicit VR Little Endian with a VR whose length takes two bytes.
 #[tactic(auto, unfolding(crate::specs::RecordText::element))]
-fn put_element(out: &mut RecordBytes, tag: Tag, vr: [u8; 2], value: &[u8], padding: u8)
+pub(crate) fn put_element(out: &mut RecordBytes, tag: Tag, vr: [u8; 2], value: &[u8], padding: u8)
     requires room { array_vec_len out.old + length value.now + 9 ≤ 1024 }
     requires short { is_short_vr vr ≡ true }
     ensures items { out.new.items ≡ out.old.items ++ text.element tag vr (padded padding value.now) }

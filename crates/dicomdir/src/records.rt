@@ -1,6 +1,11 @@
 //! The records of a directory, with what a check needs of them.
-ghost use Rattle.std.specs.Prelude.{◌≡◌, ◌≤◌, ◌<◌, ◌+◌, ◌^◌, ℕ, List, length, IfErr};
-ghost use Rattle.dicomdir.specs.CheckFault.{IsOfRecords};
+ghost use Rattle.std.specs.Prelude.{◌≡◌, ◌≤◌, ◌<◌, ◌+◌, ◌^◌, ◌++◌, List, length, false, IsOk, IfOk, IfErr, IfSome, IsNone};
+ghost use Rattle.sequence.specs.Tree.{Elements, Items};
+ghost use Rattle.dicomdir.specs.Directory.{Record, records_at, has_record};
+ghost use Rattle.dicomdir.specs.DirFault.{record_fault, each_fault};
+ghost use Rattle.dicomdir.specs.machine.Entries.{IsEntry, AreEntries};
+ghost use Rattle.dicomdir.specs.machine.Reading.{FailsAs, IsEntryOf, use_flag, entry_has_file_id};
+ghost use Rattle.dicomdir.specs.machine.Texts.{HasElements, HasItems, got_kind, got_file_id};
 ghost use Rattle.std.specs.Str.{bytes_eq};
 
 use crate::fault::DirFault;
@@ -28,7 +33,9 @@ pub(crate) fn is_text(bytes: &[u8], text: &[u8]) -> bool
 }
 
 /// Returns whether a record is in use; `None` where the flag is neither that nor inactive.
-fn use_of(flag: Option<u16>) -> Option<bool> {
+fn use_of(flag: Option<u16>) -> Option<bool>
+    ensures { result ≡ use_flag flag }
+{
     match flag {
         Some(0xffff) => Some(true),
         Some(0) => Some(false),
@@ -36,14 +43,18 @@ fn use_of(flag: Option<u16>) -> Option<bool> {
     }
 }
 
-fn kind_of<'a>(element: &Element<'a>) -> &'a [u8] {
+fn kind_of<'a>(element: &Element<'a>) -> &'a [u8]
+    ensures { result.now ≡ got_kind element.now }
+{
     match element.value() {
         Some(value) => unpadded(value),
         None => &[],
     }
 }
 
-fn file_id_of<'a>(element: &Element<'a>) -> Option<FileId> {
+fn file_id_of<'a>(element: &Element<'a>) -> Option<FileId>
+    ensures { result ≡ got_file_id element.now }
+{
     match element.value() {
         Some(value) => FileId::read(value),
         None => None,
@@ -51,7 +62,10 @@ fn file_id_of<'a>(element: &Element<'a>) -> Option<FileId> {
 }
 
 /// Reads the record of an item with these elements; `None` where it lacks something.
-fn entry_of<'a>(syntax: Syntax, place: u64, text: &'a [u8]) -> Option<Entry<'a>> {
+fn entry_of<'a>(syntax: Syntax, place: u64, text: &'a [u8]) -> Option<Entry<'a>>
+    ensures read { IfSome result (λ e. (es : Elements) → HasElements syntax es text.now → IsEntryOf place es e) }
+    ensures lacks { IsNone result → (es : Elements) → HasElements syntax es text.now → has_record es ≡ false }
+{
     let next = find(syntax, Tag(0x0004, 0x1400), 0, text).long()?;
     let in_use = use_of(find(syntax, Tag(0x0004, 0x1410), 0, text).short())?;
     let lower = find(syntax, Tag(0x0004, 0x1420), 0, text).long()?;
@@ -71,7 +85,9 @@ fn entry_of<'a>(syntax: Syntax, place: u64, text: &'a [u8]) -> Option<Entry<'a>>
 }
 
 /// Returns whether the record has the file ID that it needs.
-fn has_file_id(entry: &Entry, element: &Element) -> bool {
+fn has_file_id(entry: &Entry, element: &Element) -> bool
+    ensures { result ≡ entry_has_file_id entry.now element.now }
+{
     !entry.in_use
         || entry.file_id.is_some()
         || (element.is_missing() && !is_text(entry.kind, b"IMAGE"))
@@ -79,7 +95,8 @@ fn has_file_id(entry: &Entry, element: &Element) -> bool {
 
 /// Reads the record at a place.
 fn read_record<'a>(syntax: Syntax, place: u64, text: &'a [u8]) -> Result<Entry<'a>, DirFault>
-    ensures { IfErr result IsOfRecords }
+    ensures read { IfOk result (λ e. (es : Elements) → HasElements syntax es text.now → IsEntry e (record { place = place; elements = es })) }
+    ensures fails { IfErr result (λ f. (es : Elements) → HasElements syntax es text.now → FailsAs (record_fault (record { place = place; elements = es })) f) }
 {
     let Some(entry) = entry_of(syntax, place, text) else {
         return Err(DirFault::at(DirFault::BAD_RECORD, place));
@@ -98,7 +115,8 @@ pub(crate) fn read_records<'a, A: Allocator + Copy>(
     records: &mut Vec<Entry<'a>, A>,
 ) -> Result<(), DirFault>
     requires { first + length text.now < 2 ^ 64 }
-    ensures { IfErr result IsOfRecords }
+    ensures read { IsOk result → (items : Items) (before : List Record) → HasItems syntax items text.now → AreEntries records.old.items before → AreEntries records.new.items (before ++ records_at first items) }
+    ensures fails { IfErr result (λ f. (items : Items) → HasItems syntax items text.now → FailsAs (each_fault (records_at first items)) f) }
 {
     let mut rest = text;
     while let Some(head) = head_of(syntax, rest) {

@@ -1,6 +1,6 @@
 //! What a directory is built from.
 ghost use Rattle.std.specs.Prelude.{◌≡◌, ◌≤◌, [], true, length, option_map};
-ghost use Rattle.dicomdir.specs.Keys.{checked_row, optional_size};
+ghost use Rattle.dicomdir.specs.Keys.{IsRow, checked_row, optional_size};
 ghost use Rattle.dicomdir.specs.Keys as spelling;
 ghost use Rattle.element.specs.Uid.{is_uid};
 ghost use Rattle.element.specs.declared.syntax.Syntax.TheVariants.{Explicit};
@@ -148,6 +148,14 @@ impl<A: Allocator> Row<A> {
             syntax,
             keys,
         })
+    }
+
+    /// Does nothing; its contract is what the type guarantees: no key is longer than its room, and
+    /// none of the keys that must not be empty is.
+    pub fn keeps(&self)
+        ensures { IsRow self.now }
+    {
+        let _ = &self.file_id;
     }
 
     /// Returns the SOP class.

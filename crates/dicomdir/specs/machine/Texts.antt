@@ -1,10 +1,102 @@
--- Where the items that were found under a tag end.
-use Rattle.std.specs.Prelude.{ℕ, ◌≤◌, ◌+◌, length}
+-- What a text spells from its front, and what is found in it under a tag.
+use Rattle.std.specs.Prelude.{◌≡◌, ℕ, ◌≤◌, ◌+◌, Bool, true, false, not, ◌&&◌, List, [], ◌++◌, length, take, Option, Some, None, nat_eq, nat_le, if◌then◌else◌}
+use Rattle.byteorder.specs.Endian.{little_number}
+use Rattle.element.specs.declared.syntax.Syntax.{Syntax}
+use Rattle.element.specs.declared.tag.Tag.{Tag}
+use Rattle.element.specs.declared.header.Header.{Header}
+use Rattle.sequence.specs.Shape.{is_undefined, shape}
+use Rattle.sequence.specs.declared.shape.Shape.TheVariants.{Value, Sequence}
+use Rattle.sequence.specs.Tree.{Elements, Items, item_end_tag, sequence_end_tag, delimitation, IsValue, Ended, DataSet, ItemList}
 use Rattle.dicomdir.specs.declared.found.Element.{Element}
 use Rattle.dicomdir.specs.declared.found.Element.TheVariants as got
+use Rattle.dicomdir.specs.Directory.{Found, missing, value_at, items_at, header_size}
+use Rattle.dicomdir.specs.FileId.{file_id_of}
+use Rattle.dicomdir.specs.Row.{key}
 
 -- items that were found stand before a place
 abbrev pub EndsBefore : ℕ → Element → Type 0
 EndsBefore end got.Missing = Unit {0}
 EndsBefore end (got.Value p v) = Unit {0}
 EndsBefore end (got.Items p f s t) = f + length t.now ≤ end
+
+-- the text spells these elements, whose tags are above `last`, and then goes on by `more`
+pub record ElementsThen (s : Syntax) (last : ℕ) (es : Elements) (more text : List ℕ) : Type 0 where
+  pub bytes : List ℕ
+  pub data_set : DataSet s last es bytes
+  pub whole : text ≡ bytes ++ more
+
+pub record ItemsThen (s : Syntax) (is : Items) (more text : List ℕ) : Type 0 where
+  pub bytes : List ℕ
+  pub items : ItemList s is bytes
+  pub whole : text ≡ bytes ++ more
+
+-- nothing, or the end of a level and any bytes
+pub data IsAfter (mark : Tag) : List ℕ → Type 0 where
+  nothing_after : IsAfter mark []
+  end_after : (rest : List ℕ) → IsAfter mark (delimitation mark ++ rest)
+
+-- the text spells these elements, and goes on after them by nothing or by the end of their item
+pub record HasElements (s : Syntax) (es : Elements) (text : List ℕ) : Type 0 where
+  pub more : List ℕ
+  pub after : IsAfter item_end_tag more
+  pub spelled : ElementsThen s 0 es more text
+
+-- the text spells these items, and goes on after them by nothing or by the end of their sequence
+pub record HasItems (s : Syntax) (is : Items) (text : List ℕ) : Type 0 where
+  pub more : List ℕ
+  pub after : IsAfter sequence_end_tag more
+  pub spelled : ItemsThen s is more text
+
+-- the bytes after the header of an element at a place, and what is found there
+pub data IsContent (s : Syntax) (h : Header) (place : ℕ) : Found → List ℕ → Type 0 where
+  of_value : {v : List ℕ} → shape s h ≡ Value → IsValue h.length v → IsContent s h place (value_at place v) v
+  of_items : {inner : Syntax} {is : Items} {b c : List ℕ} → shape s h ≡ Sequence inner → ItemList inner is b → Ended sequence_end_tag h.length b c
+      → IsContent s h place (items_at place h is) c
+
+-- the bytes after the header of an item
+pub data IsItemContent (s : Syntax) (h : Header) (es : Elements) : List ℕ → Type 0 where
+  of_elements : {b c : List ℕ} → DataSet s 0 es b → Ended item_end_tag h.length b c → IsItemContent s h es c
+
+-- of a text after a header, what its length announces: all of the text where it is undefined
+abbrev pub content_at : Header → List ℕ → List ℕ
+content_at h text = if not (is_undefined h.length) && nat_le h.length (length text) then take h.length text else text
+
+pub record FindsItems (p first : ℕ) (s : Syntax) (text : List ℕ) (f : Found) : Type 0 where
+  pub header : Header
+  pub items : Items
+  pub is : f ≡ items_at p header items
+  pub first_is : first ≡ p + header_size header
+  pub text_is : HasItems s items text
+
+-- what was found is what stands there
+abbrev pub Finds : Element → Found → Type 0
+Finds got.Missing f = f ≡ missing
+Finds (got.Value p v) f = f ≡ value_at p v.now
+Finds (got.Items p first s t) f = FindsItems p first s t.now f
+
+-- what a value that was found says
+
+abbrev pub got_number : ℕ → Element → Option ℕ
+got_number size got.Missing = None
+got_number size (got.Value p v) = if nat_eq (length v.now) size then Some (little_number size v.now) else None
+got_number size (got.Items p first s t) = None
+
+abbrev pub got_value : Element → Option (List ℕ)
+got_value got.Missing = None
+got_value (got.Value p v) = Some v.now
+got_value (got.Items p first s t) = None
+
+abbrev pub got_kind : Element → List ℕ
+got_kind got.Missing = []
+got_kind (got.Value p v) = key v.now
+got_kind (got.Items p first s t) = []
+
+abbrev pub got_file_id : Element → Option (List ℕ)
+got_file_id got.Missing = None
+got_file_id (got.Value p v) = file_id_of v.now
+got_file_id (got.Items p first s t) = None
+
+abbrev pub got_none : Element → Bool
+got_none got.Missing = true
+got_none (got.Value p v) = false
+got_none (got.Items p first s t) = false

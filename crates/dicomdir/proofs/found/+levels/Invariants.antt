@@ -1,4 +1,7 @@
-use Rattle.std.proofs.Common.{◌≤◌, ◌+◌, ◌*◌, length}
+use Rattle.std.proofs.Common.{◌≤◌, ◌+◌, ◌*◌, ℕ, List, ◌++◌, length}
+use Rattle.sequence.specs.Tree.{Elements, Items, delimitation, item_end_tag, sequence_end_tag}
+use Rattle.dicomdir.specs.machine.Texts.{ElementsThen, ItemsThen}
+use Rattle.dicomdir.proofs.SkipLemmas.{SomeElements, SomeItems}
 use Rattle.dicomdir.proofs.found.+levels.Given as goal
 
 abbrev pub decreases-after_content : goal.decreases-after_content
@@ -14,13 +17,19 @@ abbrev pub decreases-after_items : goal.decreases-after_items
 decreases-after_items l = 2 * length l.text.now
 
 abbrev pub invariant-after_elements-loop-head : goal.invariant-after_elements-loop-head
-invariant-after_elements-loop-head l = length l.rest ≤ length l.text
+invariant-after_elements-loop-head l = record {
+  fits : length l.rest ≤ length l.text;
+  left : (es : Elements) (rest : List ℕ) → ElementsThen l.syntax 0 es (delimitation item_end_tag ++ rest) l.text → SomeElements l.syntax (delimitation item_end_tag ++ rest) l.rest;
+}
 
 abbrev pub decreases-after_elements-loop-head : goal.decreases-after_elements-loop-head
 decreases-after_elements-loop-head l = length l.rest
 
 abbrev pub invariant-after_items-loop-head : goal.invariant-after_items-loop-head
-invariant-after_items-loop-head l = length l.rest ≤ length l.text
+invariant-after_items-loop-head l = record {
+  fits : length l.rest ≤ length l.text;
+  left : (items : Items) (rest : List ℕ) → ItemsThen l.syntax items (delimitation sequence_end_tag ++ rest) l.text → SomeItems l.syntax (delimitation sequence_end_tag ++ rest) l.rest;
+}
 
 abbrev pub decreases-after_items-loop-head : goal.decreases-after_items-loop-head
 decreases-after_items-loop-head l = length l.rest

@@ -1,5 +1,5 @@
-use Rattle.std.proofs.Common.{◌≡◌, length}
+use Rattle.std.proofs.Common.{◌≡◌, false, replicate}
 use Rattle.dicomdir.proofs.links.none_reached.Given as goal
 
 abbrev pub invariant-loop : goal.invariant-loop
-invariant-loop g l = length l.reached.items ≡ l.counter
+invariant-loop g l = l.reached.items ≡ replicate l.counter false

@@ -1,0 +1,138 @@
+-- The file that is built has the size and the text of the definitions.
+use Rattle.std.proofs.Common.{◌≡◌, ℕ, ◌+◌, ◌^◌, ◌<◌, ◌≤◌, true, false, List, [], ◌∷◌, ◌++◌, length, None, refl, sym, ap, ap₂, codes, ◌∙◌, append_assoc, arith}
+use Rattle.std.proofs.lemmas.Bool.Decides.{nat_tests}
+use Rattle.std.proofs.lemmas.List.{append-nil}
+use Rattle.element.specs.Header.{header_bytes}
+use Rattle.element.specs.Numbers.{le}
+use Rattle.element.specs.Vr.{is_short}
+use Rattle.sequence.specs.Tree.{Elements, Items, no_items, item_tag}
+use Rattle.dicomdir.specs.declared.build_plan.Entry.{Entry}
+use Rattle.dicomdir.specs.declared.level.Level.TheVariants.{Patient}
+use Rattle.dicomdir.specs.Built.{directory_header, directory_file, file_is_too_large}
+use Rattle.dicomdir.specs.Directory.{Record}
+use Rattle.dicomdir.specs.Laying.{place_from_end, laid_text, forest_text, Lays}
+use Rattle.dicomdir.specs.Layout.{spelled, spelled_items, with_offsets, root_elements}
+use Rattle.dicomdir.specs.Levels.{forest_for}
+use Rattle.dicomdir.specs.Places.{root_size, forest_size, with_places, first_record_place, last_record_place, record_items, elements_with_places, directory_elements, directory_of}
+use Rattle.dicomdir.specs.Row.{Row, without_doubles}
+use Rattle.dicomdir.specs.Record.{tag}
+use Rattle.dicomdir.specs.RecordText.{element}
+use Rattle.dicomdir.specs.TreeOf.{Forest, no_nodes, node, TreeOf}
+use Rattle.dicomdir.specs.machine.Building.{IsBuilt, root_text}
+use Rattle.dicomdir.proofs.Sizes.{items_size}
+
+pub root_size_is : root_size ≡ 54
+unfolding is_short
+root_size_is = refl
+
+tree_is : (rows : List Row) → forest_for Patient (without_doubles [] rows) ≡ TreeOf rows
+unfolding TreeOf
+tree_is rows = refl
+
+same_tree : (kept rows : List Row) → kept ≡ without_doubles [] rows → forest_for Patient kept ≡ TreeOf rows
+same_tree kept rows e = ap (forest_for Patient) e ∙ tree_is rows
+
+-- records of 2^32 bytes are too large already without what stands before them
+pub records_too_large : (uid : List ℕ) (rows kept : List Row) (old : ℕ) → kept ≡ without_doubles [] rows → old ≡ 0 → 2 ^ 32 ≤ old + forest_size (forest_for Patient kept)
+    → file_is_too_large uid rows ≡ true
+records_too_large uid rows kept old e none large =
+    let same = ap forest_size (same_tree kept rows e) in
+    let le : 2 ^ 32 ≤ length (directory_header uid) + root_size + forest_size (TreeOf rows) = omega (arith, large, none, same) in
+    grind (arith, nat_tests)
+
+-- what was laid down, and what stands before it
+pub record Counts (uid : List ℕ) (rows : List Row) (header records : ℕ) : Type 0 where
+  pub header_is : header ≡ length (directory_header uid)
+  pub records_are : records ≡ forest_size (TreeOf rows)
+
+pub file_too_large : (uid : List ℕ) (rows : List Row) (header records : ℕ) → Counts uid rows header records → 2 ^ 32 ≤ records + (header + 54) → file_is_too_large uid rows ≡ true
+file_too_large uid rows header records s large =
+    let root = root_size_is in
+    let a = s.header_is in
+    let b = s.records_are in
+    let le : 2 ^ 32 ≤ length (directory_header uid) + root_size + forest_size (TreeOf rows) = omega (arith, large, a, b, root) in
+    grind (arith, nat_tests)
+
+pub file_fits : (uid : List ℕ) (rows : List Row) (header records : ℕ) → Counts uid rows header records → records + (header + 54) < 2 ^ 32 → file_is_too_large uid rows ≡ false
+file_fits uid rows header records s small =
+    let root = root_size_is in
+    let a = s.header_is in
+    let b = s.records_are in
+    let lt : length (directory_header uid) + root_size + forest_size (TreeOf rows) < 2 ^ 32 = omega (arith, small, a, b, root) in
+    grind (arith, nat_tests)
+
+pub lays_tree : {A : Type 0} (rows kept : List Row) (e0 e1 : List (Entry A)) (s0 s1 first last : ℕ) → kept ≡ without_doubles [] rows → e0 ≡ [] → s0 ≡ 0
+    → Lays (forest_for Patient kept) e0 e1 s0 s1 first last → Lays (TreeOf rows) [] e1 0 s1 first last
+lays_tree rows kept e0 e1 s0 s1 first last e none zero_is lays = rw (← same_tree kept rows e, ← none, ← zero_is) lays
+
+root_parts : (first last size : ℕ)
+    → root_text first last size
+    ≡ element (tag 0x0004 0x1130) (codes "CS") []
+    ++ (element (tag 0x0004 0x1200) (codes "UL") (le first 4)
+    ++ (element (tag 0x0004 0x1202) (codes "UL") (le last 4)
+    ++ (element (tag 0x0004 0x1212) (codes "US") (le 0 2)
+    ++ ((0x04 ∷ 0x00 ∷ 0x20 ∷ 0x12 ∷ 0x53 ∷ 0x51 ∷ 0 ∷ 0 ∷ []) ++ le size 4))))
+unfolding root_text is_short
+root_parts first last size = refl
+
+joined : (a b c d e f : List ℕ) → (((((([] ++ a) ++ b) ++ c) ++ d) ++ e) ++ f) ≡ a ++ (b ++ (c ++ (d ++ (e ++ f))))
+joined a b c d e f = simp append_assoc
+
+pub root_laid : (first last size : ℕ)
+    → (((((([] ++ element (tag 0x0004 0x1130) (codes "CS") []) ++ element (tag 0x0004 0x1200) (codes "UL") (le first 4)) ++ element (tag 0x0004 0x1202) (codes "UL") (le last 4))
+    ++ element (tag 0x0004 0x1212) (codes "US") (le 0 2)) ++ (0x04 ∷ 0x00 ∷ 0x20 ∷ 0x12 ∷ 0x53 ∷ 0x51 ∷ 0 ∷ 0 ∷ [])) ++ le size 4)
+    ≡ root_text first last size
+root_laid first last size =
+    joined (element (tag 0x0004 0x1130) (codes "CS") []) (element (tag 0x0004 0x1200) (codes "UL") (le first 4)) (element (tag 0x0004 0x1202) (codes "UL") (le last 4))
+    (element (tag 0x0004 0x1212) (codes "US") (le 0 2)) (0x04 ∷ 0x00 ∷ 0x20 ∷ 0x12 ∷ 0x53 ∷ 0x51 ∷ 0 ∷ 0 ∷ []) (le size 4)
+    ∙ sym (root_parts first last size)
+
+-- the root's elements, and the text of the items
+root_elements_are : (first last : ℕ) (is : Items) → spelled (root_elements first last is) ≡ root_text first last (length (spelled_items is)) ++ spelled_items is
+unfolding root_text element is_short
+root_elements_are first last is = rw (append-nil (spelled_items is)) refl
+
+one_item : (own b n o : List ℕ) → own ++ (b ++ (n ++ o)) ≡ ((own ++ []) ++ (b ++ n)) ++ o
+one_item own b n o = simp (append-nil, append_assoc)
+
+items_are : (f : Forest Record) (others : Items) → spelled_items (record_items f others) ≡ forest_text f ++ spelled_items others
+items_are no_nodes others = refl
+items_are (node r below next) others =
+    let own = spelled (with_offsets (first_record_place next) (first_record_place below) r.elements) in
+    let header : List ℕ = header_bytes (record { tag = item_tag; vr = None; length = length own }) in
+    let rest : spelled_items (record_items below (record_items next others)) ≡ forest_text below ++ (forest_text next ++ spelled_items others) =
+    items_are below (record_items next others) ∙ ap (λ (t : List ℕ). forest_text below ++ t) (items_are next others) in
+    ap (λ (t : List ℕ). header ++ (own ++ t)) rest ∙ ap (λ (t : List ℕ). header ++ t) (one_item own (forest_text below) (forest_text next) (spelled_items others))
+
+placed_text : (tree : Forest Elements) (start : ℕ)
+    → spelled (elements_with_places (with_places start tree))
+    ≡ root_text (first_record_place (with_places start tree)) (last_record_place (with_places start tree)) (forest_size tree) ++ forest_text (with_places start tree)
+placed_text tree start =
+    let placed = with_places start tree in
+    let items = spelled_items (record_items placed no_items) in
+    let text : items ≡ forest_text placed = items_are placed no_items ∙ append-nil (forest_text placed) in
+    let size : length items ≡ forest_size tree = let s = items_size start tree no_items in omega (arith, s) in
+    root_elements_are (first_record_place placed) (last_record_place placed) (record_items placed no_items)
+    ∙ ap₂ (λ (n : ℕ) (t : List ℕ). root_text (first_record_place placed) (last_record_place placed) n ++ t) size text
+
+pub directory_text : (front : List ℕ) (rows : List Row)
+    → directory_of front rows ≡ front ++ spelled (elements_with_places (with_places (length front + root_size) (TreeOf rows)))
+unfolding directory_elements
+directory_text front rows = refl
+
+-- the file is its header, its root, and the records that are laid down
+pub file_text : {A : Type 0} (uid : List ℕ) (rows : List Row) (entries : List (Entry A)) (records first last size : ℕ) (doubles : List ℕ) → IsBuilt uid rows entries records first last size doubles
+    → directory_file (record { uid = uid; rows = rows })
+    ≡ directory_header uid ++ (root_text (place_from_end size first) (place_from_end size last) records ++ laid_text size entries)
+file_text uid rows entries records first last size doubles b =
+    let header = directory_header uid in
+    let start = length header + root_size in
+    let placed = with_places start (TreeOf rows) in
+    let total : start + records ≡ size = sym b.size in
+    let first_is : first_record_place placed ≡ place_from_end size first = sym (b.laid.first_is start) ∙ ap (λ (n : ℕ). place_from_end n first) total in
+    let last_is : last_record_place placed ≡ place_from_end size last = sym (b.laid.last_is start) ∙ ap (λ (n : ℕ). place_from_end n last) total in
+    let records_are : forest_size (TreeOf rows) ≡ records = let s = b.laid.size in omega (arith, s) in
+    let text : forest_text placed ≡ laid_text size entries = sym (append-nil (forest_text placed)) ∙ sym (b.laid.text start) ∙ ap (λ (n : ℕ). laid_text n entries) total in
+    let root : root_text (first_record_place placed) (last_record_place placed) (forest_size (TreeOf rows)) ≡ root_text (place_from_end size first) (place_from_end size last) records =
+    λ i. root_text (first_is i) (last_is i) (records_are i) in
+    directory_text header rows ∙ ap (λ (t : List ℕ). header ++ t) (placed_text (TreeOf rows) start ∙ ap₂ (λ (a : List ℕ) (b : List ℕ). a ++ b) root text)

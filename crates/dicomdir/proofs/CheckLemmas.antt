@@ -1,0 +1,185 @@
+-- The faults of a directory, in the order in which they are looked for.
+use Rattle.std.proofs.Common.{◌≡◌, ◌≢◌, ℕ, suc, Bool, true, false, List, [], ◌++◌, length, map, Option, Some, None, length-append, ◌-◌, refl, sym, ap, subst, ◌∙◌, arith, nat_eq, if◌then◌else◌}
+use Rattle.byteorder.specs.Endian.{little_number}
+use Rattle.std.proofs.lemmas.List.{append-nil}
+use Rattle.element.specs.declared.syntax.Syntax.{Syntax}
+use Rattle.element.specs.declared.syntax.Syntax.TheVariants.{Explicit}
+use Rattle.sequence.proofs.Public.{whole_breaks_no_rule}
+use Rattle.sequence.specs.Ending.{IsWhole}
+use Rattle.sequence.specs.Rules.{no_tag}
+use Rattle.sequence.specs.Tree.{Elements, Items, DataSet}
+use Rattle.dicomdir.specs.declared.fault.DirFault.{DirFault}
+use Rattle.dicomdir.specs.declared.links.Root.{Root}
+use Rattle.dicomdir.specs.declared.records.Entry.{Entry}
+use Rattle.dicomdir.specs.declared.tree.TreeRecord.{TreeRecord}
+use Rattle.dicomdir.specs.CheckFault.{check_limits, CheckFault, HasHeader, in_directory}
+use Rattle.dicomdir.specs.Directory.{Found, value_at, found, number_in, Record, records_at, records_in, first_offset, records_of}
+use Rattle.dicomdir.specs.DirFault.{Fault, fault, ◌or_else◌, or_zero, place_in, offset_fault, records_fault, root_fault, each_fault, links_fault, records_then_links, directory_fault}
+use Rattle.dicomdir.specs.Followed.{forest_from}
+use Rattle.dicomdir.specs.NodesInUse.{LevelNode, nodes_in_use, HasNodes}
+use Rattle.dicomdir.specs.TreeNodes.{node_of}
+use Rattle.dicomdir.specs.machine.Entries.{AreEntries, AreRead, AreFollowed, FailsToFollow}
+use Rattle.dicomdir.specs.machine.Reading.{FailsAs, IsRootOffset, ChecksAs}
+use Rattle.dicomdir.specs.machine.Texts.{HasElements, nothing_after, FindsItems}
+use Rattle.dicomdir.proofs.FaultFree.{sound_by}
+use Rattle.dicomdir.proofs.RecordsLemmas.{entries_good, records_rise}
+
+-- ---- faults
+
+pub fails_at : (o : Option Fault) (n place : ℕ) (f : DirFault) → f ≡ record { number = n; place = place; tag = no_tag } → n ≢ 67 → o ≡ fault n place → FailsAs o f
+fails_at o n place f is other at =
+    record {
+      tag = ap (λ z. z.tag) is;
+      memory = λ e. absurd (other (sym (ap (λ z. z.number) is) ∙ e));
+      fault = λ e. at ∙ (λ i. Some (record { number = (sym is i).number; place = (sym is i).place }));
+    }
+
+fails_on : (o p : Option Fault) (f : DirFault) → FailsAs o f → ((x : Fault) → o ≡ Some x → p ≡ Some x) → FailsAs p f
+fails_on o p f is on = record { tag = is.tag; memory = is.memory; fault = λ e. on (record { number = f.number; place = f.place }) (is.fault e) }
+
+or_some : (a b : Option Fault) (x : Fault) → a ≡ Some x → (a or_else b) ≡ Some x
+or_some None b x e = absurd cc
+or_some (Some y) b x e = e
+
+or_none : (a b : Option Fault) → a ≡ None → (a or_else b) ≡ b
+or_none None b e = refl
+or_none (Some y) b e = absurd cc
+
+-- ---- an offset of the root
+
+pub value_fault : (start p : ℕ) (v : List ℕ) (f : Found) → f ≡ value_at p v → None ≡ (if nat_eq (length v) 4 then Some (little_number 4 v) else None) → offset_fault start f ≡ fault 68 p
+value_fault start p v f is none = ap (offset_fault start) is ∙ by (nat_eq (length v) 4) none
+  where
+    by : (b : Bool) → None ≡ (if b then Some (little_number 4 v) else None) → (if b then None else fault 68 p) ≡ fault 68 p
+    by true e = absurd cc
+    by false e = refl
+
+pub root_value : (start p n : ℕ) (v : List ℕ) (f : Found) → f ≡ value_at p v → Some n ≡ (if nat_eq (length v) 4 then Some (little_number 4 v) else None) → IsRootOffset start f p n
+root_value start p n v f is some =
+    record {
+      place_is = ap place_in (sym is);
+      offset_is = ap (number_in 4) is ∙ sym some;
+      good = ap (offset_fault start) is ∙ by (nat_eq (length v) 4) some;
+    }
+  where
+    by : (b : Bool) → Some n ≡ (if b then Some (little_number 4 v) else None) → (if b then None else fault 68 p) ≡ None
+    by true e = refl
+    by false e = absurd cc
+
+-- ---- the whole directory
+
+pub whole_elements : {s : Syntax} {es : Elements} {text : List ℕ} → DataSet s 0 es text → HasElements s es text
+whole_elements {text = text} d = record { more = []; after = nothing_after; spelled = record { bytes = text; data_set = d; whole = sym (append-nil text) } }
+
+pub fails_first : (start : ℕ) (es : Elements) (f : DirFault) → FailsAs (offset_fault start (found 0x00041200 start es)) f → FailsAs (directory_fault start es) f
+unfolding directory_fault
+fails_first start es f is =
+    fails_on (offset_fault start (found 0x00041200 start es)) (directory_fault start es) f is
+    (λ x e. or_some (root_fault start es) (records_then_links start es (records_of start es)) x
+    (or_some (offset_fault start (found 0x00041200 start es)) (offset_fault start (found 0x00041202 start es) or_else records_fault start (found 0x00041220 start es)) x e))
+
+pub fails_last : (start : ℕ) (es : Elements) (f : DirFault) → offset_fault start (found 0x00041200 start es) ≡ None
+    → FailsAs (offset_fault start (found 0x00041202 start es)) f → FailsAs (directory_fault start es) f
+unfolding directory_fault
+fails_last start es f first is =
+    fails_on (offset_fault start (found 0x00041202 start es)) (directory_fault start es) f is
+    (λ x e. or_some (root_fault start es) (records_then_links start es (records_of start es)) x
+    (or_none (offset_fault start (found 0x00041200 start es)) (offset_fault start (found 0x00041202 start es) or_else records_fault start (found 0x00041220 start es)) first
+    ∙ or_some (offset_fault start (found 0x00041202 start es)) (records_fault start (found 0x00041220 start es)) x e))
+
+root_then : (start : ℕ) (es : Elements) → offset_fault start (found 0x00041200 start es) ≡ None → offset_fault start (found 0x00041202 start es) ≡ None
+    → root_fault start es ≡ records_fault start (found 0x00041220 start es)
+root_then start es first last =
+    or_none (offset_fault start (found 0x00041200 start es)) (offset_fault start (found 0x00041202 start es) or_else records_fault start (found 0x00041220 start es)) first
+    ∙ or_none (offset_fault start (found 0x00041202 start es)) (records_fault start (found 0x00041220 start es)) last
+
+pub fails_without_records : (start : ℕ) (es : Elements) (f : DirFault) → offset_fault start (found 0x00041200 start es) ≡ None → offset_fault start (found 0x00041202 start es) ≡ None
+    → FailsAs (records_fault start (found 0x00041220 start es)) f → FailsAs (directory_fault start es) f
+unfolding directory_fault
+fails_without_records start es f first last is =
+    fails_on (records_fault start (found 0x00041220 start es)) (directory_fault start es) f is
+    (λ x e. or_some (root_fault start es) (records_then_links start es (records_of start es)) x (root_then start es first last ∙ e))
+
+-- the records, where both offsets of the root are good
+pub record HasRecords (start : ℕ) (es : Elements) (records : List Record) : Type 0 where
+  pub are : records_of start es ≡ Some records
+  pub good : root_fault start es ≡ None
+
+directory_is : (start : ℕ) (es : Elements) (records : List Record) → HasRecords start es records → directory_fault start es ≡ (each_fault records or_else links_fault start es records)
+unfolding directory_fault
+directory_is start es records has =
+    or_none (root_fault start es) (records_then_links start es (records_of start es)) has.good ∙ ap (λ z. records_then_links start es z) has.are
+
+pub has_records : (s : Syntax) (start p first : ℕ) (es : Elements) (text : List ℕ) (finds : FindsItems p first s text (found 0x00041220 start es))
+    → offset_fault start (found 0x00041200 start es) ≡ None → offset_fault start (found 0x00041202 start es) ≡ None
+    → HasRecords start es (records_at first finds.items)
+has_records s start p first es text finds first_good last_good =
+    record {
+      are = ap records_in finds.is ∙ ap (λ n. Some (records_at n finds.items)) (sym finds.first_is);
+      good = root_then start es first_good last_good ∙ ap (records_fault start) finds.is;
+    }
+
+pub fails_in_records : (start : ℕ) (es : Elements) (records : List Record) (f : DirFault) → HasRecords start es records → FailsAs (each_fault records) f → FailsAs (directory_fault start es) f
+fails_in_records start es records f has is =
+    fails_on (each_fault records) (directory_fault start es) f is
+    (λ x e. directory_is start es records has ∙ or_some (each_fault records) (links_fault start es records) x e)
+
+pub fails_in_links : (start : ℕ) (es : Elements) (records : List Record) (root : Root) (entries : List Entry) (f : DirFault) → HasRecords start es records
+    → AreRead root entries start es records → FailsToFollow root entries f → FailsAs (directory_fault start es) f
+fails_in_links start es records root entries f has read fails =
+    record {
+      tag = fails.tag;
+      memory = fails.memory;
+      fault = λ other. directory_is start es records has ∙ (or_none (each_fault records) (links_fault start es records) (entries_good read.entries_are) ∙ fails.fault start es records other read);
+    }
+
+pub checks_as : (start : ℕ) (es : Elements) (records : List Record) (root : Root) (entries : List Entry) (old new : List TreeRecord) (nodes : List LevelNode) → HasRecords start es records
+    → AreRead root entries start es records → old ≡ [] → AreFollowed root entries old new → nodes ≡ map node_of new → ChecksAs start es nodes
+checks_as start es records root entries old new nodes has read none followed same =
+    let both = followed start es records read in
+    record {
+      no_fault = directory_is start es records has ∙ (or_none (each_fault records) (links_fault start es records) (entries_good read.entries_are) ∙ both.0);
+      records = records;
+      are = has.are;
+      nodes_are = same ∙ (both.1 ∙ ap (λ z. map node_of z ++ nodes_in_use 1 (forest_from (suc (length records)) records (or_zero (first_offset start es)))) none);
+    }
+
+-- ---- the file
+
+pub file_fails : {file back : List ℕ} (h : HasHeader file back) (start : ℕ) (whole : IsWhole Explicit check_limits back) (f : DirFault) → start ≡ length file - length back
+    → FailsAs (directory_fault start whole.elements) f → f.number ≢ 67 → CheckFault file f.number f.place f.tag
+file_fails {file = file} {back = back} h start whole f from fails other =
+    let long = ap length h.explicit.whole ∙ length-append h.front back in
+    let begins : start ≡ length h.front = omega (arith, long, from) in
+    let told : directory_fault (length h.front) whole.elements ≡ Some (record { number = f.number; place = f.place }) =
+    ap (λ n. directory_fault n whole.elements) (sym begins) ∙ fails.fault other in
+    subst (λ t. CheckFault file f.number f.place t) (sym fails.tag)
+    (in_directory h.explicit (whole_breaks_no_rule Explicit check_limits back whole) whole.text told)
+
+pub file_nodes : {file back : List ℕ} (h : HasHeader file back) (start : ℕ) (es : Elements) (nodes : List LevelNode) → start ≡ length file - length back
+    → DataSet Explicit 0 es back → ChecksAs start es nodes → HasNodes file nodes
+file_nodes {file = file} {back = back} h start es nodes from spelled checks =
+    let long = ap length h.explicit.whole ∙ length-append h.front back in
+    let by = sound_by start es checks.records checks.are checks.no_fault in
+    record {
+      start = start;
+      elements = es;
+      tree = by.tree;
+      is_file = record { front = h.front; back = back; explicit = h.explicit; data_set = spelled; begins = omega (arith, long, from) };
+      linked = by.linked;
+      all_reached = by.all_reached;
+      nodes_are = ap (nodes_in_use 1) by.placed_is ∙ sym checks.nodes_are;
+    }
+
+pub are_read : (start first : ℕ) (es : Elements) (items : Items) (root : Root) (entries : List Entry)
+    → IsRootOffset start (found 0x00041200 start es) root.first_place root.first → IsRootOffset start (found 0x00041202 start es) root.last_place root.last
+    → AreEntries entries (records_at first items) → AreRead root entries start es (records_at first items)
+are_read start first es items root entries one other are =
+    record {
+      first = ap or_zero (sym one.offset_is);
+      last = ap or_zero (sym other.offset_is);
+      first_place = one.place_is;
+      last_place = other.place_is;
+      entries_are = are;
+      rise = records_rise 0 first items (omega arith);
+    }

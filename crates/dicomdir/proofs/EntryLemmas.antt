@@ -1,0 +1,206 @@
+-- Entries of records, whose places rise: a search among them, and the flags of those that were reached.
+use Rattle.std.proofs.Common.{◌≡◌, ℕ, zero, suc, ◌<◌, ◌≤◌, Bool, true, false, ◌||◌, List, [], ◌∷◌, length, set, drop, replicate, get_or, not, Option, Some, None, Less, Equal, Greater, refl, sym, ap, subst, ◌∙◌, arith, eqb-true, nat_eq, inl, inr, if◌then◌else◌}
+use Rattle.std.specs.List.{HoldsAt, AllWithin}
+use Rattle.std.specs.List.Sorted.{IsNonDecreasingBy, IsPartitionPoint}
+use Rattle.std.specs.Ordering.{nat_cmp, ordering_index}
+use Rattle.std.proofs.lemmas.Cmp.{ranked}
+use Rattle.std.proofs.lemmas.Bool.{cases_lt}
+use Rattle.std.proofs.lemmas.Bool.Decides.{nat_tests}
+use Rattle.dicomdir.specs.declared.records.Entry.{Entry}
+use Rattle.dicomdir.specs.Directory.{Record, carried}
+use Rattle.dicomdir.specs.Linked.{record_at}
+use Rattle.dicomdir.specs.DirFault.{Fault, is_one_of, fault, unreached_fault}
+use Rattle.dicomdir.specs.machine.Entries.{IsEntry, AreEntries, no_entries, entry_then, Rise}
+use Rattle.dicomdir.specs.machine.Survey.{flags_of, AreFlagged}
+use Rattle.dicomdir.proofs.Linking.{when_yes, when_no}
+
+-- the search
+
+pub place_found : (entries : List Entry) (place at : ℕ) → HoldsAt (λ e. nat_cmp e.place place ≡ Equal) entries at → (d : Entry) → (get_or entries at d).place ≡ place
+place_found entries place at equal d = ranked _ place _ (sym (equal d))
+
+least_below : (entries : List Entry) (records : List Record) (least : ℕ) → AreEntries entries records → Rise least records
+    → (j : ℕ) (d : Entry) → j < length entries → least ≤ (get_or entries j d).place
+least_below [] (r ∷ rs) least are rise j d fits = elim are [ ]
+least_below (e ∷ es) [] least are rise j d fits = elim are [ ]
+least_below [] [] least no_entries rise j d fits = absurd (omega (arith, fits))
+least_below (e ∷ es) (r ∷ rs) least (entry_then is rest) rise zero d fits = omega (arith, rise.0, is.place)
+least_below (e ∷ es) (r ∷ rs) least (entry_then is rest) rise (suc j) d fits =
+    let later = least_below es rs (suc r.place) rest rise.1 j d (omega (arith, fits)) in
+    omega (arith, rise.0, later)
+
+places_rise : (entries : List Entry) (records : List Record) (least : ℕ) → AreEntries entries records → Rise least records
+    → (i j : ℕ) (d : Entry) → i ≤ j → j < length entries → (get_or entries i d).place ≤ (get_or entries j d).place
+places_rise [] (r ∷ rs) least are rise i j d below fits = elim are [ ]
+places_rise (e ∷ es) [] least are rise i j d below fits = elim are [ ]
+places_rise [] [] least no_entries rise i j d below fits = absurd (omega (arith, fits))
+places_rise (e ∷ es) (r ∷ rs) least (entry_then is rest) rise zero zero d below fits = omega arith
+places_rise (e ∷ es) (r ∷ rs) least (entry_then is rest) rise zero (suc j) d below fits =
+    let later = least_below es rs (suc r.place) rest rise.1 j d (omega (arith, fits)) in
+    omega (arith, later, is.place)
+places_rise (e ∷ es) (r ∷ rs) least (entry_then is rest) rise (suc i) zero d below fits = absurd (omega (arith, below))
+places_rise (e ∷ es) (r ∷ rs) least (entry_then is rest) rise (suc i) (suc j) d below fits =
+    places_rise es rs (suc r.place) rest rise.1 i j d (omega (arith, below)) (omega (arith, fits))
+
+compared : (a b p : ℕ) → a ≤ b → ordering_index (nat_cmp a p) ≤ ordering_index (nat_cmp b p)
+compared a b p below = grind (arith, nat_tests)
+
+comparisons_rise : (entries : List Entry) (records : List Record) (place : ℕ) → AreEntries entries records → Rise 0 records
+    → IsNonDecreasingBy (λ e. ordering_index (nat_cmp e.place place)) entries
+comparisons_rise entries records place are rise i j d below fits =
+    compared (get_or entries i d).place (get_or entries j d).place place (places_rise entries records 0 are rise i j d below fits)
+
+no_record_step : (r : Record) (rs : List Record) (place : ℕ) → (r.place ≡ place → ⊥) → record_at place rs ≡ None → record_at place (r ∷ rs) ≡ None
+no_record_step r rs place other none = by (nat_eq r.place place) refl
+  where
+    by : (b : Bool) → nat_eq r.place place ≡ b → (if b then Some r.elements else record_at place rs) ≡ None
+    by true same = absurd (other (eqb-true r.place place same))
+    by false differs = none
+
+no_record : (entries : List Entry) (records : List Record) (place : ℕ) → AreEntries entries records
+    → ((k : ℕ) (d : Entry) → k < length entries → (get_or entries k d).place ≡ place → ⊥) → record_at place records ≡ None
+no_record [] (r ∷ rs) place are none = elim are [ ]
+no_record (e ∷ es) [] place are none = elim are [ ]
+no_record [] [] place no_entries none = refl
+no_record (e ∷ es) (r ∷ rs) place (entry_then is rest) none =
+    no_record_step r rs place (λ same. none 0 e (omega arith) (is.place ∙ same)) (no_record es rs place rest (λ k d fits. none (suc k) d (omega (arith, fits))))
+
+neither : (entries : List Entry) (place i k : ℕ) (d : Entry) → AllWithin (λ e. nat_cmp e.place place ≡ Less) entries 0 i
+    → AllWithin (λ e. nat_cmp e.place place ≡ Greater) entries i (length entries) → k < length entries → (get_or entries k d).place ≡ place → ⊥
+neither entries place i k d less greater fits same = elim (cases_lt k i) [
+  | inl before ↦ let under = ranked _ place _ (sym (less k d (omega arith) before)) in absurd (omega (arith, under, same))
+  | inr after ↦ let over = ranked _ place _ (sym (greater k d after fits)) in absurd (omega (arith, over, same))
+]
+
+pub place_absent : (entries : List Entry) (place i : ℕ)
+    → (IsNonDecreasingBy (λ e. ordering_index (nat_cmp e.place place)) entries
+    → IsPartitionPoint (λ e. nat_cmp e.place place ≡ Less) (λ e. nat_cmp e.place place ≡ Greater) entries i)
+    → (records : List Record) → AreEntries entries records → Rise 0 records → record_at place records ≡ None
+place_absent entries place i parted records are rise =
+    let parts = parted (comparisons_rise entries records place are rise) in
+    no_record entries records place are (λ k d fits same. neither entries place i k d parts.0 parts.1 fits same)
+
+-- the flags
+
+pub length_flags : (reached : List ℕ) (records : List Record) → length (flags_of reached records) ≡ length records
+length_flags reached [] = refl
+length_flags reached (r ∷ rs) = ap suc (length_flags reached rs)
+
+pub length_entries : (entries : List Entry) (records : List Record) → AreEntries entries records → length entries ≡ length records
+length_entries [] (r ∷ rs) are = elim are [ ]
+length_entries (e ∷ es) [] are = elim are [ ]
+length_entries [] [] no_entries = refl
+length_entries (e ∷ es) (r ∷ rs) (entry_then is rest) = ap suc (length_entries es rs rest)
+
+pub none_flagged : (records : List Record) → flags_of [] records ≡ replicate (length records) false
+none_flagged [] = refl
+none_flagged (r ∷ rs) = ap (λ z. false ∷ z) (none_flagged rs)
+
+-- a place below all others flags none of them
+same_flags : (p : ℕ) (reached : List ℕ) (least : ℕ) (records : List Record) → Rise least records → p < least → flags_of (p ∷ reached) records ≡ flags_of reached records
+same_flags p reached least [] rise below = refl
+same_flags p reached least (r ∷ rs) rise below =
+    let other : nat_eq r.place p ≡ false = grind (arith, nat_tests, rise.0, below) in
+    let rest = same_flags p reached (suc r.place) rs rise.1 (omega (arith, rise.0, below)) in
+    λ i. (other i || is_one_of r.place reached) ∷ rest i
+
+-- the record of an entry
+pub record AtEntry (e : Entry) (records : List Record) (at least : ℕ) : Type 0 where
+  pub of_it : Record
+  pub is : IsEntry e of_it
+  pub above : least ≤ of_it.place
+  pub stands : record_at of_it.place records ≡ Some of_it.elements
+  pub flag : (reached : List ℕ) (d : Bool) → get_or (flags_of reached records) at d ≡ is_one_of of_it.place reached
+  pub marked : (reached : List ℕ) → set (flags_of reached records) at true ≡ flags_of (of_it.place ∷ reached) records
+  pub left : (reached : List ℕ) → unreached_fault reached (drop at records)
+      ≡ (if not (carried of_it.elements).in_use || is_one_of of_it.place reached then unreached_fault reached (drop (suc at) records) else fault 63 of_it.place)
+
+same_place : (x : ℕ) → nat_eq x x ≡ true
+same_place x = grind (arith, nat_tests)
+
+first_entry : (e : Entry) (r : Record) (rs : List Record) (least : ℕ) → IsEntry e r → Rise least (r ∷ rs) → AtEntry e (r ∷ rs) 0 least
+first_entry e r rs least is rise =
+    let here = same_place r.place in
+    record {
+      of_it = r;
+      is = is;
+      above = rise.0;
+      stands = when_yes (nat_eq r.place r.place) (Some r.elements) (record_at r.place rs) here;
+      flag = λ reached d. refl;
+      marked = λ reached. let rest = sym (same_flags r.place reached (suc r.place) rs rise.1 (omega arith)) in λ i. (sym here i || is_one_of r.place reached) ∷ rest i;
+      left = λ reached. refl;
+    }
+
+later_entry : (e : Entry) (r : Record) (rs : List Record) (at least : ℕ) → least ≤ r.place → AtEntry e rs at (suc r.place) → AtEntry e (r ∷ rs) (suc at) least
+later_entry e r rs at least first later =
+    let above = later.above in
+    let other : nat_eq r.place later.of_it.place ≡ false = grind (arith, nat_tests, above) in
+    record {
+      of_it = later.of_it;
+      is = later.is;
+      above = omega (arith, first, above);
+      stands = when_no (nat_eq r.place later.of_it.place) (Some r.elements) (record_at later.of_it.place rs) other ∙ later.stands;
+      flag = λ reached d. later.flag reached d;
+      marked = λ reached. let rest = later.marked reached in λ i. (sym other i || is_one_of r.place reached) ∷ rest i;
+      left = λ reached. later.left reached;
+    }
+
+pub at_entry : (entries : List Entry) (records : List Record) (least at : ℕ) (d : Entry) → AreEntries entries records → Rise least records → at < length entries
+    → AtEntry (get_or entries at d) records at least
+at_entry [] (r ∷ rs) least at d are rise fits = elim are [ ]
+at_entry (e ∷ es) [] least at d are rise fits = elim are [ ]
+at_entry [] [] least at d no_entries rise fits = absurd (omega (arith, fits))
+at_entry (e ∷ es) (r ∷ rs) least zero d (entry_then is rest) rise fits = first_entry e r rs least is rise
+at_entry (e ∷ es) (r ∷ rs) least (suc at) d (entry_then is rest) rise fits =
+    later_entry (get_or es at d) r rs at least rise.0 (at_entry es rs (suc r.place) at d rest rise.1 (omega (arith, fits)))
+
+-- an entry in use that was not reached is the first such one; any other is passed over
+
+entry_there : (entries : List Entry) (flags : List Bool) (records : List Record) (reached : List ℕ) (e : Entry) (at : ℕ) → AreFlagged entries flags records reached
+    → e ≡ get_or entries at e → at < length entries → AtEntry e records at 0
+entry_there entries flags records reached e at flagged is fits =
+    subst (λ z. AtEntry z records at 0) (sym is) (at_entry entries records 0 at e flagged.are flagged.rise fits)
+
+passes : (b : Bool) (x y : Option Fault) (u r : Bool) → b ≡ (not u || r) → (not u || r) ≡ true → (if b then x else y) ≡ x
+passes true x y u r e f = refl
+passes false x y u r e f = absurd cc
+
+halts : (b : Bool) (x y : Option Fault) (u r : Bool) → b ≡ (not u || r) → u ≡ true → r ≡ false → (if b then x else y) ≡ y
+halts true x y true true e f g = absurd cc
+halts true x y true false e f g = absurd cc
+halts true x y false r e f g = absurd cc
+halts false x y u r e f g = refl
+
+pub unreached_here : (entries : List Entry) (flags : List Bool) (records : List Record) (reached : List ℕ) (e : Entry) (at : ℕ) → AreFlagged entries flags records reached
+    → e ≡ get_or entries at e → at < length entries → e.in_use ≡ true → get_or flags at false ≡ false
+    → unreached_fault reached (drop at records) ≡ fault 63 e.place
+unreached_here entries flags records reached e at flagged is fits used new =
+    let there = entry_there entries flags records reached e at flagged is fits in
+    let in_use : e.in_use ≡ (carried there.of_it.elements).in_use = ap (λ z. z.in_use) there.is.carries in
+    let flag : get_or flags at false ≡ is_one_of there.of_it.place reached = ap (λ z. get_or z at false) flagged.flagged ∙ there.flag reached false in
+    let same : (not (carried there.of_it.elements).in_use || is_one_of there.of_it.place reached) ≡ (not e.in_use || get_or flags at false)
+    = λ i. not (sym in_use i) || sym flag i in
+    there.left reached
+    ∙ (halts (not (carried there.of_it.elements).in_use || is_one_of there.of_it.place reached) (unreached_fault reached (drop (suc at) records)) (fault 63 there.of_it.place) e.in_use (get_or flags at false) same used new
+    ∙ ap (λ z. fault 63 z) (sym there.is.place))
+
+pub unreached_later : (entries : List Entry) (flags : List Bool) (records : List Record) (reached : List ℕ) (e : Entry) (at next : ℕ) → AreFlagged entries flags records reached
+    → e ≡ get_or entries at e → at < length entries → (not e.in_use || get_or flags at false) ≡ true → next ≡ suc at
+    → unreached_fault reached (drop next records) ≡ unreached_fault reached (drop at records)
+unreached_later entries flags records reached e at next flagged is fits passed next_is =
+    let there = entry_there entries flags records reached e at flagged is fits in
+    let in_use : e.in_use ≡ (carried there.of_it.elements).in_use = ap (λ z. z.in_use) there.is.carries in
+    let flag : get_or flags at false ≡ is_one_of there.of_it.place reached = ap (λ z. get_or z at false) flagged.flagged ∙ there.flag reached false in
+    let same : (not (carried there.of_it.elements).in_use || is_one_of there.of_it.place reached) ≡ (not e.in_use || get_or flags at false)
+    = λ i. not (sym in_use i) || sym flag i in
+    ap (λ z. unreached_fault reached (drop z records)) next_is
+    ∙ sym (there.left reached
+    ∙ passes (not (carried there.of_it.elements).in_use || is_one_of there.of_it.place reached) (unreached_fault reached (drop (suc at) records)) (fault 63 there.of_it.place) e.in_use (get_or flags at false) same passed)
+
+pub inactive_passes : (u r : Bool) → u ≡ false → (not u || r) ≡ true
+inactive_passes true r e = absurd cc
+inactive_passes false r e = refl
+
+pub reached_passes : (u r : Bool) → r ≡ true → (not u || r) ≡ true
+reached_passes true r e = e
+reached_passes false r e = refl

@@ -1,0 +1,215 @@
+-- Finding an element under its tag.
+use Rattle.std.proofs.Common.{◌≡◌, ◌≢◌, ℕ, ◌+◌, ◌-◌, ◌*◌, ◌≤◌, ◌<◌, Bool, true, false, not, ◌&&◌, List, [], ◌++◌, length, take, drop, Some, None, ◌⊎◌, inl, inr, refl, sym, ap, subst, ◌∙◌, arith, append_assoc, length-append, eqb-true, eq-eqb, nat_eq, nat_le}
+use Rattle.std.proofs.lemmas.Bool.Decides.{nat_tests}
+use Rattle.std.proofs.lemmas.List.{append-nil}
+use Rattle.std.proofs.Math.Seq.{take-append_seam}
+use Rattle.element.specs.declared.syntax.Syntax.{Syntax}
+use Rattle.element.specs.declared.tag.Tag.{Tag}
+use Rattle.element.specs.declared.header.Header.{Header}
+use Rattle.element.specs.Header.{number, is_marker, IsTag, SpellsHeader, plain, short, long}
+use Rattle.sequence.specs.declared.shape.Shape.{Shape}
+use Rattle.sequence.specs.declared.shape.Shape.TheVariants.{Value, Sequence, NotAllowed}
+use Rattle.sequence.specs.Rules.{same_tag}
+use Rattle.sequence.specs.Shape.{undefined_length, is_undefined, shape}
+use Rattle.sequence.specs.Tree.{Elements, no_elements, item_end_tag, delimitation, Ended, counted, delimited}
+use Rattle.dicomdir.specs.declared.found.Head.{Head}
+use Rattle.dicomdir.specs.Directory.{Found, missing, value_at, found, header_size}
+use Rattle.dicomdir.specs.machine.Heads.{head_at}
+use Rattle.dicomdir.specs.machine.Texts.{ElementsThen, IsAfter, nothing_after, end_after, HasElements, HasItems, IsContent, of_value, of_items, IsItemContent, of_elements, content_at, FindsItems}
+use Rattle.dicomdir.proofs.HeadLemmas.{head_read}
+use Rattle.dicomdir.proofs.TextLemmas.{Front, at_end, at_element, front_of, header_length, is_head, mark_head, no_head, if_yes, if_no, same_tags}
+use Rattle.dicomdir.proofs.SkipLemmas.{odd, fits_end}
+
+-- ---- what a length announces
+
+defined_content : (h : Header) (b more text : List ℕ) → h.length ≢ undefined_length → length b ≡ h.length → text ≡ b ++ more → content_at h text ≡ b
+defined_content h b more text other size whole =
+    let long = ap length whole ∙ length-append b more in
+    let fits : nat_le h.length (length text) ≡ true = grind (arith, nat_tests, long, size) in
+    let counted-there : is_undefined h.length ≡ false = undefined_no (is_undefined h.length) refl in
+    let yes : (not (is_undefined h.length) && nat_le h.length (length text)) ≡ true = rw (counted-there, fits) refl in
+    if_yes _ (take h.length text) text yes ∙ (ap (λ n. take n text) (sym size) ∙ (ap (λ z. take (length b) z) whole ∙ take-append_seam b more))
+  where
+    undefined_no : (a : Bool) → is_undefined h.length ≡ a → a ≡ false
+    undefined_no true e = absurd (other (eqb-true h.length undefined_length e))
+    undefined_no false e = refl
+
+open_content : (h : Header) (text : List ℕ) → h.length ≡ undefined_length → content_at h text ≡ text
+open_content h text unsized =
+    let there : is_undefined h.length ≡ true = eq-eqb h.length undefined_length unsized in
+    let no : (not (is_undefined h.length) && nat_le h.length (length text)) ≡ false = rw there refl in
+    if_no _ (take h.length text) text no
+
+-- the text is this one, and goes on by nothing or by the end of the level
+pub record EndsAs (mark : Tag) (b text : List ℕ) : Type 0 where
+  pub more : List ℕ
+  pub after : IsAfter mark more
+  pub whole : text ≡ b ++ more
+
+pub ended_content : {mark : Tag} {n : ℕ} {b c : List ℕ} (h : Header) (more text : List ℕ) → Ended mark n b c → n ≡ h.length → text ≡ c ++ more → EndsAs mark b (content_at h text)
+ended_content h more text (counted {b = b} n defined even size) same whole =
+    let other : h.length ≢ undefined_length = λ e. defined (same ∙ e) in
+    record { more = []; after = nothing_after; whole = defined_content h b more text other (size ∙ same) whole ∙ sym (append-nil b) }
+ended_content {mark = mark} h more text (delimited {b = b}) same whole =
+    record {
+      more = delimitation mark ++ more;
+      after = end_after more;
+      whole = open_content h text (sym same) ∙ (whole ∙ append_assoc b (delimitation mark) more);
+    }
+
+pub item_content : (s : Syntax) (h : Header) (es : Elements) (c more text : List ℕ) → IsItemContent s h es c → text ≡ c ++ more → HasElements s es (content_at h text)
+item_content s h es c more text (of_elements {b = b} elements end) whole =
+    let ends = ended_content h more text end refl whole in
+    record { more = ends.more; after = ends.after; spelled = record { bytes = b; data_set = elements; whole = ends.whole } }
+
+pub finds_items : (s inner : Syntax) (h : Header) (place size : ℕ) (f : Found) (c more text there : List ℕ) → size ≡ header_size h → shape s h ≡ Sequence inner → IsContent s h place f c
+    → text ≡ c ++ more → there ≡ content_at h text → FindsItems place (place + size) inner there f
+finds_items s inner h place size f c more text there sized is (of_value sh val) whole at = absurd cc
+finds_items s inner h place size f c more text there sized is (of_items {inner = other} {is = items} {b = b} sh list end) whole at =
+    let ends = ended_content h more text end refl whole in
+    let same : Sequence other ≡ Sequence inner = sym sh ∙ is in
+    let inner_is : other ≡ inner = cc in
+    let has : HasItems other items there = record { more = ends.more; after = ends.after; spelled = record { bytes = b; items = list; whole = at ∙ ends.whole } } in
+    record {
+      header = h;
+      items = items;
+      is = refl;
+      first_is = ap (λ n. place + n) sized;
+      text_is = subst (λ z. HasItems z items there) inner_is has;
+    }
+
+pub finds_value : (s : Syntax) (h : Header) (place : ℕ) (f : Found) (c more text there : List ℕ) → ((inner : Syntax) → shape s h ≡ Sequence inner → ⊥) → IsContent s h place f c
+    → text ≡ c ++ more → there ≡ content_at h text → f ≡ value_at place there
+finds_value s h place f c more text there none (of_value {v = v} sh val) whole at =
+    ap (λ z. value_at place z) (sym (at ∙ defined_content h v more text (λ e. odd h.length val.even e) val.size whole))
+finds_value s h place f c more text there none (of_items {inner = inner} sh list end) whole at = absurd (none inner sh)
+
+pub no_sequence : (s : Syntax) (h : Header) (r : Shape) → (r ≡ Value) ⊎ (r ≡ NotAllowed) → r ≡ shape s h → (inner : Syntax) → shape s h ≡ Sequence inner → ⊥
+no_sequence s h r (inl e) same inner is = let other : Value ≡ Sequence inner = sym e ∙ (same ∙ is) in absurd cc
+no_sequence s h r (inr e) same inner is = let other : NotAllowed ≡ Sequence inner = sym e ∙ (same ∙ is) in absurd cc
+
+-- ---- tags
+
+pub spelled_tag : {s : Syntax} {h : Header} {b : List ℕ} → SpellsHeader s h b → IsTag h.tag
+spelled_tag (plain tag n fits p lt) = fits
+spelled_tag (short tag a b n fits m c h lt) = fits
+spelled_tag (long tag a b r q n fits m c h lt) = fits
+
+pub same_number : (t u : Tag) → same_tag t u ≡ true → nat_eq (number t) (number u) ≡ true
+same_number t u e = let same : t ≡ u = same_tags t u (ap not e) in eq-eqb (number t) (number u) (ap number same)
+
+pub other_number : (t u : Tag) → IsTag t → u.1 < 65536 → same_tag t u ≡ false → nat_eq (number t) (number u) ≡ false
+other_number t u fits low e = by (nat_eq (number t) (number u)) refl
+  where
+    by : (b : Bool) → nat_eq (number t) (number u) ≡ b → b ≡ false
+    by false f = refl
+    by true f =
+        let same : t.0 * 65536 + t.1 ≡ u.0 * 65536 + u.1 = eqb-true (number t) (number u) f in
+        let second : t.1 ≡ u.1 = omega (arith, same, fits, low) in
+        let first : t.0 ≡ u.0 = omega (arith, same, fits, low) in
+        let a = eq-eqb t.0 u.0 first in
+        let b = eq-eqb t.1 u.1 second in
+        let both : same_tag t u ≡ true = rw (a, b) refl in
+        absurd cc
+
+-- ---- one element after the other
+
+-- what is left to look through: elements among which the tag is found as among all
+pub record LeftOf (s : Syntax) (tag place : ℕ) (es : Elements) (text rest : List ℕ) : Type 0 where
+  pub last : ℕ
+  pub others : Elements
+  pub more : List ℕ
+  pub after : IsAfter item_end_tag more
+  pub spelled : ElementsThen s last others more rest
+  pub same : found tag place es ≡ found tag (place + (length text - length rest)) others
+
+pub all_left : (s : Syntax) (tag place : ℕ) (es : Elements) (text : List ℕ) → HasElements s es text → LeftOf s tag place es text text
+all_left s tag place es text has =
+    let none : place ≡ place + (length text - length text) = omega arith in
+    record { last = 0; others = es; more = has.more; after = has.after; spelled = has.spelled; same = ap (λ n. found tag n es) none }
+
+after_head : (s : Syntax) (more text : List ℕ) (head : Head) → IsAfter item_end_tag more → text ≡ more → head_at s text ≡ Some head → is_marker head.header.tag ≡ true
+after_head s more text head (nothing_after) whole read = let none = no_head s text whole in absurd cc
+after_head s more text head (end_after rest) whole read =
+    let there = mark_head s item_end_tag rest text refl fits_end whole in
+    let same : Some (record { header = record { tag = item_end_tag; vr = None; length = 0 }; size = 8 }) ≡ Some head = sym there ∙ read in
+    let is : record { header = record { tag = item_end_tag; vr = None; length = 0 }; size = 8 } ≡ head = cc in
+    ap (λ z. is_marker z.header.tag) (sym is)
+
+pub left_after : (s : Syntax) (tag place : ℕ) (es : Elements) (text rest after : List ℕ) (head : Head) → length rest ≤ length text → LeftOf s tag place es text rest
+    → head_at s rest ≡ Some head → is_marker head.header.tag ≡ false → (IsTag head.header.tag → nat_eq (number head.header.tag) tag ≡ false)
+    → ((p : ℕ) (f : Found) (c more : List ℕ) → IsContent s head.header p f c → drop head.size rest ≡ c ++ more → after ≡ more)
+    → LeftOf s tag place es text after
+left_after s tag place es text rest after head fits left read plain_tag other passes = by (front_of left.more rest left.spelled.data_set left.spelled.whole)
+  where
+    by : Front s left.last left.more rest left.others → LeftOf s tag place es text after
+    by (at_end none whole) = let marks = after_head s left.more rest head left.after whole read in absurd cc
+    by (at_element f) =
+        let at = is_head s head f.header f.spelling (f.content ++ f.rest) rest f.is_element.spelled f.whole read in
+        let content = subst (λ h. IsContent s h 0 (f.stands 0) f.content) (sym at.header) (f.content_is 0) in
+        let is : after ≡ f.rest = passes 0 (f.stands 0) f.content f.rest content at.rest_is in
+        let fits_tag = spelled_tag f.is_element.spelled in
+        let not_it : nat_eq (number f.header.tag) tag ≡ false = subst (λ h. IsTag h.tag → nat_eq (number h.tag) tag ≡ false) at.header other fits_tag in
+        let here : ℕ = place + (length text - length rest) in
+        let long = ap length f.whole ∙ (length-append f.spelling (f.content ++ f.rest) ∙ ap (λ n. length f.spelling + n) (length-append f.content f.rest)) in
+        let short_of = ap length is in
+        let places : here + length f.spelling + length f.content ≡ place + (length text - length after) = omega (arith, long, short_of, fits) in
+        record {
+          last = number f.header.tag;
+          others = f.others;
+          more = left.more;
+          after = left.after;
+          spelled = subst (λ z. ElementsThen s (number f.header.tag) f.others left.more z) (sym is) f.spelled;
+          same = left.same ∙ (f.there tag here not_it ∙ ap (λ n. found tag n f.others) places);
+        }
+
+none_left : (s : Syntax) (tag place : ℕ) (es : Elements) (text rest : List ℕ) (left : LeftOf s tag place es text rest) → left.others ≡ no_elements → found tag place es ≡ missing
+none_left s tag place es text rest left none = left.same ∙ ap (λ z. found tag (place + (length text - length rest)) z) none
+
+pub missing_at_mark : (s : Syntax) (tag place : ℕ) (es : Elements) (text rest : List ℕ) (head : Head) → LeftOf s tag place es text rest → head_at s rest ≡ Some head
+    → is_marker head.header.tag ≡ true → found tag place es ≡ missing
+missing_at_mark s tag place es text rest head left read marks = by (front_of left.more rest left.spelled.data_set left.spelled.whole)
+  where
+    by : Front s left.last left.more rest left.others → found tag place es ≡ missing
+    by (at_end none whole) = none_left s tag place es text rest left none
+    by (at_element f) =
+        let at = is_head s head f.header f.spelling (f.content ++ f.rest) rest f.is_element.spelled f.whole read in
+        let other : true ≡ false = sym marks ∙ (ap (λ h. is_marker h.tag) at.header ∙ f.is_element.no_marker) in
+        absurd cc
+
+pub missing_at_end : (s : Syntax) (tag place : ℕ) (es : Elements) (text rest : List ℕ) → LeftOf s tag place es text rest → head_at s rest ≡ None → found tag place es ≡ missing
+missing_at_end s tag place es text rest left read = by (front_of left.more rest left.spelled.data_set left.spelled.whole)
+  where
+    by : Front s left.last left.more rest left.others → found tag place es ≡ missing
+    by (at_end none whole) = none_left s tag place es text rest left none
+    by (at_element f) =
+        let there = head_read s f.header f.spelling (f.content ++ f.rest) rest f.is_element.spelled f.whole in
+        absurd cc
+
+-- the element with the tag: what stands there, and what its header announces
+pub record Stands (s : Syntax) (head : Head) (place : ℕ) (text : List ℕ) (f : Found) : Type 0 where
+  pub content : List ℕ
+  pub more : List ℕ
+  pub size : head.size ≡ header_size head.header
+  pub is : IsContent s head.header place f content
+  pub whole : text ≡ content ++ more
+
+pub stands_here : (s : Syntax) (tag place at : ℕ) (es : Elements) (text rest next : List ℕ) (head : Head) → LeftOf s tag place es text rest → head_at s rest ≡ Some head
+    → is_marker head.header.tag ≡ false → nat_eq (number head.header.tag) tag ≡ true → at ≡ place + (length text - length rest) → next ≡ drop head.size rest
+    → Stands s head at next (found tag place es)
+stands_here s tag place at es text rest next head left read plain_tag same at_is next_is = by (front_of left.more rest left.spelled.data_set left.spelled.whole)
+  where
+    by : Front s left.last left.more rest left.others → Stands s head at next (found tag place es)
+    by (at_end none whole) = let marks = after_head s left.more rest head left.after whole read in absurd cc
+    by (at_element f) =
+        let there = is_head s head f.header f.spelling (f.content ++ f.rest) rest f.is_element.spelled f.whole read in
+        let here : ℕ = place + (length text - length rest) in
+        let it : nat_eq (number f.header.tag) tag ≡ true = ap (λ h. nat_eq (number h.tag) tag) (sym there.header) ∙ same in
+        let is : found tag place es ≡ f.stands at = left.same ∙ (f.here tag here it ∙ ap f.stands (sym at_is)) in
+        record {
+          content = f.content;
+          more = f.rest;
+          size = there.size ∙ (header_length f.is_element.spelled ∙ ap header_size (sym there.header));
+          is = subst (λ h. IsContent s h at (found tag place es) f.content) (sym there.header) (subst (λ z. IsContent s f.header at z f.content) (sym is) (f.content_is at));
+          whole = next_is ∙ there.rest_is;
+        }

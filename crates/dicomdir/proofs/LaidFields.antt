@@ -1,0 +1,103 @@
+-- Elements that are written with a VR whose length takes two bytes, and with even values, are laid down as the standard has it.
+use Rattle.std.proofs.Common.{◌≡◌, ℕ, ◌+◌, ◌%◌, ◌<◌, ◌≤◌, Bool, true, false, not, ◌||◌, List, [], ◌∷◌, ◌++◌, length, Some, refl, arith, codes, eqb-true, nat_eq, nat_lt, if◌then◌else◌}
+use Rattle.std.proofs.lemmas.Bool.{and_from}
+use Rattle.std.proofs.lemmas.Bool.Decides.{nat_tests}
+use Rattle.std.proofs.lemmas.List.{length-append}
+use Rattle.element.specs.declared.tag.Tag.{Tag}
+use Rattle.element.specs.declared.syntax.Syntax.TheVariants.{Explicit}
+use Rattle.element.specs.Header.{number, is_marker, is_plain, header_bytes, header_fits, fits_vr}
+use Rattle.element.specs.Padding.{padded}
+use Rattle.element.specs.Vr.{is_short_vr}
+use Rattle.sequence.specs.Shape.{shape, is_vr, undefined_length, is_undefined}
+use Rattle.sequence.specs.Tree.{Elements, no_elements}
+use Rattle.dicomdir.specs.Directory.{header_size, size_of}
+use Rattle.dicomdir.specs.Layout.{spelled}
+use Rattle.dicomdir.specs.Record.{field}
+use Rattle.dicomdir.specs.Row.{key}
+use Rattle.dicomdir.proofs.Laid.{is_laid, is_vr_or_none, is_header, is_element, is_value}
+use Rattle.dicomdir.proofs.RecordLemmas.{key_length}
+
+-- the tag and the VR of an element after the tag with number `last`
+pub record IsFixed (last : ℕ) (t : Tag) (vr : List ℕ) : Type 0 where
+  pub group : nat_lt t.0 65536 ≡ true
+  pub element : nat_lt t.1 65536 ≡ true
+  pub vr_good : is_vr_or_none (Some vr) ≡ true
+  pub plain : is_plain Explicit t ≡ false
+  pub rising : nat_lt last (number t) ≡ true
+  pub no_marker : not (is_marker t) ≡ true
+  pub no_command : not (nat_eq t.0 0) ≡ true
+  pub no_file : not (nat_eq t.0 2) ≡ true
+  pub no_sequence : is_vr (codes "SQ") vr ≡ false
+  pub eight : (n : ℕ) → header_size (record { tag = t; vr = Some vr; length = n }) ≡ 8
+
+-- these elements are laid down after the tag with number `last`, and take an even count of bytes
+pub record IsGood (last : ℕ) (es : Elements) : Type 0 where
+  pub laid : is_laid last es ≡ true
+  pub size : size_of es ≡ length (spelled es)
+  pub even : length (spelled es) % 2 ≡ 0
+
+pub good_none : (last : ℕ) → IsGood last no_elements
+good_none last = record { laid = refl; size = refl; even = refl }
+
+or_true : (a b : Bool) → b ≡ true → (a || b) ≡ true
+or_true true b e = refl
+or_true false b e = e
+
+fits_short : (plain : Bool) (vr : List ℕ) (n : ℕ) → plain ≡ false → nat_lt n 65536 ≡ true → fits_vr plain (Some vr) n ≡ true
+fits_short true vr n e f = absurd cc
+fits_short false vr n e f = or_true (not (is_short_vr vr)) (nat_lt n 65536) f
+
+pub laid_field : (last : ℕ) (t : Tag) (vr v : List ℕ) (es : Elements) → IsFixed last t vr → length v % 2 ≡ 0 → length v < 65536 → is_laid (number t) es ≡ true → is_laid last (field t vr v es) ≡ true
+laid_field last t vr v es f even short laid =
+    let lt : nat_lt (length v) 65536 ≡ true = grind (arith, nat_tests) in
+    let defined : nat_lt (length v) undefined_length ≡ true = grind (arith, nat_tests) in
+    let two : nat_eq (length v % 2) 0 ≡ true = grind (arith, nat_tests) in
+    let same : nat_eq (length v) (length v) ≡ true = grind (arith, nat_tests) in
+    let not_undefined : is_undefined (length v) ≡ false = grind (arith, nat_tests) in
+    let fits : header_fits Explicit (record { tag = t; vr = Some vr; length = length v }) ≡ true = fits_short (is_plain Explicit t) vr (length v) f.plain lt in
+    let value : is_value (shape Explicit (record { tag = t; vr = Some vr; length = length v })) ≡ true = rw (f.no_sequence, not_undefined) refl in
+    let header : is_header (record { tag = t; vr = Some vr; length = length v }) ≡ true =
+    and_from _ _ (and_from _ _ (and_from _ _ f.group f.element) (and_from _ _ f.vr_good fits)) (and_from _ _ defined two) in
+    let element : is_element last (record { tag = t; vr = Some vr; length = length v }) ≡ true =
+    and_from _ _ (and_from _ _ header f.rising) (and_from _ _ f.no_marker (and_from _ _ f.no_command f.no_file)) in
+    and_from _ _ (and_from _ _ element value) (and_from _ _ same laid)
+
+pub good_field : (last : ℕ) (t : Tag) (vr v : List ℕ) (es : Elements) → IsFixed last t vr → length v % 2 ≡ 0 → length v < 65536 → IsGood (number t) es → IsGood last (field t vr v es)
+good_field last t vr v es f even short good =
+    let a = length-append (header_bytes (record { tag = t; vr = Some vr; length = length v })) (v ++ spelled es) in
+    let b = length-append v (spelled es) in
+    let eight = f.eight (length v) in
+    record {
+      laid = laid_field last t vr v es f even short good.laid;
+      size = omega (arith, a, b, good.size);
+      even = omega (arith, a, b, eight, even, good.even);
+    }
+
+pub padded_even : (p : ℕ) (v : List ℕ) → length (padded p v) % 2 ≡ 0
+padded_even p v = by (nat_eq (length v % 2) 0) refl
+  where
+    by : (b : Bool) → nat_eq (length v % 2) 0 ≡ b → length (if b then v else v ++ p ∷ []) % 2 ≡ 0
+    by true e = eqb-true (length v % 2) 0 e
+    by false e =
+        let one = length-append v (p ∷ []) in
+        let odd : 0 < length v % 2 = grind (arith, nat_tests) in
+        omega (arith, one, odd)
+
+pub padded_short : (p : ℕ) (v : List ℕ) → length (padded p v) ≤ length v + 1
+padded_short p v = by (nat_eq (length v % 2) 0)
+  where
+    by : (b : Bool) → length (if b then v else v ++ p ∷ []) ≤ length v + 1
+    by true = omega arith
+    by false = let one = length-append v (p ∷ []) in omega (arith, one)
+
+-- a value that is padded, and a key that is padded anew
+
+pub good_value : (last : ℕ) (t : Tag) (vr : List ℕ) (p : ℕ) (v : List ℕ) (es : Elements) → IsFixed last t vr → length v ≤ 1024 → IsGood (number t) es → IsGood last (field t vr (padded p v) es)
+good_value last t vr p v es f short good =
+    let le = padded_short p v in
+    good_field last t vr (padded p v) es f (padded_even p v) (omega (arith, le, short)) good
+
+pub good_key : (last : ℕ) (t : Tag) (vr : List ℕ) (p : ℕ) (v : List ℕ) (es : Elements) → IsFixed last t vr → length v ≤ 1024 → IsGood (number t) es → IsGood last (field t vr (padded p (key v)) es)
+good_key last t vr p v es f short good =
+    let le = key_length v in
+    good_value last t vr p (key v) es f (omega (arith, le, short)) good

@@ -1,0 +1,188 @@
+-- A file has one row, and its keys fit.
+use Rattle.std.proofs.Common.{◌≡◌, ℕ, ◌≤◌, Bool, true, false, ◌&&◌, cond, List, [], ◌∷◌, ◌++◌, length, take, drop, Option, Some, None, Err, nat_eq, nat_le, unwrap_or, eqb-true, refl, sym, ap, subst, ◌∙◌, arith, append_assoc, codes}
+use Rattle.std.proofs.lemmas.List.{append_cancel_left, drop_at}
+use Rattle.std.proofs.lemmas.Bool.{le-leb}
+use Rattle.element.specs.declared.syntax.Syntax.{Syntax}
+use Rattle.element.specs.declared.syntax.Syntax.TheVariants.{Implicit, Explicit}
+use Rattle.element.specs.declared.tag.Tag.{Tag}
+use Rattle.element.specs.Header.{number}
+use Rattle.dictionary.specs.Syntaxes.{syntax_uid}
+use Rattle.part10.specs.File.{length_element}
+use Rattle.part10.specs.declared.meta_fault.MetaFault.{MetaFault}
+use Rattle.part10.specs.declared.meta_fault.MetaFault.TheVariants.{NotPart10, BadMeta, OtherSyntax, ReadFailed}
+use Rattle.part10.specs.MetaText.{Said, HasMeta, HasLetters, MetaFaultOf, fault_number}
+use Rattle.part10.proofs.Public.{one_header}
+use Rattle.sequence.specs.declared.fault.Fault.{Fault}
+use Rattle.sequence.specs.declared.wanted.Want.{Want}
+use Rattle.sequence.specs.Tree.{Elements, no_elements, value, sequence, DataSet}
+use Rattle.sequence.specs.Within.{FitRooms}
+use Rattle.sequence.specs.Wanted.{Values, value_of, room_of, is_wanted, kept_of}
+use Rattle.sequence.specs.Ending.{IsWhole, Fails, breaks_rule, ends_early}
+use Rattle.sequence.specs.Rules.{Limits}
+use Rattle.sequence.proofs.Public.{one_fault, one_tree, whole_breaks_no_rule}
+use Rattle.dicomdir.specs.declared.skip.Skip.TheVariants as skip
+use Rattle.dicomdir.specs.Record.{tag}
+use Rattle.dicomdir.specs.Keys.{checked_row, optional_size}
+use Rattle.dicomdir.specs.RowOf.{row_wants, row_limits, row_from, key_in, IsInstance, in_header, in_data_set, of_values}
+use Rattle.dicomdir.specs.RowLaws.{OneRow, KeysFit}
+use Rattle.dicomdir.proofs.HeaderChecks.{not_same}
+
+-- ---- a file has one row
+
+-- what a file header says and where it ends
+said_by : {file : List ℕ} → IsInstance file → Said
+said_by is = record { class = is.class; instance = is.instance; syntax = syntax_uid is.syntax }
+
+has_meta : {file : List ℕ} (is : IsInstance file) → HasMeta (record { class = is.class; instance = is.instance; syntax = syntax_uid is.syntax }) file
+has_meta is = record { front = is.front; back = is.back; whole = is.whole; spelled = is.header }
+
+has_letters : {said : Said} {file : List ℕ} → HasMeta said file → HasLetters file
+has_letters {file = file} has =
+    let s = has.spelled in
+    let behind : List ℕ = (length_element (length s.group) ++ s.group) ++ has.back in
+    let parts : file ≡ s.preamble ++ (codes "DICM" ++ behind) = has.whole ∙ ap (λ z. z ++ has.back) s.whole ∙ simp append_assoc refl in
+    ap (λ z. take 4 (drop 128 z)) parts ∙ ap (λ z. take 4 z) (drop_at s.preamble (codes "DICM" ++ behind) 128 s.preamble_size)
+
+one_syntax : (s t : Syntax) → syntax_uid s ≡ syntax_uid t → s ≡ t
+one_syntax Implicit Implicit e = refl
+one_syntax Explicit Explicit e = refl
+one_syntax Implicit Explicit e = absurd (not_same (length (syntax_uid Implicit)) (length (syntax_uid Explicit)) refl (ap length e))
+one_syntax Explicit Implicit e = absurd (not_same (length (syntax_uid Explicit)) (length (syntax_uid Implicit)) refl (ap length e))
+
+-- a file whose header names a syntax that is taken has no fault there
+no_header_fault : {file : List ℕ} (is : IsInstance file) (fault : MetaFault) → MetaFaultOf file fault → ⊥
+unfolding has_meta
+no_header_fault is NotPart10 f = f (has_letters (has_meta is))
+no_header_fault is BadMeta f = f.1 (record { class = is.class; instance = is.instance; syntax = syntax_uid is.syntax }) (has_meta is)
+no_header_fault {file = file} is OtherSyntax f =
+    let one = one_header file f.0 (record { class = is.class; instance = is.instance; syntax = syntax_uid is.syntax }) f.1 (has_meta is) in
+    f.2 is.syntax (ap (λ (z : Said). z.syntax) one.0)
+no_header_fault is ReadFailed f = f
+
+one_header_fault : (file : List ℕ) (f g : MetaFault) → MetaFaultOf file f → MetaFaultOf file g → f ≡ g
+one_header_fault file NotPart10 NotPart10 m n = refl
+one_header_fault file NotPart10 BadMeta m n = absurd (m n.0)
+one_header_fault file NotPart10 OtherSyntax m n = absurd (m (has_letters n.1))
+one_header_fault file NotPart10 ReadFailed m n = absurd n
+one_header_fault file BadMeta NotPart10 m n = absurd (n m.0)
+one_header_fault file BadMeta BadMeta m n = refl
+one_header_fault file BadMeta OtherSyntax m n = absurd (m.1 n.0 n.1)
+one_header_fault file BadMeta ReadFailed m n = absurd n
+one_header_fault file OtherSyntax NotPart10 m n = absurd (n (has_letters m.1))
+one_header_fault file OtherSyntax BadMeta m n = absurd (n.1 m.0 m.1)
+one_header_fault file OtherSyntax OtherSyntax m n = refl
+one_header_fault file OtherSyntax ReadFailed m n = absurd n
+one_header_fault file ReadFailed g m n = absurd m
+
+record SameInstance {file : List ℕ} (a b : IsInstance file) : Type 0 where
+  class : a.class ≡ b.class
+  instance : a.instance ≡ b.instance
+  syntax : a.syntax ≡ b.syntax
+  back : a.back ≡ b.back
+
+same_instance : {file : List ℕ} (a b : IsInstance file) → SameInstance a b
+unfolding has_meta
+same_instance {file = file} a b =
+    let one = one_header file (record { class = a.class; instance = a.instance; syntax = syntax_uid a.syntax }) (record { class = b.class; instance = b.instance; syntax = syntax_uid b.syntax }) (has_meta a) (has_meta b) in
+    record {
+      class = ap (λ (z : Said). z.class) one.0;
+      instance = ap (λ (z : Said). z.instance) one.0;
+      syntax = one_syntax a.syntax b.syntax (ap (λ (z : Said). z.syntax) one.0);
+      back = append_cancel_left a.front a.back b.back (sym a.whole ∙ b.whole ∙ ap (λ z. z ++ b.back) (sym one.1));
+    }
+
+-- the number of what is wrong with a data set is one
+one_number : {s : Syntax} {lim : Limits} {b : List ℕ} {f g : Fault} → Fails s lim b f → Fails s lim b g → f.number ≡ g.number
+one_number {s = s} {lim = lim} {b = b} (breaks_rule {p = p} {u = u} {rule = rule} {tag = t} first) (breaks_rule {p = p2} {u = u2} {rule = rule2} {tag = t2} second) =
+    (one_fault s lim b p p2 u u2 rule rule2 t t2 first second).2
+one_number (breaks_rule {p = p} {u = u} {rule = rule} {tag = t} first) (ends_early end) = absurd (end.unbroken p u first.rest rule t first.text first.breaks)
+one_number (ends_early end) (breaks_rule {p = p} {u = u} {rule = rule} {tag = t} first) = absurd (end.unbroken p u first.rest rule t first.text first.breaks)
+one_number (ends_early end) (ends_early other) = refl
+
+not_both : {s : Syntax} {lim : Limits} {b : List ℕ} {f : Fault} → IsWhole s lim b → Fails s lim b f → ⊥
+not_both {s = s} {lim = lim} {b = b} whole (breaks_rule {p = p} {u = u} {rule = rule} {tag = t} first) = whole_breaks_no_rule s lim b whole p u first.rest rule t first.text first.breaks
+not_both whole (ends_early end) = end.unfinished whole.elements whole.text
+
+-- of the same data set
+
+fails_too : {s t : Syntax} {b c : List ℕ} {f : Fault} → s ≡ t → b ≡ c → Fails s row_limits b f → Fails t row_limits c f
+fails_too {s = s} {t = t} {b = b} {c = c} {f = f} e d x = subst (λ z. Fails t row_limits z f) d (subst (λ z. Fails z row_limits b f) e x)
+
+spells_too : {s t : Syntax} {b c : List ℕ} {es : Elements} → s ≡ t → b ≡ c → DataSet s 0 es b → DataSet t 0 es c
+spells_too {s = s} {t = t} {b = b} {c = c} {es = es} e d x = subst (λ z. DataSet t 0 es z) d (subst (λ z. DataSet z 0 es b) e x)
+
+one_result : {file : List ℕ} (file_id : List ℕ) (a b : IsInstance file) (es fs : Elements) → SameInstance a b → es ≡ fs
+    → checked_row (row_from file_id a.class a.instance a.syntax (kept_of row_wants es)) ≡ checked_row (row_from file_id b.class b.instance b.syntax (kept_of row_wants fs))
+one_result file_id a b es fs same e =
+    ap (λ z. checked_row (row_from file_id z a.instance a.syntax (kept_of row_wants es))) same.class
+    ∙ ap (λ z. checked_row (row_from file_id b.class z a.syntax (kept_of row_wants es))) same.instance
+    ∙ ap (λ z. checked_row (row_from file_id b.class b.instance z (kept_of row_wants es))) same.syntax
+    ∙ ap (λ z. checked_row (row_from file_id b.class b.instance b.syntax (kept_of row_wants z))) e
+
+pub one_row : OneRow
+one_row file file_id r q (in_header f m e) (in_header g n d) = e ∙ ap (λ z. Err (skip.Fault (fault_number z))) (one_header_fault file f g m n) ∙ sym d
+one_row file file_id r q (in_header f m e) (in_data_set b g n d) = absurd (no_header_fault b f m)
+one_row file file_id r q (in_header f m e) (of_values b fs text within d) = absurd (no_header_fault b f m)
+one_row file file_id r q (in_data_set a f m e) (in_header g n d) = absurd (no_header_fault a g n)
+one_row file file_id r q (in_data_set a f m e) (in_data_set b g n d) =
+    let same = same_instance a b in
+    e ∙ ap (λ z. Err (skip.Fault z)) (one_number (fails_too same.syntax same.back m) n) ∙ sym d
+one_row file file_id r q (in_data_set a f m e) (of_values b fs text within d) =
+    let same = same_instance a b in
+    absurd (not_both (record { elements = fs; text = text; within = within }) (fails_too same.syntax same.back m))
+one_row file file_id r q (of_values a es text within e) (in_header g n d) = absurd (no_header_fault a g n)
+one_row file file_id r q (of_values a es text within e) (in_data_set b g n d) =
+    let same = same_instance b a in
+    absurd (not_both (record { elements = es; text = text; within = within }) (fails_too same.syntax same.back n))
+one_row file file_id r q (of_values a es text within e) (of_values b fs text2 within2 d) =
+    let same = same_instance a b in
+    e ∙ one_result file_id a b es fs same (one_tree b.syntax 0 es fs b.back (spells_too same.syntax same.back text) text2) ∙ sym d
+
+-- ---- its keys fit
+
+-- of one value and those behind it
+one_fits : (ws : List Want) (n t room : ℕ) (w v : List ℕ) (others : Values) → ((r : ℕ) → room_of ws n ≡ Some r → length w ≤ r) → room_of ws t ≡ Some room
+    → (value_of others t ≡ Some v → length v ≤ room) → value_of ((n, w) ∷ others) t ≡ Some v → length v ≤ room
+one_fits ws n t room w v others fit r rest e = by (nat_eq n t) refl
+  where
+    by : (b : Bool) → nat_eq n t ≡ b → length v ≤ room
+    by true same =
+        let is : w ≡ v = let k = subst (λ (b : Bool). cond b (Some w) (value_of others t) ≡ Some v) same e in cc in
+        subst (λ z. length z ≤ room) is (fit room (ap (λ z. room_of ws z) (eqb-true n t same) ∙ r))
+    by false other = rest (subst (λ (b : Bool). cond b (Some w) (value_of others t) ≡ Some v) other e)
+
+some_fits : (ws : List Want) (n t room : ℕ) (w v : List ℕ) (others : Values) (b : Bool) → ((r : ℕ) → room_of ws n ≡ Some r → length w ≤ r) → room_of ws t ≡ Some room
+    → (value_of others t ≡ Some v → length v ≤ room) → value_of (cond b ((n, w) ∷ others) others) t ≡ Some v → length v ≤ room
+some_fits ws n t room w v others true fit r rest e = one_fits ws n t room w v others fit r rest e
+some_fits ws n t room w v others false fit r rest e = rest e
+
+kept_fits : (ws : List Want) (es : Elements) (t room : ℕ) (v : List ℕ) → FitRooms ws es → room_of ws t ≡ Some room → value_of (kept_of ws es) t ≡ Some v → length v ≤ room
+kept_fits ws no_elements t room v fit r e = absurd cc
+kept_fits ws (sequence h is es) t room v fit r e = kept_fits ws es t room v fit r e
+kept_fits ws (value h w es) t room v fit r e =
+    some_fits ws (number h.tag) t room w v (kept_of ws es) (is_wanted ws (number h.tag)) fit.0 r (λ f. kept_fits ws es t room v fit.1 r f) e
+
+size_fits : (ws : List Want) (es : Elements) (t room : ℕ) → FitRooms ws es → room_of ws t ≡ Some room → nat_le (optional_size (value_of (kept_of ws es) t)) room ≡ true
+size_fits ws es t room fit r = by (value_of (kept_of ws es) t) refl
+  where
+    by : (o : Option (List ℕ)) → value_of (kept_of ws es) t ≡ o → nat_le (optional_size o) room ≡ true
+    by None e = le-leb 0 room (omega arith)
+    by (Some v) e = le-leb (length v) room (kept_fits ws es t room v fit r e)
+
+key_fits : (ws : List Want) (es : Elements) (t : Tag) (room : ℕ) → FitRooms ws es → room_of ws (number t) ≡ Some room → nat_le (length (key_in (kept_of ws es) t)) room ≡ true
+key_fits ws es t room fit r = by (value_of (kept_of ws es) (number t)) refl
+  where
+    by : (o : Option (List ℕ)) → value_of (kept_of ws es) (number t) ≡ o → nat_le (length (unwrap_or o [])) room ≡ true
+    by None e = le-leb 0 room (omega arith)
+    by (Some v) e = le-leb (length v) room (kept_fits ws es (number t) room v fit r e)
+
+both : {a b : Bool} → a ≡ true → b ≡ true → (a && b) ≡ true
+both e f = cc
+
+pub keys_fit : KeysFit
+keys_fit file_id class instance s es fit =
+    let fits : (t : Tag) (room : ℕ) → room_of row_wants (number t) ≡ Some room → nat_le (length (key_in (kept_of row_wants es) t)) room ≡ true = λ t room r. key_fits row_wants es t room fit r in
+    both (both (both (size_fits row_wants es (number (tag 0x0008 0x0005)) 64 fit refl) (both (fits (tag 0x0010 0x0010) 512 refl) (fits (tag 0x0010 0x0020) 256 refl)))
+    (both (fits (tag 0x0008 0x0020) 32 refl) (both (fits (tag 0x0008 0x0030) 32 refl) (fits (tag 0x0008 0x0050) 64 refl))))
+    (both (both (fits (tag 0x0008 0x1030) 256 refl) (both (fits (tag 0x0020 0x000d) 64 refl) (fits (tag 0x0020 0x0010) 64 refl)))
+    (both (both (fits (tag 0x0008 0x0060) 64 refl) (both (fits (tag 0x0020 0x000e) 64 refl) (fits (tag 0x0020 0x0011) 32 refl))) (fits (tag 0x0020 0x0013) 32 refl)))

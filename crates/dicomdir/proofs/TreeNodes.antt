@@ -1,0 +1,54 @@
+-- Each node of the tree of rows is a record of its level.
+use Rattle.std.proofs.Common.{ℕ, suc, Bool, true, false, List, [], ◌∷◌, filter, if◌then◌else◌}
+use Rattle.std.specs.List.{list_any, AllByRecursion}
+use Rattle.std.specs.Str.{bytes_eq}
+use Rattle.sequence.specs.Tree.{Elements}
+use Rattle.dicomdir.specs.Keys.{IsRow}
+use Rattle.dicomdir.specs.Record.{patient_record, study_record, series_record}
+use Rattle.dicomdir.specs.Row.{Row, key, without_doubles}
+use Rattle.dicomdir.specs.TreeOf.{Forest, rows_with, group_node, group_nodes, images, series, studies, TreeOf}
+use Rattle.dicomdir.proofs.LaidRecords.{IsNode, patient_node, study_node, series_node, image_node}
+use Rattle.dicomdir.proofs.Placed.{AreNodes}
+
+abbrev AreRows : List Row → Type 0
+AreRows rows = AllByRecursion IsRow rows
+
+with_rows : (p : Row → Bool) (rows : List Row) → AreRows rows → AreRows (filter p rows)
+with_rows p [] all = all
+with_rows p (row ∷ rows) all = by (p row) (with_rows p rows all.1)
+  where
+    by : (b : Bool) → AreRows (filter p rows) → AreRows (if b then row ∷ filter p rows else filter p rows)
+    by true rest = (all.0, rest)
+    by false rest = rest
+
+no_doubles : (before : List (List ℕ)) (rows : List Row) → AreRows rows → AreRows (without_doubles before rows)
+no_doubles before [] all = all
+no_doubles before (row ∷ rows) all = by (list_any (bytes_eq row.instance) before) (no_doubles before rows all.1) (no_doubles (row.instance ∷ before) rows all.1)
+  where
+    by : (b : Bool) → AreRows (without_doubles before rows) → AreRows (without_doubles (row.instance ∷ before) rows)
+        → AreRows (if b then without_doubles before rows else row ∷ without_doubles (row.instance ∷ before) rows)
+    by true left kept = left
+    by false left kept = (all.0, kept)
+
+images_are : (rows : List Row) → AreRows rows → AreNodes 4 (images rows)
+images_are [] all = tt
+images_are (row ∷ rows) all = (image_node row all.0, tt, images_are rows all.1)
+
+module _ (level : ℕ) (key_of : Row → List ℕ) (record_of : Row → Elements) (below : List Row → Forest Elements) (is_record : (row : Row) → IsRow row → IsNode level (record_of row)) (are_below : (rows : List Row) → AreRows rows → AreNodes (suc level) (below rows)) where
+  group_is : (group : List Row) (next : Forest Elements) → AreRows group → AreNodes level next → AreNodes level (group_node record_of below group next)
+  group_is [] next all others = others
+  group_is (row ∷ rows) next all others = (is_record row all.0, are_below (row ∷ rows) all, others)
+
+  groups_are : (rows : List Row) (keys : List (List ℕ)) → AreRows rows → AreNodes level (group_nodes key_of record_of below rows keys)
+  groups_are rows [] all = tt
+  groups_are rows (k ∷ keys) all = group_is (rows_with key_of k rows) _ (with_rows (λ row. bytes_eq k (key_of row)) rows all) (groups_are rows keys all)
+
+series_are : (rows : List Row) → AreRows rows → AreNodes 3 (series rows)
+series_are rows all = groups_are 3 (λ row. key row.series_instance_uid) series_record images series_node images_are rows _ all
+
+studies_are : (rows : List Row) → AreRows rows → AreNodes 2 (studies rows)
+studies_are rows all = groups_are 2 (λ row. key row.study_instance_uid) study_record series study_node series_are rows _ all
+
+pub tree_nodes : (rows : List Row) → AllByRecursion IsRow rows → AreNodes 1 (TreeOf rows)
+unfolding TreeOf
+tree_nodes rows all = groups_are 1 (λ row. key row.patient_id) patient_record studies patient_node studies_are (without_doubles [] rows) _ (no_doubles [] rows all)

@@ -1,0 +1,232 @@
+-- The directory that is written of rows is linked to their tree, and has no fault.
+use Rattle.std.proofs.Common.{◌≡◌, ℕ, suc, ◌+◌, ◌%◌, ◌^◌, ◌<◌, ◌≤◌, true, false, List, [], ◌∷◌, ◌++◌, length, Some, None, refl, sym, ap, ◌∙◌, append_assoc, arith, codes, nat_eq, nat_lt}
+use Rattle.std.proofs.lemmas.Bool.{and_from, and_parts, leb-true}
+use Rattle.std.proofs.lemmas.Bool.Decides.{nat_tests}
+use Rattle.std.proofs.lemmas.List.{append-nil, length-append}
+use Rattle.std.specs.List.{AllByRecursion}
+use Rattle.element.specs.Numbers.{le}
+use Rattle.element.specs.Uid.{is_uid}
+use Rattle.element.specs.Vr.{is_short}
+use Rattle.part10.specs.File.{meta_group, instance_elements, implementation_elements, title_element}
+use Rattle.part10.specs.MetaText.{SpellsMeta, said_of}
+use Rattle.part10.proofs.Public.{head_is_read}
+use Rattle.sequence.specs.Shape.{undefined_length, is_undefined}
+use Rattle.sequence.specs.Tree.{Elements, no_elements, sequence, Items, no_items, item_tag}
+use Rattle.dicomdir.specs.Built.{directory_meta, directory_header, directory_file, file_is_too_large}
+use Rattle.dicomdir.specs.Directory.{Record, size_of, end_size, records_at, first_offset, last_offset, records_of}
+use Rattle.dicomdir.specs.Keys.{IsRow}
+use Rattle.dicomdir.specs.Layout.{spelled, spelled_items, with_offsets, records_header, root_elements}
+use Rattle.dicomdir.specs.Linked.{Linked, LinkedElements, IsAllReached, carried_forest, places_of}
+use Rattle.dicomdir.specs.Places.{record_size, root_size, forest_size, with_places, first_record_place, last_record_place, record_items, elements_with_places}
+use Rattle.dicomdir.specs.Record.{tag, field}
+use Rattle.dicomdir.specs.Row.{Row}
+use Rattle.dicomdir.specs.TreeOf.{Forest, no_nodes, node, TreeOf}
+use Rattle.dicomdir.specs.WrittenIsLinked.{IsDirectoryOf, WrittenIsLinked}
+use Rattle.dicomdir.proofs.BuildingLemmas.{directory_text, root_size_is}
+use Rattle.dicomdir.proofs.Laid.{is_laid, are_laid, is_item, laid_elements}
+use Rattle.dicomdir.proofs.LaidFields.{IsFixed, laid_field, padded_short}
+use Rattle.dicomdir.proofs.LaidRecords.{number_back}
+use Rattle.dicomdir.proofs.NoFault.{linked_has_no_fault}
+use Rattle.dicomdir.proofs.Placed.{AreNodes, written, placed, nodes_are, first_same, last_same, first_small, last_small, linked, distinct, reached, good_records}
+use Rattle.dicomdir.proofs.Sizes.{items_size, offsets_size}
+use Rattle.dicomdir.proofs.TreeNodes.{tree_nodes}
+
+-- an item's header of an even length is good
+item_good : (n : ℕ) → n < undefined_length → n % 2 ≡ 0 → is_item (record { tag = item_tag; vr = None; length = n }) ≡ true
+item_good n short even =
+    let defined : nat_lt n undefined_length ≡ true = grind (arith, nat_tests) in
+    let two : nat_eq (n % 2) 0 ≡ true = grind (arith, nat_tests) in
+    and_from _ _ (and_from _ _ defined two) refl
+
+items_laid : (place : ℕ) (tree : Forest Elements) (level : ℕ) (others : Items) → AreNodes level tree → place + forest_size tree < 2 ^ 32 → are_laid others ≡ true
+    → are_laid (record_items (with_places place tree) others) ≡ true
+items_laid place no_nodes level others nodes small laid = laid
+items_laid place (node es below next) level others nodes small laid =
+    let after = place + record_size es in
+    let beyond = after + forest_size below in
+    let b = with_places after below in
+    let n = with_places beyond next in
+    let own = with_offsets (first_record_place n) (first_record_place b) es in
+    let good = nodes.0.good (first_record_place n) (first_record_place b) in
+    let same = offsets_size (first_record_place n) (first_record_place b) es in
+    let short : length (spelled own) < undefined_length = omega (arith, small, same) in
+    let size : nat_eq (length (spelled own)) (length (spelled own)) ≡ true = grind (arith, nat_tests) in
+    and_from _ _ (and_from _ _ (item_good (length (spelled own)) short good.even) size)
+    (and_from _ _ good.laid
+    (items_laid after below (suc level) (record_items n others) nodes.1 (omega (arith, small))
+    (items_laid beyond next level others nodes.2 (omega (arith, small)) laid)))
+
+forest_even : (tree : Forest Elements) (level : ℕ) → AreNodes level tree → forest_size tree % 2 ≡ 0
+forest_even no_nodes level nodes = refl
+forest_even (node es below next) level nodes =
+    let own = (nodes.0.good 0 0).even in
+    let b = forest_even below (suc level) nodes.1 in
+    let n = forest_even next level nodes.2 in
+    omega (arith, own, b, n)
+
+records_are : (place : ℕ) (tree : Forest Elements) (level : ℕ) (others : Items) → AreNodes level tree → place + forest_size tree < 2 ^ 32
+    → records_at place (record_items (with_places place tree) others) ≡ written (with_places place tree) ++ records_at (place + forest_size tree) others
+records_are place no_nodes level others nodes small = let e : place ≡ place + 0 = omega arith in ap (λ (p : ℕ). records_at p others) e
+records_are place (node es below next) level others nodes small =
+    let after = place + record_size es in
+    let beyond = after + forest_size below in
+    let b = with_places after below in
+    let n = with_places beyond next in
+    let own = with_offsets (first_record_place n) (first_record_place b) es in
+    let good = nodes.0.good (first_record_place n) (first_record_place b) in
+    let same = offsets_size (first_record_place n) (first_record_place b) es in
+    let defined : is_undefined (length (spelled own)) ≡ false = let short : length (spelled own) < undefined_length = omega (arith, small, same) in grind (arith, nat_tests) in
+    let no_end : end_size (length (spelled own)) ≡ 0 = rw defined refl in
+    let size = good.size in
+    let next_place : place + 8 + size_of own + end_size (length (spelled own)) ≡ after = omega (arith, no_end, size, same) in
+    let total : beyond + forest_size next ≡ place + (record_size es + forest_size below + forest_size next) = omega arith in
+    let head : Record = record { place = place; elements = own } in
+    let rest : records_at after (record_items b (record_items n others)) ≡ (written b ++ written n) ++ records_at (place + (record_size es + forest_size below + forest_size next)) others =
+    records_are after below (suc level) (record_items n others) nodes.1 (omega (arith, small))
+    ∙ ap (λ (rs : List Record). written b ++ rs) (records_are beyond next level others nodes.2 (omega (arith, small)) ∙ ap (λ (p : ℕ). written n ++ records_at p others) total)
+    ∙ sym (append_assoc (written b) (written n) (records_at (place + (record_size es + forest_size below + forest_size next)) others)) in
+    ap (λ (p : ℕ). head ∷ records_at p (record_items b (record_items n others))) next_place ∙ ap (λ (rs : List Record). head ∷ rs) rest
+
+-- the root
+
+fixed_1130 : IsFixed 0 (tag 0x0004 0x1130) (codes "CS")
+unfolding is_short
+fixed_1130 = record { group = refl; element = refl; vr_good = refl; plain = refl; rising = refl; no_marker = refl; no_command = refl; no_file = refl; no_sequence = refl; eight = λ n. refl }
+
+fixed_1200 : IsFixed 0x00041130 (tag 0x0004 0x1200) (codes "UL")
+unfolding is_short
+fixed_1200 = record { group = refl; element = refl; vr_good = refl; plain = refl; rising = refl; no_marker = refl; no_command = refl; no_file = refl; no_sequence = refl; eight = λ n. refl }
+
+fixed_1202 : IsFixed 0x00041200 (tag 0x0004 0x1202) (codes "UL")
+unfolding is_short
+fixed_1202 = record { group = refl; element = refl; vr_good = refl; plain = refl; rising = refl; no_marker = refl; no_command = refl; no_file = refl; no_sequence = refl; eight = λ n. refl }
+
+fixed_1212 : IsFixed 0x00041202 (tag 0x0004 0x1212) (codes "US")
+unfolding is_short
+fixed_1212 = record { group = refl; element = refl; vr_good = refl; plain = refl; rising = refl; no_marker = refl; no_command = refl; no_file = refl; no_sequence = refl; eight = λ n. refl }
+
+sequence_laid : (is : Items) → length (spelled_items is) < undefined_length → length (spelled_items is) % 2 ≡ 0 → are_laid is ≡ true
+    → is_laid 0x00041212 (sequence (records_header is) is no_elements) ≡ true
+unfolding is_short
+sequence_laid is short even laid =
+    let n = length (spelled_items is) in
+    let defined : nat_lt n undefined_length ≡ true = grind (arith, nat_tests) in
+    let two : nat_eq (n % 2) 0 ≡ true = grind (arith, nat_tests) in
+    let same : nat_eq n n ≡ true = grind (arith, nat_tests) in
+    and_from _ _ (and_from _ _ (and_from _ _ (and_from _ _ (and_from _ _ defined two) refl) refl) refl) (and_from _ _ (and_from _ _ same laid) refl)
+
+root_laid : (first last : ℕ) (is : Items) → length (spelled_items is) < undefined_length → length (spelled_items is) % 2 ≡ 0 → are_laid is ≡ true → is_laid 0 (root_elements first last is) ≡ true
+root_laid first last is short even laid =
+    let records : Elements = sequence (records_header is) is no_elements in
+    let flag : Elements = field (tag 0x0004 0x1212) (codes "US") (le 0 2) records in
+    let last_one : Elements = field (tag 0x0004 0x1202) (codes "UL") (le last 4) flag in
+    let first_one : Elements = field (tag 0x0004 0x1200) (codes "UL") (le first 4) last_one in
+    laid_field 0 (tag 0x0004 0x1130) (codes "CS") [] first_one fixed_1130 refl (omega arith)
+    (laid_field 0x00041130 (tag 0x0004 0x1200) (codes "UL") (le first 4) last_one fixed_1200 refl (omega arith)
+    (laid_field 0x00041200 (tag 0x0004 0x1202) (codes "UL") (le last 4) flag fixed_1202 refl (omega arith)
+    (laid_field 0x00041202 (tag 0x0004 0x1212) (codes "US") (le 0 2) records fixed_1212 refl (omega arith)
+    (sequence_laid is short even laid))))
+
+same_records : (a b : ℕ) (is : Items) → a ≡ b → Some (records_at a is) ≡ Some (records_at b is)
+same_records a b is e = ap (λ (p : ℕ). Some (records_at p is)) e
+
+root_records : (start first last : ℕ) (is : Items) → records_of start (root_elements first last is) ≡ Some (records_at (start + root_size) is)
+unfolding is_short
+root_records start first last is = same_records (start + 8 + 0 + 8 + 4 + 8 + 4 + 8 + 2 + 12) (start + root_size) is (omega arith)
+
+root_first : (start first last : ℕ) (is : Items) → first < 2 ^ 32 → first_offset start (root_elements first last is) ≡ Some first
+root_first start first last is small = number_back first small
+
+root_last : (start first last : ℕ) (is : Items) → last < 2 ^ 32 → last_offset start (root_elements first last is) ≡ Some last
+root_last start first last is small = number_back last small
+
+-- the file header
+
+group_short : (uid : List ℕ) → is_uid uid ≡ true → length (meta_group (directory_meta uid)) ≤ 360
+unfolding instance_elements implementation_elements title_element is_short
+group_short uid e =
+    let parts = and_parts _ _ e in
+    let size = and_parts _ _ parts.0 in
+    let room : length uid ≤ 64 = leb-true (length uid) 64 size.1 in
+    let value = padded_short 0 uid in
+    simp length-append (omega (arith, room, value))
+
+header_read : (uid : List ℕ) → is_uid uid ≡ true → SpellsMeta (said_of (directory_meta uid)) (directory_header uid)
+unfolding directory_header
+header_read uid e = head_is_read (directory_meta uid) refl e refl (group_short uid e)
+
+total_small : (uid : List ℕ) (rows : List Row) → file_is_too_large uid rows ≡ false → length (directory_header uid) + root_size + forest_size (TreeOf rows) < 2 ^ 32
+total_small uid rows fits = grind (arith, nat_tests)
+
+module _ (uid : List ℕ) (rows : List Row) (is_one : is_uid uid ≡ true) (all : AllByRecursion IsRow rows) (fits : file_is_too_large uid rows ≡ false) where
+  abbrev start : ℕ
+  start = length (directory_header uid)
+
+  abbrev forest : Forest Record
+  forest = with_places (start + root_size) (TreeOf rows)
+
+  abbrev elements : Elements
+  elements = elements_with_places forest
+
+  nodes : AreNodes 1 (TreeOf rows)
+  nodes = tree_nodes rows all
+
+  small : start + root_size + forest_size (TreeOf rows) < 2 ^ 32
+  small = total_small uid rows fits
+
+  laid : is_laid 0 elements ≡ true
+  laid =
+      let size = items_size (start + root_size) (TreeOf rows) no_items in
+      let even = forest_even (TreeOf rows) 1 nodes in
+      let total = small in
+      let root = root_size_is in
+      root_laid (first_record_place forest) (last_record_place forest) (record_items forest no_items) (omega (arith, size, total, root)) (omega (arith, size, even))
+      (items_laid (start + root_size) (TreeOf rows) 1 no_items nodes small refl)
+
+  linked_elements : LinkedElements start elements (carried_forest (TreeOf rows))
+  linked_elements = record {
+    records = written forest;
+    placed = placed forest;
+    has_records =
+        root_records start (first_record_place forest) (last_record_place forest) (record_items forest no_items)
+        ∙ ap (λ (rs : List Record). Some rs) (records_are (start + root_size) (TreeOf rows) 1 no_items nodes small ∙ append-nil (written forest));
+    good = good_records (start + root_size) (TreeOf rows) 1 nodes;
+    tree_is = nodes_are (start + root_size) (TreeOf rows);
+    linked = linked (start + root_size) (TreeOf rows) 1 (written forest) nodes small (λ p es h. h);
+    distinct = distinct (start + root_size) (TreeOf rows);
+    names_first =
+        root_first start (first_record_place forest) (last_record_place forest) (record_items forest no_items) (first_small (start + root_size) (TreeOf rows) small)
+        ∙ ap (λ (n : ℕ). Some n) (sym (first_same forest));
+    names_last =
+        root_last start (first_record_place forest) (last_record_place forest) (record_items forest no_items) (last_small 0 (start + root_size) (TreeOf rows) (omega arith) small)
+        ∙ ap (λ (n : ℕ). Some n) (sym (last_same 0 forest));
+  }
+
+  all_reached : IsAllReached linked_elements
+  unfolding linked_elements
+  all_reached = reached forest (places_of (placed forest)) (λ p h. h)
+
+  linked_file : Linked (directory_file (record { uid = uid; rows = rows })) (carried_forest (TreeOf rows))
+  linked_file = record {
+    start = start;
+    elements = elements;
+    is_file = record {
+      front = directory_header uid;
+      back = spelled elements;
+      explicit = record { said = said_of (directory_meta uid); whole = directory_text (directory_header uid) rows; header = header_read uid is_one; syntax = refl };
+      data_set = laid_elements 0 elements laid;
+      begins = refl;
+    };
+    linked = linked_elements;
+  }
+
+  is_directory : IsDirectoryOf (directory_file (record { uid = uid; rows = rows })) rows
+  unfolding linked_file
+  is_directory = record {
+    linked = linked_file;
+    all_reached = all_reached;
+    no_fault = linked_has_no_fault start elements (carried_forest (TreeOf rows)) linked_elements all_reached;
+  }
+
+pub written_is_linked : WrittenIsLinked
+written_is_linked uid rows is_one all fits = is_directory uid rows is_one all fits

@@ -1,0 +1,20 @@
+use Rattle.std.proofs.Common.{refl}
+use Rattle.std.proofs.lemmas.Result.{IfOk-weaker, IfErr-weaker}
+use Rattle.dicomdir.specs.TreeNodes.{tree_nodes}
+use Rattle.dicomdir.proofs.CheckLemmas.{file_fails, file_nodes}
+use Rattle.dicomdir.proofs.checking.check.Goals as goal
+
+pub returns-clause-nodes : goal.returns-clause-nodes
+returns-clause-nodes g c =
+    let whole = c.in_default.ensures.good refl in
+    IfOk-weaker c.check_elements.result _ _ (λ tree checks. file_nodes c.in-Ok.ensures.read _ whole.elements (tree_nodes tree) refl whole.text (checks whole.elements whole.text)) c.check_elements.ensures.whole
+
+pub returns-clause-fault : goal.returns-clause-fault
+returns-clause-fault g c =
+    let whole = c.in_default.ensures.good refl in
+    IfErr-weaker c.check_elements.result _ _ (λ f fails other. file_fails c.in-Ok.ensures.read _ whole f refl (fails whole.elements whole.text) other) c.check_elements.ensures.fails
+
+pub returns-clause-memory : goal.returns-clause-memory
+returns-clause-memory g c =
+    let whole = c.in_default.ensures.good refl in
+    IfErr-weaker c.check_elements.result _ _ (λ f fails none. let told = fails whole.elements whole.text in (told.memory none, told.tag)) c.check_elements.ensures.fails

@@ -1,0 +1,28 @@
+use Rattle.std.proofs.Common.{◌≡◌, ◌∙◌, ◌^◌, ap}
+use Rattle.std.proofs.lemmas.Result.{err_from_is_err_and}
+use Rattle.sequence.specs.Taken.{limits_of}
+use Rattle.dicomdir.specs.RowOf.{row_limits}
+use Rattle.dicomdir.specs.Keys.{checked_row}
+use Rattle.dicomdir.proofs.RowLemmas.{refused_header, refused_data_set, whole_file}
+use Rattle.dicomdir.proofs.row_reading.rows_of.Goals as goal
+
+pub returns-in-Err : goal.returns-in-Err
+returns-in-Err g c = rw c.number.ensures (record { row = refused_header c.in-Err.fault (g.R.Read.remaining c.args.reader.now) c.args.file_id.now c.in-Err.ensures.fault })
+
+pub returns-in_err-walk : goal.returns-in_err-walk
+returns-in_err-walk g c =
+    let p = err_from_is_err_and c.from_residual.result c.from_residual.ensures.1 in
+    let limits : limits_of c.new-walker.result ≡ row_limits = c.new-walker.ensures.limits ∙ ap (λ w. record { wanted = w; depth = 64; bytes = 2 ^ 48 }) c.wanted.ensures in
+    rw (p.1, p.2) (record {
+      row = refused_data_set c.new-walker.result c.in-Ok.meta (g.R.Read.remaining c.args.reader.now) _ c.args.file_id.now c.in_err-walk.field-0.0 c.in-Ok.ensures.header
+          c.new-walker.ensures.syntax limits c.in_err-walk.ensures.fails;
+    })
+
+pub returns : goal.returns
+returns g c =
+    let limits : limits_of c.new-walker.result ≡ row_limits = c.new-walker.ensures.limits ∙ ap (λ w. record { wanted = w; depth = 64; bytes = 2 ^ 48 }) c.wanted.ensures in
+    record {
+      row = whole_file c.walk.new.walker c.in-Ok.meta (g.R.Read.remaining c.args.reader.now) _ c.args.file_id.now c.new.result c.in-Ok.ensures.header
+          (c.in_ok-walk.ensures.same.0 ∙ c.new-walker.ensures.syntax) (c.in_ok-walk.ensures.same.1 ∙ limits) c.in_ok-walk.ensures.whole
+          (c.new.ensures ∙ ap checked_row (c.in_ok-keys.ensures.values c.args.file_id.now c.in-Ok.meta.class c.in-Ok.meta.instance c.in-Ok.meta.syntax));
+    }

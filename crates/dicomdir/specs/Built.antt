@@ -1,0 +1,43 @@
+-- The directory file that this product builds of rows, and why it builds none (PS3.10 sections 7.1 and 8.6).
+use Rattle.std.specs.Prelude.{◌≡◌, ℕ, Bool, true, List, length, replicate, codes}
+use Rattle.element.specs.declared.syntax.Syntax.TheVariants.{Explicit}
+use Rattle.part10.specs.declared.meta.Meta.{Meta}
+use Rattle.part10.specs.File.{head}
+use Rattle.sequence.specs.Rules.{no_tag}
+use Rattle.dicomdir.specs.declared.fault.DirFault.{DirFault}
+use Rattle.dicomdir.specs.Places.{directory_of, is_too_large}
+use Rattle.dicomdir.specs.Row.{Row}
+
+-- what a directory is built from: the instance UID of its file, and the rows
+pub record BuiltFrom : Type 0 where
+  pub uid : List ℕ
+  pub rows : List Row
+
+-- the class Media Storage Directory Storage (PS3.6 annex A)
+abbrev pub directory_class : List ℕ
+directory_class = codes "1.2.840.10008.1.3.10"
+
+-- what the file header says; the title of a sender is all spaces, so it is left out
+abbrev pub directory_meta : List ℕ → Meta
+directory_meta uid = record {
+  class = directory_class;
+  instance = uid;
+  syntax = Explicit;
+  calling = record { 0 = replicate 16 32 };
+}
+
+unfoldable pub directory_header : List ℕ → List ℕ
+directory_header uid = head (directory_meta uid)
+
+-- the whole file
+abbrev pub directory_file : BuiltFrom → List ℕ
+directory_file built = directory_of (directory_header built.uid) built.rows
+
+-- whether the file, with its header, has 2^32 bytes or more
+abbrev pub file_is_too_large : List ℕ → List Row → Bool
+file_is_too_large uid rows = is_too_large (length (directory_header uid)) rows
+
+-- no directory is built if its file is too large (66), or if memory ran out (67)
+pub data IsNotBuilt (uid : List ℕ) (rows : List Row) (f : DirFault) : Type 0 where
+  too_large : file_is_too_large uid rows ≡ true → f ≡ record { number = 66; place = 0; tag = no_tag } → IsNotBuilt uid rows f
+  no_memory : f ≡ record { number = 67; place = 0; tag = no_tag } → IsNotBuilt uid rows f

@@ -1,0 +1,128 @@
+//! Builds the directory of rows.
+ghost use Rattle.std.specs.Prelude.{◌≡◌, false, IfOk, OnOk, IfErr, OnErr};
+ghost use Rattle.std.specs.Io.KnownBytes.{Appends};
+ghost use Rattle.dicomdir.specs.Built.{file_is_too_large, IsNotBuilt, directory_file};
+ghost use Rattle.dicomdir.specs.Places.{doubles_of};
+ghost use Rattle.dicomdir.specs.TreeOf.{TreeOf, count_of};
+ghost use Rattle.dicomdir.specs.WrittenIsLinked.{IsDirectoryOf};
+ghost use Rattle.dicomdir.specs.Written.{AppendsFront};
+
+use crate::Row;
+use crate::build_plan::{Chain, Plan, Stop, lay};
+use crate::doubles::leave_out_doubles;
+use crate::fault::DirFault;
+use crate::level::Level;
+use crate::record_writer::{place_of, write_records};
+use crate::root_bytes::{ROOT_SIZE, file_header, root_bytes};
+use crate::writing::write_all;
+use element::Uid;
+use std::alloc::Allocator;
+use std::io;
+use std::io::Write;
+use std::marker::Model;
+
+/// A directory that is built of rows, record by record; it has no bytes of the file. Contracts see
+/// it as the instance UID of its file and the rows.
+#[derive(Drop)]
+pub struct Built<'r, A: Allocator> {
+    uid: Uid,
+    rows: &'r [Row<A>],
+    doubles: Vec<usize, A>,
+    plan: Plan<'r, A>,
+    chain: Chain,
+    size: u32,
+}
+
+impl<'r, A: Allocator> Model for Built<'r, A> {
+    ghost use Rattle.dicomdir.specs.Built.{BuiltFrom};
+    ghost use Rattle.dicomdir.specs.machine.Building.{IsBuilt};
+
+    ghost Value = { BuiltFrom };
+
+    ghost view = { λ b. record { uid = b.uid; rows = b.rows.now } };
+
+    ghost invariant = { λ b. IsBuilt b.uid b.rows.now b.plan.entries.items b.plan.size b.chain.first b.chain.last b.size b.doubles.items };
+}
+
+impl<'r, A: Allocator> Built<'r, A> {
+    /// Returns the rows that it is built from, doubles among them.
+    pub fn rows(&self) -> &'r [Row<A>]
+        ensures { result.now ≡ self.now.rows }
+    {
+        self.rows
+    }
+
+    /// Returns the places of the rows that are left out because an earlier row has the same
+    /// instance, rising.
+    pub fn doubles(&self) -> &[usize]
+        ensures { result.now ≡ doubles_of self.now.rows }
+    {
+        self.doubles.as_slice()
+    }
+
+    /// Returns the number of its records.
+    pub fn records(&self) -> usize
+        ensures { result ≡ count_of (TreeOf self.now.rows) }
+    {
+        self.plan.entries.len()
+    }
+}
+
+/// Builds the directory of rows: a record for each patient, study, series and image, in the order in
+/// which their keys are first seen, each with the keys of its first row (PS3.3 section F.4). A row
+/// whose instance an earlier row has gets no record.
+///
+/// Fails with 66 if the file would have 2^32 bytes or more, and with 67 if the allocator refuses a
+/// growth.
+pub fn build<'r, A: Allocator + Copy>(
+    alloc: A,
+    rows: &'r [Row<A>],
+    uid: Uid,
+) -> Result<Built<'r, A>, DirFault>
+    ensures uid { IfOk result (λ built. built.uid ≡ uid) }
+    ensures rows { IfOk result (λ built. built.rows ≡ rows.now) }
+    ensures fits { OnOk result (file_is_too_large uid rows.now ≡ false) }
+    ensures linked { IfOk result (λ built. IsDirectoryOf (directory_file built) rows.now) }
+    ensures fault { IfErr result (IsNotBuilt uid rows.now) }
+{
+    let Ok(kept) = leave_out_doubles(alloc, rows) else {
+        return Err(DirFault::out_of_memory());
+    };
+    let mut plan = Plan::new(alloc);
+    let chain = match lay(alloc, &mut plan, kept.rows.as_slice(), Level::Patient) {
+        Ok(chain) => chain,
+        Err(Stop::TooLarge) => return Err(DirFault::too_large()),
+        Err(Stop::OutOfMemory) => return Err(DirFault::out_of_memory()),
+    };
+    let before = file_header(&uid).len() as u32 + ROOT_SIZE;
+    let Some(size) = plan.size.checked_add(before) else {
+        return Err(DirFault::too_large());
+    };
+    Ok(Built {
+        uid,
+        rows,
+        doubles: kept.doubles,
+        plan,
+        chain,
+        size,
+    })
+}
+
+/// Writes a directory: the file header (PS3.10 section 7.1), the elements of the root, and one record
+/// after the other, depth first (PS3.3 section F.3). Sequence and items have defined lengths, and
+/// offsets count from the first byte of the file.
+///
+/// If a write fails, its error is returned, and the writer has a beginning of the file; a writer that
+/// takes nothing fails with `WriteZero`. A write that a signal interrupted is tried again.
+pub fn write_dir<A: Allocator, W: Write>(built: &Built<'_, A>, writer: &mut W) -> io::Result<()>
+    ensures all { OnOk result (Appends (W.contents writer.old) (W.contents writer.new) (directory_file built.now)) }
+    ensures front { OnErr result (AppendsFront (W.contents writer.old) (W.contents writer.new) (directory_file built.now)) }
+{
+    let header = file_header(&built.uid);
+    write_all(writer, header.as_slice())?;
+    let first = place_of(built.size, built.chain.first);
+    let last = place_of(built.size, built.chain.last);
+    let root = root_bytes(first, last, built.plan.size);
+    write_all(writer, root.as_slice())?;
+    write_records(writer, built.plan.entries.as_slice(), built.size)
+}

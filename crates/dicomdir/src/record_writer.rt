@@ -1,0 +1,55 @@
+//! Writes the records of a directory.
+ghost use Rattle.std.specs.Prelude.{◌≡◌, OnOk, OnErr};
+ghost use Rattle.std.specs.Io.KnownBytes.{Appends};
+ghost use Rattle.dicomdir.specs.Laying.{place_from_end, entry_text, laid_text};
+ghost use Rattle.dicomdir.specs.Written.{AppendsFront};
+
+use crate::build_plan::Entry;
+use crate::record_bytes::record_bytes;
+use crate::writing::write_all;
+use std::alloc::Allocator;
+use std::io;
+use std::io::Write;
+
+/// Returns the place that is so far from the end of a file of this size; 0 means none. No distance is
+/// greater than the size.
+pub(crate) fn place_of(size: u32, distance: u32) -> u32
+    ensures { result ≡ place_from_end size distance }
+{
+    if distance == 0 {
+        0
+    } else {
+        size.saturating_sub(distance)
+    }
+}
+
+fn write_record<A: Allocator, W: Write>(
+    writer: &mut W,
+    entry: &Entry<'_, A>,
+    size: u32,
+) -> io::Result<()>
+    ensures all { OnOk result (Appends (W.contents writer.old) (W.contents writer.new) (entry_text size entry.now)) }
+    ensures front { OnErr result (AppendsFront (W.contents writer.old) (W.contents writer.new) (entry_text size entry.now)) }
+{
+    let next = place_of(size, entry.next);
+    let lower = place_of(size, entry.lower);
+    let record = record_bytes(entry.level, entry.row, next, lower);
+    write_all(writer, record.as_slice())
+}
+
+/// Writes the records of a file of this size, of which the last comes first in the slice.
+pub(crate) fn write_records<A: Allocator, W: Write>(
+    writer: &mut W,
+    entries: &[Entry<'_, A>],
+    size: u32,
+) -> io::Result<()>
+    ensures all { OnOk result (Appends (W.contents writer.old) (W.contents writer.new) (laid_text size entries.now)) }
+    ensures front { OnErr result (AppendsFront (W.contents writer.old) (W.contents writer.new) (laid_text size entries.now)) }
+{
+    let mut at = entries.len();
+    while at > 0 {
+        at -= 1;
+        write_record(writer, &entries[at], size)?;
+    }
+    Ok(())
+}

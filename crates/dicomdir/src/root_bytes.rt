@@ -1,0 +1,55 @@
+//! Lays down what stands before the records of a directory.
+ghost use Rattle.std.specs.Prelude.{◌≡◌, true};
+ghost use Rattle.element.specs.Uid.{is_uid};
+ghost use Rattle.dicomdir.specs.Built.{directory_header};
+ghost use Rattle.dicomdir.specs.machine.Building.{root_text};
+
+use crate::record_bytes::{RecordBytes, put, put_element};
+use arrayvec::ArrayVec;
+use byteorder::{ByteOrder, LittleEndian};
+use element::{AeTitle, Syntax, Tag, Uid};
+use part10::{Meta, meta_bytes};
+
+/// Media Storage Directory Storage (PS3.6 annex A).
+const DIRECTORY_CLASS: &[u8] = b"1.2.840.10008.1.3.10";
+
+/// How many bytes the elements of the root take up to the first record.
+pub(crate) const ROOT_SIZE: u32 = 54;
+
+/// Returns the file header (PS3.10 section 7.1) of a directory with this instance UID.
+#[tactic(auto, unfolding(crate::specs::Built::directory_header))]
+pub(crate) fn file_header(uid: &Uid) -> ArrayVec<u8, 512>
+    ensures bytes { result.items ≡ directory_header uid.now }
+    ensures known { is_uid uid.now ≡ true }
+{
+    // `len` ensures that it is an identifier.
+    uid.len();
+    let meta = Meta {
+        class: Uid::read(DIRECTORY_CLASS).unwrap(),
+        instance: uid.copied(),
+        syntax: Syntax::Explicit,
+        calling: AeTitle([b' '; 16]),
+    };
+    meta_bytes(&meta)
+}
+
+/// Returns the elements of the root up to the first record (PS3.3 section F.3): an empty File-set
+/// ID, the offsets of the first and the last record of the root, the consistency flag, and the header
+/// of the records, which take `size` bytes.
+#[tactic(auto, unfolding(element::specs::Vr::is_short, crate::specs::machine::Building::root_text))]
+pub(crate) fn root_bytes(first: u32, last: u32, size: u32) -> RecordBytes
+    ensures { result.items ≡ root_text first last size }
+{
+    let mut out = RecordBytes::new();
+    let mut number = [0; 4];
+    put_element(&mut out, Tag(0x0004, 0x1130), *b"CS", &[], b' ');
+    LittleEndian::write_u32(&mut number, first);
+    put_element(&mut out, Tag(0x0004, 0x1200), *b"UL", &number, 0);
+    LittleEndian::write_u32(&mut number, last);
+    put_element(&mut out, Tag(0x0004, 0x1202), *b"UL", &number, 0);
+    put_element(&mut out, Tag(0x0004, 0x1212), *b"US", &[0, 0], 0);
+    LittleEndian::write_u32(&mut number, size);
+    put(&mut out, &[0x04, 0x00, 0x20, 0x12, b'S', b'Q', 0, 0]);
+    put(&mut out, &number);
+    out
+}

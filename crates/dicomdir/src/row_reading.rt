@@ -1,0 +1,202 @@
+//! Reads the row of a directory from a file.
+ghost use Rattle.std.specs.Prelude.{◌≡◌, ◌<◌, ◌≤◌, ℕ, List, [], ◌++◌, None, length, take, option_map, OnOk, IfOk, IfErr, IfSome};
+ghost use Rattle.std.specs.Io.KnownBytes.{Consumes, IsAtEnd};
+ghost use Rattle.element.specs.declared.syntax.Syntax.{Syntax};
+ghost use Rattle.element.specs.Numbers.{IsBytes};
+ghost use Rattle.element.specs.Header.{number};
+ghost use Rattle.sequence.specs.Wanted.{value_of};
+ghost use Rattle.sequence.specs.Taken.{StandsAt, told_by, fault_of, limits_of};
+ghost use Rattle.sequence.specs.Stored.{wanted_tags};
+ghost use Rattle.dicomdir.specs.declared.skip.Skip.TheVariants as skip;
+ghost use Rattle.dicomdir.specs.RowOf.{row_wants, row_limits, row_from, key_in, RowRead};
+ghost use Rattle.dicomdir.specs.KeysOf.{keys_row};
+ghost use Rattle.dicomdir.specs.machine.RowReading.{IsGoing, IsSameSet, FailsIn, TookWhole, WalkFails};
+
+use crate::file_id::FileId;
+use crate::keys::Keys;
+use crate::row::Row;
+use crate::skip::Skip;
+use element::Tag;
+use part10::read_meta;
+use sequence::{Step, Walker, Want, Wanted};
+use std::alloc::Allocator;
+use std::io::{ErrorKind, Read};
+
+/// The number of a failed read.
+const READ_FAILED: u8 = 54;
+
+/// The bytes that one read takes at most.
+const PIECE: usize = 4096;
+
+/// A walker that keeps what a row has of a data set of at most 64 open levels.
+type RowWalker = Walker<2048, 64>;
+
+fn want(tag: Tag, room: u32) -> Want
+    ensures { result ≡ record { tag = tag; room = room } }
+{
+    Want { tag, room }
+}
+
+/// Returns the elements of the data set that a row has, each with the room for a value of its VR.
+fn wanted() -> Wanted
+    ensures { wanted_tags result ≡ row_wants }
+{
+    let wants = [
+        want(Tag(0x0008, 0x0005), 64),
+        want(Tag(0x0008, 0x0020), 32),
+        want(Tag(0x0008, 0x0030), 32),
+        want(Tag(0x0008, 0x0050), 64),
+        want(Tag(0x0008, 0x0060), 64),
+        want(Tag(0x0008, 0x1030), 256),
+        want(Tag(0x0010, 0x0010), 512),
+        want(Tag(0x0010, 0x0020), 256),
+        want(Tag(0x0020, 0x000d), 64),
+        want(Tag(0x0020, 0x000e), 64),
+        want(Tag(0x0020, 0x0010), 64),
+        want(Tag(0x0020, 0x0011), 32),
+        want(Tag(0x0020, 0x0013), 32),
+    ];
+    match Wanted::of(&wants) {
+        Some(wanted) => wanted,
+        None => unreachable!(),
+    }
+}
+
+/// Reads once, and again where a signal interrupted the call.
+fn read_once<R: Read>(reader: &mut R, room: &mut [u8]) -> Result<usize, Skip>
+    ensures size { length room.new ≡ length room.old }
+    ensures within { IfOk result (λ n. n ≤ length room.new) }
+    ensures took { IfOk result (λ n. Consumes (R.remaining reader.old) (R.remaining reader.new) (take n room.new)) }
+    ensures end { IfOk result (λ n. n ≡ 0 → 0 < length room.new → IsAtEnd (R.remaining reader.new)) }
+    ensures failed { IfErr result (λ reason. reason ≡ skip.Fault 54) }
+{
+    for _ in 0..u64::MAX {
+        match reader.read(room) {
+            Ok(n) => return Ok(n),
+            Err(error) if error.kind() == ErrorKind::Interrupted => {}
+            Err(_) => return Err(Skip::Fault(READ_FAILED)),
+        }
+    }
+    Err(Skip::Fault(READ_FAILED))
+}
+
+/// Walks a piece of a data set; fails with the number of its first fault.
+fn walk_piece(walker: &mut RowWalker, piece: &[u8]) -> Result<(), Skip>
+    requires going { IsGoing walker.old }
+    ensures along { OnOk result ((b : List ℕ) → StandsAt walker.old b → StandsAt walker.new (b ++ piece.now)) }
+    ensures good { OnOk result (fault_of walker.new ≡ None) }
+    ensures same { IsSameSet walker.old walker.new }
+    ensures fails { IfErr result (FailsIn walker.old piece.now) }
+{
+    let mut rest = piece;
+    while !rest.is_empty() {
+        let (count, step) = walker.step(rest);
+        if let Step::Refused(fault) = step {
+            return Err(Skip::Fault(fault.number));
+        }
+        rest = &rest[count..];
+    }
+    Ok(())
+}
+
+/// Walks the data set that the reader goes on with; fails with the number of its first fault, or of a
+/// failed read.
+fn walk<R: Read>(walker: &mut RowWalker, reader: &mut R) -> Result<(), Skip>
+    requires start { StandsAt walker.old [] }
+    ensures whole { OnOk result (TookWhole walker.new (R.remaining reader.old)) }
+    ensures same { IsSameSet walker.old walker.new }
+    ensures fails { IfErr result (WalkFails walker.old (R.remaining reader.old)) }
+{
+    let mut room = [0; PIECE];
+    // The walker refuses what passes its limit of bytes, so there are never so many pieces.
+    for _ in 0..u64::MAX {
+        let count = read_once(reader, &mut room)?;
+        if count == 0 {
+            return match walker.finish() {
+                Ok(()) => Ok(()),
+                Err(fault) => Err(Skip::Fault(fault.number)),
+            };
+        }
+        walk_piece(walker, &room[..count])?;
+    }
+    Err(Skip::Fault(READ_FAILED))
+}
+
+/// Copies the value with this tag, or nothing if the data set has none.
+fn key<A: Allocator>(alloc: A, walker: &RowWalker, tag: Tag) -> Result<Vec<u8, A>, Skip>
+    ensures value { IfOk result (λ value. value.items ≡ key_in (told_by walker.now).kept tag) }
+    ensures failed { IfErr result (λ reason. reason ≡ skip.OutOfMemory) }
+{
+    let value = match walker.kept(tag) {
+        Some(value) => value,
+        None => &[],
+    };
+    match Vec::from_slice(alloc, value) {
+        Ok(value) => Ok(value),
+        Err(_) => Err(Skip::OutOfMemory),
+    }
+}
+
+/// Copies Specific Character Set, if the data set has it.
+fn character_set<A: Allocator>(alloc: A, walker: &RowWalker) -> Result<Option<Vec<u8, A>>, Skip>
+    ensures value { IfOk result (λ value. option_map (λ v. v.items) value ≡ value_of (told_by walker.now).kept (number (record { 0 = 0x0008; 1 = 0x0005 }))) }
+    ensures failed { IfErr result (λ reason. reason ≡ skip.OutOfMemory) }
+{
+    let Some(value) = walker.kept(Tag(0x0008, 0x0005)) else {
+        return Ok(None);
+    };
+    match Vec::from_slice(alloc, value) {
+        Ok(value) => Ok(Some(value)),
+        Err(_) => Err(Skip::OutOfMemory),
+    }
+}
+
+/// Copies what a row has of the data set that the walker took.
+fn keys_of<A: Allocator + Copy>(alloc: A, walker: &RowWalker) -> Result<Keys<A>, Skip>
+    ensures values { IfOk result (λ keys. (file_id class instance : List ℕ) (syntax : Syntax) → keys_row file_id class instance syntax keys ≡ row_from file_id class instance syntax (told_by walker.now).kept) }
+    ensures failed { IfErr result (λ reason. reason ≡ skip.OutOfMemory) }
+{
+    Ok(Keys {
+        character_set: character_set(alloc, walker)?,
+        patient_name: key(alloc, walker, Tag(0x0010, 0x0010))?,
+        patient_id: key(alloc, walker, Tag(0x0010, 0x0020))?,
+        study_date: key(alloc, walker, Tag(0x0008, 0x0020))?,
+        study_time: key(alloc, walker, Tag(0x0008, 0x0030))?,
+        accession_number: key(alloc, walker, Tag(0x0008, 0x0050))?,
+        study_description: key(alloc, walker, Tag(0x0008, 0x1030))?,
+        study_instance_uid: key(alloc, walker, Tag(0x0020, 0x000d))?,
+        study_id: key(alloc, walker, Tag(0x0020, 0x0010))?,
+        modality: key(alloc, walker, Tag(0x0008, 0x0060))?,
+        series_instance_uid: key(alloc, walker, Tag(0x0020, 0x000e))?,
+        series_number: key(alloc, walker, Tag(0x0020, 0x0011))?,
+        instance_number: key(alloc, walker, Tag(0x0020, 0x0013))?,
+    })
+}
+
+/// Reads the file that the reader gives from its first byte to its end, and returns its row: the class,
+/// the instance and the transfer syntax of the file header (PS3.10 section 7.1), and the values of the
+/// data set that the records of a directory have (PS3.3 section F.5).
+///
+/// The first fault is returned as `Fault`: of the file header (50, 51, 53), else of the whole data set
+/// (10 to 21), at 64 open levels, 2^48 bytes and the rooms that `Row` has for the values. Only then
+/// the keys are looked at: `Missing` has the first that must not be empty and is, by rising tags. A
+/// failed read is `Fault(54)` wherever it comes; an interrupted one is tried again. Memory is taken
+/// for the keys alone, and where the allocator refuses it the result is `OutOfMemory`.
+///
+/// After an error the reader's position is not determined.
+pub fn rows_of<A: Allocator + Copy, R: Read>(
+    alloc: A,
+    reader: &mut R,
+    file_id: &FileId,
+) -> Result<Row<A>, Skip>
+    ensures row { IfSome (R.remaining reader.old) (λ file. IsBytes file → RowRead file file_id.now result) }
+{
+    let meta = match read_meta(reader) {
+        Ok(meta) => meta,
+        Err(fault) => return Err(Skip::Fault(fault.number())),
+    };
+    let mut walker = RowWalker::new(meta.syntax, wanted(), 1 << 48);
+    walk(&mut walker, reader)?;
+    let keys = keys_of(alloc, &walker)?;
+    Row::new(*file_id, meta.class, meta.instance, meta.syntax, keys)
+}
