@@ -3,7 +3,7 @@ _dcmbox() {
   local current=${COMP_WORDS[COMP_CWORD]} previous=${COMP_WORDS[COMP_CWORD - 1]} options
   COMPREPLY=()
   if [ "$COMP_CWORD" -eq 1 ]; then
-    mapfile -t COMPREPLY < <(compgen -W 'serve replay show check checkdir help --help --version' -- "$current")
+    mapfile -t COMPREPLY < <(compgen -W 'serve replay show check index checkdir help --help --version' -- "$current")
     return
   fi
   case $previous in
@@ -16,15 +16,16 @@ _dcmbox() {
       mapfile -t COMPREPLY < <(compgen -W '127.0.0.1 0.0.0.0 ::' -- "$current")
       return
       ;;
-    --port | --ae | --caller | --timeout | --idle | --max-pdu | --max-data | --per | --cut)
+    --port | --ae | --caller | --timeout | --idle | --max-pdu | --max-data | --per | --cut | --uid)
       return
       ;;
   esac
   case ${COMP_WORDS[1]} in
     serve) options='--port --out --bind --ae --caller --timeout --idle --max-pdu --max-data --per --no-sync --once --help' ;;
     replay) options='--out --ae --cut --per --help' ;;
+    index) options='--uid --keep --help' ;;
     show | check | checkdir) options='--help' ;;
-    help) options='serve replay show check checkdir' ;;
+    help) options='serve replay show check index checkdir' ;;
     *) return ;;
   esac
   if [[ $current == -* || ${COMP_WORDS[1]} == help ]]; then
@@ -32,6 +33,10 @@ _dcmbox() {
     return
   fi
   case ${COMP_WORDS[1]} in
+    index)
+      compopt -o filenames
+      mapfile -t COMPREPLY < <(compgen -d -- "$current")
+      ;;
     replay | show | check | checkdir)
       compopt -o filenames
       mapfile -t COMPREPLY < <(compgen -f -- "$current")

@@ -230,14 +230,20 @@ start killed || exit 1
 stop
 check 'the next start removes the draft' test ! -e killed/DRAFT
 
-# ---- the directories that DCMTK writes of twenty folders, of one and of two levels
+# ---- the directories that DCMTK and `index` write of twenty folders, of one and of two levels
 
 # The file IDs that a directory lists, as checkdir prints them.
 listed() {
   "$program" checkdir "$1" | awk '$2 == "IMAGE" { print $3 }' | sort
 }
 
+# The instances that a directory lists, as DCMTK reads it.
+instances() {
+  dcmdump -q +P 0004,1511 "$1" | sed 's/.*\[\(.*\)\].*/\1/' | sort
+}
+
 directories=0
+indexed=0
 for n in $(seq 1 20); do
   folder=dir$n
   levels=()
@@ -252,11 +258,25 @@ for n in $(seq 1 20); do
   elif [ "$(listed "$folder/DICOMDIR")" = "$wanted" ]; then
     directories=$((directories + 1))
   fi
+  mv "$folder/DICOMDIR" of_dcmtk
+  if "$program" index "$folder" --uid "2.25.7.$n" >last.txt 2>&1 &&
+    dcmftest "$folder/DICOMDIR" | grep -q '^yes: ' && dcmdump -q "$folder/DICOMDIR" >/dev/null &&
+    [ "$(listed "$folder/DICOMDIR")" = "$wanted" ] &&
+    [ "$(instances "$folder/DICOMDIR")" = "$(instances of_dcmtk)" ]; then
+    indexed=$((indexed + 1))
+  else
+    cat last.txt
+  fi
 done
 if [ "$directories" -eq 20 ]; then
   ok "$directories directories of DCMTK are good and list their files"
 else
   fail "$directories of 20 directories of DCMTK list their files"
+fi
+if [ "$indexed" -eq 20 ]; then
+  ok "$indexed directories that index writes are read by DCMTK and list the same instances"
+else
+  fail "$indexed of 20 directories that index writes are read by DCMTK and list the same instances"
 fi
 
 # ---- every front of a file and of a directory ends with good or a fault

@@ -103,6 +103,17 @@ try 'two files to check' 2 '' '.*' check ct.dcm cut.dcm
 try 'help with an example' 0 '.*Example: dcmbox show .*' '' show --help
 try 'a missing file is shown' 3 '' 'dcmbox: missing.dcm: the file can.t be opened: .*check its name.*' show missing.dcm
 try 'a folder is checked' 3 '' 'dcmbox: \.: the file can.t be read: .*' check .
+mkdir folder empty other
+cp ct.dcm folder/I0000001
+cp text.bin other/DICOMDIR
+try 'a folder is indexed' 0 'skipped I0000001 missing 0008,0020
+records 0' '' index folder --uid 2.25.1
+try 'its directory is good' 0 'records 0' '' checkdir folder/DICOMDIR
+try 'no UID' 2 '' '.*--uid.*' index folder
+try 'a UID that is none' 2 '' '.*--uid takes a UID.*' index folder --uid 1..2
+try 'a missing folder is indexed' 3 '' 'dcmbox: missing: the folder can.t be opened: .*' index missing --uid 2.25.1
+try 'no directory whose files are kept' 3 '' 'dcmbox: empty: the folder.s DICOMDIR can.t be opened: .*without --keep.*' index empty --uid 2.25.1 --keep
+try 'the directory is no DICOM file' 1 'fault 50 NotPart10 at 128' '' index other --uid 2.25.1 --keep
 try 'no port' 2 '' '.*--port.*' serve --out .
 try 'port 0' 2 '' '.*--port.*' serve --out . --port 0
 try 'a PDU that is too short' 2 '' '.*--max-pdu.*' serve --out . --port 11112 --max-pdu 1023

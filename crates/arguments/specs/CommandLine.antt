@@ -4,10 +4,11 @@ use Rattle.clap.specs.Walk.{Row, Rule, Text, first_of, one_of, all_of}
 use Rattle.clap.specs.Simple.{App, new_app, new_rule, with_rule, with_subcommand, on_top}
 use Rattle.clap.specs.declared.builder.action.ArgAction.TheVariants.{SetTrue, Append}
 use Rattle.arguments.specs.declared.values.FileArguments.{FileArguments}
+use Rattle.arguments.specs.declared.values.IndexArguments.{IndexArguments}
 use Rattle.arguments.specs.declared.values.ReplayArguments.{ReplayArguments}
 use Rattle.arguments.specs.declared.values.ServeArguments.{ServeArguments}
 use Rattle.arguments.specs.declared.words.Job.{Job}
-use Rattle.arguments.specs.declared.words.Job.TheVariants.{Serve, Replay, Show, Check, CheckDir}
+use Rattle.arguments.specs.declared.words.Job.TheVariants.{Serve, Replay, Show, Check, Index, CheckDir}
 
 -- ---- the commands
 
@@ -61,13 +62,17 @@ serve_app = with_rules limited_app (free (codes "per") ∷ flag_rule (codes "no-
 abbrev pub file_app : Text → App
 file_app name = with_rule (new_app name) (positional (codes "FILE"))
 
+abbrev pub index_app : App
+index_app = with_rules (new_app (codes "index"))
+    (positional (codes "DIR") ∷ needed (codes "uid") ∷ flag_rule (codes "keep") ∷ [])
+
 abbrev pub with_subcommands : App → List App → App
 with_subcommands app [] = app
 with_subcommands app (sub ∷ subs) = with_subcommands (with_subcommand app sub.top) subs
 
 abbrev pub the_command : App
 the_command = with_subcommands (on_top (λ s. record s { has_version = true; subcommand_required = true }) (new_app (codes "dcmbox")))
-    (serve_app ∷ replay_app ∷ file_app (codes "show") ∷ file_app (codes "check") ∷ file_app (codes "checkdir") ∷ [])
+    (serve_app ∷ replay_app ∷ file_app (codes "show") ∷ file_app (codes "check") ∷ index_app ∷ file_app (codes "checkdir") ∷ [])
 
 -- ---- the arguments
 
@@ -91,6 +96,11 @@ pub record IsReplay (a : ReplayArguments) (rows : List Row) : Type 0 where
   pub cut : first_of (codes "cut") rows ≡ Some a.cut.now
   pub per : first_of (codes "per") rows ≡ option_map (λ w. w.now) a.per
 
+pub record IsIndex (a : IndexArguments) (rows : List Row) : Type 0 where
+  pub dir : first_of (codes "DIR") rows ≡ Some a.dir.now
+  pub uid : first_of (codes "uid") rows ≡ Some a.uid.now
+  pub keep : IsFlag rows (codes "keep") a.keep
+
 pub record IsServe (a : ServeArguments) (rows : List Row) : Type 0 where
   pub port : first_of (codes "port") rows ≡ Some a.port.now
   pub out : first_of (codes "out") rows ≡ Some a.out.now
@@ -112,4 +122,5 @@ Names (Serve a) (Some (name, rows)) = (name ≡ codes "serve") × IsServe a rows
 Names (Replay a) (Some (name, rows)) = (name ≡ codes "replay") × IsReplay a rows
 Names (Show a) (Some (name, rows)) = (name ≡ codes "show") × IsFile a rows
 Names (Check a) (Some (name, rows)) = (name ≡ codes "check") × IsFile a rows
+Names (Index a) (Some (name, rows)) = (name ≡ codes "index") × IsIndex a rows
 Names (CheckDir a) (Some (name, rows)) = (name ≡ codes "checkdir") × IsFile a rows

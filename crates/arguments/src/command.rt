@@ -3,7 +3,7 @@ ghost use Rattle.std.specs.Prelude.{◌≡◌, IfOk, false, Some, [], ◌∷◌,
 ghost use Rattle.clap.specs.declared.builder.command.Command.TheViews.{out-Command as fields_of};
 ghost use Rattle.clap.specs.Walk.{rule_of};
 ghost use Rattle.clap.specs.Simple.{app_of, new_app};
-ghost use Rattle.arguments.specs.CommandLine.{the_command, replay_app, listening_app, limited_app, serve_app, file_app, positional, needed, optional, free, repeated, flag_rule};
+ghost use Rattle.arguments.specs.CommandLine.{the_command, replay_app, listening_app, limited_app, serve_app, file_app, index_app, positional, needed, optional, free, repeated, flag_rule};
 
 use clap::{Arg, ArgAction, Command};
 use std::alloc::{AllocError, Global};
@@ -262,6 +262,26 @@ fn check_command<'a>(alloc: Global) -> Result<Command<'a>, AllocError>
     )
 }
 
+fn index_command<'a>(alloc: Global) -> Result<Command<'a>, AllocError>
+    ensures app { IfOk result (λ c. app_of c ≡ index_app) }
+    ensures local { IfOk result (λ c. (fields_of c).has_globals ≡ false) }
+{
+    let dir = positional_argument(alloc, "DIR", "The folder of received files");
+    let uid = needed_option(alloc, "uid", "UID", "The SOP instance UID of the directory");
+    let keep = flag(
+        alloc,
+        "keep",
+        "Takes the files that the folder's DICOMDIR names, not those that are there",
+    );
+    let command = new_command(
+        alloc,
+        "index",
+        "Writes the DICOMDIR of a folder of received files",
+        "Example: dcmbox index received --uid 2.25.1",
+    );
+    command.arg(dir)?.arg(uid)?.arg(keep)
+}
+
 fn checkdir_command<'a>(alloc: Global) -> Result<Command<'a>, AllocError>
     ensures app { IfOk result (λ c. app_of c ≡ file_app (codes "checkdir")) }
     ensures local { IfOk result (λ c. (fields_of c).has_globals ≡ false) }
@@ -283,6 +303,7 @@ pub fn command<'a>(alloc: Global) -> Result<Command<'a>, AllocError>
     let replay = replay_command(alloc)?;
     let show = show_command(alloc)?;
     let check = check_command(alloc)?;
+    let index = index_command(alloc)?;
     let checkdir = checkdir_command(alloc)?;
     let command = Command::new(alloc, "dcmbox")
         .version("0.1.0")
@@ -294,5 +315,6 @@ pub fn command<'a>(alloc: Global) -> Result<Command<'a>, AllocError>
         .subcommand(replay)?
         .subcommand(show)?
         .subcommand(check)?
+        .subcommand(index)?
         .subcommand(checkdir)
 }

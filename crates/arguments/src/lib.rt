@@ -5,5 +5,5 @@ mod command;
 mod values;
 mod words;
 
-pub use values::{FileArguments, MOST_VALUES, ReplayArguments, ServeArguments};
+pub use values::{FileArguments, IndexArguments, MOST_VALUES, ReplayArguments, ServeArguments};
 pub use words::{Job, WordsError, read_words};

@@ -2,7 +2,7 @@
 ghost use Rattle.std.specs.Prelude.{◌≡◌, IfSome, true, map};
 ghost use Rattle.clap.specs.Matches.{found_of};
 ghost use Rattle.clap.specs.Walk.{rows_of};
-ghost use Rattle.arguments.specs.CommandLine.{IsFile, IsReplay, IsServe, IsFlag, values_of};
+ghost use Rattle.arguments.specs.CommandLine.{IsFile, IsReplay, IsIndex, IsServe, IsFlag, values_of};
 
 use arrayvec::ArrayVec;
 use clap::ArgMatches;
@@ -24,6 +24,14 @@ pub struct ReplayArguments<'a> {
     pub ae: &'a str,
     pub cut: &'a str,
     pub per: Option<&'a str>,
+}
+
+/// The arguments of `index`.
+#[derive(Debug, Drop)]
+pub struct IndexArguments<'a> {
+    pub dir: &'a str,
+    pub uid: &'a str,
+    pub keep: bool,
 }
 
 /// The arguments of `serve`.
@@ -62,6 +70,17 @@ pub fn replay_arguments<'a>(matches: &ArgMatches<'a>) -> Option<ReplayArguments<
         ae: matches.get_str("ae")?,
         cut: matches.get_str("cut")?,
         per: matches.get_str("per"),
+    })
+}
+
+/// Returns the arguments of `index`, where each has its value.
+pub fn index_arguments<'a>(matches: &ArgMatches<'a>) -> Option<IndexArguments<'a>>
+    ensures { IfSome result (λ a. IsIndex a (rows_of (found_of matches.now))) }
+{
+    Some(IndexArguments {
+        dir: matches.get_str("DIR")?,
+        uid: matches.get_str("uid")?,
+        keep: matches.get_flag("keep"),
     })
 }
 

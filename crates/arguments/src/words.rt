@@ -7,8 +7,8 @@ ghost use Rattle.arguments.specs.CommandLine.{the_command, Names};
 
 use crate::command::command;
 use crate::values::{
-    FileArguments, MOST_VALUES, ReplayArguments, ServeArguments, file_arguments, replay_arguments,
-    serve_arguments,
+    FileArguments, IndexArguments, MOST_VALUES, ReplayArguments, ServeArguments, file_arguments,
+    index_arguments, replay_arguments, serve_arguments,
 };
 use clap::error::ErrorKind;
 use clap::{ArgMatches, Error};
@@ -26,6 +26,8 @@ pub enum Job<'a> {
     Show(FileArguments<'a>),
     /// Check a file and its values.
     Check(FileArguments<'a>),
+    /// Write the directory of a folder.
+    Index(IndexArguments<'a>),
     /// Check a directory and list its records.
     CheckDir(FileArguments<'a>),
 }
@@ -80,6 +82,9 @@ fn job_of<'a>(name: &str, matches: &ArgMatches<'a>) -> Option<Job<'a>>
     }
     if name == "check" {
         return Some(Job::Check(file_arguments(matches)?));
+    }
+    if name == "index" {
+        return Some(Job::Index(index_arguments(matches)?));
     }
     if name == "checkdir" {
         return Some(Job::CheckDir(file_arguments(matches)?));

@@ -18,6 +18,10 @@ pub enum ProgramError {
     Read(io::Error),
     #[error("the folder can't be opened: {0}; create it, or end the other program that receives into it")]
     Folder(io::Error),
+    #[error("the folder's DICOMDIR can't be opened: {0}; run index without --keep")]
+    NoDirectory(io::Error),
+    #[error("the directory can't be written: {0}; check that the disk has room, and that you may write into the folder")]
+    Directory(io::Error),
     #[error("the output can't be written: {0}; check that its disk has room")]
     Write(io::Error),
     #[error("can't be listened on: {0}; choose another port or address, or end what uses it")]

@@ -37,36 +37,10 @@ pub fn write_fault<O: Write>(fault: Fault, start: u64, out: &mut O) -> io::Resul
     writeln!(out, "fault {number} {name} at {place} tag {tag}")
 }
 
-/// Returns the name of what is wrong with a directory.
-fn dir_name_of(fault: DirFault) -> &'static str {
-    match fault.number {
-        50 => "NotPart10",
-        51 => "BadMeta",
-        53 => "OtherSyntax",
-        DirFault::BAD_OFFSET => "BadOffset",
-        DirFault::CYCLE => "Cycle",
-        DirFault::TWICE_REACHED => "TwiceReached",
-        DirFault::UNREACHED => "Unreached",
-        DirFault::WRONG_LEVEL => "WrongLevel",
-        DirFault::BAD_FILE_ID => "BadFileId",
-        DirFault::TOO_LARGE => "TooLarge",
-        DirFault::OUT_OF_MEMORY => "OutOfMemory",
-        DirFault::BAD_RECORD => "BadRecord",
-        number => {
-            let fault = Fault {
-                number,
-                place: fault.place,
-                tag: fault.tag,
-            };
-            fault.name()
-        }
-    }
-}
-
 /// Writes the line of a fault of a directory; its places count from the file's first byte.
 pub fn write_dir_fault<O: Write>(fault: DirFault, out: &mut O) -> io::Result<()> {
     let DirFault { number, place, tag } = fault;
-    let name = dir_name_of(fault);
+    let name = fault.name();
     write!(out, "fault {number} {name} at {place}")?;
     if 10 <= number && number <= 21 {
         let tag = TagText(tag);

@@ -8,8 +8,10 @@ mod error;
 mod faults;
 mod folder;
 mod hexadecimal;
+mod index;
 mod inspect;
 mod limits;
+mod names;
 mod outcome;
 mod replay;
 mod serve;
@@ -25,7 +27,7 @@ use crate::error::ProgramError;
 use crate::folder::open_folder;
 use crate::inspect::{Inspection, inspect};
 use crate::outcome::Outcome;
-use crate::settings::{replay_settings, serve_settings};
+use crate::settings::{index_settings, replay_settings, serve_settings};
 use arguments::{Job, WordsError, read_words};
 use log::sink::Console;
 use log::{Level, Logged};
@@ -59,6 +61,10 @@ fn perform(rt: &HostRuntime, job: &Job) -> Result<Outcome, ProgramError> {
         }
         Job::Show(arguments) => inspect(rt, arguments.file, Inspection::Show),
         Job::Check(arguments) => inspect(rt, arguments.file, Inspection::Check),
+        Job::Index(arguments) => {
+            let settings = index_settings(rt.alloc(), arguments)?;
+            index::index(rt, &settings)
+        }
         Job::CheckDir(arguments) => inspect(rt, arguments.file, Inspection::Directory),
     }
 }
@@ -72,6 +78,7 @@ fn subject<'a>(job: &Job<'a>, error: &ProgramError) -> &'a str {
         (Job::Replay(arguments), _) => arguments.file,
         (Job::Show(arguments), _) => arguments.file,
         (Job::Check(arguments), _) => arguments.file,
+        (Job::Index(arguments), _) => arguments.dir,
         (Job::CheckDir(arguments), _) => arguments.file,
         _ => "",
     }

@@ -3,9 +3,9 @@ ghost use Rattle.std.specs.Prelude.{◌<◌, ◌≤◌, IfOk};
 
 use crate::limits::MOST_DATA;
 use crate::timer::Timeouts;
-use arguments::{ReplayArguments, ServeArguments, WordsError};
+use arguments::{IndexArguments, ReplayArguments, ServeArguments, WordsError};
 use arrayvec::ArrayVec;
-use element::AeTitle;
+use element::{AeTitle, Uid};
 use negotiate::Config;
 use std::alloc::Global;
 use std::time::Duration;
@@ -50,6 +50,16 @@ pub struct Serve<'a> {
     /// Whether a store is answered only once its file is on the disk.
     pub sync: bool,
     pub once: bool,
+}
+
+/// What `index` does.
+#[derive(Drop)]
+pub struct Index<'a> {
+    pub dir: &'a str,
+    /// The instance of the directory.
+    pub uid: Uid,
+    /// Whether the files are those that the present directory keeps.
+    pub keep: bool,
 }
 
 /// Reads a number from `least` to `most`, as Rust's number reader does.
@@ -144,4 +154,25 @@ fn layout_of(alloc: Global, per: Option<&str>) -> Result<Layout, WordsError> {
 /// Reads a time of 1 second to a day.
 fn seconds(alloc: Global, option: &str, text: &str) -> Result<Duration, WordsError> {
     Ok(Duration::from_secs(number(alloc, option, text, 1, 86400)?))
+}
+
+/// Returns what `index` does with these arguments.
+pub fn index_settings<'a>(
+    alloc: Global,
+    arguments: &IndexArguments<'a>,
+) -> Result<Index<'a>, WordsError> {
+    match Uid::read(arguments.uid.as_bytes()) {
+        Some(uid) => Ok(Index {
+            dir: arguments.dir,
+            uid,
+            keep: arguments.keep,
+        }),
+        None => {
+            let uid = arguments.uid;
+            let refused = format!(in alloc;
+                "error: --uid takes a UID of 1 to 64 digits and dots, not '{uid}'\n"
+            )?;
+            Err(WordsError::Refused(refused))
+        }
+    }
 }

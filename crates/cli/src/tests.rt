@@ -1,6 +1,7 @@
 //! What no contract says of the program.
 mod devices;
 mod echo;
+mod index_tests;
 mod inspect_tests;
 mod replay_tests;
 mod serve_tests;

@@ -12,5 +12,6 @@ returns c =
     let replay = c.in_ok-subcommand-2.ensures.shape c.in_ok-replay.ensures.local ∙ ap₂ with_subcommand serve (ap top c.in_ok-replay.ensures.app) in
     let show = c.in_ok-subcommand-3.ensures.shape c.in_ok-show.ensures.local ∙ ap₂ with_subcommand replay (ap top c.in_ok-show.ensures.app) in
     let check = c.in_ok-subcommand-4.ensures.shape c.in_ok-check.ensures.local ∙ ap₂ with_subcommand show (ap top c.in_ok-check.ensures.app) in
-    IfOk-weaker c.subcommand-5.result _ _ (λ s h.
-    h.shape c.in_ok-checkdir.ensures.local ∙ ap₂ with_subcommand check (ap top c.in_ok-checkdir.ensures.app)) c.subcommand-5.ensures
+    let index = c.in_ok-subcommand-5.ensures.shape c.in_ok-index.ensures.local ∙ ap₂ with_subcommand check (ap top c.in_ok-index.ensures.app) in
+    IfOk-weaker c.subcommand-6.result _ _ (λ s h.
+    h.shape c.in_ok-checkdir.ensures.local ∙ ap₂ with_subcommand index (ap top c.in_ok-checkdir.ensures.app)) c.subcommand-6.ensures
