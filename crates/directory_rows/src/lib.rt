@@ -1,0 +1,11 @@
+//! Worked rows of directories, tried on the public calls of `dicomdir`.
+#![tactic(auto)]
+
+#[cfg(test)]
+mod dicomdir_build;
+#[cfg(test)]
+mod dicomdir_check;
+#[cfg(test)]
+mod dicomdir_row_of;
+#[cfg(test)]
+mod dicomdir_rows;

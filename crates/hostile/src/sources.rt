@@ -1,0 +1,111 @@
+//! Sources: one that keeps which timers it was handed, and one that gives a piece many times.
+ghost use Rattle.std.specs.Prelude.{◌≤◌, None, length};
+
+use arrayvec::ArrayVec;
+use engine::{Input, ListedInput, Source};
+
+/// A list of inputs that shows nothing of what is to come, and keeps which timer it was handed at
+/// each turn.
+#[derive(Drop)]
+pub(crate) struct Witness<'a> {
+    inputs: &'a [ListedInput<'a>],
+    pub(crate) at: usize,
+    piece: &'a [u8],
+    pub(crate) timers: ArrayVec<bool, 8>,
+    ghost within: { at ≤ length inputs.now },
+}
+
+impl<'a> Witness<'a> {
+    pub(crate) fn new(inputs: &'a [ListedInput<'a>]) -> Witness<'a> {
+        Witness {
+            inputs,
+            at: 0,
+            piece: &[],
+            timers: ArrayVec::new(),
+        }
+    }
+}
+
+impl Source for Witness<'_> {
+    ghost to_come = { λ w. None };
+
+    ghost last = { λ w. w.piece.now };
+
+    fn next(&mut self, timer: bool) -> Input {
+        let _full = self.timers.try_push(timer);
+        if self.at == self.inputs.len() {
+            return Input::Closed;
+        }
+        let listed = self.inputs[self.at];
+        self.at += 1;
+        match listed {
+            ListedInput::Piece(bytes) => {
+                self.piece = bytes;
+                Input::Piece
+            }
+            ListedInput::Closed => Input::Closed,
+            ListedInput::Expired => Input::Expired,
+            ListedInput::LocalAbort => Input::LocalAbort,
+        }
+    }
+
+    fn piece(&self) -> &[u8] {
+        self.piece
+    }
+}
+
+/// Gives some pieces, then one piece many times, and then a last one; after it the transport
+/// connection is closed.
+#[derive(Drop)]
+pub(crate) struct Repeated<'a> {
+    first: &'a [&'a [u8]],
+    again: &'a [u8],
+    times: usize,
+    last: &'a [u8],
+    at: usize,
+    piece: &'a [u8],
+}
+
+impl<'a> Repeated<'a> {
+    pub(crate) fn new(
+        first: &'a [&'a [u8]],
+        again: &'a [u8],
+        times: usize,
+        last: &'a [u8],
+    ) -> Repeated<'a> {
+        Repeated {
+            first,
+            again,
+            times,
+            last,
+            at: 0,
+            piece: &[],
+        }
+    }
+}
+
+impl Source for Repeated<'_> {
+    ghost to_come = { λ s. None };
+
+    ghost last = { λ s. s.piece.now };
+
+    fn next(&mut self, _timer: bool) -> Input {
+        let at = self.at;
+        self.at = at.saturating_add(1);
+        let count = self.first.len();
+        self.piece = if at < count {
+            self.first[at]
+        } else if at - count < self.times {
+            self.again
+        } else if at - count == self.times {
+            self.last
+        } else {
+            return Input::Closed;
+        };
+        Input::Piece
+    }
+
+    fn piece(&self) -> &[u8] {
+        self.piece
+    }
+}

@@ -1,0 +1,84 @@
+//! Wires: one of which a chosen send fails, and one that keeps the last send alone.
+ghost use Rattle.std.specs.Prelude.{None};
+
+use arrayvec::ArrayVec;
+use element::count::Count;
+use pdu::{MemoryWire, Wire, WireFailed};
+use std::alloc::Global;
+
+/// A wire over memory of which one send fails.
+#[derive(Drop)]
+pub(crate) struct FailingWire {
+    wire: MemoryWire<Global>,
+    /// Which send fails, counted from 0.
+    at: usize,
+    /// How many of its bytes are sent; all, where it has fewer.
+    front: usize,
+    sends: usize,
+    has_failed: bool,
+    failures: Count,
+}
+
+impl FailingWire {
+    pub(crate) fn new(alloc: Global, at: usize, front: usize) -> FailingWire {
+        FailingWire {
+            wire: MemoryWire::new(alloc),
+            at,
+            front,
+            sends: 0,
+            has_failed: false,
+            failures: Count::new(),
+        }
+    }
+
+    /// The bytes sent so far.
+    pub(crate) fn sent(&self) -> &[u8] {
+        self.wire.sent()
+    }
+
+    /// How many sends there were.
+    pub(crate) fn sends(&self) -> usize {
+        self.sends
+    }
+
+    /// Whether the send failed.
+    pub(crate) fn has_failed(&self) -> bool {
+        self.has_failed
+    }
+}
+
+impl Wire for FailingWire {
+    ghost line = { λ w. record { sent = None; failures = w.failures.total } };
+
+    fn send(&mut self, bytes: &[u8]) -> Result<(), WireFailed> {
+        let fails = self.sends == self.at;
+        self.sends = self.sends.saturating_add(1);
+        let front = if fails {
+            bytes.get(..self.front).unwrap_or(bytes)
+        } else {
+            bytes
+        };
+        if self.wire.send(front).is_err() || fails {
+            self.has_failed = true;
+            self.failures.add_one();
+            return Err(WireFailed);
+        }
+        Ok(())
+    }
+}
+
+/// A wire that keeps the last send alone, and takes no memory.
+#[derive(Drop)]
+pub(crate) struct LastSend {
+    pub(crate) last: ArrayVec<u8, 512>,
+}
+
+impl Wire for LastSend {
+    ghost line = { λ w. record { sent = None; failures = 0 } };
+
+    fn send(&mut self, bytes: &[u8]) -> Result<(), WireFailed> {
+        self.last.clear();
+        let _long = self.last.try_extend_from_slice(bytes);
+        Ok(())
+    }
+}

@@ -1,0 +1,330 @@
+//! The worked rows of `negotiate`, by its public calls alone: requests and their answers, byte by
+//! byte.
+use crate::counting_wire::CountingWire;
+use arrayvec::ArrayVec;
+use dictionary::Class;
+use element::{AeTitle, Syntax};
+use negotiate::{
+    Answer, Config, Context, ContextRow, answer_size, compact, context, context_of, judge,
+    write_answer,
+};
+use pdu::{MemoryWire, PduFault, read_request};
+use std::alloc::Global;
+use std::test::Fail;
+
+const OURS: &[u8] = b"DCMBOX          ";
+
+const OTHERS: &[u8] = b"OTHER           ";
+
+const APPLICATION: &[u8] = b"1.2.840.10008.3.1.1.1";
+
+const VERIFICATION: &[u8] = b"1.2.840.10008.1.1";
+
+const CT: &[u8] = b"1.2.840.10008.5.1.4.1.1.2";
+
+const MAMMOGRAPHY: &[u8] = b"1.2.840.10008.5.1.4.1.1.1.2";
+
+const IMPLICIT: &[u8] = b"1.2.840.10008.1.2";
+
+const EXPLICIT: &[u8] = b"1.2.840.10008.1.2.1";
+
+const BIG_ENDIAN: &[u8] = b"1.2.840.10008.1.2.2";
+
+const JPEG: &[u8] = b"1.2.840.10008.1.2.4.50";
+
+/// DCMBOX, that none but this one may call.
+fn config(calling: &str) -> Result<Config, Fail> {
+    let ae = AeTitle::of_text("DCMBOX").ok_or("title")?;
+    let mut callers = ArrayVec::new();
+    callers.push(AeTitle::of_text(calling).ok_or("title")?);
+    Ok(Config::new(
+        ae,
+        callers,
+        Config::DEFAULT_MAX_PDU,
+        Config::DEFAULT_MAX_DATA,
+    ))
+}
+
+fn push_item(body: &mut Vec<u8>, kind: u8, content: &[u8]) -> Result<(), Fail> {
+    let size = u8::try_from(content.len()).ok().ok_or("long")?;
+    body.extend_from_slice(&[kind, 0, 0, size])?;
+    body.extend_from_slice(content)?;
+    Ok(())
+}
+
+/// The fixed part of a request to this title, and its application context.
+fn begun(alloc: Global, version: u8, called: &[u8], application: &[u8]) -> Result<Vec<u8>, Fail> {
+    let mut body = Vec::new(alloc);
+    body.extend_from_slice(&[0, version, 0, 0])?;
+    body.extend_from_slice(called)?;
+    body.extend_from_slice(b"SCANNER1        ")?;
+    body.extend_from_slice(&[0; 32])?;
+    push_item(&mut body, 0x10, application)?;
+    Ok(body)
+}
+
+fn push_context(
+    alloc: Global,
+    body: &mut Vec<u8>,
+    id: u8,
+    class: &[u8],
+    syntaxes: &[&[u8]],
+) -> Result<(), Fail> {
+    let mut content = Vec::new(alloc);
+    content.extend_from_slice(&[id, 0, 0, 0])?;
+    push_item(&mut content, 0x30, class)?;
+    for syntax in syntaxes {
+        push_item(&mut content, 0x40, syntax)?;
+    }
+    push_item(body, 0x20, content.as_slice())
+}
+
+fn push_user(body: &mut Vec<u8>, maximum: [u8; 4]) -> Result<(), Fail> {
+    let [a, b, c, d] = maximum;
+    push_item(
+        body,
+        0x50,
+        &[
+            0x51, 0, 0, 4, a, b, c, d, 0x52, 0, 0, 5, b'1', b'.', b'2', b'.', b'3',
+        ],
+    )
+}
+
+/// A request for Verification.
+fn echo(
+    alloc: Global,
+    version: u8,
+    called: &[u8],
+    application: &[u8],
+    maximum: [u8; 4],
+) -> Result<Vec<u8>, Fail> {
+    let mut body = begun(alloc, version, called, application)?;
+    push_context(alloc, &mut body, 1, VERIFICATION, &[IMPLICIT])?;
+    push_user(&mut body, maximum)?;
+    Ok(body)
+}
+
+/// Writes the answer to a request with this body, and checks that it is one send of `answer_size`
+/// bytes.
+fn answered(alloc: Global, config: &Config, body: &[u8]) -> Result<MemoryWire<Global>, PduFault> {
+    let request = read_request(body)?;
+    let mut counting = CountingWire::new(alloc);
+    let is_sent = write_answer(config, &request, &mut counting).is_ok();
+    let CountingWire { wire, sends } = counting;
+    if is_sent && sends == 1 && wire.sent().len() == answer_size(config, &request) {
+        Ok(wire)
+    } else {
+        Err(PduFault::Missing)
+    }
+}
+
+/// The recorded echo's A-ASSOCIATE-AC.
+fn recorded_answer(alloc: Global) -> Result<Vec<u8>, Fail> {
+    let mut answer = Vec::new(alloc);
+    answer.extend_from_slice(b"\x02\0\0\0\0\xa3\0\x01\0\0DCMBOX          SCANNER1        ")?;
+    answer.extend_from_slice(&[0; 32])?;
+    answer.extend_from_slice(b"\x10\0\0\x151.2.840.10008.3.1.1.1")?;
+    answer.extend_from_slice(b"\x21\0\0\x19\x01\0\0\0\x40\0\0\x111.2.840.10008.1.2")?;
+    answer.extend_from_slice(b"\x50\0\0\x25\x51\0\0\x04\0\0\x40\0")?;
+    answer.extend_from_slice(b"\x52\0\0\x0d2.25.20260101\x55\0\0\x08DCMBOX_1")?;
+    Ok(answer)
+}
+
+#[test]
+fn recorded_echo(rt: HostRuntime) -> Result<(), Fail> {
+    let alloc = rt.alloc();
+    let body = echo(alloc, 1, OURS, APPLICATION, [0, 0, 0x40, 0])?;
+    let wire = answered(alloc, &config("SCANNER1")?, body.as_slice())?;
+    let wanted = recorded_answer(alloc)?;
+    assert_eq!(rt; wire.sent(), wanted.as_slice());
+    Ok(())
+}
+
+#[test]
+fn contexts_of_the_recorded_echo(rt: HostRuntime) -> Result<(), Fail> {
+    let body = echo(rt.alloc(), 1, OURS, APPLICATION, [0, 0, 0x40, 0])?;
+    let request = read_request(body.as_slice())?;
+    let verification = Context {
+        class: Class::Verification,
+        syntax: Syntax::Implicit,
+    };
+    assert_eq!(rt; context(&request, 1), Some(verification));
+    assert_eq!(rt; context(&request, 3), None);
+    Ok(())
+}
+
+/// Contexts of which the third alone is accepted.
+fn refused_contexts(alloc: Global) -> Result<Vec<u8>, Fail> {
+    let mut body = begun(alloc, 1, b" DCMBOX         ", APPLICATION)?;
+    push_context(alloc, &mut body, 1, CT, &[JPEG])?;
+    push_context(alloc, &mut body, 3, CT, &[BIG_ENDIAN])?;
+    push_context(alloc, &mut body, 5, CT, &[IMPLICIT, EXPLICIT])?;
+    push_context(alloc, &mut body, 7, MAMMOGRAPHY, &[EXPLICIT])?;
+    push_user(&mut body, [0, 0, 0, 0])?;
+    Ok(body)
+}
+
+/// The items that answer these contexts: results 4, 4, 0 and 3, and the transfer syntaxes.
+fn answers_to_contexts(alloc: Global) -> Result<Vec<u8>, Fail> {
+    let mut items = Vec::new(alloc);
+    items.extend_from_slice(b"\x21\0\0\x19\x01\0\x04\0\x40\0\0\x111.2.840.10008.1.2")?;
+    items.extend_from_slice(b"\x21\0\0\x19\x03\0\x04\0\x40\0\0\x111.2.840.10008.1.2")?;
+    items.extend_from_slice(b"\x21\0\0\x1b\x05\0\0\0\x40\0\0\x131.2.840.10008.1.2.1")?;
+    items.extend_from_slice(b"\x21\0\0\x19\x07\0\x03\0\x40\0\0\x111.2.840.10008.1.2")?;
+    Ok(items)
+}
+
+#[test]
+fn syntaxes_and_classes_that_cannot_be_had(rt: HostRuntime) -> Result<(), Fail> {
+    let alloc = rt.alloc();
+    let body = refused_contexts(alloc)?;
+    let wire = answered(alloc, &config("SCANNER1")?, body.as_slice())?;
+    let wanted = answers_to_contexts(alloc)?;
+    assert_eq!(rt; wire.sent().len(), 258);
+    assert_eq!(rt; &wire.sent()[99..217], wanted.as_slice());
+    Ok(())
+}
+
+#[test]
+fn contexts_that_cannot_be_had(rt: HostRuntime) -> Result<(), Fail> {
+    let body = refused_contexts(rt.alloc())?;
+    let request = read_request(body.as_slice())?;
+    let ct = Context {
+        class: Class::Ct,
+        syntax: Syntax::Explicit,
+    };
+    assert_eq!(rt; context(&request, 3), None);
+    assert_eq!(rt; context(&request, 5), Some(ct));
+    assert_eq!(rt; context(&request, 7), None);
+    Ok(())
+}
+
+#[test]
+fn another_called_title(rt: HostRuntime) -> Result<(), Fail> {
+    let body = echo(rt.alloc(), 1, OTHERS, APPLICATION, [0, 0, 0x40, 0])?;
+    let wire = answered(rt.alloc(), &config("SCANNER1")?, body.as_slice())?;
+    assert_eq!(rt; wire.sent(), [3, 0, 0, 0, 0, 4, 0, 1, 1, 7].as_slice());
+    Ok(())
+}
+
+/// The answer to a request for Verification.
+fn judged(
+    config: &Config,
+    alloc: Global,
+    version: u8,
+    called: &[u8],
+    application: &[u8],
+    maximum: [u8; 4],
+) -> Result<Answer, Fail> {
+    let body = echo(alloc, version, called, application, maximum)?;
+    Ok(judge(config, &read_request(body.as_slice())?))
+}
+
+#[test]
+fn other_rejections(rt: HostRuntime) -> Result<(), Fail> {
+    let alloc = rt.alloc();
+    let known = config("SCANNER1")?;
+    let unknown = config("SCANNER2")?;
+    assert_eq!(rt;
+        judged(&known, alloc, 2, OTHERS, VERIFICATION, [0, 0, 0, 1])?,
+        Answer::Reject(1, 2, 2)
+    );
+    assert_eq!(rt;
+        judged(&known, alloc, 1, OTHERS, VERIFICATION, [0, 0, 0, 1])?,
+        Answer::Reject(1, 1, 2)
+    );
+    assert_eq!(rt;
+        judged(&unknown, alloc, 1, OURS, APPLICATION, [0, 0, 0, 1])?,
+        Answer::Reject(1, 1, 3)
+    );
+    assert_eq!(rt;
+        judged(&known, alloc, 1, OURS, APPLICATION, [0, 0, 0, 1])?,
+        Answer::Reject(1, 1, 1)
+    );
+    assert_eq!(rt;
+        judged(&known, alloc, 1, OURS, APPLICATION, [0, 0, 0, 7])?,
+        Answer::Reject(1, 1, 1)
+    );
+    Ok(())
+}
+
+#[test]
+fn accepted(rt: HostRuntime) -> Result<(), Fail> {
+    let alloc = rt.alloc();
+    let known = config("SCANNER1")?;
+    assert_eq!(rt;
+        judged(&known.copied(), alloc, 1, OURS, APPLICATION, [0, 0, 0, 8])?,
+        Answer::Accept
+    );
+    let anyone = Config::new(known.ae, ArrayVec::new(), 1024, 1024);
+    assert_eq!(rt;
+        judged(&anyone, alloc, 3, OURS, APPLICATION, [0, 0, 0, 0])?,
+        Answer::Accept
+    );
+    Ok(())
+}
+
+/// A request with 128 contexts.
+fn many(alloc: Global) -> Result<Vec<u8>, Fail> {
+    let mut body = begun(alloc, 1, OURS, APPLICATION)?;
+    for number in 0..128u8 {
+        push_context(alloc, &mut body, 2 * number + 1, CT, &[EXPLICIT])?;
+    }
+    push_user(&mut body, [0, 0, 0x40, 0])?;
+    Ok(body)
+}
+
+/// The answer to 128 contexts has 4108 bytes.
+#[test]
+fn many_contexts(rt: HostRuntime) -> Result<(), Fail> {
+    let alloc = rt.alloc();
+    let body = many(alloc)?;
+    let wire = answered(alloc, &config("SCANNER1")?, body.as_slice())?;
+    let sent = wire.sent();
+    assert_eq!(rt; sent.len(), 4108);
+    assert_eq!(rt; &sent[..6], [2, 0, 0, 0, 0x10, 6].as_slice());
+    assert_eq!(rt;
+        &sent[4036..4044],
+        [0x21, 0, 0, 0x1b, 255, 0, 0, 0].as_slice()
+    );
+    Ok(())
+}
+
+fn filled(body: &[u8], config: &Config) -> Result<ArrayVec<ContextRow, 128>, PduFault> {
+    let request = read_request(body)?;
+    let mut table = ArrayVec::new();
+    compact(config, &request, &mut table);
+    Ok(table)
+}
+
+#[test]
+fn table_of_one_context(rt: HostRuntime) -> Result<(), Fail> {
+    let body = refused_contexts(rt.alloc())?;
+    let table = filled(body.as_slice(), &config("SCANNER1")?)?;
+    let row = ContextRow {
+        id: 5,
+        class: Class::Ct,
+        syntax: Syntax::Explicit,
+        spare: 0,
+    };
+    assert_eq!(rt; table.as_slice(), [row].as_slice());
+    let ct = Context {
+        class: Class::Ct,
+        syntax: Syntax::Explicit,
+    };
+    assert_eq!(rt; context_of(table.as_slice(), 5), Some(ct));
+    for id in [0, 1, 3, 7, 9] {
+        assert_eq!(rt; context_of(table.as_slice(), id), None);
+    }
+    Ok(())
+}
+
+#[test]
+fn table_of_many_contexts(rt: HostRuntime) -> Result<(), Fail> {
+    let body = many(rt.alloc())?;
+    let table = filled(body.as_slice(), &config("SCANNER1")?)?;
+    assert_eq!(rt; table.len(), 128);
+    assert!(rt; context_of(table.as_slice(), 255).is_some());
+    assert!(rt; context_of(table.as_slice(), 254).is_none());
+    Ok(())
+}

@@ -1,0 +1,179 @@
+//! The worked rows of `pdu`, by its public calls alone: requests and PDUs as recorded, one refusal of
+//! each kind, and the wire over memory.
+use pdu::{
+    MemoryWire, Wire, read_pdu_head, read_pdv_head, read_request, write_abort, write_data,
+    write_reject, write_release,
+};
+use std::test::Fail;
+
+/// The body of the recorded echo's request.
+const ECHO: &[u8] = &[
+    0x00, 0x01, 0x00, 0x00, 0x44, 0x43, 0x4D, 0x42, 0x4F, 0x58, 0x20, 0x20, 0x20, 0x20, 0x20, 0x20,
+    0x20, 0x20, 0x20, 0x20, 0x53, 0x43, 0x41, 0x4E, 0x4E, 0x45, 0x52, 0x31, 0x20, 0x20, 0x20, 0x20,
+    0x20, 0x20, 0x20, 0x20, 0x00, 0x00, 0x00, 0x00, 0x00, 0x00, 0x00, 0x00, 0x00, 0x00, 0x00, 0x00,
+    0x00, 0x00, 0x00, 0x00, 0x00, 0x00, 0x00, 0x00, 0x00, 0x00, 0x00, 0x00, 0x00, 0x00, 0x00, 0x00,
+    0x00, 0x00, 0x00, 0x00, 0x10, 0x00, 0x00, 0x15, 0x31, 0x2E, 0x32, 0x2E, 0x38, 0x34, 0x30, 0x2E,
+    0x31, 0x30, 0x30, 0x30, 0x38, 0x2E, 0x33, 0x2E, 0x31, 0x2E, 0x31, 0x2E, 0x31, 0x20, 0x00, 0x00,
+    0x2E, 0x01, 0x00, 0x00, 0x00, 0x30, 0x00, 0x00, 0x11, 0x31, 0x2E, 0x32, 0x2E, 0x38, 0x34, 0x30,
+    0x2E, 0x31, 0x30, 0x30, 0x30, 0x38, 0x2E, 0x31, 0x2E, 0x31, 0x40, 0x00, 0x00, 0x11, 0x31, 0x2E,
+    0x32, 0x2E, 0x38, 0x34, 0x30, 0x2E, 0x31, 0x30, 0x30, 0x30, 0x38, 0x2E, 0x31, 0x2E, 0x32, 0x50,
+    0x00, 0x00, 0x11, 0x51, 0x00, 0x00, 0x04, 0x00, 0x00, 0x40, 0x00, 0x52, 0x00, 0x00, 0x05, 0x31,
+    0x2E, 0x32, 0x2E, 0x33,
+];
+
+/// The number of the refusal; 0 where the body is taken.
+fn refusal(body: &[u8]) -> u8 {
+    match read_request(body) {
+        Ok(_) => 0,
+        Err(fault) => fault.number(),
+    }
+}
+
+/// A body of the fixed part and these items.
+fn with_items(rt: &HostRuntime, items: &[&[u8]]) -> Result<Vec<u8>, Fail> {
+    let mut body = Vec::from_slice(rt.alloc(), &ECHO[..68])?;
+    for item in items {
+        body.extend_from_slice(item)?;
+    }
+    Ok(body)
+}
+
+/// The echo's items: application context, proposed context, user information.
+const APPLICATION: &[u8] = &[0x10, 0, 0, 3, b'1', b'.', b'2'];
+
+const CONTEXT: &[u8] = &[
+    0x20, 0, 0, 14, 3, 0, 0, 0, 0x30, 0, 0, 1, b'1', 0x40, 0, 0, 1, b'2',
+];
+
+const INFORMATION: &[u8] = &[0x50, 0, 0, 8, 0x51, 0, 0, 4, 0, 0, 0x40, 0];
+
+#[test]
+fn the_recorded_request(rt: HostRuntime) -> Result<(), Fail> {
+    let request = read_request(ECHO).ok().ok_or("refused")?;
+    assert_eq!(rt; request.version(), 1);
+    assert!(rt; request.called().0 == *b"DCMBOX          ");
+    assert!(rt; request.calling().0 == *b"SCANNER1        ");
+    request.keeps();
+    assert_eq!(rt; request.reserved().len(), 32);
+    assert!(rt; request.application_context() == b"1.2.840.10008.3.1.1.1".as_slice());
+    assert_eq!(rt; request.maximum(), 16384);
+    let mut contexts = request.contexts();
+    let proposal = contexts.next().ok_or("no context")?;
+    assert_eq!(rt; proposal.id(), 1);
+    assert!(rt; proposal.abstract_syntax() == b"1.2.840.10008.1.1".as_slice());
+    let mut syntaxes = proposal.transfer_syntaxes();
+    let syntax = syntaxes.next().ok_or("no transfer syntax")?;
+    assert!(rt; syntax == b"1.2.840.10008.1.2".as_slice());
+    assert!(rt; syntaxes.next().is_none());
+    assert!(rt; contexts.next().is_none());
+    Ok(())
+}
+
+#[test]
+fn its_neighbours_are_refused(rt: HostRuntime) -> Result<(), Fail> {
+    let mut even = Vec::from_slice(rt.alloc(), ECHO)?;
+    even[97] = 2;
+    assert_eq!(rt; refusal(&even), 33);
+    assert_eq!(rt; refusal(&ECHO[..163]), 31);
+    assert_eq!(rt; refusal(&ECHO[..143]), 35);
+    assert_eq!(rt; refusal(&ECHO[..67]), 31);
+    Ok(())
+}
+
+/// Items that are wrong in one way each.
+const OTHER: &[u8] = &[
+    0x20, 0, 0, 14, 5, 0, 0, 0, 0x30, 0, 0, 1, b'1', 0x40, 0, 0, 1, b'2',
+];
+
+const BARE: &[u8] = &[0x20, 0, 0, 3, 1, 0, 0];
+
+const TWO_NAMES: &[u8] = &[
+    0x20, 0, 0, 19, 5, 0, 0, 0, 0x30, 0, 0, 1, b'1', 0x30, 0, 0, 1, b'1', 0x40, 0, 0, 1, b'2',
+];
+
+const LONG_MAXIMUM: &[u8] = &[0x50, 0, 0, 9, 0x51, 0, 0, 5, 0, 0, 0x40, 0, 0];
+
+const CUT_MAXIMUM: &[u8] = &[0x50, 0, 0, 8, 0x51, 0, 0, 5, 0, 0, 0x40, 0];
+
+const UNKNOWN: &[u8] = &[0x21, 0, 0, 1, 0xFF];
+
+#[test]
+fn each_refusal_once(rt: HostRuntime) -> Result<(), Fail> {
+    let cases: [(&[&[u8]], u8); 9] = [
+        (&[INFORMATION, UNKNOWN, CONTEXT, APPLICATION, OTHER], 0),
+        (&[APPLICATION, BARE, INFORMATION], 31),
+        (&[APPLICATION, CONTEXT, CUT_MAXIMUM], 31),
+        (&[APPLICATION, CONTEXT, INFORMATION, &[0x60]], 31),
+        (&[APPLICATION, CONTEXT, APPLICATION, INFORMATION], 32),
+        (&[APPLICATION, TWO_NAMES, INFORMATION], 32),
+        (&[APPLICATION, CONTEXT, LONG_MAXIMUM], 32),
+        (&[APPLICATION, CONTEXT, OTHER, CONTEXT, INFORMATION], 34),
+        (&[APPLICATION, CONTEXT], 35),
+    ];
+    for (items, fault) in cases {
+        assert_eq!(rt; refusal(&with_items(&rt, items)?), fault);
+    }
+    Ok(())
+}
+
+/// The greatest body that is kept, full of the smallest items, at the top and in a context.
+#[test]
+fn hostile_bodies(rt: HostRuntime) -> Result<(), Fail> {
+    let mut flat = Vec::from_slice(rt.alloc(), &ECHO[..68])?;
+    let mut nested = Vec::from_slice(rt.alloc(), &ECHO[..68])?;
+    nested.extend_from_slice(&[0x20, 0, 0xFF, 0xAC, 1, 0, 0, 0])?;
+    for _ in 0..16364 {
+        flat.extend_from_slice(&[0x60, 0, 0, 0])?;
+    }
+    for _ in 0..16362 {
+        nested.extend_from_slice(&[0x40, 0, 0, 0])?;
+    }
+    assert_eq!(rt; flat.len(), 65524);
+    assert_eq!(rt; nested.len(), 65524);
+    assert_eq!(rt; refusal(&flat), 35);
+    assert_eq!(rt; refusal(&nested), 32);
+    Ok(())
+}
+
+#[test]
+fn heads_are_read(rt: HostRuntime) {
+    let head = read_pdu_head(&[4, 0, 0, 0, 0, 0x4A]);
+    assert_eq!(rt; head.kind, 4);
+    assert_eq!(rt; head.length, 74);
+    let head = read_pdv_head(&[0, 0, 0, 0x46, 1, 3]);
+    assert_eq!(rt; head.length, 70);
+    assert_eq!(rt; head.context, 1);
+    assert!(rt; head.command && head.last);
+}
+
+#[test]
+fn pdus_are_written(rt: HostRuntime) -> Result<(), Fail> {
+    let mut wire = MemoryWire::new(rt.alloc());
+    write_reject(1, 1, 7, &mut wire)?;
+    assert!(rt; wire.sent() == [3, 0, 0, 0, 0, 4, 0, 1, 1, 7].as_slice());
+    let mut wire = MemoryWire::new(rt.alloc());
+    write_release(&mut wire)?;
+    assert!(rt; wire.sent() == [6, 0, 0, 0, 0, 4, 0, 0, 0, 0].as_slice());
+    let mut wire = MemoryWire::new(rt.alloc());
+    write_abort(2, 6, &mut wire)?;
+    assert!(rt; wire.sent() == [7, 0, 0, 0, 0, 4, 0, 0, 2, 6].as_slice());
+    let mut wire = MemoryWire::new(rt.alloc());
+    write_data(1, true, false, &[0, 0], &mut wire)?;
+    assert!(rt; wire.sent() == [4, 0, 0, 0, 0, 8, 0, 0, 0, 4, 1, 1, 0, 0].as_slice());
+    let mut wire = MemoryWire::new(rt.alloc());
+    write_data(3, false, true, &[7; 600], &mut wire)?;
+    assert_eq!(rt; wire.sent().len(), 612);
+    assert!(rt; !wire.failed());
+    Ok(())
+}
+
+#[test]
+fn a_wire_over_memory_takes_long_sends(rt: HostRuntime) -> Result<(), Fail> {
+    let mut wire = MemoryWire::new(rt.alloc());
+    wire.send(&[1; 5000])?;
+    wire.send(&[2; 5000])?;
+    assert_eq!(rt; wire.sent().len(), 10000);
+    assert!(rt; wire.sent()[4999..5001] == [1, 2]);
+    assert!(rt; !wire.failed());
+    Ok(())
+}

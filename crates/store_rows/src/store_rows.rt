@@ -1,0 +1,170 @@
+//! The worked rows of stores, over memory and over a folder: what is answered and what is filed, in one
+//! piece, byte by byte and at each cut in two.
+
+use crate::row::Row;
+use crate::sets::{OTHER_INSTANCE, STORES, STORES_OF_TWO_LEVELS};
+use acceptor::State;
+use dimse::status;
+use fixtures::bytes::{front, joined};
+use fixtures::echo::{RELEASE, RELEASED};
+use fixtures::stores::{
+    CT_SET, EXPLICIT, IMPLICIT, INSTANCE, OTHER, data, file, reply, request, store, whole_store,
+};
+use std::alloc::{AllocError, Global};
+use std::test::Fail;
+
+#[test]
+fn stores_over_memory(rt: HostRuntime) -> Result<(), Fail> {
+    for (at, store) in STORES.iter().enumerate() {
+        let row = Row::of(rt.alloc(), store)?;
+        assert!(rt; row.comes::<64>(rt.alloc()), "store {at}");
+    }
+    for (at, store) in STORES_OF_TWO_LEVELS.iter().enumerate() {
+        let row = Row::of(rt.alloc(), store)?;
+        assert!(rt; row.comes::<2>(rt.alloc()), "store {at} of two levels");
+    }
+    Ok(())
+}
+
+#[test]
+fn stores_over_a_folder(rt: HostRuntime) -> Result<(), Fail> {
+    let dir = "stores_over_a_folder";
+    for (at, store) in STORES.iter().enumerate() {
+        let row = Row::of(rt.alloc(), store)?;
+        assert!(rt; row.comes_in_folder::<64>(&rt, dir)?, "store {at}");
+    }
+    for (at, store) in STORES_OF_TWO_LEVELS.iter().enumerate() {
+        let row = Row::of(rt.alloc(), store)?;
+        assert!(rt;
+            row.comes_in_folder::<2>(&rt, dir)?,
+            "store {at} of two levels"
+        );
+    }
+    Ok(())
+}
+
+/// Whether a row comes over memory and over a folder of this name.
+fn comes(rt: &HostRuntime, dir: &str, row: &Row) -> Result<bool, Fail> {
+    Ok(row.comes::<64>(rt.alloc()) && row.comes_in_folder::<64>(rt, dir)?)
+}
+
+#[test]
+fn sizes_of_a_ct_store(rt: HostRuntime) -> Result<(), Fail> {
+    let alloc = rt.alloc();
+    assert_eq!(rt; request(alloc, EXPLICIT)?.len(), 180);
+    assert_eq!(rt; store(alloc, INSTANCE)?.len(), 100);
+    assert_eq!(rt; whole_store(alloc, INSTANCE, &CT_SET)?.len(), 172);
+    assert_eq!(rt; reply(alloc, INSTANCE, status::SUCCESS, None)?.len(), 112);
+    let file = file(alloc, EXPLICIT, INSTANCE, &CT_SET)?;
+    assert_eq!(rt; file.len(), 336);
+    assert_eq!(rt; front(file.as_slice(), 144).last(), Some(&0));
+    assert_eq!(rt; file.as_slice().get(140), Some(&144));
+    Ok(())
+}
+
+/// Nested items in Implicit, which open 64 levels, and a sequence that would open one more.
+fn too_deep(alloc: Global) -> Result<Vec<u8>, AllocError> {
+    let mut set = Vec::new(alloc);
+    for _ in 0..33u8 {
+        set.extend_from_slice(&[0x40, 0, 0x30, 0xa7, 0xff, 0xff, 0xff, 0xff])?;
+        set.extend_from_slice(&[0xfe, 0xff, 0, 0xe0, 0xff, 0xff, 0xff, 0xff])?;
+    }
+    set.truncate(520);
+    Ok(set)
+}
+
+#[test]
+fn a_data_set_with_too_many_levels(rt: HostRuntime) -> Result<(), Fail> {
+    let set = too_deep(rt.alloc())?;
+    let set = set.as_slice();
+    let store = (IMPLICIT, INSTANCE, set, status::OUT_OF_RESOURCES, None);
+    let row = Row::of(rt.alloc(), &store)?;
+    assert!(rt; comes(&rt, "too_many_levels", &row)?);
+    Ok(())
+}
+
+/// The row of an association that accepted Explicit, in which these messages come, and these replies
+/// go out.
+fn row_of(
+    alloc: Global,
+    messages: &[&[u8]],
+    replies: &[&[u8]],
+    files: Vec<Vec<u8>>,
+    state: State,
+) -> Result<Row, AllocError> {
+    let mut stream = request(alloc, EXPLICIT)?;
+    for message in messages {
+        stream.extend_from_slice(message)?;
+    }
+    Ok(Row {
+        stream,
+        answer: joined(alloc, replies)?,
+        files,
+        state,
+    })
+}
+
+/// The file of the CT store alone.
+fn one_file(alloc: Global) -> Result<Vec<Vec<u8>>, AllocError> {
+    let mut files = Vec::new(alloc);
+    files.push(file(alloc, EXPLICIT, INSTANCE, &CT_SET)?)?;
+    Ok(files)
+}
+
+/// The state of the association is left where the data are cut after a whole fragment.
+#[test]
+fn a_release_in_its_data(rt: HostRuntime) -> Result<(), Fail> {
+    let alloc = rt.alloc();
+    let command = data(alloc, 3, store(alloc, INSTANCE)?.as_slice())?;
+    let part = data(alloc, 0, front(&CT_SET, 20))?;
+    let messages = [command.as_slice(), part.as_slice(), RELEASE];
+    let row = row_of(alloc, &messages, &[RELEASED], Vec::new(alloc), State::Sta13)?;
+    assert!(rt; comes(&rt, "a_release_in_its_data", &row)?);
+    Ok(())
+}
+
+/// A PDU with the last fragment of a store, and then with the head of a PDV that passes its end.
+#[test]
+fn a_store_before_a_bad_pdv(rt: HostRuntime) -> Result<(), Fail> {
+    let alloc = rt.alloc();
+    let command = data(alloc, 3, store(alloc, INSTANCE)?.as_slice())?;
+    let heads = [4, 0, 0, 0, 0, 60, 0, 0, 0, 50, 1, 2];
+    let messages = [command.as_slice(), &heads, &CT_SET, &[0, 0, 0, 1, 1, 3]];
+    let reply = reply(alloc, INSTANCE, status::SUCCESS, None)?;
+    let replies: [&[u8]; 2] = [reply.as_slice(), &[7, 0, 0, 0, 0, 4, 0, 0, 2, 6]];
+    let row = row_of(alloc, &messages, &replies, one_file(alloc)?, State::Sta13)?;
+    assert!(rt; comes(&rt, "a_store_before_a_bad_pdv", &row)?);
+    Ok(())
+}
+
+/// Where the last digit of the class stands in a command or a reply: after the heads of its PDU and PDV,
+/// its first element and the header of its second.
+const NAMED: usize = 12 + 12 + 8 + 24;
+
+/// The command names MR images.
+#[test]
+fn another_class_than_the_context(rt: HostRuntime) -> Result<(), Fail> {
+    let alloc = rt.alloc();
+    let mut store = whole_store(alloc, INSTANCE, &CT_SET)?;
+    *store.as_mut_slice().get_mut(NAMED).ok_or("a command")? = b'4';
+    let mut reply = reply(alloc, INSTANCE, status::CLASS_NOT_SUPPORTED, None)?;
+    *reply.as_mut_slice().get_mut(NAMED).ok_or("a reply")? = b'4';
+    let (messages, replies) = ([store.as_slice()], [reply.as_slice()]);
+    let row = row_of(alloc, &messages, &replies, Vec::new(alloc), State::Sta6)?;
+    assert!(rt; comes(&rt, "another_class", &row)?);
+    Ok(())
+}
+
+#[test]
+fn two_stores_on_one_association(rt: HostRuntime) -> Result<(), Fail> {
+    let alloc = rt.alloc();
+    let bad = whole_store(alloc, OTHER, &CT_SET)?;
+    let good = whole_store(alloc, INSTANCE, &CT_SET)?;
+    let first = reply(alloc, OTHER, status::DATA_SET_MISMATCH, OTHER_INSTANCE)?;
+    let second = reply(alloc, INSTANCE, status::SUCCESS, None)?;
+    let messages = [bad.as_slice(), good.as_slice()];
+    let replies = [first.as_slice(), second.as_slice()];
+    let row = row_of(alloc, &messages, &replies, one_file(alloc)?, State::Sta6)?;
+    assert!(rt; comes(&rt, "two_stores", &row)?);
+    Ok(())
+}
