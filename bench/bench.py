@@ -13,6 +13,7 @@ import resource
 import shutil
 import socket
 import statistics
+import struct
 import subprocess
 import sys
 import tempfile
@@ -167,6 +168,51 @@ def filled(program, work, rounds, log):
     print(f"\n500 stores into a folder of 20,000 files take {ratio(results[20_000][0], results[0][0])} times the wall time of 500 into an empty one.")
 
 
+def element(group, number, vr, value):
+    """An element in Explicit VR Little Endian, padded to an even length."""
+    value += (b"\0" if vr == b"UI" else b" ") * (len(value) % 2)
+    return struct.pack("<HH2sH", group, number, vr, len(value)) + value
+
+
+def own_patient(n):
+    """The file of an image that has a patient, a study and a series of its own."""
+    number = str(n).encode()
+    meta = b"".join((
+        element(2, 2, b"UI", b"1.2.840.10008.5.1.4.1.1.2"),
+        element(2, 3, b"UI", b"2.25.7." + number),
+        element(2, 0x10, b"UI", b"1.2.840.10008.1.2.1"),
+    ))
+    return b"".join((
+        bytes(128), b"DICM", element(2, 0, b"UL", struct.pack("<L", len(meta))), meta,
+        element(8, 0x20, b"DA", b"20260101"), element(8, 0x30, b"TM", b"120000"), element(8, 0x60, b"CS", b"CT"),
+        element(0x10, 0x10, b"PN", b"DOE^JANE"), element(0x10, 0x20, b"LO", number),
+        element(0x20, 0x0d, b"UI", b"2.25.2." + number), element(0x20, 0x0e, b"UI", b"2.25.3." + number),
+        element(0x20, 0x10, b"SH", b"S1"), element(0x20, 0x11, b"IS", b"1"), element(0x20, 0x13, b"IS", number),
+    ))
+
+
+def indexing(program, work, rounds):
+    """Cost of a directory by the number of its images, each of another patient."""
+    print("\nGrowth of `dcmbox index`: processor seconds for each 1,000 images, each of a patient of its own\n")
+    print("| Images | Processor time |")
+    print("|---|---|")
+    for count in (1000, 2000, 4000):
+        folder = tempfile.mkdtemp(dir=work)
+        for n in range(1, count + 1):
+            with open(f"{folder}/I{n:07d}", "wb") as file:
+                file.write(own_patient(n))
+        runs = []
+        for _ in range(rounds):
+            before = resource.getrusage(resource.RUSAGE_CHILDREN)
+            words = [program, "index", folder, "--uid", "2.25.1"]
+            done = subprocess.run(words, stdout=subprocess.PIPE, check=True)
+            after = resource.getrusage(resource.RUSAGE_CHILDREN)
+            assert done.stdout == f"records {4 * count}\n".encode(), done.stdout
+            runs.append(after.ru_utime + after.ru_stime - before.ru_utime - before.ru_stime)
+        shutil.rmtree(folder)
+        print(f"| {count} | {statistics.median(runs) / (count / 1e3):.3f} s |")
+
+
 def starting(program, work, rounds, log):
     """From the start of the process to the first connection that is accepted."""
     times = []
@@ -215,6 +261,7 @@ def main():
         compare(program, work, given.rounds, log)
         growth(program, work, given.rounds, log)
         filled(program, work, given.rounds, log)
+        indexing(program, work, given.rounds)
         starting(program, work, given.rounds, log)
         walks(program, work, given.rounds)
 
