@@ -110,7 +110,7 @@ try 'a folder is indexed' 0 'skipped I0000001 missing 0008,0020
 records 0' '' index folder --uid 2.25.1
 try 'its directory is good' 0 'records 0' '' checkdir folder/DICOMDIR
 try 'no UID' 2 '' '.*--uid.*' index folder
-try 'a UID that is none' 2 '' '.*--uid takes a UID.*' index folder --uid 1..2
+try 'a UID that is none' 2 '' '.*--uid takes a UID.*' index folder --uid 2.25.x
 try 'a missing folder is indexed' 3 '' 'dcmbox: missing: the folder can.t be opened: .*' index missing --uid 2.25.1
 try 'no directory whose files are kept' 3 '' 'dcmbox: empty: the folder.s DICOMDIR can.t be opened: .*without --keep.*' index empty --uid 2.25.1 --keep
 try 'the directory is no DICOM file' 1 'fault 50 NotPart10 at 128' '' index other --uid 2.25.1 --keep
