@@ -55,7 +55,7 @@ fn put(
 ) -> Result<(), AllocError> {
     out.extend_from_slice(&tag)?;
     out.extend_from_slice(vr)?;
-    out.push(value.len().min(255) as u8)?;
+    out.push(u8::try_from(value.len()).unwrap_or(u8::MAX))?;
     out.push(0)?;
     out.extend_from_slice(value)
 }
