@@ -9,7 +9,7 @@ use Rattle.sequence.specs.Open.{IsUnfinished, IsLeft}
 use Rattle.sequence.specs.Wanted.{Values}
 use Rattle.sequence.specs.Rules.{Limits, Broken, broken_due, ◌or_else◌, broken}
 use Rattle.sequence.specs.machine.Machine.{State, spot_of, nearer, nearest, stops_at, arrive, due, due_by}
-use Rattle.sequence.specs.machine.Standing.{IsBytes, Reaches, at_root, AreNested, Holds, AllHold, AreLevels, IsDue, Stands}
+use Rattle.sequence.specs.machine.Standing.{IsBytes, Reaches, at_root, AreNested, LastsTo, AllLastTo, AreLevels, IsDue, Stands}
 use Rattle.sequence.proofs.Nesting.{level_ends}
 use Rattle.sequence.proofs.Ends.{levels_end, IsTaken}
 
@@ -91,7 +91,7 @@ pub arrive_stands : {s : Syntax} {values : Values} {f : Scope} {fs : List Scope}
 arrive_stands {s = s} {values = values} {f = f} {fs = fs} {b = b} lim p e r l = rw e (lands_stand s lim values (arrive (length b) f fs) b (arrives s lim values f fs b r (subst (AreLevels lim f fs) e l)))
 
 same_levels : {lim : Limits} {f : Scope} {fs : List Scope} {n : ℕ} (g : Scope) → f.stop ≡ g.stop → AreLevels lim f fs n → AreLevels lim g fs n
-same_levels {lim} {f} {fs} {n} g e l = record { nested = subst (λ o. IsLeft o None × AreNested (if is_some o then o else None) fs) e l.nested; hold = subst (λ o. Holds o n × AllHold fs n) e l.hold; deep = l.deep; short = l.short }
+same_levels {lim} {f} {fs} {n} g e l = record { nested = subst (λ o. IsLeft o None × AreNested (if is_some o then o else None) fs) e l.nested; hold = subst (λ o. LastsTo o n × AllLastTo fs n) e l.hold; deep = l.deep; short = l.short }
 
 pub same_taken : {lim : Limits} {f : Scope} {fs : List Scope} {p : ℕ} {h : Header} (g : Scope) → f.stop ≡ g.stop → IsTaken lim f fs p h → IsTaken lim g fs p h
-same_taken {lim} {f} {fs} {p} {h} g e t = record { levels = same_levels g e t.levels; ends = λ d. subst (λ o. Holds (nearer o (nearest fs)) (p + h.length)) e (t.ends d); far = t.far }
+same_taken {lim} {f} {fs} {p} {h} g e t = record { levels = same_levels g e t.levels; ends = λ d. subst (λ o. LastsTo (nearer o (nearest fs)) (p + h.length)) e (t.ends d); far = t.far }

@@ -13,7 +13,7 @@ use Rattle.sequence.specs.Shape.{is_undefined, undefined_length}
 use Rattle.sequence.specs.Open.{IsLeft}
 use Rattle.sequence.specs.Rules.{Limits, broken_need, broken_header, passes, counted_length}
 use Rattle.sequence.specs.machine.Machine.{spot_of, nearer, nearest, less, stop_of}
-use Rattle.sequence.specs.machine.Standing.{AreNested, Holds, AllHold, AreLevels}
+use Rattle.sequence.specs.machine.Standing.{AreNested, LastsTo, AllLastTo, AreLevels}
 use Rattle.sequence.proofs.Sound.{is_sound, if_some, and_false}
 use Rattle.sequence.proofs.Unbroken.{BreaksNone}
 
@@ -25,42 +25,42 @@ weaken : (near : Option ℕ) (fs : List Scope) → AreNested near fs → AreNest
 weaken near [] h = tt
 weaken near (f ∷ fs) h = weaken_by f.stop near fs (weaken near fs) h
 
-narrow_by : (o : Option ℕ) (n : ℕ) (fs : List Scope) → (Holds (nearest fs) n → AreNested None fs → AreNested (Some n) fs) → Holds (nearer o (nearest fs)) n → IsLeft o None × AreNested (if is_some o then o else None) fs → IsLeft o (Some n) × AreNested (if is_some o then o else Some n) fs
+narrow_by : (o : Option ℕ) (n : ℕ) (fs : List Scope) → (LastsTo (nearest fs) n → AreNested None fs → AreNested (Some n) fs) → LastsTo (nearer o (nearest fs)) n → IsLeft o None × AreNested (if is_some o then o else None) fs → IsLeft o (Some n) × AreNested (if is_some o then o else Some n) fs
 narrow_by None n fs go near h = (tt, go near h.1)
 narrow_by (Some e) n fs go near h = (near, h.1)
 
-narrow : (n : ℕ) (fs : List Scope) → Holds (nearest fs) n → AreNested None fs → AreNested (Some n) fs
+narrow : (n : ℕ) (fs : List Scope) → LastsTo (nearest fs) n → AreNested None fs → AreNested (Some n) fs
 narrow n [] near h = tt
 narrow n (f ∷ fs) near h = narrow_by f.stop n fs (narrow n fs) near h
 
-over_by : (o : Option ℕ) (e n : ℕ) (fs : List Scope) → ((m : ℕ) → n ≤ m → AreNested (Some m) fs → AllHold fs n) → n ≤ e → IsLeft o (Some e) × AreNested (if is_some o then o else Some e) fs → Holds o n × AllHold fs n
+over_by : (o : Option ℕ) (e n : ℕ) (fs : List Scope) → ((m : ℕ) → n ≤ m → AreNested (Some m) fs → AllLastTo fs n) → n ≤ e → IsLeft o (Some e) × AreNested (if is_some o then o else Some e) fs → LastsTo o n × AllLastTo fs n
 over_by None e n fs go le h = (tt, go e le h.1)
 over_by (Some d) e n fs go le h = let far : n ≤ d = omega (arith, le, h.0) in (far, go d far h.1)
 
-hold_over : (e n : ℕ) (fs : List Scope) → n ≤ e → AreNested (Some e) fs → AllHold fs n
+hold_over : (e n : ℕ) (fs : List Scope) → n ≤ e → AreNested (Some e) fs → AllLastTo fs n
 hold_over e n [] le h = tt
 hold_over e n (f ∷ fs) le h = over_by f.stop e n fs (λ m far nest. hold_over m n fs far nest) le h
 
-all_by : (o : Option ℕ) (n : ℕ) (fs : List Scope) → (Holds (nearest fs) n → AreNested None fs → AllHold fs n) → Holds (nearer o (nearest fs)) n → IsLeft o None × AreNested (if is_some o then o else None) fs → Holds o n × AllHold fs n
+all_by : (o : Option ℕ) (n : ℕ) (fs : List Scope) → (LastsTo (nearest fs) n → AreNested None fs → AllLastTo fs n) → LastsTo (nearer o (nearest fs)) n → IsLeft o None × AreNested (if is_some o then o else None) fs → LastsTo o n × AllLastTo fs n
 all_by None n fs go near h = (tt, go near h.1)
 all_by (Some e) n fs go near h = (near, hold_over e n fs near h.1)
 
 -- where the nearest end holds, all do
-pub all_hold : (n : ℕ) (fs : List Scope) → Holds (nearest fs) n → AreNested None fs → AllHold fs n
-all_hold n [] near h = tt
-all_hold n (f ∷ fs) near h = all_by f.stop n fs (all_hold n fs) near h
+pub all_last : (n : ℕ) (fs : List Scope) → LastsTo (nearest fs) n → AreNested None fs → AllLastTo fs n
+all_last n [] near h = tt
+all_last n (f ∷ fs) near h = all_by f.stop n fs (all_last n fs) near h
 
-near_by : (o : Option ℕ) (n : ℕ) (fs : List Scope) → Holds (nearest fs) n → Holds o n → Holds (nearer o (nearest fs)) n
+near_by : (o : Option ℕ) (n : ℕ) (fs : List Scope) → LastsTo (nearest fs) n → LastsTo o n → LastsTo (nearer o (nearest fs)) n
 near_by None n fs near h = near
 near_by (Some e) n fs near h = h
 
-pub nearest_holds : (n : ℕ) (fs : List Scope) → AllHold fs n → Holds (nearest fs) n
-nearest_holds n [] h = tt
-nearest_holds n (f ∷ fs) h = near_by f.stop n fs (nearest_holds n fs h.1) h.0
+pub nearest_lasts : (n : ℕ) (fs : List Scope) → AllLastTo fs n → LastsTo (nearest fs) n
+nearest_lasts n [] h = tt
+nearest_lasts n (f ∷ fs) h = near_by f.stop n fs (nearest_lasts n fs h.1) h.0
 
-holds_on : (o : Option ℕ) (p n k : ℕ) → Holds o p → passes (less o p) k ≡ false → n ≡ p + k → Holds o n
-holds_on None p n k h e same = tt
-holds_on (Some e) p n k h g same = let le = ltb-false (e - p) k g in omega (arith, h, le, same)
+lasts_on : (o : Option ℕ) (p n k : ℕ) → LastsTo o p → passes (less o p) k ≡ false → n ≡ p + k → LastsTo o n
+lasts_on None p n k h e same = tt
+lasts_on (Some e) p n k h g same = let le = ltb-false (e - p) k g in omega (arith, h, le, same)
 
 -- the innermost level ends
 pub levels_end : (lim : Limits) (f g : Scope) (gs : List Scope) (n : ℕ) → AreLevels lim f (g ∷ gs) n → AreLevels lim g gs n
@@ -69,7 +69,7 @@ levels_end lim f g gs n l = record { nested = weaken (if is_some f.stop then f.s
 -- after a header
 pub record IsTaken (lim : Limits) (f : Scope) (fs : List Scope) (p : ℕ) (h : Header) : Type 0 where
   pub levels : AreLevels lim f fs p
-  pub ends : h.length ≢ undefined_length → Holds (nearest (f ∷ fs)) (p + h.length)
+  pub ends : h.length ≢ undefined_length → LastsTo (nearest (f ∷ fs)) (p + h.length)
   pub far : p + counted_length h.length ≤ lim.bytes
 
 size_passes : {s : Syntax} {h : Header} {t : List ℕ} (lim : Limits) (spot : Spot) → SpellsHeader s h t → s ≡ spot.syntax → BreaksNone lim spot t → passes spot.near (length t) ≡ false
@@ -96,28 +96,28 @@ size_passes {s = s} {t = t} lim spot sp s-is ok = by (is_plain spot.syntax (tag_
 pub taken : (lim : Limits) (f : Scope) (fs : List Scope) (begin p : ℕ) (h : Header) (t : List ℕ) → AreLevels lim f fs begin → SpellsHeader f.syntax h t → BreaksNone lim (spot_of f fs begin) t → broken_header lim (spot_of f fs begin) (length t) h ≡ None → p ≡ begin + length t → IsTaken lim f fs p h
 taken lim f fs begin p h t l sp ok header-ok p-is =
     let sound = is_sound lim (spot_of f fs begin) (length t) h header-ok in
-    let near = nearest_holds begin (f ∷ fs) l.hold in
-    let here : Holds (nearest (f ∷ fs)) p = holds_on (nearest (f ∷ fs)) begin p (length t) near (size_passes lim (spot_of f fs begin) sp refl ok) p-is in
+    let near = nearest_lasts begin (f ∷ fs) l.hold in
+    let here : LastsTo (nearest (f ∷ fs)) p = lasts_on (nearest (f ∷ fs)) begin p (length t) near (size_passes lim (spot_of f fs begin) sp refl ok) p-is in
     let short = ltb-false lim.bytes (begin + length t + counted_length h.length) sound.short in
     record {
-      levels = record { nested = l.nested; hold = all_hold p (f ∷ fs) here l.nested; deep = l.deep; short = omega (arith, short, p-is) };
-      ends = λ d. holds_on (nearest (f ∷ fs)) begin (p + h.length) (length t + h.length) near (and_false (not (is_undefined h.length)) (passes (less (nearest (f ∷ fs)) begin) (length t + h.length)) sound.within (ap not (ne_eqb h.length undefined_length d))) (omega (arith, p-is));
+      levels = record { nested = l.nested; hold = all_last p (f ∷ fs) here l.nested; deep = l.deep; short = omega (arith, short, p-is) };
+      ends = λ d. lasts_on (nearest (f ∷ fs)) begin (p + h.length) (length t + h.length) near (and_false (not (is_undefined h.length)) (passes (less (nearest (f ∷ fs)) begin) (length t + h.length)) sound.within (ap not (ne_eqb h.length undefined_length d))) (omega (arith, p-is));
       far = omega (arith, short, p-is);
     }
 
-pub level_by : (u : Bool) (n p : ℕ) (fs : List Scope) → is_undefined n ≡ u → (n ≢ undefined_length → Holds (nearest fs) (p + n)) → AreNested None fs → IsLeft (if u then None else Some (p + n)) None × AreNested (if is_some (if u then None else Some (p + n)) then (if u then None else Some (p + n)) else None) fs
+pub level_by : (u : Bool) (n p : ℕ) (fs : List Scope) → is_undefined n ≡ u → (n ≢ undefined_length → LastsTo (nearest fs) (p + n)) → AreNested None fs → IsLeft (if u then None else Some (p + n)) None × AreNested (if is_some (if u then None else Some (p + n)) then (if u then None else Some (p + n)) else None) fs
 level_by true n p fs e ends h = (tt, h)
 level_by false n p fs e ends h = (tt, narrow (p + n) fs (ends (λ same. absurd (let k : true ≡ false = sym (eq-eqb n undefined_length same) ∙ e in cc))) h)
 
-hold_by : (u : Bool) (n p : ℕ) → Holds (if u then None else Some (p + n)) p
-hold_by true n p = tt
-hold_by false n p = omega arith
+lasts_by : (u : Bool) (n p : ℕ) → LastsTo (if u then None else Some (p + n)) p
+lasts_by true n p = tt
+lasts_by false n p = omega arith
 
 -- a level that opens after it
 pub levels_open : (lim : Limits) (f g : Scope) (fs : List Scope) (p : ℕ) (h : Header) → IsTaken lim f fs p h → g.stop ≡ stop_of p h.length → suc (length fs) ≤ lim.depth → AreLevels lim g (f ∷ fs) p
 levels_open lim f g fs p h t stop-is deep = record {
   nested = subst (λ o. IsLeft o None × AreNested (if is_some o then o else None) (f ∷ fs)) (sym stop-is) (level_by (is_undefined h.length) h.length p (f ∷ fs) refl t.ends t.levels.nested);
-  hold = (subst (λ o. Holds o p) (sym stop-is) (hold_by (is_undefined h.length) h.length p), t.levels.hold);
+  hold = (subst (λ o. LastsTo o p) (sym stop-is) (lasts_by (is_undefined h.length) h.length p), t.levels.hold);
   deep = deep;
   short = t.levels.short;
 }
@@ -127,7 +127,7 @@ pub levels_read : (lim : Limits) (f : Scope) (fs : List Scope) (p : ℕ) (h : He
 levels_read lim f fs p h t defined =
     let counted : counted_length h.length ≡ h.length = counted_is (is_undefined h.length) (ne_eqb h.length undefined_length defined) in
     let far = t.far in
-    record { nested = t.levels.nested; hold = all_hold (p + h.length) (f ∷ fs) (t.ends defined) t.levels.nested; deep = t.levels.deep; short = omega (arith, far, counted) }
+    record { nested = t.levels.nested; hold = all_last (p + h.length) (f ∷ fs) (t.ends defined) t.levels.nested; deep = t.levels.deep; short = omega (arith, far, counted) }
   where
     counted_is : (u : Bool) → u ≡ false → (if u then 0 else h.length) ≡ h.length
     counted_is true e = absurd cc

@@ -12,7 +12,8 @@ use Rattle.sequence.specs.Open.{last_of, PathEntry, Tail, in_header, IsTail, hea
 use Rattle.sequence.specs.machine.Machine.{set_scope, sequence_scope, State, arrive, stop_of, begin_level, run}
 pub use Rattle.sequence.specs.Holding.{stop_at, scope_at}
 use Rattle.element.proofs.Public.{spelled_long}
-use Rattle.sequence.proofs.Runs.{Goes, goes_then, Holds, open_from_holds, holds_less, header_run, elements_run, items_run, taken_sequence, taken_item}
+use Rattle.sequence.specs.machine.Standing.{LastsTo}
+use Rattle.sequence.proofs.Runs.{Goes, goes_then, open_from_lasts, lasts_less, header_run, elements_run, items_run, taken_sequence, taken_item}
 
 -- the levels of a path, at a place
 abbrev pub top_over : ℕ → List PathEntry → Scope → Scope
@@ -42,10 +43,10 @@ stop_is p q n came q-is within = by (is_undefined n) refl
         sums : came ≤ n → q + (n - came) ≡ p + n
         sums le = omega arith
 
-holds_stop : (p n q : ℕ) → (n ≢ undefined_length → q ≤ p + n) → Holds (stop_of p n) q
-holds_stop p n q within = by (is_undefined n) refl
+lasts_to_stop : (p n q : ℕ) → (n ≢ undefined_length → q ≤ p + n) → LastsTo (stop_of p n) q
+lasts_to_stop p n q within = by (is_undefined n) refl
   where
-    by : (u : Bool) → is_undefined n ≡ u → Holds (stop_of p n) q
+    by : (u : Bool) → is_undefined n ≡ u → LastsTo (stop_of p n) q
     by true e = rw e tt
     by false e = rw e (within (λ same. absurd (let k : true ≡ false = sym (eq-eqb n undefined_length same) ∙ e in cc)))
 
@@ -55,7 +56,7 @@ opened p g f fs n some = let z : nat_eq n 0 ≡ false = ne_eqb n 0 some in rw z 
 
 -- a path, over the scope that it stands in
 abbrev pub Leads : Limits → Syntax → List ℕ → List PathEntry → ℕ → Type 0
-Leads lim s b path last = (stop : Option ℕ) (fs : List Scope) (p q : ℕ) → Holds stop q → q ≡ p + length b
+Leads lim s b path last = (stop : Option ℕ) (fs : List Scope) (p q : ℕ) → LastsTo stop q → q ≡ p + length b
     → Goes (run lim (arrive p (set_scope s stop 0) fs) b) (arrive q (top_over q path (set_scope s stop last)) (below_over q path (set_scope s stop last) fs))
 
 elements_lead : (lim : Limits) (s : Syntax) (es : Elements) (b : List ℕ) → DataSet s 0 es b → Leads lim s (b ++ []) [] (last_of 0 es)
@@ -64,29 +65,29 @@ elements_lead lim s es b set stop fs p q room q-is =
 
 -- whole elements and the header of a sequence
 sequence_leads : (lim : Limits) (s : Syntax) (es : Elements) (b : List ℕ) (h : Header) (hb : List ℕ) (inner : Syntax) (rest : List ℕ) → DataSet s 0 es b → IsElement s (last_of 0 es) h hb → shape s h ≡ Sequence inner → h.length ≢ 0
-    → (stop : Option ℕ) (fs : List Scope) (p q : ℕ) (want : State) → Holds stop q → q ≡ p + length (b ++ (hb ++ rest))
+    → (stop : Option ℕ) (fs : List Scope) (p q : ℕ) (want : State) → LastsTo stop q → q ≡ p + length (b ++ (hb ++ rest))
     → Goes (run lim (arrive (p + length b + length hb) (sequence_scope inner (stop_of (p + length b + length hb) h.length)) (set_scope s stop (number h.tag) ∷ fs)) rest) want
     → Goes (run lim (arrive p (set_scope s stop 0) fs) (b ++ (hb ++ rest))) want
 sequence_leads lim s es b h hb inner rest set el sh some stop fs p q want room q-is goes =
     let size : q ≡ p + length b + length hb + length rest = omega (arith, q-is, length-append b (hb ++ rest), length-append hb rest) in
     let long = spelled_long el.spelled in
-    let first = elements_run lim set stop fs p (p + length b) (holds_less stop (p + length b) q room (omega arith)) refl in
+    let first = elements_run lim set stop fs p (p + length b) (lasts_less stop (p + length b) q room (omega arith)) refl in
     let second : Goes (run lim (arrive (p + length b) (set_scope s stop (last_of 0 es)) fs) hb) (arrive (p + length b + length hb) (sequence_scope inner (stop_of (p + length b + length hb) h.length)) (set_scope s stop (number h.tag) ∷ fs)) =
     subst (λ z. Goes (run lim (arrive (p + length b) (set_scope s stop (last_of 0 es)) fs) hb) z)
     (taken_sequence (p + length b + length hb) s stop (last_of 0 es) fs h inner el.no_marker sh ∙ opened (p + length b + length hb) _ _ fs h.length some)
-    (header_run lim (set_scope s stop (last_of 0 es)) fs (p + length b) (p + length b + length hb) h hb el.spelled (open_from_holds stop (p + length b) (length hb) (holds_less stop (p + length b + length hb) q room (omega arith)) (omega arith)) refl) in
+    (header_run lim (set_scope s stop (last_of 0 es)) fs (p + length b) (p + length b + length hb) h hb el.spelled (open_from_lasts stop (p + length b) (length hb) (lasts_less stop (p + length b + length hb) q room (omega arith)) (omega arith)) refl) in
     goes_then lim _ _ _ b (hb ++ rest) first (goes_then lim _ _ _ hb rest second goes)
 
 item_step : (lim : Limits) (s : Syntax) (k : Header) (kb b2 : List ℕ) (path : List PathEntry) (last : ℕ) → IsItem s k kb → IsOpenLevel k.length (length b2) → Leads lim s b2 path last
-    → (stop : Option ℕ) (fs : List Scope) (p q : ℕ) → Holds stop q → q ≡ p + length (kb ++ b2)
+    → (stop : Option ℕ) (fs : List Scope) (p q : ℕ) → LastsTo stop q → q ≡ p + length (kb ++ b2)
     → Goes (run lim (arrive p (sequence_scope s stop) fs) (kb ++ b2)) (arrive q (top_over q path (scope_at q (item_entry s k.length (length b2) last))) (below_over q path (scope_at q (item_entry s k.length (length b2) last)) (sequence_scope s stop ∷ fs)))
 item_step lim s k kb b2 path last it level goes stop fs p q room q-is =
     let size : q ≡ p + length kb + length b2 = omega (arith, q-is, length-append kb b2) in
     let long = spelled_long it.spelled in
     let first : Goes (run lim (arrive p (sequence_scope s stop) fs) kb) (arrive (p + length kb) (set_scope s (stop_of (p + length kb) k.length) 0) (sequence_scope s stop ∷ fs)) =
     subst (λ z. Goes (run lim (arrive p (sequence_scope s stop) fs) kb) z) (taken_item (p + length kb) (sequence_scope s stop) fs k it.tagged ∙ opened (p + length kb) _ _ fs k.length level.some)
-    (header_run lim (sequence_scope s stop) fs p (p + length kb) k kb it.spelled (open_from_holds stop p (length kb) (holds_less stop (p + length kb) q room (omega arith)) (omega arith)) refl) in
-    let holds : Holds (stop_of (p + length kb) k.length) q = holds_stop (p + length kb) k.length q (λ d. omega (arith, level.within d)) in
+    (header_run lim (sequence_scope s stop) fs p (p + length kb) k kb it.spelled (open_from_lasts stop p (length kb) (lasts_less stop (p + length kb) q room (omega arith)) (omega arith)) refl) in
+    let holds : LastsTo (stop_of (p + length kb) k.length) q = lasts_to_stop (p + length kb) k.length q (λ d. omega (arith, level.within d)) in
     let second = goes (stop_of (p + length kb) k.length) (sequence_scope s stop ∷ fs) (p + length kb) q holds size in
     let same : set_scope s (stop_of (p + length kb) k.length) last ≡ scope_at q (item_entry s k.length (length b2) last) = ap (λ z. set_scope s z last) (sym (stop_is (p + length kb) q k.length (length b2) size level.within)) in
     goes_then lim _ _ _ kb b2 first (subst (λ z. Goes (run lim (arrive (p + length kb) (set_scope s (stop_of (p + length kb) k.length) 0) (sequence_scope s stop ∷ fs)) b2) (arrive q (top_over q path z) (below_over q path z (sequence_scope s stop ∷ fs)))) same second)
@@ -96,7 +97,7 @@ in_sequence_leads : (lim : Limits) (s : Syntax) (es : Elements) (b : List ℕ) (
 in_sequence_leads lim s es b h hb inner is ib set el sh level items stop fs p q room q-is =
     let p2 : ℕ = p + length b + length hb in
     let size : q ≡ p + length b + length hb + length ib = omega (arith, q-is, length-append b (hb ++ ib), length-append hb ib) in
-    let holds : Holds (stop_of (p + length b + length hb) h.length) q = holds_stop (p + length b + length hb) h.length q (λ d. omega (arith, level.within d)) in
+    let holds : LastsTo (stop_of (p + length b + length hb) h.length) q = lasts_to_stop (p + length b + length hb) h.length q (λ d. omega (arith, level.within d)) in
     let inside = items_run lim items (stop_of (p + length b + length hb) h.length) (set_scope s stop (number h.tag) ∷ fs) (p + length b + length hb) q holds size in
     let same : sequence_scope inner (stop_of (p + length b + length hb) h.length) ≡ scope_at q (sequence_entry inner h.length (length ib)) = ap (sequence_scope inner) (sym (stop_is (p + length b + length hb) q h.length (length ib) size level.within)) in
     sequence_leads lim s es b h hb inner ib set el sh level.some stop fs p q _ room q-is
@@ -108,8 +109,8 @@ in_item_leads : (lim : Limits) (s : Syntax) (es : Elements) (b : List ℕ) (h : 
 in_item_leads lim s es b h hb inner is ib k kb b2 path last set el sh level items it level2 goes stop fs p q room q-is =
     let size : q ≡ p + length b + length hb + length (ib ++ (kb ++ b2)) = omega (arith, q-is, length-append b (hb ++ (ib ++ (kb ++ b2))), length-append hb (ib ++ (kb ++ b2))) in
     let size2 : q ≡ (p + length b + length hb + length ib) + length (kb ++ b2) = omega (arith, size, length-append ib (kb ++ b2)) in
-    let holds : Holds (stop_of (p + length b + length hb) h.length) q = holds_stop (p + length b + length hb) h.length q (λ d. omega (arith, level.within d)) in
-    let inside = items_run lim items (stop_of (p + length b + length hb) h.length) (set_scope s stop (number h.tag) ∷ fs) (p + length b + length hb) (p + length b + length hb + length ib) (holds_less (stop_of (p + length b + length hb) h.length) (p + length b + length hb + length ib) q holds (omega arith)) refl in
+    let holds : LastsTo (stop_of (p + length b + length hb) h.length) q = lasts_to_stop (p + length b + length hb) h.length q (λ d. omega (arith, level.within d)) in
+    let inside = items_run lim items (stop_of (p + length b + length hb) h.length) (set_scope s stop (number h.tag) ∷ fs) (p + length b + length hb) (p + length b + length hb + length ib) (lasts_less (stop_of (p + length b + length hb) h.length) (p + length b + length hb + length ib) q holds (omega arith)) refl in
     let deeper = item_step lim inner k kb b2 path last it level2 goes (stop_of (p + length b + length hb) h.length) (set_scope s stop (number h.tag) ∷ fs) (p + length b + length hb + length ib) q holds size2 in
     let same : sequence_scope inner (stop_of (p + length b + length hb) h.length) ≡ scope_at q (sequence_entry inner h.length (length (ib ++ (kb ++ b2)))) = ap (sequence_scope inner) (sym (stop_is (p + length b + length hb) q h.length (length (ib ++ (kb ++ b2))) size level.within)) in
     let item : PathEntry = item_entry inner k.length (length b2) last in

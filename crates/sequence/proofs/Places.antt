@@ -9,8 +9,8 @@ use Rattle.sequence.specs.Open.{PathEntry, Tail, in_header, IsLeft, Open}
 use Rattle.sequence.specs.Wanted.{Values}
 use Rattle.sequence.specs.Rules.{Limits, counted_length}
 use Rattle.sequence.specs.machine.Machine.{set_scope, nearest, stops_at, stop_of}
-use Rattle.sequence.specs.machine.Standing.{IsLength, Reaches, AreNested, Holds, AllHold}
-use Rattle.sequence.proofs.Ends.{nearest_holds, level_by}
+use Rattle.sequence.specs.machine.Standing.{IsLength, Reaches, AreNested, LastsTo, AllLastTo}
+use Rattle.sequence.proofs.Ends.{nearest_lasts, level_by}
 use Rattle.sequence.proofs.Refusals.{depth_over}
 use Rattle.sequence.proofs.Plug.{IsFront}
 use Rattle.sequence.proofs.Arriving.{no_header}
@@ -24,7 +24,7 @@ pub record ClosedIs (n : ℕ) (b c : List ℕ) : Type 0 where
   pub even : IsLength n
   pub counts : counted_length n ≤ length c
   pub defined : n ≢ undefined_length → n ≤ length c
-  pub room : (p : ℕ) → Holds (stop_of p n) (p + length b)
+  pub room : (p : ℕ) → LastsTo (stop_of p n) (p + length b)
 
 pub closed_is : {t : Tag} {n : ℕ} {b c : List ℕ} → Ended t n b c → ClosedIs n b c
 closed_is (counted {b = b} n defined even size) =
@@ -63,7 +63,7 @@ pub record IsBefore (s : Syntax) (lim : Limits) (whole : List ℕ) (f : Scope) (
   pub after : List ℕ
   pub reaches : Reaches s lim.wanted values f fs before
   pub nested : AreNested None (f ∷ fs)
-  pub hold : AllHold (f ∷ fs) q
+  pub hold : AllLastTo (f ∷ fs) q
   pub text : whole ≡ before ++ (b ++ after)
   pub place : p ≡ length before
   pub size : q ≡ p + length b
@@ -84,26 +84,26 @@ pub ends_within : {s : Syntax} {lim : Limits} {whole : List ℕ} {f : Scope} {fs
 ends_within {before = before} {b = b} here = omega (arith, here.place, here.size, ap length here.text, length-append before (b ++ here.after), length-append b here.after)
 
 -- inside a level that opens after the header hb
-pub inside : {s : Syntax} {lim : Limits} {whole : List ℕ} {f : Scope} {fs : List Scope} {before : List ℕ} {p q n : ℕ} (hb ib cb b : List ℕ) (g f2 : Scope) (here : IsBefore s lim whole f fs before (hb ++ (cb ++ b)) p q) → ClosedIs n ib cb → AreNested None (f2 ∷ fs) → AllHold (f2 ∷ fs) q
+pub inside : {s : Syntax} {lim : Limits} {whole : List ℕ} {f : Scope} {fs : List Scope} {before : List ℕ} {p q n : ℕ} (hb ib cb b : List ℕ) (g f2 : Scope) (here : IsBefore s lim whole f fs before (hb ++ (cb ++ b)) p q) → ClosedIs n ib cb → AreNested None (f2 ∷ fs) → AllLastTo (f2 ∷ fs) q
     → g.stop ≡ stop_of (p + length hb) n → Reaches s lim.wanted here.values g (f2 ∷ fs) (before ++ hb) → IsBefore s lim whole g (f2 ∷ fs) (before ++ hb) ib (p + length hb) (p + length hb + length ib)
 inside {fs = fs} {before = before} {p = p} {q = q} {n = n} hb ib cb b g f2 here closed nested hold stop-is reaches =
     let size : q ≡ p + length hb + length cb + length b = omega (arith, here.size, length-append hb (cb ++ b), length-append cb b) in
     let part : length cb ≡ length ib + length closed.end = ap length closed.text ∙ length-append ib closed.end in
-    let ends : n ≢ undefined_length → Holds (nearest (f2 ∷ fs)) (p + length hb + n) =
-    λ d. let le = closed.defined d in nearest_holds (p + length hb + n) (f2 ∷ fs) (less_all (f2 ∷ fs) (p + length hb + n) q hold (omega (arith, le, size))) in
+    let ends : n ≢ undefined_length → LastsTo (nearest (f2 ∷ fs)) (p + length hb + n) =
+    λ d. let le = closed.defined d in nearest_lasts (p + length hb + n) (f2 ∷ fs) (less_all (f2 ∷ fs) (p + length hb + n) q hold (omega (arith, le, size))) in
     record {
       values = here.values;
       after = closed.end ++ (b ++ here.after);
       reaches = reaches;
       nested = subst (λ o. IsLeft o None × AreNested (if is_some o then o else None) (f2 ∷ fs)) (sym stop-is) (level_by (is_undefined n) n (p + length hb) (f2 ∷ fs) refl ends nested);
-      hold = (subst (λ o. Holds o (p + length hb + length ib)) (sym stop-is) (closed.room (p + length hb)), less_all (f2 ∷ fs) (p + length hb + length ib) q hold (omega (arith, size, part)));
+      hold = (subst (λ o. LastsTo o (p + length hb + length ib)) (sym stop-is) (closed.room (p + length hb)), less_all (f2 ∷ fs) (p + length hb + length ib) q hold (omega (arith, size, part)));
       text = here.text ∙ ap (λ z. before ++ ((hb ++ (z ++ b)) ++ here.after)) closed.text ∙ simp append_assoc;
       place = omega (arith, here.place, length-append before hb);
       size = refl;
     }
 
 -- what stands after the bytes a
-pub behind : {s : Syntax} {lim : Limits} {whole : List ℕ} {f g : Scope} {fs : List Scope} {before : List ℕ} {p q : ℕ} (a b : List ℕ) (values : Values) (here : IsBefore s lim whole f fs before (a ++ b) p q) → AreNested None (g ∷ fs) → AllHold (g ∷ fs) q → Reaches s lim.wanted values g fs (before ++ a)
+pub behind : {s : Syntax} {lim : Limits} {whole : List ℕ} {f g : Scope} {fs : List Scope} {before : List ℕ} {p q : ℕ} (a b : List ℕ) (values : Values) (here : IsBefore s lim whole f fs before (a ++ b) p q) → AreNested None (g ∷ fs) → AllLastTo (g ∷ fs) q → Reaches s lim.wanted values g fs (before ++ a)
     → IsBefore s lim whole g fs (before ++ a) b (p + length a) q
 behind {before = before} a b values here nested hold reaches = record {
   values = values;

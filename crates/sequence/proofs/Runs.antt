@@ -15,6 +15,7 @@ use Rattle.sequence.specs.Open.{last_of}
 use Rattle.sequence.specs.Rules.{Broken, broken_due, broken}
 use Rattle.element.specs.Header.{is_whole}
 use Rattle.sequence.specs.machine.Machine.{set_scope, sequence_scope, Mode, Heading, Reading, Stopped, State, at, spot_of, due_by, due, arrive, stop_of, begin_value, begin_level, leave, stops_at, take_header, headed_by, headed, read, next, run}
+use Rattle.sequence.specs.machine.Standing.{LastsTo}
 use Rattle.element.proofs.Public.{whole_spelled, read_spelled, front_spelled, spelled_long}
 
 abbrev pub HasStopped : Mode → Type 0
@@ -43,11 +44,6 @@ abbrev pub IsOpen : Option ℕ → ℕ → Type 0
 IsOpen None p = Unit {0}
 IsOpen (Some e) p = p < e
 
--- the scope has n bytes left, or more
-abbrev pub Holds : Option ℕ → ℕ → Type 0
-Holds None p = Unit {0}
-Holds (Some e) p = p ≤ e
-
 pub arrive_open : (p : ℕ) (f : Scope) (fs : List Scope) → IsOpen f.stop p → arrive p f fs ≡ due f fs p
 unfolding arrive
 arrive_open p f [] h = refl
@@ -61,13 +57,13 @@ pub arrive_stopped : (p : ℕ) (f g : Scope) (gs : List Scope) → f.stop ≡ So
 unfolding arrive
 arrive_stopped p f g gs e = rw (ap (λ o. stops_at o p) e ∙ eq-eqb p p refl) refl
 
-pub open_from_holds : (o : Option ℕ) (p n : ℕ) → Holds o (p + n) → 0 < n → IsOpen o p
-open_from_holds None p n h lt = tt
-open_from_holds (Some e) p n h lt = omega arith
+pub open_from_lasts : (o : Option ℕ) (p n : ℕ) → LastsTo o (p + n) → 0 < n → IsOpen o p
+open_from_lasts None p n h lt = tt
+open_from_lasts (Some e) p n h lt = omega arith
 
-pub holds_less : (o : Option ℕ) (p q : ℕ) → Holds o q → p ≤ q → Holds o p
-holds_less None p q h le = tt
-holds_less (Some e) p q h le = omega arith
+pub lasts_less : (o : Option ℕ) (p q : ℕ) → LastsTo o q → p ≤ q → LastsTo o p
+lasts_less None p q h le = tt
+lasts_less (Some e) p q h le = omega arith
 
 pub goes_from : (lim : Limits) (st mid want : State) (b : List ℕ) → Goes st mid → Goes (run lim mid b) want → Goes (run lim st b) want
 goes_from lim st mid want b (inl e) (inl g) = inl (ap (λ (z : State). run lim z b) e ∙ g)
@@ -160,7 +156,7 @@ mark_run lim t mark f g gs p q room q-is =
 
 -- the machine goes over b between these two scopes, wherever they stop
 abbrev pub RunsIn : Limits → (Option ℕ → Scope) → (Option ℕ → Scope) → Scope → List Scope → ℕ → List ℕ → Type 0
-RunsIn lim g0 g1 f fs p b = (stop : Option ℕ) → Holds stop (p + length b) → Goes (run lim (arrive p (g0 stop) (f ∷ fs)) b) (arrive (p + length b) (g1 stop) (f ∷ fs))
+RunsIn lim g0 g1 f fs p b = (stop : Option ℕ) → LastsTo stop (p + length b) → Goes (run lim (arrive p (g0 stop) (f ∷ fs)) b) (arrive (p + length b) (g1 stop) (f ∷ fs))
 
 counted_on : (lim : Limits) (g0 g1 : Option ℕ → Scope) (f : Scope) (fs : List Scope) (p q n : ℕ) (b : List ℕ) (zero : Bool) → nat_eq n 0 ≡ zero → ((stop : Option ℕ) → (g1 stop).stop ≡ stop) → RunsIn lim g0 g1 f fs p b
     → n ≢ undefined_length → length b ≡ n → q ≡ p + n → Goes (run lim (begin_level p (g0 (stop_of p n)) f fs n) b) (arrive q f fs)
@@ -170,7 +166,7 @@ counted_on lim g0 g1 f fs p q n (x ∷ b) true z stops in-it defined size q-is =
 counted_on lim g0 g1 f fs p q n b false z stops in-it defined size q-is =
     let is-defined : is_undefined n ≡ false = ne_eqb n undefined_length defined in
     let q-same : p + n ≡ q = omega arith in
-    let room : Holds (Some (p + n)) (p + length b) = omega arith in
+    let room : LastsTo (Some (p + n)) (p + length b) = omega arith in
     let ends : p + length b ≡ p + n = omega arith in
     rw (z, is-defined) (subst (λ z. Goes (run lim (arrive p (g0 (Some (p + n))) (f ∷ fs)) b) z) (ap (λ m. arrive m (g1 (Some (p + n))) (f ∷ fs)) ends ∙ arrive_stopped (p + n) (g1 (Some (p + n))) f fs (stops (Some (p + n))) ∙ ap (λ m. arrive m f fs) q-same)
     (in-it (Some (p + n)) room))
@@ -187,10 +183,10 @@ level_run {t} lim g0 g1 f fs p q (delimited {b = b}) mark stops in-it q-is =
 -- the header and the value of an element, after which the rest of the data set stands
 
 abbrev pub RunsSet : Limits → Syntax → ℕ → ℕ → List ℕ → Type 0
-RunsSet lim s last end b = (stop : Option ℕ) (fs : List Scope) (p q : ℕ) → Holds stop q → q ≡ p + length b → Goes (run lim (arrive p (set_scope s stop last) fs) b) (arrive q (set_scope s stop end) fs)
+RunsSet lim s last end b = (stop : Option ℕ) (fs : List Scope) (p q : ℕ) → LastsTo stop q → q ≡ p + length b → Goes (run lim (arrive p (set_scope s stop last) fs) b) (arrive q (set_scope s stop end) fs)
 
 abbrev pub RunsItems : Limits → Syntax → List ℕ → Type 0
-RunsItems lim s b = (stop : Option ℕ) (fs : List Scope) (p q : ℕ) → Holds stop q → q ≡ p + length b → Goes (run lim (arrive p (sequence_scope s stop) fs) b) (arrive q (sequence_scope s stop) fs)
+RunsItems lim s b = (stop : Option ℕ) (fs : List Scope) (p q : ℕ) → LastsTo stop q → q ≡ p + length b → Goes (run lim (arrive p (sequence_scope s stop) fs) b) (arrive q (sequence_scope s stop) fs)
 
 pub taken_value : (p : ℕ) (s : Syntax) (stop : Option ℕ) (last : ℕ) (fs : List Scope) (h : Header) → is_marker h.tag ≡ false → shape s h ≡ Value
     → take_header p (set_scope s stop last) fs h ≡ begin_value p (set_scope s stop (number h.tag)) fs h.tag h.length
@@ -212,7 +208,7 @@ value_step lim s last h hb v b end el sh val rest stop fs p q room q-is =
     let long = spelled_long el.spelled in
     let first : Goes (run lim (arrive p (set_scope s stop last) fs) hb) (begin_value (p + length hb) (set_scope s stop (number h.tag)) fs h.tag h.length) =
     subst (λ z. Goes (run lim (arrive p (set_scope s stop last) fs) hb) z) (taken_value (p + length hb) s stop last fs h el.no_marker sh)
-    (header_run lim (set_scope s stop last) fs p (p + length hb) h hb el.spelled (open_from_holds stop p (length hb) (holds_less stop (p + length hb) q room (omega arith)) (omega arith)) refl) in
+    (header_run lim (set_scope s stop last) fs p (p + length hb) h hb el.spelled (open_from_lasts stop p (length hb) (lasts_less stop (p + length hb) q room (omega arith)) (omega arith)) refl) in
     let second : Goes (run lim (begin_value (p + length hb) (set_scope s stop (number h.tag)) fs h.tag h.length) v) (arrive (p + length hb + length v) (set_scope s stop (number h.tag)) fs) =
     inl (value_on lim (set_scope s stop (number h.tag)) fs h.tag (p + length hb) (p + length hb + length v) h.length v (nat_eq h.length 0) refl val.size (omega (arith, val.size))) in
     goes_then lim _ _ _ hb (v ++ b) first (goes_then lim _ _ _ v b second (rest stop fs (p + length hb + length v) q room size))
@@ -225,7 +221,7 @@ sequence_step lim s last h hb ib cb b inner end el sh closed items rest stop fs 
     let f : Scope = set_scope s stop (number h.tag) in
     let first : Goes (run lim (arrive p (set_scope s stop last) fs) hb) (begin_level (p + length hb) (sequence_scope inner (stop_of (p + length hb) h.length)) f fs h.length) =
     subst (λ z. Goes (run lim (arrive p (set_scope s stop last) fs) hb) z) (taken_sequence (p + length hb) s stop last fs h inner el.no_marker sh)
-    (header_run lim (set_scope s stop last) fs p (p + length hb) h hb el.spelled (open_from_holds stop p (length hb) (holds_less stop (p + length hb) q room (omega arith)) (omega arith)) refl) in
+    (header_run lim (set_scope s stop last) fs p (p + length hb) h hb el.spelled (open_from_lasts stop p (length hb) (lasts_less stop (p + length hb) q room (omega arith)) (omega arith)) refl) in
     let second : Goes (run lim (begin_level (p + length hb) (sequence_scope inner (stop_of (p + length hb) h.length)) f fs h.length) cb) (arrive (p + length hb + length cb) f fs) =
     level_run lim (sequence_scope inner) (sequence_scope inner) f fs (p + length hb) (p + length hb + length cb) closed sequence_end_mark (λ o. refl) (λ o holds. items o (f ∷ fs) (p + length hb) (p + length hb + length ib) holds refl) refl in
     goes_then lim _ _ _ hb (cb ++ b) first (goes_then lim _ _ _ cb b second (rest stop fs (p + length hb + length cb) q room size))
@@ -238,7 +234,7 @@ item_step lim s h hb eb cb b end it closed elements rest stop fs p q room q-is =
     let f : Scope = sequence_scope s stop in
     let first : Goes (run lim (arrive p f fs) hb) (begin_level (p + length hb) (set_scope s (stop_of (p + length hb) h.length) 0) f fs h.length) =
     subst (λ z. Goes (run lim (arrive p f fs) hb) z) (taken_item (p + length hb) f fs h it.tagged)
-    (header_run lim f fs p (p + length hb) h hb it.spelled (open_from_holds stop p (length hb) (holds_less stop (p + length hb) q room (omega arith)) (omega arith)) refl) in
+    (header_run lim f fs p (p + length hb) h hb it.spelled (open_from_lasts stop p (length hb) (lasts_less stop (p + length hb) q room (omega arith)) (omega arith)) refl) in
     let second : Goes (run lim (begin_level (p + length hb) (set_scope s (stop_of (p + length hb) h.length) 0) f fs h.length) cb) (arrive (p + length hb + length cb) f fs) =
     level_run lim (λ o. set_scope s o 0) (λ o. set_scope s o end) f fs (p + length hb) (p + length hb + length cb) closed item_end_mark (λ o. refl) (λ o holds. elements o (f ∷ fs) (p + length hb) (p + length hb + length eb) holds refl) refl in
     goes_then lim _ _ _ hb (cb ++ b) first (goes_then lim _ _ _ cb b second (rest stop fs (p + length hb + length cb) q room size))

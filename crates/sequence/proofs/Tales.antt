@@ -17,15 +17,15 @@ use Rattle.sequence.specs.machine.Machine.{set_scope, spot_of, arrive, due, Stat
 use Rattle.sequence.specs.machine.Reported.{told_in}
 use Rattle.sequence.specs.machine.Keeping.{keep, keeps, with_value, wanted_at}
 use Rattle.sequence.specs.Fields.{but_last}
-use Rattle.sequence.specs.machine.Standing.{IsBytes, at_root, AllHold, IsHeading, IsReading, IsStopped, StandsIn, Stands}
+use Rattle.sequence.specs.machine.Standing.{IsBytes, at_root, AllLastTo, IsHeading, IsReading, IsStopped, StandsIn, Stands}
 use Rattle.sequence.proofs.Runs.{HasStopped, run_append, run_stopped}
 use Rattle.sequence.proofs.Arriving.{arrive_stands}
 use Rattle.sequence.proofs.Steps.{next_stands}
 use Rattle.sequence.proofs.Fronts.{top_over}
 use Rattle.sequence.proofs.Plug.{IsFront}
 use Rattle.sequence.proofs.Refusals.{StopsAt, breaks_stop, spot_over, depth_over}
-use Rattle.sequence.proofs.Telling.{open_of, front_heading, front_reading, inside, holds_after, less_all, past_stays, open_due, due_open}
-use Rattle.sequence.proofs.Ends.{all_hold, nearest_holds}
+use Rattle.sequence.proofs.Telling.{open_of, front_heading, front_reading, inside, lasts_after, less_all, past_stays, open_due, due_open}
+use Rattle.sequence.proofs.Ends.{all_last, nearest_lasts}
 
 -- the machine stands at every text
 
@@ -151,14 +151,14 @@ pub record FrontAt (s : Syntax) (ws : List Want) (values : Values) (b : List ℕ
 
 pub heading_at : (s : Syntax) (lim : Limits) (values : Values) (f : Scope) (fs : List Scope) (begin : ℕ) (t b : List ℕ) → IsHeading s lim values f fs begin t b → FrontAt s lim.wanted values b (in_header t) f fs
 heading_at s lim values f fs begin t b h =
-    let near = nearest_holds (length h.before) (f ∷ fs) h.due.levels.hold in
+    let near = nearest_lasts (length h.before) (f ∷ fs) h.due.levels.hold in
     let spot : spot_of f fs begin ≡ spot_of f fs (length h.before) = ap (λ z. spot_of f fs z) h.place in
     let unbroken = subst (λ z. broken lim z t ≡ None) spot (h.unbroken t [] (sym (append-nil t))) in
     let far = inside lim (spot_of f fs (length h.before)) t h.tail unbroken in
-    let past = all_hold (length h.before + (length t + 1)) (f ∷ fs) (holds_after _ (length h.before) (length t + 1) near far) h.due.levels.nested in
+    let past = all_last (length h.before + (length t + 1)) (f ∷ fs) (lasts_after _ (length h.before) (length t + 1) near far) h.due.levels.nested in
     let n : length b ≡ length (h.before ++ t) = ap length h.text in
     let one : length b + 1 ≡ length h.before + (length t + 1) = omega (arith, n, length-append h.before t) in
-    let past2 = subst (AllHold (f ∷ fs)) (sym one) past in
+    let past2 = subst (AllLastTo (f ∷ fs)) (sym one) past in
     let x = subst (λ z. IsFront s lim.wanted values (length b) z (in_header t) f fs) (sym h.text) (front_heading s lim.wanted values f fs h.before t (length b) h.due.reaches h.tail (less_all (f ∷ fs) (length b) (length b + 1) past2 (omega arith)) n) in
     record { front = x; is_open = open_of x h.due.levels.nested (past_stays f.stop (length b) past2.0) }
 

@@ -18,7 +18,7 @@ use Rattle.sequence.specs.Open.{PathEntry, Tail, in_header, in_value, header_tai
 use Rattle.sequence.specs.Wanted.{Values}
 use Rattle.sequence.specs.Rules.{Limits, broken, passes, broken_need}
 use Rattle.sequence.specs.machine.Machine.{set_scope, stops_at, less}
-use Rattle.sequence.specs.machine.Standing.{Reaches, at_root, into_sequence, into_item, AreNested, Holds, AllHold, IsDue}
+use Rattle.sequence.specs.machine.Standing.{Reaches, at_root, into_sequence, into_item, AreNested, LastsTo, AllLastTo, IsDue}
 use Rattle.sequence.proofs.Sound.{if_some}
 use Rattle.sequence.proofs.Unbroken.{BreaksNone, unbroken_is}
 use Rattle.sequence.proofs.Fronts.{stop_at, top_over, below_over}
@@ -66,7 +66,7 @@ open_of {s = s} {n = n} {f = f} {fs = fs} x nested stays = record {
 
 -- where a header is due or begun
 
-front_sequence : {s : Syntax} {ws : List Want} {values : Values} {f : Scope} {fs : List Scope} {before : List ℕ} (t : List ℕ) (n : ℕ) → Reaches s ws values f fs before → f.in_sequence ≡ true → IsUnfinished f.syntax t → AllHold (f ∷ fs) n → n ≡ length (before ++ t) → IsFront s ws values n (before ++ t) (in_header t) f fs
+front_sequence : {s : Syntax} {ws : List Want} {values : Values} {f : Scope} {fs : List Scope} {before : List ℕ} (t : List ℕ) (n : ℕ) → Reaches s ws values f fs before → f.in_sequence ≡ true → IsUnfinished f.syntax t → AllLastTo (f ∷ fs) n → n ≡ length (before ++ t) → IsFront s ws values n (before ++ t) (in_header t) f fs
 front_sequence t n (at_root d e k fits) here tail hold n-is = absurd cc
 front_sequence t n (into_item r it len some set stop-is last-is b-is) here tail hold n-is = absurd cc
 front_sequence {s = s} {ws = ws} {values = values} t n (into_sequence {s1 = s1} {stop = stop} {out = out} {last = last} {fs = fs} {q = q} {h = h} {hb = hb} {inner = inner} {is = is} {ib = ib} {b = b} {k = k} r el sh len some items stop-is k-is b-is) here tail hold n-is =
@@ -88,11 +88,11 @@ front_sequence {s = s} {ws = ws} {values = values} t n (into_sequence {s1 = s1} 
       fits = front.fits;
     }
 
-front_elements : {s : Syntax} {ws : List Want} {values : Values} {s1 : Syntax} {stop : Option ℕ} {last : ℕ} {fs : List Scope} {before : List ℕ} (t : List ℕ) (n : ℕ) → Reaches s ws values (set_scope s1 stop last) fs before → IsUnfinished s1 t → Holds stop n → AllHold fs n → n ≡ length (before ++ t) → IsFront s ws values n (before ++ t) (in_header t) (set_scope s1 stop last) fs
+front_elements : {s : Syntax} {ws : List Want} {values : Values} {s1 : Syntax} {stop : Option ℕ} {last : ℕ} {fs : List Scope} {before : List ℕ} (t : List ℕ) (n : ℕ) → Reaches s ws values (set_scope s1 stop last) fs before → IsUnfinished s1 t → LastsTo stop n → AllLastTo fs n → n ≡ length (before ++ t) → IsFront s ws values n (before ++ t) (in_header t) (set_scope s1 stop last) fs
 front_elements {s1 = s1} {last = last} t n r tail hold all n-is =
     plug t (in_header t) [] last n r n-is hold all (λ es eb set e. subst (λ z. Nested s1 (eb ++ t) es [] z (in_header t)) (sym e) (at_elements set (header_tail tail)))
 
-pub front_heading : (s : Syntax) (ws : List Want) (values : Values) (f : Scope) (fs : List Scope) (before t : List ℕ) (n : ℕ) → Reaches s ws values f fs before → IsUnfinished f.syntax t → AllHold (f ∷ fs) n → n ≡ length (before ++ t) → IsFront s ws values n (before ++ t) (in_header t) f fs
+pub front_heading : (s : Syntax) (ws : List Want) (values : Values) (f : Scope) (fs : List Scope) (before t : List ℕ) (n : ℕ) → Reaches s ws values f fs before → IsUnfinished f.syntax t → AllLastTo (f ∷ fs) n → n ≡ length (before ++ t) → IsFront s ws values n (before ++ t) (in_header t) f fs
 front_heading s ws values f fs before t n r tail hold n-is = by f.in_sequence refl
   where
     by : (q : Bool) → f.in_sequence ≡ q → IsFront s ws values n (before ++ t) (in_header t) f fs
@@ -101,7 +101,7 @@ front_heading s ws values f fs before t n r tail hold n-is = by f.in_sequence re
         let is = set_of f here in
         subst (λ z. IsFront s ws values n (before ++ t) (in_header t) z fs) (sym is) (front_elements t n (subst (λ z. Reaches s ws values z fs before) is r) tail hold.0 hold.1 n-is)
 
-pub front_reading : {s : Syntax} {ws : List Want} {values : Values} {s1 : Syntax} {stop : Option ℕ} {last : ℕ} {fs : List Scope} {before : List ℕ} (h : Header) (hb v : List ℕ) (n : ℕ) → Reaches s ws values (set_scope s1 stop last) fs before → IsElement s1 last h hb → shape s1 h ≡ Value → length v < h.length → Holds stop n → AllHold fs n → n ≡ length (before ++ (hb ++ v))
+pub front_reading : {s : Syntax} {ws : List Want} {values : Values} {s1 : Syntax} {stop : Option ℕ} {last : ℕ} {fs : List Scope} {before : List ℕ} (h : Header) (hb v : List ℕ) (n : ℕ) → Reaches s ws values (set_scope s1 stop last) fs before → IsElement s1 last h hb → shape s1 h ≡ Value → length v < h.length → LastsTo stop n → AllLastTo fs n → n ≡ length (before ++ (hb ++ v))
     → IsFront s ws values n (before ++ (hb ++ v)) (in_value h v) (set_scope s1 stop last) fs
 front_reading {s1 = s1} {last = last} h hb v n r el sh lt hold all n-is =
     plug (hb ++ v) (in_value h v) [] last n r n-is hold all (λ es eb set e. subst (λ z. Nested s1 (eb ++ (hb ++ v)) es [] z (in_value h v)) (sym e) (at_elements set (value_tail v (subst (λ z. IsElement s1 z h hb) e el) sh lt)))
@@ -130,19 +130,19 @@ pub inside : (lim : Limits) (spot : Spot) (t : List ℕ) → IsUnfinished spot.s
 unfolding is_whole
 inside lim spot t tail ok = inside_by lim spot t (need_is spot.syntax t) refl tail.part tail.good (unbroken_is lim spot t ok)
 
-pub holds_after : (o : Option ℕ) (p n : ℕ) → Holds o p → passes (less o p) n ≡ false → Holds o (p + n)
-holds_after None p n h e = tt
-holds_after (Some e) p n h g = let f = ltb-false (e - p) n g in omega (arith, f, h)
+pub lasts_after : (o : Option ℕ) (p n : ℕ) → LastsTo o p → passes (less o p) n ≡ false → LastsTo o (p + n)
+lasts_after None p n h e = tt
+lasts_after (Some e) p n h g = let f = ltb-false (e - p) n g in omega (arith, f, h)
 
-pub less_all : (fs : List Scope) (m n : ℕ) → AllHold fs n → m ≤ n → AllHold fs m
+pub less_all : (fs : List Scope) (m n : ℕ) → AllLastTo fs n → m ≤ n → AllLastTo fs m
 less_all [] m n h le = tt
 less_all (f ∷ fs) m n h le = (by f.stop h.0, less_all fs m n h.1 le)
   where
-    by : (o : Option ℕ) → Holds o n → Holds o m
+    by : (o : Option ℕ) → LastsTo o n → LastsTo o m
     by None h = tt
     by (Some e) h = omega (arith, h, le)
 
-pub past_stays : (o : Option ℕ) (n : ℕ) → Holds o (n + 1) → stops_at o n ≡ false
+pub past_stays : (o : Option ℕ) (n : ℕ) → LastsTo o (n + 1) → stops_at o n ≡ false
 past_stays None n h = refl
 past_stays (Some e) n h = ne_eqb e n (λ same. absurd (omega (arith, h, same)))
 

@@ -11,10 +11,10 @@ use Rattle.sequence.specs.declared.spot.Spot.{Spot}
 use Rattle.sequence.specs.Shape.{is_undefined, undefined_length, shape}
 use Rattle.sequence.specs.Rules.{Limits, Broken, broken_due, broken_tag, broken_need, broken_header, broken, passes, is_long_mark, is_not_allowed, is_too_long, opens, counted_length, ◌or_else◌, when}
 use Rattle.sequence.specs.machine.Machine.{nearest, less, spot_of, at, due, due_by, arrive, headed, headed_by, take_header, Heading, run}
-use Rattle.sequence.specs.machine.Standing.{IsLength, Holds, AllHold, Unbroken}
+use Rattle.sequence.specs.machine.Standing.{IsLength, LastsTo, AllLastTo, Unbroken}
 use Rattle.sequence.proofs.Sound.{IsSound}
 use Rattle.sequence.proofs.Runs.{IsOpen, arrive_open}
-use Rattle.sequence.proofs.Ends.{nearest_holds}
+use Rattle.sequence.proofs.Ends.{nearest_lasts}
 use Rattle.sequence.proofs.Telling.{less_all, passes_less}
 
 -- the rules, one by one
@@ -76,19 +76,19 @@ keeps_rules lim spot h hb sp ok u v same =
 
 -- a header that has room, before ends at q or after it
 
-room_by : (o : Option ℕ) (p n : ℕ) → Holds o (p + n) → passes (less o p) n ≡ false
+room_by : (o : Option ℕ) (p n : ℕ) → LastsTo o (p + n) → passes (less o p) n ≡ false
 room_by None p n h = refl
 room_by (Some e) p n h = fits (omega (arith, h))
   where
     fits : n ≤ e - p → nat_lt (e - p) n ≡ false
     fits le = grind (arith, nat_tests)
 
-room_before : (f : Scope) (fs : List Scope) (p q n : ℕ) → AllHold (f ∷ fs) q → p + n ≤ q → passes (less (nearest (f ∷ fs)) p) n ≡ false
-room_before f fs p q n hold le = room_by (nearest (f ∷ fs)) p n (nearest_holds (p + n) (f ∷ fs) (less_all (f ∷ fs) (p + n) q hold le))
+room_before : (f : Scope) (fs : List Scope) (p q n : ℕ) → AllLastTo (f ∷ fs) q → p + n ≤ q → passes (less (nearest (f ∷ fs)) p) n ≡ false
+room_before f fs p q n hold le = room_by (nearest (f ∷ fs)) p n (nearest_lasts (p + n) (f ∷ fs) (less_all (f ∷ fs) (p + n) q hold le))
 
 -- the ends are at q or after it, and so are the bytes that the header counts
 pub record HasRoom (lim : Limits) (f : Scope) (fs : List Scope) (p q size : ℕ) (h : Header) : Type 0 where
-  pub hold : AllHold (f ∷ fs) q
+  pub hold : AllLastTo (f ∷ fs) q
   pub short : q ≤ lim.bytes
   pub counts : p + (size + counted_length h.length) ≤ q
   pub even : IsLength h.length
@@ -134,7 +134,7 @@ heading_goes lim f fs p q start t h x (y ∷ b) sp ok q-is =
     let first : headed lim f fs (p + 1) start (t ++ x ∷ []) ≡ at f fs (p + 1) (Heading start (t ++ x ∷ [])) = ap (λ z. headed_by z f fs (p + 1) start (t ++ x ∷ [])) none ∙ rw part refl in
     ap (λ z. run lim z (y ∷ b)) first ∙ heading_goes lim f fs (p + 1) q start (t ++ x ∷ []) h y b more (subst (Unbroken lim (spot_of f fs start)) regrouped ok) (omega (arith, q-is))
 
-open_before : (o : Option ℕ) (p q : ℕ) → Holds o q → p < q → IsOpen o p
+open_before : (o : Option ℕ) (p q : ℕ) → LastsTo o q → p < q → IsOpen o p
 open_before None p q h lt = tt
 open_before (Some e) p q h lt = omega (arith, h, lt)
 
@@ -144,7 +144,7 @@ unfolding due
 due_goes lim f fs p q h [] sp ok none le q-is = absurd (omega (arith, le))
 due_goes lim f fs p q h (x ∷ hb) sp ok none le q-is = ap (λ z. run lim (due_by z f fs p) (x ∷ hb)) none ∙ heading_goes lim f fs p q p [] h x hb sp ok q-is
 
-pub header_goes : (lim : Limits) (f : Scope) (fs : List Scope) (p q : ℕ) (h : Header) (hb : List ℕ) → SpellsHeader f.syntax h hb → KeepsRules lim (spot_of f fs p) (length hb) h → Holds f.stop (p + length hb) → q ≡ p + length hb
+pub header_goes : (lim : Limits) (f : Scope) (fs : List Scope) (p q : ℕ) (h : Header) (hb : List ℕ) → SpellsHeader f.syntax h hb → KeepsRules lim (spot_of f fs p) (length hb) h → LastsTo f.stop (p + length hb) → q ≡ p + length hb
     → run lim (arrive p f fs) hb ≡ take_header q f fs h
 header_goes lim f fs p q h hb sp ok hold q-is =
     let long = spelled_long sp in

@@ -15,7 +15,7 @@ use Rattle.sequence.specs.Wanted.{room_of}
 use Rattle.sequence.specs.Rules.{Limits, broken_tag, same_tag, passes, is_value, is_sequence, is_not_allowed, is_long_mark, is_too_long, counted_length}
 use Rattle.sequence.specs.Ending.{IsWhole, breaks_rule, ends_early, WholeBreaksNoRule, WholeHasNoFault}
 use Rattle.sequence.specs.machine.Machine.{set_scope, sequence_scope, spot_of, stop_of, State, at, Heading, start, due, arrive, begin_level, run}
-use Rattle.sequence.specs.machine.Standing.{at_root, into_sequence, into_item, Holds, AllHold}
+use Rattle.sequence.specs.machine.Standing.{at_root, into_sequence, into_item, LastsTo, AllLastTo}
 use Rattle.sequence.proofs.Runs.{HasStopped, run_append, arrive_stopped, value_on, IsMark, sequence_end_mark, item_end_mark, taken_value, taken_sequence, taken_item}
 use Rattle.sequence.proofs.Nesting.{FitIn, more_elements, more_sequence, more_items}
 use Rattle.sequence.proofs.Telling.{less_all}
@@ -104,16 +104,16 @@ fit_behind ws (f ∷ fs) h is es fit = tt
 
 -- a level, after its header
 
-mark_goes : (lim : Limits) (t : Tag) (mark : IsMark t) (g f : Scope) (fs : List Scope) (p q : ℕ) → broken_tag (spot_of g (f ∷ fs) p) t ≡ None → is_marker t ≡ true → g.stop ≡ None → AllHold (f ∷ fs) q → q ≤ lim.bytes → q ≡ p + 8
+mark_goes : (lim : Limits) (t : Tag) (mark : IsMark t) (g f : Scope) (fs : List Scope) (p q : ℕ) → broken_tag (spot_of g (f ∷ fs) p) t ≡ None → is_marker t ≡ true → g.stop ≡ None → AllLastTo (f ∷ fs) q → q ≤ lim.bytes → q ≡ p + 8
     → run lim (arrive p g (f ∷ fs)) (delimitation t) ≡ arrive q f fs
 mark_goes lim t mark g f fs p q tagged marked none hold short q-is =
     let h : Header = record { tag = t; vr = None; length = 0 } in
-    let all : AllHold (g ∷ f ∷ fs) q = (subst (λ o. Holds o q) (sym none) tt, hold) in
+    let all : AllLastTo (g ∷ f ∷ fs) q = (subst (λ o. LastsTo o q) (sym none) tt, hold) in
     let room : HasRoom lim g (f ∷ fs) p q 8 (record { tag = t; vr = None; length = 0 }) = record { hold = all; short = short; counts = omega (arith, q-is); even = λ d. refl } in
     let ok = keeps lim g (f ∷ fs) p q 8 (record { tag = t; vr = None; length = 0 }) room tagged (and_false (is_marker t && not (same_tag t item_tag))) (ap (λ z. not z && is_not_allowed (shape g.syntax (record { tag = t; vr = None; length = 0 }))) marked)
     (ap (λ z. ((nat_eq (length (f ∷ fs)) 0 && not z) && is_value (shape g.syntax (record { tag = t; vr = None; length = 0 }))) && passes (room_of lim.wanted (number t)) 0) marked ∙ ap (λ z. (z && is_value (shape g.syntax (record { tag = t; vr = None; length = 0 }))) && passes (room_of lim.wanted (number t)) 0) (and_false (nat_eq (length (f ∷ fs)) 0)))
     (opens_room (is_marker t || is_sequence (shape g.syntax (record { tag = t; vr = None; length = 0 }))) 0 lim (f ∷ fs) (λ some. absurd (some refl))) in
-    header_goes lim g (f ∷ fs) p q (record { tag = t; vr = None; length = 0 }) (delimitation t) (plain t 0 mark.0 (mark.1 g.syntax) (lit< tt)) ok (subst (λ o. Holds o (p + 8)) (sym none) tt) q-is ∙ mark.2 q g f fs
+    header_goes lim g (f ∷ fs) p q (record { tag = t; vr = None; length = 0 }) (delimitation t) (plain t 0 mark.0 (mark.1 g.syntax) (lit< tt)) ok (subst (λ o. LastsTo o (p + 8)) (sym none) tt) q-is ∙ mark.2 q g f fs
 
 counted_goes : (lim : Limits) (g0 g1 : Option ℕ → Scope) (f : Scope) (fs : List Scope) (p q n : ℕ) (b : List ℕ) (none : Bool) → nat_eq n 0 ≡ none → ((stop : Option ℕ) → (g1 stop).stop ≡ stop) → n ≢ undefined_length → length b ≡ n → q ≡ p + n
     → (n ≢ 0 → run lim (arrive p (g0 (stop_of p n)) (f ∷ fs)) b ≡ arrive (p + length b) (g1 (stop_of p n)) (f ∷ fs)) → run lim (begin_level p (g0 (stop_of p n)) f fs n) b ≡ arrive q f fs
@@ -127,7 +127,7 @@ counted_goes lim g0 g1 f fs p q n b false z stops defined size q-is in-it =
     rw z (in-it (false-eqb n 0 (sym z)) ∙ ap (λ m. arrive m (g1 (stop_of p n)) (f ∷ fs)) ends ∙ arrive_stopped q (g1 (stop_of p n)) f fs (stops (stop_of p n) ∙ stop))
 
 level_goes : {t : Tag} {n : ℕ} {b c : List ℕ} (lim : Limits) (g0 g1 : Option ℕ → Scope) (f : Scope) (fs : List Scope) (p q : ℕ) → Ended t n b c → IsMark t → is_marker t ≡ true → broken_tag (spot_of (g1 None) (f ∷ fs) (p + length b)) t ≡ None → ((stop : Option ℕ) → (g1 stop).stop ≡ stop)
-    → AllHold (f ∷ fs) q → q ≤ lim.bytes → q ≡ p + length c → (n ≢ 0 → run lim (arrive p (g0 (stop_of p n)) (f ∷ fs)) b ≡ arrive (p + length b) (g1 (stop_of p n)) (f ∷ fs))
+    → AllLastTo (f ∷ fs) q → q ≤ lim.bytes → q ≡ p + length c → (n ≢ 0 → run lim (arrive p (g0 (stop_of p n)) (f ∷ fs)) b ≡ arrive (p + length b) (g1 (stop_of p n)) (f ∷ fs))
     → run lim (begin_level p (g0 (stop_of p n)) f fs n) c ≡ arrive q f fs
 unfolding begin_level
 level_goes lim g0 g1 f fs p q (counted {b = b} n defined even size) mark marked tagged stops hold short q-is in-it =

@@ -39,19 +39,19 @@ abbrev pub AreNested : Option ℕ → List Scope → Type 0
 AreNested near [] = Unit {0}
 AreNested near (f ∷ fs) = IsLeft f.stop near × AreNested (if is_some f.stop then f.stop else near) fs
 
--- the scope does not end before n
-abbrev pub Holds : Option ℕ → ℕ → Type 0
-Holds None n = Unit {0}
-Holds (Some e) n = n ≤ e
+-- the scope lasts to the place n
+abbrev pub LastsTo : Option ℕ → ℕ → Type 0
+LastsTo None n = Unit {0}
+LastsTo (Some e) n = n ≤ e
 
-abbrev pub AllHold : List Scope → ℕ → Type 0
-AllHold [] n = Unit {0}
-AllHold (f ∷ fs) n = Holds f.stop n × AllHold fs n
+abbrev pub AllLastTo : List Scope → ℕ → Type 0
+AllLastTo [] n = Unit {0}
+AllLastTo (f ∷ fs) n = LastsTo f.stop n × AllLastTo fs n
 
 -- the levels keep their limits up to the place n
 pub record AreLevels (lim : Limits) (f : Scope) (fs : List Scope) (n : ℕ) : Type 0 where
   pub nested : AreNested None (f ∷ fs)
-  pub hold : AllHold (f ∷ fs) n
+  pub hold : AllLastTo (f ∷ fs) n
   pub deep : length fs ≤ lim.depth
   pub short : n ≤ lim.bytes
 
