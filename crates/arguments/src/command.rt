@@ -92,35 +92,34 @@ fn replay_command<'a>(alloc: Global) -> Result<Command<'a>, AllocError>
     ensures app { IfOk result (λ c. app_of c ≡ replay_app) }
     ensures local { IfOk result (λ c. (fields_of c).has_globals ≡ false) }
 {
-    let file = positional_argument(alloc, "FILE", "The recorded bytes of one association");
-    let out = needed_option(alloc, "out", "DIR", "The folder that received files go to");
-    let ae = option(
+    new_command(
+        alloc,
+        "replay",
+        "Runs a recorded association, and prints what is sent in hexadecimal",
+        "Example: dcmbox replay echo.bin --out received",
+    )
+    .arg(positional_argument(alloc, "FILE", "The recorded bytes of one association"))?
+    .arg(needed_option(alloc, "out", "DIR", "The folder that received files go to"))?
+    .arg(option(
         alloc,
         "ae",
         "TITLE",
         "DCMBOX",
         "The AE title that a peer has to call",
-    );
-    let cut = option(
+    ))?
+    .arg(option(
         alloc,
         "cut",
         "BYTES",
         "4096",
         "How many bytes are taken at a time, from 1 to 65536",
-    );
-    let per = free_option(
+    ))?
+    .arg(free_option(
         alloc,
         "per",
         "FILES",
         "Files into folders of so many, from 1 to 9999",
-    );
-    let command = new_command(
-        alloc,
-        "replay",
-        "Runs a recorded association, and prints what is sent in hexadecimal",
-        "Example: dcmbox replay echo.bin --out received",
-    );
-    command.arg(file)?.arg(out)?.arg(ae)?.arg(cut)?.arg(per)
+    ))
 }
 
 /// Returns `serve` with who is served where; the function below adds the rest.
@@ -128,40 +127,39 @@ fn listening_command<'a>(alloc: Global) -> Result<Command<'a>, AllocError>
     ensures app { IfOk result (λ c. app_of c ≡ listening_app) }
     ensures local { IfOk result (λ c. (fields_of c).has_globals ≡ false) }
 {
-    let port = needed_option(
+    new_command(
+        alloc,
+        "serve",
+        "Receives images from scanners, one association after the other",
+        "Example: dcmbox serve --port 11112 --out received --bind 0.0.0.0 --ae DCMBOX --caller SCANNER1",
+    )
+    .arg(needed_option(
         alloc,
         "port",
         "PORT",
         "The TCP port to listen on, from 1 to 65535",
-    );
-    let out = needed_option(alloc, "out", "DIR", "The folder that received files go to");
-    let bind = option(
+    ))?
+    .arg(needed_option(alloc, "out", "DIR", "The folder that received files go to"))?
+    .arg(option(
         alloc,
         "bind",
         "ADDRESS",
         "127.0.0.1",
         "The address to listen on",
-    );
-    let ae = option(
+    ))?
+    .arg(option(
         alloc,
         "ae",
         "TITLE",
         "DCMBOX",
         "The AE title that a peer has to call",
-    );
-    let caller = repeated_option(
+    ))?
+    .arg(repeated_option(
         alloc,
         "caller",
         "TITLE",
         "An AE title that may call, up to 16 times; any may where none is given",
-    );
-    let command = new_command(
-        alloc,
-        "serve",
-        "Receives images from scanners, one association after the other",
-        "Example: dcmbox serve --port 11112 --out received --bind 0.0.0.0 --ae DCMBOX --caller SCANNER1",
-    );
-    command.arg(port)?.arg(out)?.arg(bind)?.arg(ae)?.arg(caller)
+    ))
 }
 
 /// Returns `serve` with its timeouts and limits.
@@ -169,56 +167,54 @@ fn limited_command<'a>(alloc: Global) -> Result<Command<'a>, AllocError>
     ensures app { IfOk result (λ c. app_of c ≡ limited_app) }
     ensures local { IfOk result (λ c. (fields_of c).has_globals ≡ false) }
 {
-    let timeout = option(
-        alloc,
-        "timeout",
-        "SECONDS",
-        "30",
-        "How long the ARTIM timer runs, from 1 to 86400",
-    );
-    let idle = option(
-        alloc,
-        "idle",
-        "SECONDS",
-        "600",
-        "How long an association may be silent, from 1 to 86400",
-    );
-    let max_pdu = option(
-        alloc,
-        "max-pdu",
-        "BYTES",
-        "16384",
-        "The longest P-DATA-TF PDU that is taken, from 1024 to 131072",
-    );
-    let max_data = option(
-        alloc,
-        "max-data",
-        "BYTES",
-        "1099511627776",
-        "The longest data set that is taken, from 1024 to 2^48",
-    );
-    let command = listening_command(alloc)?;
-    command.arg(timeout)?.arg(idle)?.arg(max_pdu)?.arg(max_data)
+    listening_command(alloc)?
+        .arg(option(
+            alloc,
+            "timeout",
+            "SECONDS",
+            "30",
+            "How long the ARTIM timer runs, from 1 to 86400",
+        ))?
+        .arg(option(
+            alloc,
+            "idle",
+            "SECONDS",
+            "600",
+            "How long an association may be silent, from 1 to 86400",
+        ))?
+        .arg(option(
+            alloc,
+            "max-pdu",
+            "BYTES",
+            "16384",
+            "The longest P-DATA-TF PDU that is taken, from 1024 to 131072",
+        ))?
+        .arg(option(
+            alloc,
+            "max-data",
+            "BYTES",
+            "1099511627776",
+            "The longest data set that is taken, from 1024 to 2^48",
+        ))
 }
 
 fn serve_command<'a>(alloc: Global) -> Result<Command<'a>, AllocError>
     ensures app { IfOk result (λ c. app_of c ≡ serve_app) }
     ensures local { IfOk result (λ c. (fields_of c).has_globals ≡ false) }
 {
-    let per = free_option(
-        alloc,
-        "per",
-        "FILES",
-        "Files into folders of so many, from 1 to 9999",
-    );
-    let no_sync = flag(
-        alloc,
-        "no-sync",
-        "Answers a store before its file is surely on the disk",
-    );
-    let once = flag(alloc, "once", "Ends after one association");
-    let command = limited_command(alloc)?;
-    command.arg(per)?.arg(no_sync)?.arg(once)
+    limited_command(alloc)?
+        .arg(free_option(
+            alloc,
+            "per",
+            "FILES",
+            "Files into folders of so many, from 1 to 9999",
+        ))?
+        .arg(flag(
+            alloc,
+            "no-sync",
+            "Answers a store before its file is surely on the disk",
+        ))?
+        .arg(flag(alloc, "once", "Ends after one association"))
 }
 
 /// Returns a command that takes one file.
@@ -266,20 +262,19 @@ fn index_command<'a>(alloc: Global) -> Result<Command<'a>, AllocError>
     ensures app { IfOk result (λ c. app_of c ≡ index_app) }
     ensures local { IfOk result (λ c. (fields_of c).has_globals ≡ false) }
 {
-    let dir = positional_argument(alloc, "DIR", "The folder of received files");
-    let uid = needed_option(alloc, "uid", "UID", "The SOP instance UID of the directory");
-    let keep = flag(
-        alloc,
-        "keep",
-        "Takes the files that the folder's DICOMDIR names, not those that are there",
-    );
-    let command = new_command(
+    new_command(
         alloc,
         "index",
         "Writes the DICOMDIR of a folder of received files",
         "Example: dcmbox index received --uid 2.25.1",
-    );
-    command.arg(dir)?.arg(uid)?.arg(keep)
+    )
+    .arg(positional_argument(alloc, "DIR", "The folder of received files"))?
+    .arg(needed_option(alloc, "uid", "UID", "The SOP instance UID of the directory"))?
+    .arg(flag(
+        alloc,
+        "keep",
+        "Takes the files that the folder's DICOMDIR names, not those that are there",
+    ))
 }
 
 fn checkdir_command<'a>(alloc: Global) -> Result<Command<'a>, AllocError>
@@ -299,22 +294,15 @@ fn checkdir_command<'a>(alloc: Global) -> Result<Command<'a>, AllocError>
 pub fn command<'a>(alloc: Global) -> Result<Command<'a>, AllocError>
     ensures { IfOk result (λ c. app_of c ≡ the_command) }
 {
-    let serve = serve_command(alloc)?;
-    let replay = replay_command(alloc)?;
-    let show = show_command(alloc)?;
-    let check = check_command(alloc)?;
-    let index = index_command(alloc)?;
-    let checkdir = checkdir_command(alloc)?;
-    let command = Command::new(alloc, "dcmbox")
+    Command::new(alloc, "dcmbox")
         .version("0.1.0")
         .about("A DICOM storage receiver whose behaviour is proved")
         .after_help("Help on a command, with an example: dcmbox help COMMAND")
-        .subcommand_required(true);
-    command
-        .subcommand(serve)?
-        .subcommand(replay)?
-        .subcommand(show)?
-        .subcommand(check)?
-        .subcommand(index)?
-        .subcommand(checkdir)
+        .subcommand_required(true)
+        .subcommand(serve_command(alloc)?)?
+        .subcommand(replay_command(alloc)?)?
+        .subcommand(show_command(alloc)?)?
+        .subcommand(check_command(alloc)?)?
+        .subcommand(index_command(alloc)?)?
+        .subcommand(checkdir_command(alloc)?)
 }

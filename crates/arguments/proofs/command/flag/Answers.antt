@@ -8,3 +8,6 @@ returns-clause-rule c =
     ap rule_of c.help.ensures ∙ ap rule_of c.action.ensures
     ∙ ap (λ (r : Rule). record r { action = Some SetTrue }) (ap rule_of c.long.ensures
     ∙ ap (λ (r : Rule). record r { long = Some c.args.name.now }) c.new.ensures.rule)
+
+pub returns-clause-local : goal.returns-clause-local
+returns-clause-local c = ap (λ a. a.global) c.help.ensures ∙ ap (λ a. a.global) c.action.ensures ∙ ap (λ a. a.global) c.long.ensures ∙ c.new.ensures.optional.1

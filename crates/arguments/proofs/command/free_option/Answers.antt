@@ -7,3 +7,6 @@ returns-clause-rule c =
     ap rule_of c.help.ensures ∙ ap rule_of c.value_name.ensures
     ∙ ap (λ (r : Rule). record r { value_names = 1 }) (ap rule_of c.long.ensures
     ∙ ap (λ (r : Rule). record r { long = Some c.args.name.now }) c.new.ensures.rule)
+
+pub returns-clause-local : goal.returns-clause-local
+returns-clause-local c = ap (λ a. a.global) c.help.ensures ∙ ap (λ a. a.global) c.value_name.ensures ∙ ap (λ a. a.global) c.long.ensures ∙ c.new.ensures.optional.1

@@ -6,3 +6,6 @@ pub returns-clause-rule : goal.returns-clause-rule
 returns-clause-rule c =
     ap rule_of c.help.ensures ∙ ap rule_of c.required.ensures
     ∙ ap (λ (r : Rule). record r { required = true }) c.new.ensures.rule
+
+pub returns-clause-local : goal.returns-clause-local
+returns-clause-local c = ap (λ a. a.global) c.help.ensures ∙ ap (λ a. a.global) c.required.ensures ∙ c.new.ensures.optional.1
