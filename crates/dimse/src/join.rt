@@ -161,32 +161,3 @@ impl<const C: usize> Join<C> {
         self.last = false;
     }
 }
-
-#[cfg(test)]
-mod tests {
-    use super::*;
-    use std::test::*;
-
-    /// Takes a join apart: a further field, or a further variant, would not compile.
-    #[test]
-    fn a_join_keeps_a_command_and_numbers(rt: HostRuntime) {
-        let Join::<256> {
-            stage,
-            context,
-            command,
-            left,
-            last,
-        } = Join::<256>::new();
-        let stage: u8 = match stage {
-            Stage::Between => 0,
-            Stage::Command => 1,
-            Stage::Set => 2,
-        };
-        let context: u8 = context;
-        let command: ArrayVec<u8, 256> = command;
-        let left: u32 = left;
-        let last: bool = last;
-        assert_eq!(rt; (stage, context, left, last), (0, 0, 0, false));
-        assert!(rt; command.is_empty());
-    }
-}
