@@ -10,7 +10,7 @@ use Rattle.dicomdir.specs.Directory.{Found, missing, value_at, items_at, found, 
 use Rattle.dicomdir.specs.Linked.{PlacedNode, nodes_of, places_of, record_at, are_records, LinkedElements, IsAllReached}
 use Rattle.dicomdir.specs.DirFault.{Fault, fault, ◌or_else◌, offset_fault, records_fault, root_fault, record_fault, each_fault, Walked, stopped, went, walk, is_one_of, or_zero, place_in, unreached_fault, end_fault, root_way, links_fault, records_then_links, directory_fault}
 use Rattle.dicomdir.specs.Followed.{forest_from}
-use Rattle.dicomdir.specs.NoFault.{IsSound, NoFaultIsLinked}
+use Rattle.dicomdir.specs.NoFault.{NoFaultIsLinked}
 use Rattle.dicomdir.proofs.Linking.{IsIn, HaveOffsets, reaches}
 
 both_none : (a b : Option Fault) → (a or_else b) ≡ None → (a ≡ None) × (b ≡ None)

@@ -20,6 +20,7 @@ pub mod WalkLemmas
 pub mod Linking
 pub mod FaultFree
 pub mod OneTree
+pub mod OneCheck
 pub mod HeaderChecks
 pub mod RuleNumbers
 pub mod KeptLemmas

@@ -71,14 +71,14 @@ regrouped b piece more front taken behind e = ap (λ z. (b ++ z) ++ more) e ∙ 
 
 pub walks_fails : {V D : ℕ} (w0 w : Walker V D) (piece rest : List ℕ) (n : ℕ) (step : Step) (fault : Fault) → Walks w0 w piece rest → n ≤ length rest
     → ((b : List ℕ) → StandsAt w b → Answers (syntax_of w) (limits_of w) b rest (take n rest) step)
-    → refusal_of step ≡ Some fault → FailsIn w0 piece (skip.Fault fault.number)
+    → refusal_of step ≡ Some fault → FailsIn w0 piece fault
 walks_fails w0 w piece rest n step fault g within answers was b more stands bytes =
     let far = farther piece rest n g.fits g.is_rest within in
     let a : ℕ = length piece - length rest in
     let front : List ℕ = b ++ take a piece in
     let text : List ℕ = (b ++ piece) ++ more in
     let whole : text ≡ (front ++ take n rest) ++ (drop n rest ++ more) = regrouped b piece more (take a piece) (take n rest) (drop n rest) far.whole in
-    (fault, failed_text (syntax_of w0) (limits_of w0) text fault g.same.0 g.same.1 (refused_fails (drop n rest ++ more) text fault (answers front (g.along b stands)) was bytes whole), refl)
+    failed_text (syntax_of w0) (limits_of w0) text fault g.same.0 g.same.1 (refused_fails (drop n rest ++ more) text fault (answers front (g.along b stands)) was bytes whole)
 
 take_whole : (n : ℕ) (piece : List ℕ) → n ≡ length piece → take n piece ≡ piece
 take_whole zero [] e = refl
@@ -146,12 +146,12 @@ reads_short w0 w old mid new fault r none end fails = text_fails (by old (taken_
 by_same : {V D : ℕ} (w0 w : Walker V D) (text : List ℕ) (reason : Skip) → IsSameSet w0 w → FailsBy (syntax_of w) (limits_of w) text reason → FailsBy (syntax_of w0) (limits_of w0) text reason
 by_same w0 w text reason same f = (f.0, failed_text (syntax_of w0) (limits_of w0) text f.0 same.0 same.1 f.1, f.2)
 
-pub reads_fails : {V D : ℕ} (w0 w : Walker V D) (old mid new : Option (List ℕ)) (piece : List ℕ) (reason : Skip) → Reads w0 w old mid → Consumes mid new piece
-    → FailsIn w piece reason → WalkFails w0 old reason
-reads_fails w0 w old mid new piece reason r more fails = text_fails (by old new (Consumes-trans old mid new r.taken piece r.consumed more))
+pub reads_fails : {V D : ℕ} (w0 w : Walker V D) (old mid new : Option (List ℕ)) (piece : List ℕ) (fault : Fault) → Reads w0 w old mid → Consumes mid new piece
+    → FailsIn w piece fault → WalkFails w0 old (skip.Fault fault.number)
+reads_fails w0 w old mid new piece fault r more fails = text_fails (by old new (Consumes-trans old mid new r.taken piece r.consumed more))
   where
-    by : (o n : Option (List ℕ)) → Consumes o n (r.taken ++ piece) → IfSome o (λ text. IsBytes text → FailsBy (syntax_of w0) (limits_of w0) text reason)
+    by : (o n : Option (List ℕ)) → Consumes o n (r.taken ++ piece) → IfSome o (λ text. IsBytes text → FailsBy (syntax_of w0) (limits_of w0) text (skip.Fault fault.number))
     by None n c = tt
     by (Some text) None c = absurd c
-    by (Some text) (Some left) c = λ bytes. by_same w0 w text reason r.same
-        (subst (λ z. FailsBy (syntax_of w) (limits_of w) z reason) (sym c) (fails r.taken left r.stands (subst (λ z. IsBytes z) c bytes)))
+    by (Some text) (Some left) c = λ bytes. by_same w0 w text (skip.Fault fault.number) r.same
+        (fault, subst (λ z. Fails (syntax_of w) (limits_of w) z fault) (sym c) (fails r.taken left r.stands (subst (λ z. IsBytes z) c bytes)), refl)

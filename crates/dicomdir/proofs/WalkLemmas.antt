@@ -1,22 +1,22 @@
 -- A walk over a whole text, step by step.
-use Rattle.std.proofs.Common.{◌≡◌, ℕ, zero, suc, ◌+◌, ◌-◌, ◌≤◌, List, [], ◌∷◌, ◌++◌, length, take, drop, Option, Some, None, refl, sym, ap, subst, ◌∙◌, arith}
-use Rattle.std.proofs.lemmas.List.{append-nil, length-append, length-drop, drop-drop, take-append-drop, take_rest}
+use Rattle.std.proofs.Common.{◌≡◌, ℕ, zero, suc, ◌+◌, ◌-◌, ◌≤◌, List, [], ◌∷◌, ◌++◌, length, take, drop, Some, None, refl, sym, ap, subst, ◌∙◌, arith}
+use Rattle.std.proofs.lemmas.List.{append-nil, length-append, length-drop, drop-drop, take-append-drop}
 use Rattle.element.specs.declared.syntax.Syntax.{Syntax}
 use Rattle.element.specs.declared.syntax.Syntax.TheVariants.{Explicit}
-use Rattle.element.specs.declared.tag.Tag.{Tag}
 use Rattle.element.specs.Numbers.{IsBytes}
 use Rattle.sequence.specs.declared.fault.Fault.{Fault}
 use Rattle.sequence.specs.declared.step.Step.{Step}
 use Rattle.sequence.specs.Rules.{Limits}
-use Rattle.sequence.specs.FirstFault.{IsUnbroken, FirstFault}
+use Rattle.sequence.specs.FirstFault.{IsUnbroken}
 use Rattle.sequence.specs.Walk.{Told, Tells, going, refused}
 use Rattle.sequence.specs.Ending.{Fails, breaks_rule, ends_early}
 use Rattle.sequence.specs.declared.step.Step.TheVariants.{More, Element, Run, Opened, Closed, Refused}
 use Rattle.sequence.specs.Answering.{IsRun, Answers, no_piece, goes_on, element, opened, closed, runs, refuses, stays}
 use Rattle.sequence.specs.declared.walker.Walker.{Walker}
-use Rattle.sequence.specs.Taken.{StandsAt, syntax_of, limits_of, fault_of}
+use Rattle.sequence.specs.Taken.{StandsAt, syntax_of, limits_of}
 use Rattle.sequence.proofs.Public.{fault_stays, nothing_unbroken}
 use Rattle.dicomdir.specs.CheckFault.{check_limits}
+use Rattle.dicomdir.specs.machine.RowReading.{IsGoing, FailsIn}
 use Rattle.dicomdir.specs.machine.Steps.{refusal_of}
 
 -- where nothing is refused, no rule is broken
@@ -106,63 +106,6 @@ fault_within {b = b} (breaks_rule {p = p} {u = u} first) =
     omega (arith, whole)
 fault_within (ends_early end) = omega arith
 
--- a walk that goes along a text: what is left of it, and where the walker stands
-pub record Going {V D : ℕ} (w : Walker V D) (text rest : List ℕ) : Type 0 where
-  pub fits : length rest ≤ length text
-  pub is_rest : rest ≡ drop (length text - length rest) text
-  pub stands : StandsAt w (take (length text - length rest) text)
-  pub syntax : syntax_of w ≡ Explicit
-  pub limits : limits_of w ≡ check_limits
-  pub good : fault_of w ≡ None
-
-abbrev pub IsGoing : {V D : ℕ} → Walker V D → List ℕ → List ℕ → Type 0
-IsGoing w text rest =
-    (length rest ≤ length text)
-    × (rest ≡ drop (length text - length rest) text)
-    × StandsAt w (take (length text - length rest) text)
-    × (syntax_of w ≡ Explicit)
-    × (limits_of w ≡ check_limits)
-    × (fault_of w ≡ None)
-
-pub going_of : {V D : ℕ} (w : Walker V D) (text rest : List ℕ) → IsGoing w text rest → Going w text rest
-going_of w text rest g = record { fits = g.0; is_rest = g.1; stands = g.2; syntax = g.3; limits = g.4; good = g.5 }
-
-going_parts : {V D : ℕ} {w : Walker V D} {text rest : List ℕ} → Going w text rest → IsGoing w text rest
-going_parts g = (g.fits, g.is_rest, g.stands, g.syntax, g.limits, g.good)
-
-unbroken_nothing : (s : Syntax) (lim : Limits) → IsUnbroken s lim []
-unbroken_nothing s lim = nothing_unbroken s lim
-
-pub going_first : {V D : ℕ} (w : Walker V D) (text : List ℕ) → StandsAt w [] → syntax_of w ≡ Explicit → limits_of w ≡ check_limits → IsGoing w text text
-going_first w text stands syntax limits =
-    let none : length text - length text ≡ 0 = omega arith in (
-      omega arith,
-      ap (λ z. drop z text) (sym none),
-      subst (λ z. StandsAt w (take z text)) (sym none) stands,
-      syntax,
-      limits,
-      tells_none stands.tells (unbroken_nothing (syntax_of w) (limits_of w)),
-    )
-
-pub going_on : {V D : ℕ} (w v : Walker V D) (text rest : List ℕ) (n : ℕ) (step : Step) → Going w text rest → n ≤ length rest
-    → ((b : List ℕ) → StandsAt w b → StandsAt v (b ++ take n rest))
-    → ((b : List ℕ) → StandsAt w b → Answers (syntax_of w) (limits_of w) b rest (take n rest) step)
-    → syntax_of v ≡ syntax_of w → limits_of v ≡ limits_of w → refusal_of step ≡ None → Going v text (drop n rest)
-going_on w v text rest n step g within stands answers syntax limits none =
-    let far = farther text rest n g.fits g.is_rest within in
-    let b : List ℕ = take (length text - length rest) text in
-    let there = stands b g.stands in
-    let unbroken = unrefused (answers b g.stands) none in
-    let moved : IsUnbroken (syntax_of v) (limits_of v) (b ++ take n rest) = subst (λ z. IsUnbroken z (limits_of v) (b ++ take n rest)) (sym syntax) (subst (λ z. IsUnbroken (syntax_of w) z (b ++ take n rest)) (sym limits) unbroken) in
-    record {
-      fits = far.fits;
-      is_rest = far.is_rest;
-      stands = subst (λ z. StandsAt v z) far.taken there;
-      syntax = syntax ∙ g.syntax;
-      limits = limits ∙ g.limits;
-      good = tells_none there.tells moved;
-    }
-
 pub not_refused : (step : Step) → ((x : Fault) → step ≡ Refused x → ⊥) → refusal_of step ≡ None
 not_refused (Refused fault) other = absurd (other fault refl)
 not_refused More other = refl
@@ -171,17 +114,14 @@ not_refused (Element h) other = refl
 not_refused (Opened h) other = refl
 not_refused (Closed h) other = refl
 
-pub going_next : {V D : ℕ} (w v : Walker V D) (text rest : List ℕ) (n : ℕ) (step : Step) → Going w text rest → n ≤ length rest
-    → ((b : List ℕ) → StandsAt w b → StandsAt v (b ++ take n rest))
-    → ((b : List ℕ) → StandsAt w b → Answers (syntax_of w) (limits_of w) b rest (take n rest) step)
-    → syntax_of v ≡ syntax_of w → limits_of v ≡ limits_of w → ((x : Fault) → step ≡ Refused x → ⊥) → IsGoing v text (take (length rest - n) (drop n rest))
-going_next w v text rest n step g within stands answers syntax limits other =
-    going_parts (subst (λ z. Going v text z) (sym (take_rest rest n)) (going_on w v text rest n step g within stands answers syntax limits (not_refused step other)))
+-- ---- a walk over a whole text as one piece
 
-pub going_fails : {V D : ℕ} (w : Walker V D) (text rest : List ℕ) (n : ℕ) (step : Step) (fault : Fault) → IsBytes text → Going w text rest → n ≤ length rest
-    → ((b : List ℕ) → StandsAt w b → Answers (syntax_of w) (limits_of w) b rest (take n rest) step)
-    → refusal_of step ≡ Some fault → Fails Explicit check_limits text fault
-going_fails w text rest n step fault bytes g within answers was =
-    let far = farther text rest n g.fits g.is_rest within in
-    let b : List ℕ = take (length text - length rest) text in
-    failed_text Explicit check_limits text fault g.syntax g.limits (refused_fails (drop n rest) text fault (answers b g.stands) was bytes far.whole)
+pub going_first : {V D : ℕ} (w : Walker V D) → StandsAt w [] → IsGoing w
+going_first w stands = ([], stands, tells_none stands.tells (nothing_unbroken (syntax_of w) (limits_of w)))
+
+pub text_fails : {V D : ℕ} (w : Walker V D) (text : List ℕ) (fault : Fault) → StandsAt w [] → syntax_of w ≡ Explicit → limits_of w ≡ check_limits → IsBytes text
+    → FailsIn w text fault → Fails Explicit check_limits text fault
+text_fails w text fault stands syntax limits bytes fails =
+    let whole = append-nil text in
+    failed_text Explicit check_limits text fault syntax limits
+    (subst (λ z. Fails (syntax_of w) (limits_of w) z fault) whole (fails [] [] stands (subst (λ z. IsBytes z) (sym whole) bytes)))

@@ -5,6 +5,7 @@ use Rattle.part10.specs.declared.meta.Meta.{Meta}
 use Rattle.part10.specs.File.{head}
 use Rattle.sequence.specs.Rules.{no_tag}
 use Rattle.dicomdir.specs.declared.fault.DirFault.{DirFault}
+use Rattle.dicomdir.specs.FaultNumbers as numbered
 use Rattle.dicomdir.specs.Places.{directory_of, is_too_large}
 use Rattle.dicomdir.specs.Row.{Row}
 
@@ -37,7 +38,7 @@ directory_file built = directory_of (directory_header built.uid) built.rows
 abbrev pub file_is_too_large : List ℕ → List Row → Bool
 file_is_too_large uid rows = is_too_large (length (directory_header uid)) rows
 
--- no directory is built if its file is too large (66), or if memory ran out (67)
+-- no directory is built if its file is too large, or if memory ran out
 pub data IsNotBuilt (uid : List ℕ) (rows : List Row) (f : DirFault) : Type 0 where
-  too_large : file_is_too_large uid rows ≡ true → f ≡ record { number = 66; place = 0; tag = no_tag } → IsNotBuilt uid rows f
-  no_memory : f ≡ record { number = 67; place = 0; tag = no_tag } → IsNotBuilt uid rows f
+  too_large : file_is_too_large uid rows ≡ true → f ≡ record { number = numbered.too_large; place = 0; tag = no_tag } → IsNotBuilt uid rows f
+  no_memory : f ≡ record { number = numbered.out_of_memory; place = 0; tag = no_tag } → IsNotBuilt uid rows f

@@ -9,6 +9,7 @@ use Rattle.sequence.specs.Tree.{Elements, DataSet}
 use Rattle.sequence.specs.Rules.{Limits, no_tag}
 use Rattle.sequence.specs.FirstFault.{IsUnbroken, FirstFault, EndFault}
 use Rattle.sequence.specs.Ending.{IsWhole}
+use Rattle.dicomdir.specs.FaultNumbers.{out_of_memory}
 use Rattle.dicomdir.specs.Directory.{IsExplicitFile}
 use Rattle.dicomdir.specs.DirFault.{Fault, directory_fault}
 use Rattle.dicomdir.specs.declared.fault.DirFault.{DirFault}
@@ -45,6 +46,6 @@ pub data CheckFault (file : List ℕ) : ℕ → ℕ → Tag → Type 0 where
       → IsUnbroken Explicit check_limits back → DataSet Explicit 0 elements back
       → directory_fault (length front) elements ≡ Some f → CheckFault file f.number f.place no_tag
 
--- where memory ran out (67), no place and no tag are told
+-- where memory ran out, no place and no tag are told
 abbrev pub IsAtNone : DirFault → Type 0
-IsAtNone f = f.number ≡ 67 → (f.place ≡ 0) × (f.tag ≡ no_tag)
+IsAtNone f = f.number ≡ out_of_memory → (f.place ≡ 0) × (f.tag ≡ no_tag)

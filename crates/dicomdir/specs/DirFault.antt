@@ -2,6 +2,7 @@
 use Rattle.std.specs.Prelude.{ℕ, zero, suc, Bool, true, false, not, ◌||◌, List, [], ◌∷◌, ◌++◌, length, Option, Some, None, nat_eq, if◌then◌else◌}
 use Rattle.std.specs.List.{list_any}
 use Rattle.sequence.specs.Tree.{Elements, no_elements}
+use Rattle.dicomdir.specs.FaultNumbers.{bad_offset, cycle, twice_reached, unreached, wrong_level, bad_file_id, bad_record}
 use Rattle.dicomdir.specs.Directory.{Found, missing, value_at, items_at, found, Record, carried, first_offset, last_offset, records_of, next_offset, lower_offset, has_record, has_file_id}
 use Rattle.dicomdir.specs.Linked.{fits, record_at}
 
@@ -21,13 +22,13 @@ None or_else later = later
 -- the root: a missing element is told at the data set's first byte, one of the wrong size at its header
 
 abbrev pub offset_fault : ℕ → Found → Option Fault
-offset_fault start missing = fault 68 start
-offset_fault start (value_at place v) = if nat_eq (length v) 4 then None else fault 68 place
-offset_fault start (items_at place h is) = fault 68 place
+offset_fault start missing = fault bad_record start
+offset_fault start (value_at place v) = if nat_eq (length v) 4 then None else fault bad_record place
+offset_fault start (items_at place h is) = fault bad_record place
 
 abbrev pub records_fault : ℕ → Found → Option Fault
-records_fault start missing = fault 68 start
-records_fault start (value_at place v) = fault 68 place
+records_fault start missing = fault bad_record start
+records_fault start (value_at place v) = fault bad_record place
 records_fault start (items_at place h is) = None
 
 abbrev pub root_fault : ℕ → Elements → Option Fault
@@ -36,11 +37,11 @@ root_fault start es =
     or_else offset_fault start (found 0x00041202 start es)
     or_else records_fault start (found 0x00041220 start es)
 
--- record by record: 68 where it lacks something, 65 where its file ID is none
+-- record by record: what it lacks, and then its file ID
 abbrev pub record_fault : Record → Option Fault
 record_fault r =
-    if not (has_record r.elements) then fault 68 r.place
-    else (if not (has_file_id r.elements) then fault 65 r.place
+    if not (has_record r.elements) then fault bad_record r.place
+    else (if not (has_file_id r.elements) then fault bad_file_id r.place
     else None)
 
 abbrev pub each_fault : List Record → Option Fault
@@ -104,13 +105,13 @@ abbrev pub with_reached : Walked → (List ℕ → Walked) → Walked
 with_reached (stopped f) more = stopped f
 with_reached (went reached last) more = more reached
 
--- an offset that is no record's place is 60; of a record that was reached, 61 where it leads back and else 62; of
--- one in use whose type does not fit its level, 64 at that record
+-- an offset that is no record's place; one to a record that was reached, which leads back or is a second way; of a
+-- record in use, a type that does not fit its level, told at that record
 abbrev pub named_fault : Way → List ℕ → ℕ → Option Elements → Option Fault
-named_fault way reached offset None = fault 60 way.told
+named_fault way reached offset None = fault bad_offset way.told
 named_fault way reached offset (Some es) =
-    if is_one_of offset reached then fault (if leads_back way offset then 61 else 62) way.told
-    else (if not (fits way.level (carried es)) then fault 64 offset
+    if is_one_of offset reached then fault (if leads_back way offset then cycle else twice_reached) way.told
+    else (if not (fits way.level (carried es)) then fault wrong_level offset
     else None)
 
 abbrev pub elements_at : List Record → ℕ → Elements
@@ -143,12 +144,12 @@ place_in (items_at place h is) = place
 abbrev pub unreached_fault : List ℕ → List Record → Option Fault
 unreached_fault reached [] = None
 unreached_fault reached (r ∷ records) =
-    if not (carried r.elements).in_use || is_one_of r.place reached then unreached_fault reached records else fault 63 r.place
+    if not (carried r.elements).in_use || is_one_of r.place reached then unreached_fault reached records else fault unreached r.place
 
 abbrev pub end_fault : ℕ → Elements → List Record → Walked → Option Fault
 end_fault start es records (stopped f) = Some f
 end_fault start es records (went reached last) =
-    (if nat_eq (or_zero (last_offset start es)) last then None else fault 60 (place_in (found 0x00041202 start es)))
+    (if nat_eq (or_zero (last_offset start es)) last then None else fault bad_offset (place_in (found 0x00041202 start es)))
     or_else unreached_fault reached records
 
 abbrev pub root_way : ℕ → Elements → Way

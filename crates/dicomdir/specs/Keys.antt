@@ -2,7 +2,6 @@
 -- some of them not empty. Both is this product's own profile.
 use Rattle.std.specs.Prelude.{◌≡◌, ℕ, Bool, true, ◌&&◌, List, length, Option, Some, None, Result, Ok, Err, nat_le, if◌then◌else◌}
 use Rattle.element.specs.declared.tag.Tag.{Tag}
-use Rattle.element.specs.declared.syntax.Syntax.{Syntax}
 use Rattle.element.specs.Padding.{is_empty}
 use Rattle.element.specs.Uid.{is_uid}
 use Rattle.dicomdir.specs.declared.skip.Skip.{Skip}

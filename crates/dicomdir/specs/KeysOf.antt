@@ -1,5 +1,5 @@
 -- The row that a file ID, what a file header says, and keys make.
-use Rattle.std.specs.Prelude.{ℕ, List, Option, option_map}
+use Rattle.std.specs.Prelude.{ℕ, List, option_map}
 use Rattle.element.specs.declared.syntax.Syntax.{Syntax}
 use Rattle.dicomdir.specs.declared.keys.Keys.{Keys}
 use Rattle.dicomdir.specs.Row.{Row}

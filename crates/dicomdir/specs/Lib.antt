@@ -5,8 +5,10 @@ pub mod Record
 pub mod TreeOf
 pub mod Directory
 pub mod Linked
+pub mod FaultNumbers
 pub mod DirFault
 pub mod CheckFault
+pub mod OneCheck
 pub mod Layout
 pub mod OneImage
 pub mod Groups

@@ -3,19 +3,20 @@ use Rattle.std.specs.Prelude.{ℕ, List, nat_eq, if◌then◌else◌, codes}
 use Rattle.part10.specs.declared.meta_fault.MetaFault.TheVariants.{NotPart10, BadMeta, OtherSyntax}
 use Rattle.part10.specs.MetaText.{fault_name}
 use Rattle.sequence.specs.Names.{rule_name}
+use Rattle.dicomdir.specs.FaultNumbers.{bad_offset, cycle, twice_reached, unreached, wrong_level, bad_file_id, too_large, out_of_memory, bad_record}
 
 -- the name of the fault of the links or records with this number, and `other` where it is none
 abbrev pub link_name : ℕ → List ℕ → List ℕ
 link_name n other =
-    if nat_eq n 60 then codes "BadOffset"
-    else (if nat_eq n 61 then codes "Cycle"
-    else (if nat_eq n 62 then codes "TwiceReached"
-    else (if nat_eq n 63 then codes "Unreached"
-    else (if nat_eq n 64 then codes "WrongLevel"
-    else (if nat_eq n 65 then codes "BadFileId"
-    else (if nat_eq n 66 then codes "TooLarge"
-    else (if nat_eq n 67 then codes "OutOfMemory"
-    else (if nat_eq n 68 then codes "BadRecord"
+    if nat_eq n bad_offset then codes "BadOffset"
+    else (if nat_eq n cycle then codes "Cycle"
+    else (if nat_eq n twice_reached then codes "TwiceReached"
+    else (if nat_eq n unreached then codes "Unreached"
+    else (if nat_eq n wrong_level then codes "WrongLevel"
+    else (if nat_eq n bad_file_id then codes "BadFileId"
+    else (if nat_eq n too_large then codes "TooLarge"
+    else (if nat_eq n out_of_memory then codes "OutOfMemory"
+    else (if nat_eq n bad_record then codes "BadRecord"
     else other))))))))
 
 -- the name of the fault of a file header with this number

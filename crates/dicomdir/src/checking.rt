@@ -12,6 +12,7 @@ ghost use Rattle.dicomdir.specs.machine.Reading.{FailsAs, IsRootOffset, ChecksAs
 ghost use Rattle.dicomdir.specs.machine.Steps.{header_fault_of};
 ghost use Rattle.dicomdir.specs.machine.Texts.{Finds};
 
+use crate::data_set::walk_piece;
 use crate::fault::DirFault;
 use crate::found::{Element, find};
 use crate::links::{Root, follow};
@@ -19,7 +20,7 @@ use crate::records::read_records;
 use crate::tree::Tree;
 use element::{Syntax, Tag};
 use part10::{MetaFault, read_meta};
-use sequence::{Fault, Step, Walker, Wanted};
+use sequence::{Fault, Walker, Wanted};
 use std::alloc::Allocator;
 
 /// Returns the fault of a file header. No read of a slice fails, so `ReadFailed` does not come.
@@ -57,13 +58,8 @@ fn walk(text: &[u8]) -> Result<(), Fault>
     ensures fails { IfErr result (λ fault. Fails Explicit check_limits text.now fault) }
 {
     let mut walker = Walker::<256, 64>::new(Syntax::Explicit, Wanted::none(), 1 << 48);
-    let mut rest = text;
-    while !rest.is_empty() {
-        let (count, step) = walker.step(rest);
-        if let Step::Refused(fault) = step {
-            return Err(fault);
-        }
-        rest = &rest[count..];
+    if let Err(fault) = walk_piece(&mut walker, text) {
+        return Err(fault);
     }
     walker.finish()
 }

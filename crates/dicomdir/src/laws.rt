@@ -1,15 +1,37 @@
 //! What holds of the definitions: each function has a law as its contract, and does nothing.
+ghost use Rattle.std.specs.Prelude.{◌≡◌, ◌∷◌, []};
 ghost use Rattle.dicomdir.specs.NodesInUseExamples.{OneImageHasNodes};
+ghost use Rattle.dicomdir.specs.FaultNumbers.{bad_offset, cycle, twice_reached, unreached, wrong_level, bad_file_id, too_large, out_of_memory, bad_record};
 ghost use Rattle.dicomdir.specs.FiledLaws.{FiledHasRow};
 ghost use Rattle.dicomdir.specs.Groups.{RowsAreGrouped, FileIdsAreRead};
 ghost use Rattle.dicomdir.specs.HeaderFaults.{HeaderFaults};
 ghost use Rattle.dicomdir.specs.KeptExamples.{InactiveRecords};
 ghost use Rattle.dicomdir.specs.KeptLaws.{KeptAreInUse};
 ghost use Rattle.dicomdir.specs.NoFault.{LinkedHasNoFault, NodesAreRecords, NoFaultIsLinked, OneTreeOfFile};
+ghost use Rattle.dicomdir.specs.OneCheck.{AcceptedHasNoFault, OneCheckFault, OneListOfNodes};
 ghost use Rattle.dicomdir.specs.OneImage.{OneImageIsLinked, OneImageFaults, PreambleCounts, RecordFaults, NoRowsAreLinked};
 ghost use Rattle.dicomdir.specs.PlacesExamples.{PlacesAreAssigned, SizesAreTrue};
 ghost use Rattle.dicomdir.specs.RowLaws.{KeysFit, OneRow};
 ghost use Rattle.dicomdir.specs.WrittenIsLinked.{WrittenIsLinked};
+
+use crate::fault::DirFault;
+
+/// The numbers of the faults.
+pub fn fault_numbers() -> [u8; 9]
+    ensures { result ≡ bad_offset ∷ cycle ∷ twice_reached ∷ unreached ∷ wrong_level ∷ bad_file_id ∷ too_large ∷ out_of_memory ∷ bad_record ∷ [] }
+{
+    [
+        DirFault::BAD_OFFSET,
+        DirFault::CYCLE,
+        DirFault::TWICE_REACHED,
+        DirFault::UNREACHED,
+        DirFault::WRONG_LEVEL,
+        DirFault::BAD_FILE_ID,
+        DirFault::TOO_LARGE,
+        DirFault::OUT_OF_MEMORY,
+        DirFault::BAD_RECORD,
+    ]
+}
 
 /// The directory of one image, laid out byte by byte, is linked to the tree of its row.
 pub fn one_image_is_linked()
@@ -71,6 +93,21 @@ pub fn no_fault_is_linked()
 /// A file is linked to one tree at most.
 pub fn one_tree_of_a_file()
     ensures { OneTreeOfFile }
+{}
+
+/// A directory that a check takes has no fault.
+pub fn accepted_has_no_fault()
+    ensures { AcceptedHasNoFault }
+{}
+
+/// A file has one first fault at most.
+pub fn one_fault_of_a_check()
+    ensures { OneCheckFault }
+{}
+
+/// The records that a check returns are determined by the file.
+pub fn one_list_of_nodes()
+    ensures { OneListOfNodes }
 {}
 
 /// Records stand depth first, without gaps: the directory that the definitions lay down of one image

@@ -6,6 +6,7 @@ mod build_groups;
 mod build_plan;
 mod built;
 mod checking;
+mod data_set;
 mod doubles;
 mod fault;
 mod file_id;

@@ -1,24 +1,25 @@
 //! Reads the row of a directory from a file.
-ghost use Rattle.std.specs.Prelude.{◌≡◌, ◌<◌, ◌≤◌, ℕ, List, [], ◌++◌, None, length, take, option_map, OnOk, IfOk, IfErr, IfSome};
+ghost use Rattle.std.specs.Prelude.{◌≡◌, ◌<◌, ◌≤◌, ℕ, List, [], length, take, option_map, OnOk, IfOk, IfErr, IfSome};
 ghost use Rattle.std.specs.Io.KnownBytes.{Consumes, IsAtEnd};
 ghost use Rattle.element.specs.declared.syntax.Syntax.{Syntax};
 ghost use Rattle.element.specs.Numbers.{IsBytes};
 ghost use Rattle.element.specs.Header.{number};
 ghost use Rattle.sequence.specs.Wanted.{value_of};
-ghost use Rattle.sequence.specs.Taken.{StandsAt, told_by, fault_of, limits_of};
+ghost use Rattle.sequence.specs.Taken.{StandsAt, told_by, limits_of};
 ghost use Rattle.sequence.specs.Stored.{wanted_tags};
 ghost use Rattle.dicomdir.specs.declared.skip.Skip.TheVariants as skip;
 ghost use Rattle.dicomdir.specs.RowOf.{row_wants, row_limits, row_from, key_in, RowRead};
 ghost use Rattle.dicomdir.specs.KeysOf.{keys_row};
-ghost use Rattle.dicomdir.specs.machine.RowReading.{IsGoing, IsSameSet, FailsIn, TookWhole, WalkFails};
+ghost use Rattle.dicomdir.specs.machine.RowReading.{IsSameSet, TookWhole, WalkFails};
 
+use crate::data_set::walk_piece;
 use crate::file_id::FileId;
 use crate::keys::Keys;
 use crate::row::Row;
 use crate::skip::Skip;
 use element::Tag;
 use part10::read_meta;
-use sequence::{Step, Walker, Want, Wanted};
+use sequence::{Walker, Want, Wanted};
 use std::alloc::Allocator;
 use std::io::{ErrorKind, Read};
 
@@ -80,25 +81,6 @@ fn read_once<R: Read>(reader: &mut R, room: &mut [u8]) -> Result<usize, Skip>
     Err(Skip::Fault(READ_FAILED))
 }
 
-/// Walks a piece of a data set; fails with the number of its first fault.
-fn walk_piece(walker: &mut RowWalker, piece: &[u8]) -> Result<(), Skip>
-    requires going { IsGoing walker.old }
-    ensures along { OnOk result ((b : List ℕ) → StandsAt walker.old b → StandsAt walker.new (b ++ piece.now)) }
-    ensures good { OnOk result (fault_of walker.new ≡ None) }
-    ensures same { IsSameSet walker.old walker.new }
-    ensures fails { IfErr result (FailsIn walker.old piece.now) }
-{
-    let mut rest = piece;
-    while !rest.is_empty() {
-        let (count, step) = walker.step(rest);
-        if let Step::Refused(fault) = step {
-            return Err(Skip::Fault(fault.number));
-        }
-        rest = &rest[count..];
-    }
-    Ok(())
-}
-
 /// Walks the data set that the reader goes on with; fails with the number of its first fault, or of a
 /// failed read.
 fn walk<R: Read>(walker: &mut RowWalker, reader: &mut R) -> Result<(), Skip>
@@ -117,7 +99,9 @@ fn walk<R: Read>(walker: &mut RowWalker, reader: &mut R) -> Result<(), Skip>
                 Err(fault) => Err(Skip::Fault(fault.number)),
             };
         }
-        walk_piece(walker, &room[..count])?;
+        if let Err(fault) = walk_piece(walker, &room[..count]) {
+            return Err(Skip::Fault(fault.number));
+        }
     }
     Err(Skip::Fault(READ_FAILED))
 }

@@ -4,11 +4,12 @@ use Rattle.std.proofs.Common.{◌≡◌, ℕ, ◌^◌, ◌<◌, ◌≤◌, true,
 use Rattle.element.specs.Uid.{is_uid}
 use Rattle.part10.specs.declared.meta.Meta.{Meta}
 use Rattle.part10.specs.File.{head, meta_group}
-use Rattle.part10.specs.MetaText.{OneHeader, SpellsMeta, said_of}
+use Rattle.part10.specs.MetaText.{OneHeader, OneVerdict, SpellsMeta, said_of}
 use Rattle.part10.specs.Examples.{NoHeaders, SyntaxIsSaid, least_group, least_header, least_said}
 use Rattle.part10.proofs.MetaLemmas as written
 use Rattle.part10.proofs.Examples as examples
 use Rattle.part10.proofs.OneHeader as headers
+use Rattle.part10.proofs.Verdicts as verdicts
 
 pub head_is_read : (meta : Meta) → is_uid meta.class ≡ true → is_uid meta.instance ≡ true → length meta.calling.0 ≡ 16 → length (meta_group meta) ≤ 360
     → SpellsMeta (said_of meta) (head meta)
@@ -25,3 +26,6 @@ other_syntax_is_a_fault = examples.other_syntax_is_a_fault
 
 pub one_header : OneHeader
 one_header = headers.one_header
+
+pub one_verdict : OneVerdict
+one_verdict = verdicts.one_verdict

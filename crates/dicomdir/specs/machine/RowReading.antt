@@ -22,10 +22,10 @@ IsSameSet w v = (syntax_of v ≡ syntax_of w) × (limits_of v ≡ limits_of w)
 abbrev pub FailsBy : Syntax → Limits → List ℕ → Skip → Type 0
 FailsBy s lim text reason = (fault : Fault) × Fails s lim text fault × (reason ≡ skip.Fault fault.number)
 
--- the piece has a fault after what the walker took, whatever bytes follow
-abbrev pub FailsIn : {V D : ℕ} → Walker V D → List ℕ → Skip → Type 0
-FailsIn w piece reason =
-    (b more : List ℕ) → StandsAt w b → IsBytes ((b ++ piece) ++ more) → FailsBy (syntax_of w) (limits_of w) ((b ++ piece) ++ more) reason
+-- the piece has this fault after what the walker took, whatever bytes follow
+abbrev pub FailsIn : {V D : ℕ} → Walker V D → List ℕ → Fault → Type 0
+FailsIn w piece fault =
+    (b more : List ℕ) → StandsAt w b → IsBytes ((b ++ piece) ++ more) → Fails (syntax_of w) (limits_of w) ((b ++ piece) ++ more) fault
 
 -- the text that the reader had is a whole data set, which the walker took
 abbrev pub TookWhole : {V D : ℕ} → Walker V D → Option (List ℕ) → Type 0

@@ -1,8 +1,8 @@
-use Rattle.std.proofs.Common.{◌≡◌, ◌∙◌, ℕ, List, length, add-one, arith}
+use Rattle.std.proofs.Common.{◌∙◌, add-one, arith}
 use Rattle.std.proofs.lemmas.List.{length-map}
-use Rattle.dicomdir.specs.Grouping.{rows_at, row_groups}
+use Rattle.dicomdir.specs.Grouping.{row_groups}
 use Rattle.dicomdir.specs.Levels.{key_for}
-use Rattle.dicomdir.proofs.GroupingSteps.{step, finished, opened_length, texts}
+use Rattle.dicomdir.proofs.GroupingSteps.{step, finished, opened_length}
 use Rattle.dicomdir.proofs.build_groups.groups.Goals as goal
 
 pub loop-row-preserved : goal.loop-row-preserved

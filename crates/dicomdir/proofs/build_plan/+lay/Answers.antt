@@ -1,4 +1,4 @@
-use Rattle.std.proofs.Common.{◌≡◌, ◌∙◌, ◌≤◌, ◌-◌, ◌<◌, length, slice_get, get_or, Some, None, sym, ap, arith, subst, drop}
+use Rattle.std.proofs.Common.{◌∙◌, ◌≤◌, ◌-◌, length, sym, arith}
 use Rattle.std.proofs.lemmas.List.{length-map}
 use Rattle.std.proofs.lemmas.Result.{err_from_is_err_and}
 use Rattle.dicomdir.specs.Grouping.{rows_at, row_groups}

@@ -1,4 +1,4 @@
-use Rattle.std.proofs.Common.{◌≡◌, arith, sym, ◌∙◌}
+use Rattle.std.proofs.Common.{◌≡◌, arith}
 use Rattle.element.specs.Header.{need}
 use Rattle.element.specs.declared.size.Need.TheVariants.{Size}
 use Rattle.sequence.proofs.Public.{need_least}
