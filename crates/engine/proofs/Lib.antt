@@ -25,6 +25,7 @@ pub mod StoreExamples
 pub mod VerdictLemmas
 pub mod OneVerdict
 pub mod StoreLawLemmas
+pub mod RunLawLemmas
 pub mod VerdictExamples
 pub mod StoreVerdicts
 pub mod CutLemmas
@@ -32,3 +33,6 @@ pub mod RowsLemmas
 pub mod JudgedLemmas
 pub mod ShownLemmas
 pub mod TakesLemmas
+pub mod BodyLemmas
+pub mod CountLemmas
+pub mod AskedLemmas

@@ -1,9 +1,7 @@
 -- A verdict is the one that is found.
-use Rattle.std.proofs.Common.{◌≡◌, ◌≢◌, ◌⊎◌, inl, inr, ℕ, Bool, true, false, List, [], ◌∷◌, ◌++◌, length, None, refl, sym, ap, subst, ◌∙◌, arith, nat_eq, rules, if◌then◌else◌}
+use Rattle.std.proofs.Common.{◌≡◌, ◌≢◌, ◌⊎◌, inl, inr, ℕ, Bool, true, false, List, [], None, refl, sym, ap, subst, ◌∙◌, arith, nat_eq, rules, if◌then◌else◌}
 use Rattle.element.specs.declared.syntax.Syntax.{Syntax}
 use Rattle.element.specs.declared.tag.Tag.{Tag}
-use Rattle.element.specs.Numbers.{IsBytes}
-use Rattle.sequence.specs.Tree.{Elements}
 use Rattle.sequence.specs.Open.{in_header, last_of}
 use Rattle.sequence.specs.Rules.{Limits}
 use Rattle.sequence.specs.Wanted.{Values, Kept, kept_of}
@@ -14,7 +12,8 @@ use Rattle.dimse.specs.Command.{CommandRecord}
 use Rattle.dimse.specs.Status.{class_not_supported, data_set_mismatch, cannot_understand}
 use Rattle.negotiate.specs.declared.proposals.Context.{Context}
 use Rattle.engine.specs.Timeline.{Finding, good}
-use Rattle.engine.specs.Stores.{IsOfContext, HasNoFault, Names, NamesInstance, Verdict, other_class, no_room, faulty, cut, names_class, names_instance, unfiled, filed, wanted, limits, class_tag, instance_tag, class_mismatch, instance_mismatch, cause}
+use Rattle.dimse.specs.Detail.{class_mismatch, instance_mismatch}
+use Rattle.engine.specs.Stores.{IsOfContext, Names, NamesInstance, Verdict, other_class, no_room, faulty, cut, names_class, names_instance, unfiled, filed, wanted, limits, class_tag, instance_tag, cause}
 use Rattle.engine.specs.StoreLaws.{AVerdictIsOne}
 use Rattle.engine.specs.machine.Judged.{no_resources, of_fault}
 use Rattle.engine.proofs.VerdictLemmas.{IsFine, Ends, ends_broken, ends_short, ends_fine, whole_front, every_end, of_context_or_not, names_or_not, instance_or_not, finding_on_names, found_on}
@@ -138,4 +137,24 @@ a_verdict_is_one depth most context command set failed one other bytes v w = by 
   where
     by : IsOfContext context command ⊎ (IsOfContext context command → ⊥) → one ≡ other
     by (inl of) = same_verdict depth most context command set failed of one other (every_end context.syntax (limits depth most) set bytes) v w
+    by (inr not_of) = unsupported_is not_of v ∙ sym (unsupported_is not_of w)
+
+-- ---- and a verdict says itself how its text ends
+
+end_of : {depth most : ℕ} {context : Context} {command : CommandRecord} {set : List ℕ} {failed : Bool} {finding : Finding} → IsOfContext context command → Verdict depth most context command set failed finding → Ends context.syntax (limits depth most) set
+end_of of (other_class other) = absurd (other of)
+end_of of (no_room {p = p} {u = u} {rule = rule} {tag = tag} o f r) = ends_broken p u rule tag f
+end_of of (faulty {p = p} {u = u} {rule = rule} {tag = tag} o f deep long) = ends_broken p u rule tag f
+end_of of (cut {tag = tag} o end) = ends_short tag end
+end_of of (names_class o whole kept differs) = ends_fine (record { elements = whole.elements; whole = whole.whole; unbroken = whole.unbroken })
+end_of of (names_instance o whole kept class differs) = ends_fine (record { elements = whole.elements; whole = whole.whole; unbroken = whole.unbroken })
+end_of of (unfiled o whole kept class instance e) = ends_fine (record { elements = whole.elements; whole = whole.whole; unbroken = whole.unbroken })
+end_of of (filed o whole kept class instance e) = ends_fine (record { elements = whole.elements; whole = whole.whole; unbroken = whole.unbroken })
+
+pub same_finding : (depth most : ℕ) (context : Context) (command : CommandRecord) (set : List ℕ) (failed : Bool) (one other : Finding)
+    → Verdict depth most context command set failed one → Verdict depth most context command set failed other → one ≡ other
+same_finding depth most context command set failed one other v w = by (of_context_or_not context command)
+  where
+    by : IsOfContext context command ⊎ (IsOfContext context command → ⊥) → one ≡ other
+    by (inl of) = same_verdict depth most context command set failed of one other (end_of of v) v w
     by (inr not_of) = unsupported_is not_of v ∙ sym (unsupported_is not_of w)

@@ -1,6 +1,6 @@
 -- What comes of a store at the entry where it ends.
-use Rattle.std.proofs.Common.{◌≡◌, ℕ, Bool, true, false, not, ◌&&◌, ◌||◌, List, [], ◌∷◌, ◌++◌, Option, Some, None, Result, Ok, Err, refl, sym, ap, subst, ◌∙◌, arith, nat_eq, rules, if◌then◌else◌}
-use Rattle.pdu.specs.Marks.{Mark, Head, PdvHead, Pdv, BadPdv, Leftover, End}
+use Rattle.std.proofs.Common.{◌≡◌, ℕ, Bool, true, false, not, ◌&&◌, ◌||◌, List, [], ◌∷◌, Option, Some, None, Result, Ok, refl, sym, ap, subst, ◌∙◌, nat_eq, if◌then◌else◌}
+use Rattle.pdu.specs.Marks.{Head, PdvHead, Pdv, BadPdv, Leftover, End}
 use Rattle.pdu.specs.Items.{record_of}
 use Rattle.pdu.specs.Record.{Record}
 use Rattle.negotiate.specs.declared.proposals.Context.{Context}
@@ -13,28 +13,27 @@ use Rattle.dimse.specs.Messages as messages
 use Rattle.dimse.specs.Messages.{Message, Brought, Goes, Ends, Refuses, message_by, brought, ended}
 use Rattle.dimse.specs.Reply.{reply_bytes}
 use Rattle.dimse.specs.Status.{success}
-use Rattle.sequence.specs.Wanted.{kept_of}
 use Rattle.sequence.specs.Open.{last_of, in_header}
 use Rattle.sequence.proofs.Public.{whole_breaks_no_rule}
-use Rattle.engine.specs.Timeline.{Entry, At, Shut, TimedOut, Aborted, Finding, Outcome, Happened, good}
+use Rattle.engine.specs.Timeline.{Entry, At, Shut, TimedOut, Aborted, Finding, Happened, good}
 use Rattle.engine.specs.Progress.{Progress, absorb, is_established, Advance, nothing}
 use Rattle.engine.specs.Replies.{file_in, file_put, echo_status, finding_on, replied, going_on, user_aborts, at_pdv}
-use Rattle.engine.specs.Stores.{Verdict, filed, wanted, limits, class_tag}
-use Rattle.engine.specs.StoreLaws.{EndsAt, IsGoodImage, IsCalm, file_of, NoGoodImageIsRefused, FiledByItself}
+use Rattle.engine.specs.Stores.{Verdict, filed, limits}
+use Rattle.engine.specs.StoreLaws.{EndsAt, IsGoodImage, file_of, NoGoodImageIsRefused, FiledByItself}
 use Rattle.engine.specs.Run.{Rooms, at_entry, gives, cut}
-use Rattle.engine.specs.Fair.{IsFair, IsVerdict, message_at}
-use Rattle.engine.proofs.VerdictLemmas.{IsFine, ends_fine, whole_front}
+use Rattle.engine.specs.Fair.{IsVerdict, message_at}
+use Rattle.engine.proofs.VerdictLemmas.{ends_fine, whole_front}
 use Rattle.engine.proofs.OneVerdict.{same_verdict}
 
 -- ---- the entry where a message ends
 
 -- what a PDV brings to the message comes to this
-abbrev by_brought : Progress → Finding → Brought → Advance
+abbrev pub by_brought : Progress → Finding → Brought → Advance
 by_brought p finding (Goes later) = nothing (going_on later p)
 by_brought p finding (Ends m) = replied p finding m (command_in m.command)
 by_brought p finding (Refuses fault) = user_aborts p
 
-brought_is : (p : Progress) (finding : Finding) (b : Brought) →
+pub brought_is : (p : Progress) (finding : Finding) (b : Brought) →
     ◌≡◌ {A = Advance} (elim b [ Goes begun ↦ nothing (going_on begun p) | Ends m ↦ replied p finding m (command_in m.command) | Refuses fault ↦ user_aborts p ]) (by_brought p finding b)
 brought_is p finding (Goes later) = refl
 brought_is p finding (Ends m) = refl
@@ -69,7 +68,7 @@ ended_at rooms s p finding context control fragment m ends =
     chosen (is_established p.state) p.refused (ended p.message pdv) m (at_pdv p finding pdv) (nothing p) ends
     ∙ replied_at p finding pdv m (is_ended (is_established p.state) p.refused (ended p.message pdv) m ends)
 
-entry_at : (rooms : Rooms) (s : Settings) (p : Progress) (finding : Finding) (e : Entry) (m : Message) → message_at p e ≡ Some m → at_entry rooms s p finding e ≡ replied p finding m (command_in m.command)
+pub entry_at : (rooms : Rooms) (s : Settings) (p : Progress) (finding : Finding) (e : Entry) (m : Message) → message_at p e ≡ Some m → at_entry rooms s p finding e ≡ replied p finding m (command_in m.command)
 entry_at rooms s p finding (At (Pdv context control fragment)) m ends = ended_at rooms s p finding context control fragment m ends
 entry_at rooms s p finding (At (Head kind n)) m ends = absurd cc
 entry_at rooms s p finding (At (PdvHead n context control)) m ends = absurd cc

@@ -22,7 +22,8 @@ use Rattle.dimse.specs.Command.{CommandRecord}
 use Rattle.dimse.specs.Status.{class_not_supported, data_set_mismatch, cannot_understand}
 use Rattle.negotiate.specs.declared.proposals.Context.{Context}
 use Rattle.engine.specs.Timeline.{Finding, good}
-use Rattle.engine.specs.Stores.{IsOfContext, HasNoFault, Names, NamesInstance, Verdict, other_class, no_room, faulty, cut, names_class, names_instance, unfiled, filed, wanted, limits, class_tag, instance_tag, cause, class_mismatch, instance_mismatch}
+use Rattle.dimse.specs.Detail.{class_mismatch, instance_mismatch}
+use Rattle.engine.specs.Stores.{IsOfContext, HasNoFault, Names, NamesInstance, Verdict, other_class, no_room, faulty, cut, names_class, names_instance, unfiled, filed, wanted, limits, class_tag, instance_tag, cause}
 use Rattle.engine.specs.StoreLaws.{AVerdictIsThere, AVerdictIsOne}
 use Rattle.engine.specs.machine.Judged.{no_resources, of_fault}
 use Rattle.engine.proofs.JudgedLemmas.{rule_found}

@@ -7,7 +7,7 @@ use Rattle.pdu.specs.Marks.{Pdv}
 use Rattle.negotiate.specs.Settings.{Settings}
 use Rattle.negotiate.specs.declared.proposals.Context.{Context}
 use Rattle.negotiate.specs.Contexts.{context_of}
-use Rattle.dimse.specs.Command.{CommandRecord}
+use Rattle.dimse.specs.Command.{CommandRecord, c_store}
 use Rattle.dimse.specs.Reading.{command_in}
 use Rattle.dimse.specs.Messages.{Begun, InSet, Message, ended}
 use Rattle.engine.specs.Inputs.{Received}
@@ -26,7 +26,7 @@ message_at p entry = None
 -- where the message is a store, the finding is the verdict on it
 abbrev pub IsVerdict : Rooms → Settings → Progress → Finding → Option Message → Type 0
 IsVerdict rooms s p finding None = Unit {0}
-IsVerdict rooms s p finding (Some m) = (command : CommandRecord) (context : Context) → command_in m.command ≡ Ok command → command.field ≡ 0x0001
+IsVerdict rooms s p finding (Some m) = (command : CommandRecord) (context : Context) → command_in m.command ≡ Ok command → command.field ≡ c_store
     → context_of (record_of p.request) m.context ≡ Some context
     → Verdict rooms.depth s.max_data context command m.set p.filing_failed finding
 

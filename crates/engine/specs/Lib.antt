@@ -19,6 +19,7 @@ pub mod Fields
 pub mod Ran
 pub mod Laws
 pub mod StoreLaws
+pub mod RunLaws
 pub mod VerdictExamples
 pub mod Recording
 pub mod Examples

@@ -10,7 +10,7 @@ use Rattle.pdu.specs.Items.{record_of}
 use Rattle.negotiate.specs.declared.proposals.Context.{Context}
 use Rattle.negotiate.specs.Contexts.{context_of}
 use Rattle.dimse.specs.declared.fault.DimseFault.{DimseFault}
-use Rattle.dimse.specs.Command.{CommandRecord}
+use Rattle.dimse.specs.Command.{CommandRecord, c_store, c_echo}
 use Rattle.dimse.specs.Reading.{command_in}
 use Rattle.dimse.specs.Messages.{Pdv, Message, Begun, NoMessage, refusal, Goes, Ends, Refuses, brought}
 use Rattle.dimse.specs.Reply.{reply_bytes}
@@ -18,9 +18,10 @@ use Rattle.dimse.specs.Status.{success, class_not_supported}
 use Rattle.part10.specs.File.{File}
 use Rattle.engine.specs.Timeline.{Finding}
 use Rattle.engine.specs.Progress.{Progress, Advance, nothing, done, refusing}
+use Rattle.engine.specs.Heads.{invalid_parameter}
 
 abbrev pub invalid : Progress → Advance
-invalid p = refusing (done [] 6 p event.Invalid)
+invalid p = refusing (done [] invalid_parameter p event.Invalid)
 
 abbrev pub user_aborts : Progress → Advance
 user_aborts p = refusing (done [] 0 p event.UserAborts)
@@ -52,7 +53,7 @@ echo_status context command = if is_verification (class_of command.class) && is_
 
 -- on a C-STORE it is that which stands beside the entry
 abbrev pub finding_on : Option Context → CommandRecord → Finding → Finding
-finding_on context command finding = if nat_eq command.field 0x0030 then record { status = echo_status context command; detail = None } else finding
+finding_on context command finding = if nat_eq command.field c_echo then record { status = echo_status context command; detail = None } else finding
 
 abbrev pub some_or_nothing : Option (List ℕ) → List ℕ
 some_or_nothing None = []
@@ -67,7 +68,7 @@ file_in r (Some context) command data_set =
 -- a C-STORE of status 0000 puts its file last
 abbrev pub file_put : Record → ℕ → CommandRecord → List ℕ → Finding → List (List ℕ)
 file_put r id command data_set finding =
-    if nat_eq command.field 0x0001 && nat_eq finding.status success then file_in r (context_of r id) command data_set else []
+    if nat_eq command.field c_store && nat_eq finding.status success then file_in r (context_of r id) command data_set else []
 
 abbrev pub ended_message : Progress → Progress
 ended_message p = record p { message = NoMessage; filing_failed = false }

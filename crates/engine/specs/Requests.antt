@@ -8,10 +8,12 @@ use Rattle.pdu.specs.Refusal.{request_fault}
 use Rattle.pdu.specs.Texts.{reject_text}
 use Rattle.negotiate.specs.declared.answer.Answer.{Answer}
 use Rattle.negotiate.specs.declared.answer.Answer.TheVariants.{Accept, Reject}
+use Rattle.negotiate.specs.Rejections.{service_provider_acse}
 use Rattle.negotiate.specs.Settings.{Settings}
 use Rattle.negotiate.specs.Answer.{judged}
 use Rattle.negotiate.specs.Accept.{accept_text}
 use Rattle.engine.specs.Progress.{Progress, Advance, followed_by, done}
+use Rattle.engine.specs.Heads.{invalid_parameter}
 
 -- the request is kept
 abbrev pub keeping : List ℕ → Progress → Progress
@@ -24,15 +26,15 @@ accepted p answer = followed_by (done [] 0 p (event.Request true)) (λ q. done a
 abbrev pub declined : Progress → List ℕ → Advance
 declined p answer = followed_by (done [] 0 p (event.Request true)) (λ q. done answer 0 q event.UserRefuses)
 
--- a rejection of source 2 is the service provider's, any other the local user's
+-- a rejection whose source is ACSE is the service provider's, any other the local user's
 abbrev pub answered : Settings → Record → Progress → Answer → Advance
 answered s r p Accept = accepted p (accept_text s r)
 answered s r p (Reject result source reason) =
-    if nat_eq source 2 then done (reject_text result source reason) 0 p (event.Request false)
+    if nat_eq source service_provider_acse then done (reject_text result source reason) 0 p (event.Request false)
     else declined p (reject_text result source reason)
 
 abbrev pub at_request : Settings → Progress → List ℕ → Advance
 at_request s p body = elim (request_fault body) [
-  | Some fault ↦ done [] 6 p event.Invalid
+  | Some fault ↦ done [] invalid_parameter p event.Invalid
   | None ↦ answered s (record_of body) (keeping body p) (judged s (record_of body))
 ]

@@ -4,7 +4,9 @@ use Rattle.std.specs.Prelude.{ℕ, ◌+◌, ◌-◌, Bool, true, false, ◌&&◌
 use Rattle.acceptor.specs.declared.state.State.TheVariants.{Sta1}
 use Rattle.acceptor.specs.declared.event.Event.TheVariants as event
 use Rattle.pdu.specs.Marks.{Mark, Head, PdvHead, Pdv, BadPdv, Leftover, End}
+use Rattle.pdu.specs.Types.{associate_rq, release_rq, abort}
 use Rattle.pdu.specs.Texts.{reject_text}
+use Rattle.negotiate.specs.Rejections.{rejected_transient, service_provider_presentation, local_limit_exceeded}
 use Rattle.negotiate.specs.Settings.{Settings}
 use Rattle.engine.specs.Timeline.{Entry, At, Shut, TimedOut, Aborted, Finding, Happened}
 use Rattle.engine.specs.Progress.{Progress, absorb, left, is_due, is_established, Advance, nothing, followed_by, done, refusing}
@@ -26,7 +28,7 @@ abbrev pub at_head : Rooms → Settings → Progress → ℕ → ℕ → Advance
 at_head rooms s p kind n = elim (head_event (rooms.request - 12) s.max_pdu p.state kind n) [
   | NoEvent ↦ nothing p
   | AtOnce e reason ↦ refusing (done [] reason p e)
-  | TooLong ↦ refusing (done (reject_text 2 3 2) 0 p (event.Request false))
+  | TooLong ↦ refusing (done (reject_text rejected_transient service_provider_presentation local_limit_exceeded) 0 p (event.Request false))
 ]
 
 abbrev pub released : Progress → Advance
@@ -35,9 +37,9 @@ released p = followed_by (done [] 0 p event.ReleaseRq) (λ q. done [] 0 q event.
 -- a whole PDU that was not refused
 abbrev pub at_end : Settings → Progress → ℕ → List ℕ → Advance
 at_end s p kind body =
-    if nat_eq kind 7 then done [] 0 p event.Abort
-    else (if nat_eq kind 1 && is_due p.state then at_request s p body
-    else (if nat_eq kind 5 && is_established p.state then released p
+    if nat_eq kind abort then done [] 0 p event.Abort
+    else (if nat_eq kind associate_rq && is_due p.state then at_request s p body
+    else (if nat_eq kind release_rq && is_established p.state then released p
     else nothing p))
 
 -- a mark of a PDU that was not refused; PDVs count in an established association alone

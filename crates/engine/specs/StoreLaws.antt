@@ -4,7 +4,7 @@ use Rattle.std.specs.Prelude.{◌≡◌, ℕ, Bool, false, List, [], ◌∷◌, 
 use Rattle.element.specs.Numbers.{IsBytes}
 use Rattle.element.specs.declared.syntax.Syntax.{Syntax}
 use Rattle.pdu.specs.Items.{record_of}
-use Rattle.dimse.specs.Command.{CommandRecord}
+use Rattle.dimse.specs.Command.{CommandRecord, c_store}
 use Rattle.dimse.specs.Messages.{Message}
 use Rattle.dimse.specs.Reading.{command_in}
 use Rattle.dimse.specs.Reply.{reply_bytes}
@@ -39,7 +39,7 @@ AVerdictIsOne = (depth most : ℕ) (context : Context) (command : CommandRecord)
 pub record EndsAt (p : Progress) (h : Happened) (m : Message) (command : CommandRecord) (context : Context) : Type 0 where
   pub ended : message_at p h.0 ≡ Some m
   pub spelled : command_in m.command ≡ Ok command
-  pub store : command.field ≡ 0x0001
+  pub store : command.field ≡ c_store
   pub accepted : context_of (record_of p.request) m.context ≡ Some context
 
 -- A good image: it is sent under its own class and instance, in an accepted context of that class, as a whole data set

@@ -5,7 +5,8 @@ use Rattle.dimse.specs.Command.{CommandRecord}
 use Rattle.dimse.specs.Status.{data_set_mismatch}
 use Rattle.engine.specs.Timeline.{Finding, good}
 use Rattle.engine.specs.Run.{files_of}
-use Rattle.engine.specs.Stores.{Verdict, cause, instance_mismatch, instance_tag}
+use Rattle.dimse.specs.Detail.{instance_mismatch}
+use Rattle.engine.specs.Stores.{Verdict, cause, instance_tag}
 use Rattle.engine.specs.Examples.{rooms, settings}
 use Rattle.engine.specs.StoreExamples.{data_set, accepted, a_store, the_set, unfiled}
 use Rattle.engine.specs.VerdictExamples.{ct_in}

@@ -8,9 +8,10 @@ use Rattle.element.specs.Uid.{uid_of}
 use Rattle.dictionary.specs.Classes.{class_of, is_storage}
 use Rattle.negotiate.specs.declared.proposals.Context.{Context}
 use Rattle.dimse.specs.Command.{CommandRecord}
+use Rattle.dimse.specs.Detail.{class_mismatch, instance_mismatch}
 use Rattle.dimse.specs.Status.{class_not_supported, out_of_resources, data_set_mismatch, cannot_understand}
 use Rattle.sequence.specs.declared.wanted.Want.{Want}
-use Rattle.sequence.specs.Rules.{Limits}
+use Rattle.sequence.specs.Rules.{Limits, too_deep, too_long, truncated}
 use Rattle.sequence.specs.Wanted.{Values, Kept, value_of}
 use Rattle.sequence.specs.Tree.{Elements, DataSet}
 use Rattle.sequence.specs.FirstFault.{IsUnbroken, FirstFault, EndFault}
@@ -54,12 +55,6 @@ NamesInstance values command = (uid : List ℕ) × (command.instance ≡ Some ui
 abbrev pub cause : ℕ → ℕ → Tag → Finding
 cause status number tag = record { status = status; detail = Some (record { number = number; tag = tag }) }
 
-abbrev pub class_mismatch : ℕ
-class_mismatch = 45
-
-abbrev pub instance_mismatch : ℕ
-instance_mismatch = 46
-
 -- The finding on a store: of the whole data set that came after the command in this context, the first of these that
 -- holds. `failed` says whether a filing call failed in the message.
 pub data Verdict (depth bytes : ℕ) (context : Context) (command : CommandRecord) (data_set : List ℕ) (failed : Bool) : Finding → Type 0 where
@@ -67,14 +62,14 @@ pub data Verdict (depth bytes : ℕ) (context : Context) (command : CommandRecor
   other_class : (IsOfContext context command → ⊥) → Verdict depth bytes context command data_set failed (record { status = class_not_supported; detail = None })
   -- too many open levels, or too many bytes
   no_room : {p u : List ℕ} {rule : ℕ} {tag : Tag} → IsOfContext context command
-      → FirstFault context.syntax (limits depth bytes) data_set p u rule tag → (rule ≡ 18) ⊎ (rule ≡ 19)
+      → FirstFault context.syntax (limits depth bytes) data_set p u rule tag → (rule ≡ too_deep) ⊎ (rule ≡ too_long)
       → Verdict depth bytes context command data_set failed (record { status = out_of_resources; detail = None })
   -- another fault
   faulty : {p u : List ℕ} {rule : ℕ} {tag : Tag} → IsOfContext context command
-      → FirstFault context.syntax (limits depth bytes) data_set p u rule tag → rule ≢ 18 → rule ≢ 19
+      → FirstFault context.syntax (limits depth bytes) data_set p u rule tag → rule ≢ too_deep → rule ≢ too_long
       → Verdict depth bytes context command data_set failed (cause cannot_understand rule tag)
   cut : {tag : Tag} → IsOfContext context command → EndFault context.syntax (limits depth bytes) data_set tag
-      → Verdict depth bytes context command data_set failed (cause cannot_understand 20 tag)
+      → Verdict depth bytes context command data_set failed (cause cannot_understand truncated tag)
   -- the data set's class is missing, unreadable or other than the command's
   names_class : {values : Values} → IsOfContext context command → HasNoFault context.syntax (limits depth bytes) data_set
       → Kept context.syntax wanted data_set values → (Names values class_tag command.class → ⊥)

@@ -23,7 +23,8 @@ use Rattle.engine.specs.declared.framing.Framing.TheVariants as framing
 use Rattle.engine.specs.machine.Shows.{Fields}
 use Rattle.engine.specs.machine.Storing.{Nothing}
 use Rattle.engine.specs.Stands.{Stands}
-use Rattle.engine.specs.Stores.{Verdict, cause, class_mismatch, class_tag}
+use Rattle.dimse.specs.Detail.{class_mismatch}
+use Rattle.engine.specs.Stores.{Verdict, cause, class_tag}
 use Rattle.engine.specs.Recording.{request, accept, reply, released}
 use Rattle.engine.specs.Examples.{rooms, settings, calm, recording}
 

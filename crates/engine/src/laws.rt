@@ -5,6 +5,7 @@ ghost use Rattle.engine.specs.StoreExamples.{AStoreIsFiled, AFilingFailsOnce, AC
 ghost use Rattle.engine.specs.StoreVerdicts.{VerdictsOnOneImage, TheFileOfAStore};
 ghost use Rattle.engine.specs.VerdictExamples.{VerdictsOnFaults};
 ghost use Rattle.engine.specs.StoreLaws.{AVerdictIsThere, AVerdictIsOne, NoGoodImageIsRefused, FiledByItself};
+ghost use Rattle.engine.specs.RunLaws.{EveryGoodImageIsFiled, OneRun};
 ghost use Rattle.engine.specs.Laws.{EntriesAppend, CutsDoNotShow, NothingAfterTheEnd};
 ghost use Rattle.engine.specs.Examples.{ARequestAboveTheRoom, BytesThatAreNoPdu, DataAboveTheMaximum, AfterTheEnd, AnotherCalledTitle, RecordedEcho, HeldWhileTheEchoComes, AGoodPdvBeforeABadOne};
 
@@ -16,6 +17,11 @@ pub fn timeline_only_grows()
 /// How the stream is cut doesn't show.
 pub fn cuts_do_not_show()
     ensures { CutsDoNotShow }
+{}
+
+/// Inputs have one run in which no device fails, however their stream is cut.
+pub fn a_run_without_failures_is_one()
+    ensures { OneRun }
 {}
 
 /// Nothing is sent and no file is put after the end.
@@ -37,6 +43,12 @@ pub fn a_verdict_is_one()
 /// that class, is answered by success and filed, where no device fails.
 pub fn no_good_image_is_refused()
     ensures { NoGoodImageIsRefused }
+{}
+
+/// Every good image that a run has taken whole, with no device failing in its message, has its file and
+/// its reply of success there, at their place among all others.
+pub fn every_good_image_is_filed()
+    ensures { EveryGoodImageIsFiled }
 {}
 
 /// What is filed for a store depends on its own bytes and the sender's title alone.

@@ -8,7 +8,8 @@ use Rattle.dimse.specs.Status.{success, class_not_supported, out_of_resources, d
 use Rattle.negotiate.specs.declared.proposals.Context.{Context}
 use Rattle.part10.specs.Store.{Store, stepped, committed, failed}
 use Rattle.engine.specs.declared.stores.StoreStatus.{StoreStatus}
-use Rattle.engine.specs.Stores.{IsOfContext, HasNoFault, Names, NamesInstance, Verdict, wanted, limits, class_tag, instance_tag, class_mismatch, instance_mismatch, cause}
+use Rattle.dimse.specs.Detail.{class_mismatch, instance_mismatch}
+use Rattle.engine.specs.Stores.{IsOfContext, HasNoFault, Names, NamesInstance, Verdict, wanted, limits, class_tag, instance_tag, cause}
 use Rattle.engine.specs.Timeline.{Finding, good}
 use Rattle.engine.specs.machine.Storing.{Stored, Nothing, Walking, Takes, EndsStore, finding_of}
 

@@ -8,11 +8,20 @@ use Rattle.engine.proofs.association.Association.local_abort.Goals as goal
 pub returns-then-is_ended-clause-moved : goal.returns-then-is_ended-clause-moved
 returns-then-is_ended-clause-moved g c inputs story failed h = moved_still _ _ inputs story failed UserAbort _ _ h (sym c.is_ended.ensures ∙ c.if-is_ended.true) c.requires.draft
 
-pub invariant_of-self-clause-body_fits : goal.invariant_of-self-clause-body_fits
-invariant_of-self-clause-body_fits g c some = c.on_local_abort.ensures.body_fits _ _ (c.args.self.now.body_fits some)
-
-pub invariant_of-self-clause-fragment_fits : goal.invariant_of-self-clause-fragment_fits
-invariant_of-self-clause-fragment_fits g c some = c.on_local_abort.ensures.fragment_fits _ (c.args.self.now.fragment_fits some)
+pub invariant_of-self : goal.invariant_of-self
+invariant_of-self g c =
+    let was = c.args.self.now in
+    record {
+      some_due = was.some_due;
+      head_least = was.head_least;
+      head_most = was.head_most;
+      pdv_least = was.pdv_least;
+      pdv_most = was.pdv_most;
+      «data» = was.«data»;
+      within = was.within;
+      body_fits = λ some. c.on_local_abort.ensures.body_fits _ _ (was.body_fits some);
+      fragment_fits = λ some. c.on_local_abort.ensures.fragment_fits _ (was.fragment_fits some);
+    }
 
 pub returns-clause-moved : goal.returns-clause-moved
 returns-clause-moved g c inputs story failed h =
