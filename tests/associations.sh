@@ -3,9 +3,12 @@
 port=11112
 listening=
 
-# listen ARGUMENTS.. : starts the box; its log is err.txt.
+# listen ARGUMENTS.. : starts the box in 16 MB of memory; its log is err.txt.
 listen() {
-  "$program" serve --port $port --out . "$@" >out.txt 2>err.txt &
+  (
+    ulimit -v 16384
+    exec "$program" serve --port $port --out . "$@" >out.txt 2>err.txt
+  ) &
   listening=$!
 }
 
@@ -43,8 +46,9 @@ echoes() {
 listen --once --timeout 5
 echoes
 report 'the recorded echo over TCP'
+line='\[INFO  cli::serve\] 20[0-9-]+T[0-9:.]+Z 127\.0\.0\.1:[0-9]+ Ended held 0 files 0 dropped 0 received 260 in [0-9]+ s'
 wait "$listening"
-[ "$?" -eq 0 ] && [ ! -s out.txt ] && [ "$(grep -c 'Ended held 0 files 0 dropped 0 received 260 in' err.txt)" -eq 1 ]
+[ "$?" -eq 0 ] && [ ! -s out.txt ] && [[ $(cat err.txt) =~ ^$line$ ]]
 report 'its log has one line, and nothing is printed'
 
 listen --timeout 2 --idle 2
@@ -96,11 +100,11 @@ report 'a peer that falls silent'
 logged 'Ended held 0 files 0 dropped 0 received 170 in'
 report 'its association ends'
 
-"$program" serve --port $port --out . >out.txt 2>err2.txt
+timeout 20 "$program" serve --port $port --out . >out.txt 2>err2.txt
 [ "$?" -eq 3 ] && grep -q 'dcmbox: \.: the folder can.t be opened: .*' err2.txt
 report 'a folder that another box receives into'
 mkdir -p other
-"$program" serve --port $port --out other >out.txt 2>err2.txt
+timeout 20 "$program" serve --port $port --out other >out.txt 2>err2.txt
 [ "$?" -eq 3 ] && grep -q "dcmbox: $port: can.t be listened on: .*choose another port" err2.txt
 report 'a port that is in use'
 
@@ -112,3 +116,19 @@ kill "$listening"
 wait "$listening" 2>/dev/null
 [ "$(wc -l <err.txt)" -eq 5 ]
 report 'one line an association'
+
+# Without a free descriptor no connection is accepted, until there is one again.
+listen --timeout 2
+echoes
+free=0
+while [ -e "/proc/$listening/fd/$free" ]; do free=$((free + 1)); done
+prlimit --pid "$listening" --nofile="$free:"
+connect
+logged '^\[ERROR cli::serve\] a connection could not be accepted: '
+report 'a connection that is not accepted'
+exec 3>&-
+prlimit --pid "$listening" --nofile=256:
+echoes && [ "$(grep -c 'received 260 in' err.txt)" -ge 1 ]
+report 'serving goes on after it'
+kill "$listening"
+wait "$listening" 2>/dev/null

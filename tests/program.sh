@@ -35,9 +35,25 @@ try() {
   fi
 }
 
+# report NAME : counts a test by the status of the last command.
+report() {
+  if [ "$?" -eq 0 ]; then
+    echo "ok $1"
+    passed=$((passed + 1))
+  else
+    echo "FAILED $1"
+    failed=$((failed + 1))
+  fi
+}
+
 # hex FILE : the bytes that the file's hexadecimal text stands for.
 hex() {
   printf "$(tr -d ' \n' <"$1" | sed 's/../\\x&/g')"
+}
+
+# put FILE PLACE BYTES : changes the bytes at a place of the file.
+put() {
+  printf "$3" | dd of="$1" bs=1 seek="$2" conv=notrunc status=none
 }
 
 printf '' >empty.bin
@@ -45,7 +61,7 @@ printf 'GET / HTTP/1.0\r\n\r\n' >text.bin
 head -c 200 "$recordings/echo.bin" >cut.bin
 # The request's maximum length, four bytes from byte 157, becomes 8.
 cp "$recordings/echo.bin" eights.bin
-printf '\0\0\0\10' | dd of=eights.bin bs=1 seek=157 conv=notrunc status=none
+put eights.bin 157 '\0\0\0\10'
 
 lines=$(cat "$here/../crates/cli/stdout")
 eights=$(cat "$here/expected/echo_in_eights.txt")
@@ -69,6 +85,9 @@ try 'no folder' 2 '' '.*--out.*' replay empty.bin
 try 'no file' 2 '' '.*FILE.*' replay --out .
 try 'an unknown option' 2 '' '.*--fast.*' replay empty.bin --out . --fast
 try 'an option given twice' 2 '' '.*--out.*' replay empty.bin --out . --out .
+try 'a flag given twice' 2 '' '.*--once.*' serve --out . --port 11112 --once --once
+try 'another flag given twice' 2 '' '.*--keep.*' index . --uid 2.25.1 --keep --keep
+try 'an argument that is not UTF-8' 2 '' 'error: an argument is not UTF-8' show $'\377'
 try 'no bytes at a time' 2 '' '.*--cut.*from 1 to 65536.*' replay empty.bin --out . --cut 0
 try 'too many bytes at a time' 2 '' '.*--cut.*' replay empty.bin --out . --cut 65537
 try 'a cut that is no number' 2 '' '.*--cut.*' replay empty.bin --out . --cut all
@@ -104,6 +123,7 @@ try 'help with an example' 0 '.*Example: dcmbox show .*' '' show --help
 try 'a missing file is shown' 3 '' 'dcmbox: missing.dcm: the file can.t be opened: .*check its name.*' show missing.dcm
 try 'a folder is checked' 3 '' 'dcmbox: \.: the file can.t be read: .*' check .
 mkdir folder empty other
+mkdir -p odd/DICOMDIR
 cp ct.dcm folder/I0000001
 cp text.bin other/DICOMDIR
 try 'a folder is indexed' 0 'skipped I0000001 missing 0008,0020
@@ -112,7 +132,8 @@ try 'its directory is good' 0 'records 0' '' checkdir folder/DICOMDIR
 try 'no UID' 2 '' '.*--uid.*' index folder
 try 'a UID that is none' 2 '' '.*--uid takes a UID.*' index folder --uid 2.25.x
 try 'a missing folder is indexed' 3 '' 'dcmbox: missing: the folder can.t be opened: .*' index missing --uid 2.25.1
-try 'no directory whose files are kept' 3 '' 'dcmbox: empty: the folder.s DICOMDIR can.t be opened: .*without --keep.*' index empty --uid 2.25.1 --keep
+try 'no directory whose files are kept' 3 '' 'dcmbox: empty: the folder.s DICOMDIR can.t be read: .*without --keep.*' index empty --uid 2.25.1 --keep
+try 'a folder in place of the directory' 3 '' 'dcmbox: odd: the folder.s DICOMDIR can.t be read: .*' index odd --uid 2.25.1 --keep
 try 'the directory is no DICOM file' 1 'fault 50 NotPart10 at 128' '' index other --uid 2.25.1 --keep
 try 'no port' 2 '' '.*--port.*' serve --out .
 try 'port 0' 2 '' '.*--port.*' serve --out . --port 0
@@ -120,21 +141,14 @@ try 'a PDU that is too short' 2 '' '.*--max-pdu.*' serve --out . --port 11112 --
 callers=()
 for _ in $(seq 17); do callers+=(--caller SCANNER1); done
 try 'too many titles' 2 '' '.*--caller.*16 times.*' serve --out . --port 11112 "${callers[@]}"
+try 'two titles' 3 '' 'dcmbox: missing: the folder .*' serve --out missing --port 11112 --caller SCANNER1 --caller SCANNER2
 try 'no time' 2 '' '.*--timeout.*' serve --out . --port 11112 --timeout 0
 try 'a folder that is not there' 3 '' 'dcmbox: missing: the folder can.t be opened: .*create it.*' replay empty.bin --out missing
 try 'a file that is not there' 3 '' 'dcmbox: missing.bin: the file can.t be opened: .*' replay missing.bin --out .
 try 'a folder in place of a file' 3 '' 'dcmbox: \.: the file can.t be read: .*' replay . --out .
 
-# report NAME : counts a test by the status of the last command.
-report() {
-  if [ "$?" -eq 0 ]; then
-    echo "ok $1"
-    passed=$((passed + 1))
-  else
-    echo "FAILED $1"
-    failed=$((failed + 1))
-  fi
-}
+. "$here/folders.sh"
+. "$here/words.sh"
 
 # A listing of 1.4 MB, of which one line is read. The items of a sequence are its lines.
 printf '\376\377\0\340\0\0\0\0' >items.bin
@@ -149,6 +163,9 @@ report 'a reader that has read enough'
 "$program" show items.dcm >/dev/full 2>err.txt
 [ "$?" -eq 3 ] && grep -q 'dcmbox: items.dcm: the output can.t be written' err.txt
 report 'a full disk'
+"$program" replay "$recordings/echo.bin" --out . >/dev/full 2>err.txt
+[ "$?" -eq 3 ] && grep -q 'echo.bin: the output can.t be written' err.txt
+report 'a full disk for what is sent'
 
 # A value of 1 GiB, which takes no room on the disk, in 16 MB of memory.
 { cat header.dcm; printf '\340\177\20\0OW\0\0\0\0\0\100'; } >large.dcm

@@ -8,7 +8,7 @@ use thiserror::Error;
 /// version and invalid arguments it ends with status 3 and this text.
 #[derive(Debug, Drop, Error)]
 pub enum ProgramError {
-    #[error("the command line can't be read: {0}")]
+    #[error("the command line can't be read: {0}; start the program again")]
     Arguments(io::Error),
     #[error("{0}")]
     Words(#[from] WordsError),
@@ -18,7 +18,7 @@ pub enum ProgramError {
     Read(io::Error),
     #[error("the folder can't be opened: {0}; create it, or end the other program that receives into it")]
     Folder(io::Error),
-    #[error("the folder's DICOMDIR can't be opened: {0}; run index without --keep")]
+    #[error("the folder's DICOMDIR can't be read: {0}; run index without --keep")]
     NoDirectory(io::Error),
     #[error("the directory can't be written: {0}; check that the disk has room, and that you may write into the folder")]
     Directory(io::Error),

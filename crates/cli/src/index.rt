@@ -36,42 +36,53 @@ fn row_of<R: Files<File = File> + Alloc<A = Global>>(
     }
 }
 
-/// Writes the line of a file that gets no row; fails where memory ran out.
-fn tell_skipped<O: Write>(id: &FileId, reason: Skip, out: &mut O) -> Result<(), ProgramError> {
-    if reason == Skip::OutOfMemory {
-        return Err(ProgramError::Memory(AllocError));
-    }
-    let written = match write!(out, "skipped ") {
-        Ok(()) => write_file_id(id, out),
-        Err(error) => Err(error),
-    };
-    written.map_err(ProgramError::Write)?;
-    let told = match reason {
-        Skip::Fault(number) => writeln!(out, " fault {number}"),
-        Skip::Missing(tag) => {
-            let tag = TagText(tag);
-            writeln!(out, " missing {tag}")
-        }
-        Skip::OutOfMemory => Ok(()),
-    };
-    told.map_err(ProgramError::Write)
+/// A file that gets no row, and why.
+#[derive(Clone, Copy)]
+struct Skipped {
+    id: FileId,
+    reason: Skip,
 }
 
-/// Reads the rows of files, and writes a line for each that has none.
-fn read_rows<R: Files<File = File> + Alloc<A = Global>, O: Write>(
+/// What is read of the files of a folder.
+#[derive(Drop)]
+struct Contents {
+    rows: Vec<Row<Global>, Global>,
+    skipped: Vec<Skipped, Global>,
+}
+
+/// Reads the rows of files, and keeps why a file has none; fails where memory ran out.
+fn read_rows<R: Files<File = File> + Alloc<A = Global>>(
     rt: &R,
     dir: &str,
     ids: &[FileId],
-    out: &mut O,
-) -> Result<Vec<Row<Global>, Global>, ProgramError> {
+) -> Result<Contents, ProgramError> {
     let mut rows = Vec::new(rt.alloc());
+    let mut skipped = Vec::new(rt.alloc());
     for id in ids {
         match row_of(rt, dir, id) {
             Ok(row) => rows.push(row)?,
-            Err(reason) => tell_skipped(id, reason, out)?,
+            Err(Skip::OutOfMemory) => return Err(ProgramError::Memory(AllocError)),
+            Err(reason) => skipped.push(Skipped { id: *id, reason })?,
         }
     }
-    Ok(rows)
+    Ok(Contents { rows, skipped })
+}
+
+/// Writes a line for each file that has no row.
+fn tell_skipped<O: Write>(skipped: &[Skipped], out: &mut O) -> io::Result<()> {
+    for Skipped { id, reason } in skipped {
+        write!(out, "skipped ")?;
+        write_file_id(id, out)?;
+        match reason {
+            Skip::Fault(number) => writeln!(out, " fault {number}")?,
+            Skip::Missing(tag) => {
+                let tag = TagText(*tag);
+                writeln!(out, " missing {tag}")?;
+            }
+            Skip::OutOfMemory => writeln!(out)?,
+        }
+    }
+    Ok(())
 }
 
 /// Returns the file IDs of the images that the folder's directory keeps, or the fault of the directory.
@@ -81,7 +92,11 @@ fn kept_files<R: Files<File = File> + Alloc<A = Global>>(
 ) -> Result<Result<Vec<FileId, Global>, DirFault>, ProgramError> {
     let path = format!(in rt.alloc(); "{dir}/{DIRECTORY}")?;
     let mut file = fs::open(rt, path.as_str()).map_err(ProgramError::NoDirectory)?;
-    let bytes = read_directory(rt.alloc(), &mut file)?;
+    let bytes = match read_directory(rt.alloc(), &mut file) {
+        Ok(bytes) => bytes,
+        Err(ProgramError::Read(error)) => return Err(ProgramError::NoDirectory(error)),
+        Err(error) => return Err(error),
+    };
     match check(rt.alloc(), bytes.as_slice()) {
         Ok(tree) => Ok(kept_of(rt.alloc(), &tree)),
         Err(fault) => Ok(Err(fault)),
@@ -136,12 +151,12 @@ fn tell_built<O: Write>(built: &Built<'_, Global>, out: &mut O) -> io::Result<()
 }
 
 /// Writes the file `DICOMDIR` of a folder: the directory of its received files or, with `keep`, of the
-/// images that its present directory keeps. A line tells of each file that gets no row, and why; then of
-/// each double; then how many records there are. A directory that is not built leaves an old one as it
-/// is, and its fault is told.
+/// images that its present directory keeps. Once it is there, a line tells of each file that gets no row,
+/// and why; then of each double; then how many records there are. A directory that is not built leaves an
+/// old one as it is, and its fault is told.
 ///
 /// Fails if the folder or its directory can't be read, the directory or the output can't be written, or
-/// memory runs out.
+/// memory runs out. Where the output fails, the directory is there.
 pub fn index_dir<R: Files<File = File> + Alloc<A = Global> + Clone + Drop, O: Write>(
     rt: &R,
     settings: &Index,
@@ -155,14 +170,18 @@ pub fn index_dir<R: Files<File = File> + Alloc<A = Global> + Clone + Drop, O: Wr
     } else {
         received_files(rt, settings.dir)?
     };
-    let rows = read_rows(rt, settings.dir, ids.as_slice(), out)?;
+    let Contents { rows, skipped } = read_rows(rt, settings.dir, ids.as_slice())?;
     match build(rt.alloc(), rows.as_slice(), settings.uid.copied()) {
         Ok(built) => {
             put_directory(rt, settings.dir, &built)?;
+            tell_skipped(skipped.as_slice(), out).map_err(ProgramError::Write)?;
             tell_built(&built, out).map_err(ProgramError::Write)?;
             Ok(Outcome::Good)
         }
-        Err(fault) => tell_fault(fault, out),
+        Err(fault) => {
+            tell_skipped(skipped.as_slice(), out).map_err(ProgramError::Write)?;
+            tell_fault(fault, out)
+        }
     }
 }
 

@@ -96,6 +96,10 @@ fn report(rt: &HostRuntime, subject: &str, error: ProgramError) -> ExitCode {
             let _ = eprint!(rt; "{text}");
             ExitCode::from(REFUSED)
         }
+        ProgramError::Arguments(error) if error.kind() == ErrorKind::InvalidData => {
+            let _ = eprintln!(rt; "error: an argument is not UTF-8");
+            ExitCode::from(REFUSED)
+        }
         ProgramError::Write(error) if error.kind() == ErrorKind::BrokenPipe => ExitCode::SUCCESS,
         error => {
             let _ = if subject.is_empty() {

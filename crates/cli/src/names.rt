@@ -16,45 +16,47 @@ fn is_name(letter: char, name: &str) -> bool {
     }
 }
 
-fn is_folder<R: Files + Drop, A: Allocator>(entry: &DirEntry<R, A>) -> io::Result<bool> {
-    Ok(entry.file_type()?.is_dir())
+/// What a name stands for.
+#[derive(Clone, Copy)]
+enum Kind {
+    /// A received file: `I` and seven digits.
+    File,
+    /// A folder of files: `S` and seven digits.
+    Folder,
 }
 
-/// Returns the names of files in a folder, rising.
-fn files_in<R: Files + Alloc + Clone + Drop>(
-    rt: &R,
-    dir: &str,
-) -> Result<Vec<String<R::A>, R::A>, ProgramError> {
-    let mut names = Vec::new(rt.alloc());
-    for entry in fs::read_dir(rt, dir).map_err(ProgramError::Folder)? {
-        match entry {
-            Ok(entry) if is_name('I', entry.file_name()) => {
-                names.push(String::from_str(rt.alloc(), entry.file_name())?)?;
-            }
-            Ok(_) => {}
-            // A name that is not UTF-8 is no name of a received file.
-            Err(error) if error.kind() == ErrorKind::InvalidFilename => {}
-            Err(error) => return Err(ProgramError::Folder(error)),
-        }
+/// Returns whether an entry of a folder is of this kind, by its name and, for a folder, its type.
+fn is_of<R: Files + Drop, A: Allocator>(kind: Kind, entry: &DirEntry<R, A>) -> io::Result<bool> {
+    match kind {
+        Kind::File => Ok(is_name('I', entry.file_name())),
+        Kind::Folder => Ok(is_name('S', entry.file_name()) && entry.file_type()?.is_dir()),
     }
-    names.sort()?;
-    Ok(names)
 }
 
-/// Returns the names of folders of files in a folder, rising.
-fn folders_in<R: Files + Alloc + Clone + Drop>(
+/// Adds the name of an entry of this kind.
+fn push_name<R: Files + Drop, A: Allocator + Clone>(
+    names: &mut Vec<String<A>, A>,
+    kind: Kind,
+    alloc: A,
+    entry: &DirEntry<R, A>,
+) -> Result<(), ProgramError> {
+    if is_of(kind, entry).map_err(ProgramError::Folder)? {
+        names.push(String::from_str(alloc, entry.file_name())?)?;
+    }
+    Ok(())
+}
+
+/// Returns the names of this kind in a folder, rising.
+fn names_in<R: Files + Alloc + Clone + Drop>(
     rt: &R,
     dir: &str,
+    kind: Kind,
 ) -> Result<Vec<String<R::A>, R::A>, ProgramError> {
     let mut names = Vec::new(rt.alloc());
     for entry in fs::read_dir(rt, dir).map_err(ProgramError::Folder)? {
         match entry {
-            Ok(entry) if is_name('S', entry.file_name()) => {
-                if is_folder(&entry).map_err(ProgramError::Folder)? {
-                    names.push(String::from_str(rt.alloc(), entry.file_name())?)?;
-                }
-            }
-            Ok(_) => {}
+            Ok(entry) => push_name(&mut names, kind, rt.alloc(), &entry)?,
+            // A name that is not UTF-8 is no name of a received file.
             Err(error) if error.kind() == ErrorKind::InvalidFilename => {}
             Err(error) => return Err(ProgramError::Folder(error)),
         }
@@ -71,6 +73,32 @@ fn push_id<A: Allocator>(ids: &mut Vec<FileId, A>, text: &str) -> Result<(), All
     Ok(())
 }
 
+/// Adds the file IDs of the files in a folder, by name; each begins with `above`.
+fn push_files<R: Files + Alloc + Clone + Drop>(
+    rt: &R,
+    ids: &mut Vec<FileId, R::A>,
+    dir: &str,
+    above: &str,
+) -> Result<(), ProgramError> {
+    for name in &names_in(rt, dir, Kind::File)? {
+        let text = format!(in rt.alloc(); "{above}{name}")?;
+        push_id(ids, text.as_str())?;
+    }
+    Ok(())
+}
+
+/// Adds the file IDs of the files in a folder of files.
+fn push_folder<R: Files + Alloc + Clone + Drop>(
+    rt: &R,
+    ids: &mut Vec<FileId, R::A>,
+    dir: &str,
+    folder: &str,
+) -> Result<(), ProgramError> {
+    let path = format!(in rt.alloc(); "{dir}/{folder}")?;
+    let above = format!(in rt.alloc(); "{folder}\\")?;
+    push_files(rt, ids, path.as_str(), above.as_str())
+}
+
 /// Returns the file IDs of the received files of a folder: first those in the folder itself, by name,
 /// and then those of each folder of files, by its name and theirs.
 pub fn received_files<R: Files + Alloc + Clone + Drop>(
@@ -78,15 +106,9 @@ pub fn received_files<R: Files + Alloc + Clone + Drop>(
     dir: &str,
 ) -> Result<Vec<FileId, R::A>, ProgramError> {
     let mut ids = Vec::new(rt.alloc());
-    for name in &files_in(rt, dir)? {
-        push_id(&mut ids, name.as_str())?;
-    }
-    for folder in &folders_in(rt, dir)? {
-        let path = format!(in rt.alloc(); "{dir}/{folder}")?;
-        for name in &files_in(rt, path.as_str())? {
-            let text = format!(in rt.alloc(); "{folder}\\{name}")?;
-            push_id(&mut ids, text.as_str())?;
-        }
+    push_files(rt, &mut ids, dir, "")?;
+    for folder in &names_in(rt, dir, Kind::Folder)? {
+        push_folder(rt, &mut ids, dir, folder.as_str())?;
     }
     Ok(ids)
 }

@@ -11,7 +11,7 @@ use negotiate::Config;
 use part10::Filing;
 use pdu::MemoryWire;
 use std::alloc::{AllocError, Allocator};
-use std::io::{Read, Write};
+use std::io::{BufWriter, Read, Write};
 use std::{fs, io};
 
 /// The recording in pieces of `cut` bytes, and then the transport's close.
@@ -72,7 +72,7 @@ pub fn replay(rt: &HostRuntime, settings: &Replay) -> Result<(), ProgramError> {
     let alloc = rt.alloc();
     let mut input = fs::open(rt, settings.file).map_err(ProgramError::Open)?;
     let mut filing = open_folder(*rt, settings.out, settings.layout, true)?;
-    let mut out = io::writer(rt);
+    let mut out = BufWriter::new(alloc, io::writer(rt)).map_err(ProgramError::Write)?;
     let report = replay_over(
         alloc,
         &mut input,
@@ -87,5 +87,6 @@ pub fn replay(rt: &HostRuntime, settings: &Replay) -> Result<(), ProgramError> {
         "{} held {} files {files}",
         report.standing, report.held
     )
-    .map_err(ProgramError::Write)
+    .map_err(ProgramError::Write)?;
+    out.flush().map_err(ProgramError::Write)
 }

@@ -1,4 +1,5 @@
 //! What no contract says of the program.
+mod checkdir_tests;
 mod devices;
 mod echo;
 mod index_tests;

@@ -1,4 +1,5 @@
 //! What `index` prints of a folder, and the directory that it leaves there.
+use super::devices::Broken;
 use crate::checkdir::checkdir_over;
 use crate::error::ProgramError;
 use crate::index::index_dir;
@@ -231,6 +232,23 @@ fn a_directory_that_is_not_written(rt: HostRuntime) -> Result<(), Fail> {
         fs::read(&rt, "unwritten/DICOMDIR")?.as_slice(),
         b"as it was".as_slice()
     );
+    Ok(())
+}
+
+/// A reader that closes the output loses what is printed, and the directory is there.
+#[test]
+fn the_output_fails(rt: HostRuntime) -> Result<(), Fail> {
+    fresh(&rt, "unread")?;
+    file(&rt, "unread/I0000001", FIRST)?;
+    file(&rt, "unread/I0000002", WITHOUT_STUDY_ID)?;
+    let settings = Index {
+        dir: "unread",
+        uid: Uid::read(b"2.25.1").ok_or("no UID")?,
+        keep: false,
+    };
+    let outcome = index_dir(&rt, &settings, &mut Broken);
+    assert!(rt; matches!(outcome, Err(ProgramError::Write(_))));
+    assert_eq!(rt; fs::read(&rt, "unread/DICOMDIR")?.len(), 788);
     Ok(())
 }
 
