@@ -87,6 +87,8 @@ fn data_above_the_maximum(rt: HostRuntime) -> Result<(), Fail> {
     let above: &[u8] = &[4, 0, 0, 0, 0x40, 1];
     let answers = [ACCEPT, &provider_abort(6)];
     assert!(rt; are_answered(rt.alloc(), &[REQUEST, above], &answers, State::Sta13, 0)?);
+    let unknown = [REQUEST, front(above, 5)];
+    assert!(rt; are_answered(rt.alloc(), &unknown, &[ACCEPT], State::Sta6, 29)?);
     let fits: &[u8] = &[4, 0, 0, 0, 0x40, 0];
     assert!(rt; are_answered(rt.alloc(), &[REQUEST, fits], &[ACCEPT], State::Sta6, 24)?);
     Ok(())

@@ -17,9 +17,10 @@ fn another_called_title(rt: HostRuntime) -> Result<(), Fail> {
 
 #[test]
 fn a_request_above_the_room(rt: HostRuntime) -> Result<(), Fail> {
-    let above: &[u8] = &[1, 0, 0, 0, 0xff, 0xf5, 0, 1, 0, 0];
+    let above: &[u8] = &[1, 0, 0, 0, 0xff, 0xf5];
     let rejected: &[u8] = &[3, 0, 0, 0, 0, 4, 0, 2, 3, 2];
     assert!(rt; are_answered(rt.alloc(), &[above], &[rejected], State::Sta13, 0)?);
+    assert!(rt; are_answered(rt.alloc(), &[front(above, 5)], &[], State::Sta2, 5)?);
     let fits: &[u8] = &[1, 0, 0, 0, 0xff, 0xf4, 0, 1, 0, 0];
     assert!(rt; are_answered(rt.alloc(), &[fits], &[], State::Sta2, 4)?);
     Ok(())

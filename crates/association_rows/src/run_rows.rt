@@ -46,28 +46,6 @@ fn the_recorded_echo(rt: HostRuntime) -> Result<(), Fail> {
 }
 
 #[test]
-fn held_while_the_echo_comes(rt: HostRuntime) -> Result<(), Fail> {
-    let mut tried = open(rt.alloc());
-    assert!(rt; tried.state() == State::Sta2);
-    assert!(rt; tried.artim());
-    assert_eq!(rt; tried.held(), 0);
-    tried.feed(REQUEST);
-    assert!(rt; tried.state() == State::Sta6);
-    assert!(rt; !tried.artim());
-    assert_eq!(rt; tried.held(), 24);
-    tried.feed(ECHO);
-    assert_eq!(rt; tried.held(), 24);
-    assert!(rt; !tried.drafting());
-    tried.feed(RELEASE);
-    assert!(rt; tried.state() == State::Sta13);
-    assert!(rt; tried.artim());
-    assert_eq!(rt; tried.held(), 0);
-    tried.close();
-    assert!(rt; tried.is_ended());
-    Ok(())
-}
-
-#[test]
 fn a_local_abort(rt: HostRuntime) -> Result<(), Fail> {
     let mut tried = open(rt.alloc());
     tried.feed(REQUEST);

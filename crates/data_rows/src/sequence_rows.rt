@@ -1,4 +1,4 @@
-//! The worked rows of the walk, one text for each fault beside a good one, and a large value.
+//! The worked rows of the walk, and a large value.
 
 use element::{Header, Syntax, Tag, Vr};
 use sequence::{Fault, Step, Walker, Want, Wanted};

@@ -1,4 +1,5 @@
 //! Directories that are built of rows and written, by the public calls of `dicomdir` alone.
+use crate::files::{one_image, two_images};
 use dicomdir::{DirFault, FileId, Keys, Row, Tree, build, check, write_dir};
 use element::{Syntax, Uid};
 use linked_list_allocator::LocalHeap;
@@ -6,28 +7,6 @@ use std::alloc::{Allocator, Global};
 use std::io;
 use std::io::{ErrorKind, Write};
 use std::test::Fail;
-
-/// The directory of one image, after its preamble: the file header, the root's elements, and the records at 320, 404,
-/// 534 and 626.
-const ONE_IMAGE: [&[u8]; 17] = [
-    b"DICM\x02\0\0\0UL\x04\0z\0\0\0\x02\0\x01\0OB\0\0\x02\0\0\0\0\x01\x02\0\x02\0UI\x14",
-    b"\01.2.840.10008.1.3.10\x02\0\x03\0UI\x06\02.25.1\x02\0\x10\0UI\x14\01.2.840.10",
-    b"008.1.2.1\0\x02\0\x12\0UI\x0e\02.25.20260101\0\x02\0\x13\0SH\x08\0DCMBOX_1",
-    b"\x04\00\x11CS\0\0\x04\0\0\x12UL\x04\0@\x01\0\0\x04\0\x02\x12UL\x04\0@\x01\0\0\x04",
-    b"\0\x12\x12US\x02\0\0\0\x04\0 \x12SQ\0\0\xd4\x01\0\0\xfe\xff\0\xe0L\0\0\0\x04\0\0\x14",
-    b"UL\x04\0\0\0\0\0\x04\0\x10\x14US\x02\0\xff\xff\x04\0 \x14UL\x04\0\x94\x01\0\0\x04",
-    b"\00\x14CS\x08\0PATIENT \x10\0\x10\0PN\x08\0DOE^JANE\x10\0 \0LO\x02\0P1\xfe\xff",
-    b"\0\xe0z\0\0\0\x04\0\0\x14UL\x04\0\0\0\0\0\x04\0\x10\x14US\x02\0\xff\xff\x04\0 ",
-    b"\x14UL\x04\0\x16\x02\0\0\x04\00\x14CS\x06\0STUDY \x08\0 \0DA\x08\020260101\x08",
-    b"\00\0TM\x06\0120000\x08\0P\0SH\0\0\x08\00\x10LO\x04\0HEAD \0\x0d\0UI\x06\01.2.",
-    b"3\0 \0\x10\0SH\x02\0S1\xfe\xff\0\xe0T\0\0\0\x04\0\0\x14UL\x04\0\0\0\0\0\x04\0\x10",
-    b"\x14US\x02\0\xff\xff\x04\0 \x14UL\x04\0r\x02\0\0\x04\00\x14CS\x06\0SERIES\x08\0",
-    b"`\0CS\x02\0CT \0\x0e\0UI\x08\01.2.3.1\0 \0\x11\0IS\x02\01 ",
-    b"\xfe\xff\0\xe0\x9a\0\0\0\x04\0\0\x14UL\x04\0\0\0\0\0\x04\0\x10\x14US\x02\0",
-    b"\xff\xff\x04\0 \x14UL\x04\0\0\0\0\0\x04\00\x14CS\x06\0IMAGE \x04\0\0\x15CS\x08",
-    b"\0I0000001\x04\0\x10\x15UI\x1a\01.2.840.10008.5.1.4.1.1.2\0\x04\0\x11\x15UI\x0a",
-    b"\01.2.3.1.1\0\x04\0\x12\x15UI\x14\01.2.840.10008.1.2.1\0 \0\x13\0IS\x02\01 ",
-];
 
 /// What a row of these tests says of its file.
 #[derive(Clone, Copy)]
@@ -123,15 +102,6 @@ fn rows<A: Allocator + Copy>(alloc: A, files: &[File]) -> Option<Vec<Row<A>, A>>
     Some(rows)
 }
 
-fn one_image(alloc: Global) -> Result<Vec<u8>, Fail> {
-    let mut file = Vec::new(alloc);
-    file.extend_from_slice(&[0; 128])?;
-    for part in &ONE_IMAGE {
-        file.extend_from_slice(part)?;
-    }
-    Ok(file)
-}
-
 /// What is written of these files' rows, with the number of records and the doubles.
 #[derive(Drop)]
 struct Written {
@@ -196,6 +166,47 @@ fn one_image_is_written(rt: HostRuntime) -> Result<(), Fail> {
             ]
         )
     );
+    Ok(())
+}
+
+/// Two images of a series.
+#[test]
+fn two_images_are_written(rt: HostRuntime) -> Result<(), Fail> {
+    let alloc = rt.alloc();
+    let written = write_files(alloc, &FILES[..2])?;
+    let wanted = two_images(alloc)?;
+    assert_eq!(rt; written.file.len(), 950);
+    assert!(rt; written.file.as_slice() == wanted.as_slice());
+    assert_eq!(rt; written.records, 5);
+    assert!(rt; written.doubles.is_empty());
+    Ok(())
+}
+
+/// The image in a folder: its record is ten bytes longer, and so are the records together.
+#[test]
+fn file_ids_of_two_components_are_written(rt: HostRuntime) -> Result<(), Fail> {
+    let alloc = rt.alloc();
+    let mut file = FILES[0];
+    file.file_id = b"S0000001\\I0000001";
+    let written = write_files(alloc, &[file])?;
+    assert_eq!(rt; written.file.len(), 798);
+    let bytes = written.file.as_slice();
+    assert!(rt; bytes[316..320] == [0xde, 1, 0, 0]);
+    assert!(rt; bytes[630..634] == [0xa4, 0, 0, 0]);
+    assert!(rt; &bytes[682..708] == b"\x04\0\0\x15CS\x12\0S0000001\\I0000001 ".as_slice());
+    let Ok(tree) = check(alloc, bytes) else {
+        assert!(rt; false);
+        return Ok(());
+    };
+    assert_eq!(rt; tree.records().len(), 4);
+    let Some(image) = tree.records().last() else {
+        assert!(rt; false);
+        return Ok(());
+    };
+    match image.file_id() {
+        Some(file_id) => assert!(rt; file_id.text() == b"S0000001\\I0000001".as_slice()),
+        None => assert!(rt; false),
+    }
     Ok(())
 }
 

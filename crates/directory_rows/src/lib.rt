@@ -9,3 +9,5 @@ mod dicomdir_check;
 mod dicomdir_row_of;
 #[cfg(test)]
 mod dicomdir_rows;
+#[cfg(test)]
+mod files;

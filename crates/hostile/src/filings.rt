@@ -1,14 +1,14 @@
-//! Filings: one of which a chosen call fails, and one that counts and keeps nothing.
-ghost use Rattle.std.specs.Prelude.{◌≡◌, ◌+◌, None, is_some};
+//! Filings: one of which a chosen call fails, and one that counts the bytes of its files.
+ghost use Rattle.std.specs.Prelude.{◌≡◌, ◌+◌, None, false};
 
 use element::count::Count;
-use part10::{Filing, FilingFailed, MemoryFiling};
-use std::alloc::Global;
+use part10::{Filing, FilingFailed};
+use std::alloc::{AllocError, Allocator};
 
-/// A filing over memory of which one call may fail. It counts its calls.
+/// A filing of which one call may fail, over another one. It counts its calls.
 #[derive(Drop)]
-pub(crate) struct FailingFiling {
-    kept: MemoryFiling<Global>,
+pub(crate) struct FailingFiling<F: Filing + Drop> {
+    kept: F,
     /// Which call to `begin`, `append` or `commit` fails, counted from 0.
     at: usize,
     pub(crate) begins: usize,
@@ -18,10 +18,10 @@ pub(crate) struct FailingFiling {
     failures: Count,
 }
 
-impl FailingFiling {
-    pub(crate) fn new(alloc: Global, at: usize) -> FailingFiling {
+impl<F: Filing + Drop> FailingFiling<F> {
+    pub(crate) fn new(kept: F, at: usize) -> FailingFiling<F> {
         FailingFiling {
-            kept: MemoryFiling::new(alloc),
+            kept,
             at,
             begins: 0,
             appends: 0,
@@ -31,9 +31,9 @@ impl FailingFiling {
         }
     }
 
-    /// The files, oldest first.
-    pub(crate) fn files(&self) -> &[Vec<u8>] {
-        self.kept.files()
+    /// The filing beneath.
+    pub(crate) fn kept(&self) -> &F {
+        &self.kept
     }
 
     /// How many calls there were that can fail.
@@ -48,9 +48,9 @@ impl FailingFiling {
         self.failed_draft
     }
 
-    /// A call fails.
+    /// A call fails, and the filing beneath loses its draft.
     fn fail(&mut self)
-        ensures draft { self.new.kept.draft ≡ None }
+        ensures draft { (F.store self.new.kept).has_draft ≡ false }
         ensures counted { self.new.failures.total ≡ self.old.failures.total + 1 }
     {
         self.kept.discard();
@@ -59,8 +59,8 @@ impl FailingFiling {
     }
 }
 
-impl Filing for FailingFiling {
-    ghost store = { λ f. record { told = None; has_draft = is_some f.kept.draft; failures = f.failures.total } };
+impl<F: Filing + Drop> Filing for FailingFiling<F> {
+    ghost store = { λ f. record { told = None; has_draft = (F.store f.kept).has_draft; failures = f.failures.total } };
 
     fn begin(&mut self) -> Result<(), FilingFailed> {
         let fails = self.calls() == self.at;
@@ -97,37 +97,57 @@ impl Filing for FailingFiling {
     }
 }
 
-/// A filing that counts the bytes of its files, and takes no memory.
+/// A filing that counts its files and their bytes, and keeps the front of the last file, in room that
+/// it takes when it is made.
 #[derive(Drop)]
-pub(crate) struct CountedBytes {
+pub(crate) struct CountedBytes<A: Allocator> {
     drafting: bool,
     draft: usize,
+    front: Vec<u8, A>,
+    room: usize,
     pub(crate) files: usize,
     pub(crate) bytes: usize,
+    failures: Count,
 }
 
-impl CountedBytes {
-    pub(crate) fn new() -> CountedBytes {
-        CountedBytes {
+impl<A: Allocator> CountedBytes<A> {
+    pub(crate) fn new(alloc: A, room: usize) -> Result<CountedBytes<A>, AllocError> {
+        Ok(CountedBytes {
             drafting: false,
             draft: 0,
+            front: Vec::with_capacity(alloc, room)?,
+            room,
             files: 0,
             bytes: 0,
-        }
+            failures: Count::new(),
+        })
+    }
+
+    /// The front of the last file.
+    pub(crate) fn front(&self) -> &[u8] {
+        self.front.as_slice()
     }
 }
 
-impl Filing for CountedBytes {
-    ghost store = { λ f. record { told = None; has_draft = f.drafting; failures = 0 } };
+impl<A: Allocator> Filing for CountedBytes<A> {
+    ghost store = { λ f. record { told = None; has_draft = f.drafting; failures = f.failures.total } };
 
     fn begin(&mut self) -> Result<(), FilingFailed> {
         self.drafting = true;
         self.draft = 0;
+        self.front.clear();
         Ok(())
     }
 
     fn append(&mut self, bytes: &[u8]) -> Result<(), FilingFailed> {
         self.draft = self.draft.saturating_add(bytes.len());
+        let left = self.room.saturating_sub(self.front.len());
+        let front = bytes.get(..left).unwrap_or(bytes);
+        if self.front.extend_from_slice(front).is_err() {
+            self.drafting = false;
+            self.failures.add_one();
+            return Err(FilingFailed);
+        }
         Ok(())
     }
 

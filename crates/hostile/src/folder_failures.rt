@@ -1,7 +1,8 @@
 //! A folder that fails: its names, its disk, or memory for its names.
 
+use crate::filings::FailingFiling;
 use crate::runtimes::Diverted;
-use crate::two_stores::TwoStores;
+use crate::two_stores::{Due, TwoStores};
 use fixtures::bytes::after_first;
 use fixtures::folders::{are_in, fresh, holds, is_filed};
 use harness::{Driven, config};
@@ -12,6 +13,9 @@ use std::cell::Cell;
 use std::fs;
 use std::io::ErrorKind;
 use std::test::Fail;
+
+/// The call to the second append of the first store, counted from 0.
+const SECOND_APPEND: usize = 2;
 
 /// Each growth is refused in turn: then the store fails, and leaves no file.
 #[test]
@@ -79,6 +83,11 @@ fn what_can_not_be_synced_is_not_committed(rt: HostRuntime) -> Result<(), Fail> 
     Ok(())
 }
 
+/// Whether these are the replies that are due, and the folder has the files that are due and nothing else.
+fn are_due(rt: &HostRuntime, dir: &str, sent: &[u8], due: &Due) -> Result<bool, Fail> {
+    Ok(after_first(sent) == due.answer.as_slice() && are_in(rt, dir, due.files.as_slice())?)
+}
+
 /// Feeds two stores, cut here, to an association over a folder whose disk is full for the first one;
 /// whether just the second one is filed, and answered by success.
 fn is_full_once(rt: &HostRuntime, stores: &TwoStores, dir: &str, cut: usize) -> Result<bool, Fail> {
@@ -94,11 +103,9 @@ fn is_full_once(rt: &HostRuntime, stores: &TwoStores, dir: &str, cut: usize) -> 
     let mut driven = Driven::<_, _, 64>::open(&config(), MemoryWire::new(rt.alloc()), filing);
     driven.feed(stores.request.as_slice());
     driven.feed_cut(stores.messages.as_slice(), cut);
-    let due = stores.due(1);
     Ok(
-        after_first(driven.wire().sent()) == due.answer.as_slice()
-            && (driven.filing().committed(), driven.filing().dropped()) == (1, 1)
-            && are_in(rt, dir, due.files.as_slice())?,
+        (driven.filing().committed(), driven.filing().dropped()) == (1, 1)
+            && are_due(rt, dir, driven.wire().sent(), stores.due(1))?,
     )
 }
 
@@ -109,6 +116,61 @@ fn a_disk_that_is_full_for_one_store(rt: HostRuntime) -> Result<(), Fail> {
     let stores = TwoStores::new(rt.alloc())?;
     for cut in 0..stores.messages.len() + 2 {
         assert!(rt; is_full_once(&rt, &stores, dir, cut)?, "cut at {cut}");
+    }
+    fs::remove_dir_all(&rt, dir)?;
+    Ok(())
+}
+
+/// Feeds two stores, cut here, to an association over a folder of which one call fails. Returns in which
+/// draft it failed, counted from 1, or 0 if none did, where the store of that draft is answered A700 and
+/// leaves neither a file nor a draft, and the other one is filed; else it returns `None`.
+fn failed_draft(
+    rt: &HostRuntime,
+    stores: &TwoStores,
+    dir: &str,
+    at: usize,
+    cut: usize,
+) -> Result<Option<usize>, Fail> {
+    fresh(rt, dir)?;
+    let folder = FolderFiling::open(*rt, dir)?.without_sync();
+    let filing = FailingFiling::new(folder, at);
+    let mut driven = Driven::<_, _, 64>::open(&config(), MemoryWire::new(rt.alloc()), filing);
+    driven.feed(stores.request.as_slice());
+    driven.feed_cut(stores.messages.as_slice(), cut);
+    let failed = driven.filing().failed_draft();
+    if are_due(rt, dir, driven.wire().sent(), stores.due(failed))? {
+        Ok(Some(failed))
+    } else {
+        Ok(None)
+    }
+}
+
+/// The second append fails, which is that of the first part of a data set: in one piece, byte by byte and
+/// at each cut in two.
+#[test]
+fn a_folder_whose_second_append_fails(rt: HostRuntime) -> Result<(), Fail> {
+    let dir = "a_second_append_that_fails";
+    let stores = TwoStores::new(rt.alloc())?;
+    for cut in 0..stores.messages.len() + 2 {
+        let failed = failed_draft(&rt, &stores, dir, SECOND_APPEND, cut)?;
+        assert!(rt; failed == Some(1), "cut at {cut}");
+    }
+    fs::remove_dir_all(&rt, dir)?;
+    Ok(())
+}
+
+/// In one piece and where the second store begins, each store has four calls; byte by byte it has 51.
+#[test]
+fn each_call_to_a_folder_fails_in_turn(rt: HostRuntime) -> Result<(), Fail> {
+    let dir = "each_call_to_a_folder";
+    let stores = TwoStores::new(rt.alloc())?;
+    for (cut, calls) in [(0, 4), (stores.first.len(), 4), (usize::MAX, 51usize)] {
+        let both = calls.saturating_mul(2);
+        for at in 0..both.saturating_add(1) {
+            let due = usize::from(at < both) + usize::from(calls <= at && at < both);
+            let failed = failed_draft(&rt, &stores, dir, at, cut)?;
+            assert!(rt; failed == Some(due), "call {at}, cut at {cut}");
+        }
     }
     fs::remove_dir_all(&rt, dir)?;
     Ok(())

@@ -1,4 +1,5 @@
-//! Sources: one that keeps which timers it was handed, and one that gives a piece many times.
+//! Sources: one that keeps which timers it was handed, one whose peer falls silent, and one that gives a piece many
+//! times.
 ghost use Rattle.std.specs.Prelude.{◌≤◌, None, length};
 
 use arrayvec::ArrayVec;
@@ -46,6 +47,49 @@ impl Source for Witness<'_> {
             ListedInput::Closed => Input::Closed,
             ListedInput::Expired => Input::Expired,
             ListedInput::LocalAbort => Input::LocalAbort,
+        }
+    }
+
+    fn piece(&self) -> &[u8] {
+        self.piece
+    }
+}
+
+/// Gives some pieces, after which the peer is silent: the timer expires where it runs, and else the local user
+/// aborts the association.
+#[derive(Drop)]
+pub(crate) struct Silent<'a> {
+    pieces: &'a [&'a [u8]],
+    at: usize,
+    piece: &'a [u8],
+    ghost within: { at ≤ length pieces.now },
+}
+
+impl<'a> Silent<'a> {
+    pub(crate) fn new(pieces: &'a [&'a [u8]]) -> Silent<'a> {
+        Silent {
+            pieces,
+            at: 0,
+            piece: &[],
+        }
+    }
+}
+
+impl Source for Silent<'_> {
+    ghost to_come = { λ s. None };
+
+    ghost last = { λ s. s.piece.now };
+
+    fn next(&mut self, timer: bool) -> Input {
+        if self.at < self.pieces.len() {
+            self.piece = self.pieces[self.at];
+            self.at += 1;
+            return Input::Piece;
+        }
+        if timer {
+            Input::Expired
+        } else {
+            Input::LocalAbort
         }
     }
 

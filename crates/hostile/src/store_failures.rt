@@ -6,6 +6,7 @@ use crate::two_stores::TwoStores;
 use acceptor::State;
 use fixtures::bytes::after_first;
 use harness::{Driven, config};
+use part10::MemoryFiling;
 use pdu::MemoryWire;
 use std::alloc::{AllocError, Global};
 use std::ops::Range;
@@ -15,14 +16,14 @@ use std::test::Fail;
 fn calls_of_one_store(rt: HostRuntime) -> Result<(), Fail> {
     let alloc = rt.alloc();
     let stores = TwoStores::new(alloc)?;
-    let filing = FailingFiling::new(alloc, usize::MAX);
+    let filing = FailingFiling::new(MemoryFiling::new(alloc), usize::MAX);
     let mut driven = Driven::<_, _, 64>::open(&config(), MemoryWire::new(alloc), filing);
     driven.feed(stores.request.as_slice());
     assert_eq!(rt; driven.filing().calls(), 0);
     driven.feed(stores.first.as_slice());
     let filing = driven.filing();
     assert_eq!(rt; (filing.begins, filing.appends, filing.commits), (1, 2, 1));
-    assert_eq!(rt; filing.files().len(), 1);
+    assert_eq!(rt; filing.kept().files().len(), 1);
     Ok(())
 }
 
@@ -31,14 +32,14 @@ fn calls_of_one_store(rt: HostRuntime) -> Result<(), Fail> {
 /// file, and the other one is filed; else it returns `None`.
 fn failed_calls(alloc: Global, stores: &TwoStores, cut: usize) -> Option<usize> {
     for at in 0..200usize {
-        let filing = FailingFiling::new(alloc, at);
+        let filing = FailingFiling::new(MemoryFiling::new(alloc), at);
         let mut driven = Driven::<_, _, 64>::open(&config(), MemoryWire::new(alloc), filing);
         driven.feed(stores.request.as_slice());
         driven.feed_cut(stores.messages.as_slice(), cut);
         let failed = driven.filing().failed_draft();
         let due = stores.due(failed);
         if after_first(driven.wire().sent()) != due.answer.as_slice()
-            || driven.filing().files() != due.files.as_slice()
+            || driven.filing().kept().files() != due.files.as_slice()
             || driven.state() != State::Sta6
             || driven.drafting()
         {

@@ -1,10 +1,9 @@
 //! Wires: one of which a chosen send fails, and one that keeps the last send alone.
 ghost use Rattle.std.specs.Prelude.{None};
 
-use arrayvec::ArrayVec;
 use element::count::Count;
 use pdu::{MemoryWire, Wire, WireFailed};
-use std::alloc::Global;
+use std::alloc::{AllocError, Allocator, Global};
 
 /// A wire over memory of which one send fails.
 #[derive(Drop)]
@@ -67,18 +66,36 @@ impl Wire for FailingWire {
     }
 }
 
-/// A wire that keeps the last send alone, and takes no memory.
+/// A wire that keeps the last send alone, in room that it takes when it is made.
 #[derive(Drop)]
-pub(crate) struct LastSend {
-    pub(crate) last: ArrayVec<u8, 512>,
+pub(crate) struct LastSend<A: Allocator> {
+    last: Vec<u8, A>,
+    failures: Count,
 }
 
-impl Wire for LastSend {
-    ghost line = { λ w. record { sent = None; failures = 0 } };
+impl<A: Allocator> LastSend<A> {
+    pub(crate) fn new(alloc: A, room: usize) -> Result<LastSend<A>, AllocError> {
+        Ok(LastSend {
+            last: Vec::with_capacity(alloc, room)?,
+            failures: Count::new(),
+        })
+    }
+
+    /// The bytes of the last send.
+    pub(crate) fn last(&self) -> &[u8] {
+        self.last.as_slice()
+    }
+}
+
+impl<A: Allocator> Wire for LastSend<A> {
+    ghost line = { λ w. record { sent = None; failures = w.failures.total } };
 
     fn send(&mut self, bytes: &[u8]) -> Result<(), WireFailed> {
         self.last.clear();
-        let _long = self.last.try_extend_from_slice(bytes);
+        if self.last.extend_from_slice(bytes).is_err() {
+            self.failures.add_one();
+            return Err(WireFailed);
+        }
         Ok(())
     }
 }

@@ -118,28 +118,6 @@ fn answered(alloc: Global, config: &Config, body: &[u8]) -> Result<MemoryWire<Gl
     }
 }
 
-/// The recorded echo's A-ASSOCIATE-AC.
-fn recorded_answer(alloc: Global) -> Result<Vec<u8>, Fail> {
-    let mut answer = Vec::new(alloc);
-    answer.extend_from_slice(b"\x02\0\0\0\0\xa3\0\x01\0\0DCMBOX          SCANNER1        ")?;
-    answer.extend_from_slice(&[0; 32])?;
-    answer.extend_from_slice(b"\x10\0\0\x151.2.840.10008.3.1.1.1")?;
-    answer.extend_from_slice(b"\x21\0\0\x19\x01\0\0\0\x40\0\0\x111.2.840.10008.1.2")?;
-    answer.extend_from_slice(b"\x50\0\0\x25\x51\0\0\x04\0\0\x40\0")?;
-    answer.extend_from_slice(b"\x52\0\0\x0d2.25.20260101\x55\0\0\x08DCMBOX_1")?;
-    Ok(answer)
-}
-
-#[test]
-fn recorded_echo(rt: HostRuntime) -> Result<(), Fail> {
-    let alloc = rt.alloc();
-    let body = echo(alloc, 1, OURS, APPLICATION, [0, 0, 0x40, 0])?;
-    let wire = answered(alloc, &config("SCANNER1")?, body.as_slice())?;
-    let wanted = recorded_answer(alloc)?;
-    assert_eq!(rt; wire.sent(), wanted.as_slice());
-    Ok(())
-}
-
 #[test]
 fn contexts_of_the_recorded_echo(rt: HostRuntime) -> Result<(), Fail> {
     let body = echo(rt.alloc(), 1, OURS, APPLICATION, [0, 0, 0x40, 0])?;
@@ -164,27 +142,6 @@ fn refused_contexts(alloc: Global) -> Result<Vec<u8>, Fail> {
     Ok(body)
 }
 
-/// The items that answer these contexts: results 4, 4, 0 and 3, and the transfer syntaxes.
-fn answers_to_contexts(alloc: Global) -> Result<Vec<u8>, Fail> {
-    let mut items = Vec::new(alloc);
-    items.extend_from_slice(b"\x21\0\0\x19\x01\0\x04\0\x40\0\0\x111.2.840.10008.1.2")?;
-    items.extend_from_slice(b"\x21\0\0\x19\x03\0\x04\0\x40\0\0\x111.2.840.10008.1.2")?;
-    items.extend_from_slice(b"\x21\0\0\x1b\x05\0\0\0\x40\0\0\x131.2.840.10008.1.2.1")?;
-    items.extend_from_slice(b"\x21\0\0\x19\x07\0\x03\0\x40\0\0\x111.2.840.10008.1.2")?;
-    Ok(items)
-}
-
-#[test]
-fn syntaxes_and_classes_that_cannot_be_had(rt: HostRuntime) -> Result<(), Fail> {
-    let alloc = rt.alloc();
-    let body = refused_contexts(alloc)?;
-    let wire = answered(alloc, &config("SCANNER1")?, body.as_slice())?;
-    let wanted = answers_to_contexts(alloc)?;
-    assert_eq!(rt; wire.sent().len(), 258);
-    assert_eq!(rt; &wire.sent()[99..217], wanted.as_slice());
-    Ok(())
-}
-
 #[test]
 fn contexts_that_cannot_be_had(rt: HostRuntime) -> Result<(), Fail> {
     let body = refused_contexts(rt.alloc())?;
@@ -196,14 +153,6 @@ fn contexts_that_cannot_be_had(rt: HostRuntime) -> Result<(), Fail> {
     assert_eq!(rt; context(&request, 3), None);
     assert_eq!(rt; context(&request, 5), Some(ct));
     assert_eq!(rt; context(&request, 7), None);
-    Ok(())
-}
-
-#[test]
-fn another_called_title(rt: HostRuntime) -> Result<(), Fail> {
-    let body = echo(rt.alloc(), 1, OTHERS, APPLICATION, [0, 0, 0x40, 0])?;
-    let wire = answered(rt.alloc(), &config("SCANNER1")?, body.as_slice())?;
-    assert_eq!(rt; wire.sent(), [3, 0, 0, 0, 0, 4, 0, 1, 1, 7].as_slice());
     Ok(())
 }
 

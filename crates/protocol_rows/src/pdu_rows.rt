@@ -50,13 +50,12 @@ const INFORMATION: &[u8] = &[0x50, 0, 0, 8, 0x51, 0, 0, 4, 0, 0, 0x40, 0];
 #[test]
 fn the_recorded_request(rt: HostRuntime) -> Result<(), Fail> {
     let request = read_request(ECHO).ok().ok_or("refused")?;
-    assert_eq!(rt; request.version(), 1);
+    assert_eq!(rt; (request.version(), request.maximum()), (1, 16384));
     assert!(rt; request.called().0 == *b"DCMBOX          ");
     assert!(rt; request.calling().0 == *b"SCANNER1        ");
     request.keeps();
     assert_eq!(rt; request.reserved().len(), 32);
     assert!(rt; request.application_context() == b"1.2.840.10008.3.1.1.1".as_slice());
-    assert_eq!(rt; request.maximum(), 16384);
     let mut contexts = request.contexts();
     let proposal = contexts.next().ok_or("no context")?;
     assert_eq!(rt; proposal.id(), 1);
@@ -116,53 +115,50 @@ fn each_refusal_once(rt: HostRuntime) -> Result<(), Fail> {
     Ok(())
 }
 
+/// A body of the fixed part, this item, and one more as often as fits where 65,524 bytes are kept.
+fn full(rt: &HostRuntime, first: &[u8], again: &[u8; 4]) -> Result<Vec<u8>, Fail> {
+    let mut body = with_items(rt, &[first])?;
+    for _ in 0..16364usize.saturating_sub(first.len() / 4) {
+        body.extend_from_slice(again)?;
+    }
+    Ok(body)
+}
+
 /// The greatest body that is kept, full of the smallest items, at the top and in a context.
 #[test]
 fn hostile_bodies(rt: HostRuntime) -> Result<(), Fail> {
-    let mut flat = Vec::from_slice(rt.alloc(), &ECHO[..68])?;
-    let mut nested = Vec::from_slice(rt.alloc(), &ECHO[..68])?;
-    nested.extend_from_slice(&[0x20, 0, 0xFF, 0xAC, 1, 0, 0, 0])?;
-    for _ in 0..16364 {
-        flat.extend_from_slice(&[0x60, 0, 0, 0])?;
-    }
-    for _ in 0..16362 {
-        nested.extend_from_slice(&[0x40, 0, 0, 0])?;
-    }
-    assert_eq!(rt; flat.len(), 65524);
-    assert_eq!(rt; nested.len(), 65524);
-    assert_eq!(rt; refusal(&flat), 35);
-    assert_eq!(rt; refusal(&nested), 32);
+    let flat = full(&rt, &[], &[0x60, 0, 0, 0])?;
+    let nested = full(&rt, &[0x20, 0, 0xFF, 0xAC, 1, 0, 0, 0], &[0x40, 0, 0, 0])?;
+    assert_eq!(rt; (flat.len(), nested.len()), (65524, 65524));
+    assert_eq!(rt; (refusal(&flat), refusal(&nested)), (35, 32));
     Ok(())
 }
 
 #[test]
 fn heads_are_read(rt: HostRuntime) {
     let head = read_pdu_head(&[4, 0, 0, 0, 0, 0x4A]);
-    assert_eq!(rt; head.kind, 4);
-    assert_eq!(rt; head.length, 74);
+    assert_eq!(rt; (head.kind, head.length), (4, 74));
     let head = read_pdv_head(&[0, 0, 0, 0x46, 1, 3]);
-    assert_eq!(rt; head.length, 70);
-    assert_eq!(rt; head.context, 1);
+    assert_eq!(rt; (head.length, head.context), (70, 1));
     assert!(rt; head.command && head.last);
 }
+
+/// A rejection, a release, an abort and a fragment, as they stand on the wire.
+const WRITTEN: &[u8] = &[
+    3, 0, 0, 0, 0, 4, 0, 1, 1, 7, 6, 0, 0, 0, 0, 4, 0, 0, 0, 0, 7, 0, 0, 0, 0, 4, 0, 0, 2, 6, 4, 0,
+    0, 0, 0, 8, 0, 0, 0, 4, 1, 1, 0, 0,
+];
 
 #[test]
 fn pdus_are_written(rt: HostRuntime) -> Result<(), Fail> {
     let mut wire = MemoryWire::new(rt.alloc());
     write_reject(1, 1, 7, &mut wire)?;
-    assert!(rt; wire.sent() == [3, 0, 0, 0, 0, 4, 0, 1, 1, 7].as_slice());
-    let mut wire = MemoryWire::new(rt.alloc());
     write_release(&mut wire)?;
-    assert!(rt; wire.sent() == [6, 0, 0, 0, 0, 4, 0, 0, 0, 0].as_slice());
-    let mut wire = MemoryWire::new(rt.alloc());
     write_abort(2, 6, &mut wire)?;
-    assert!(rt; wire.sent() == [7, 0, 0, 0, 0, 4, 0, 0, 2, 6].as_slice());
-    let mut wire = MemoryWire::new(rt.alloc());
     write_data(1, true, false, &[0, 0], &mut wire)?;
-    assert!(rt; wire.sent() == [4, 0, 0, 0, 0, 8, 0, 0, 0, 4, 1, 1, 0, 0].as_slice());
-    let mut wire = MemoryWire::new(rt.alloc());
+    assert!(rt; wire.sent() == WRITTEN);
     write_data(3, false, true, &[7; 600], &mut wire)?;
-    assert_eq!(rt; wire.sent().len(), 612);
+    assert_eq!(rt; wire.sent().len(), WRITTEN.len() + 612);
     assert!(rt; !wire.failed());
     Ok(())
 }

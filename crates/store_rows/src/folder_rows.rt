@@ -1,45 +1,55 @@
 //! A store over a folder that has no number left, and over one that is synced.
 
+use crate::row::Row;
+use acceptor::State;
 use dimse::status;
-use fixtures::folders::{are_in, count, fresh, put};
-use fixtures::stores::{CT_SET, EXPLICIT, INSTANCE, file, reply, request, whole_store};
+use fixtures::folders::{are_in, count, fresh, holds, put};
+use fixtures::stores::{CT_SET, EXPLICIT, INSTANCE, reply, whole_store};
 use harness::{Driven, config};
 use part10::FolderFiling;
 use pdu::MemoryWire;
 use std::fs;
 use std::test::Fail;
 
-/// Stores the CT image in a folder; whether the reply has this status.
-fn is_answered(rt: &HostRuntime, dir: &str, status: u16) -> Result<bool, Fail> {
-    let alloc = rt.alloc();
-    let filing = FolderFiling::open(*rt, dir)?;
-    let mut driven = Driven::<_, _, 64>::open(&config(), MemoryWire::new(alloc), filing);
-    driven.feed(request(alloc, EXPLICIT)?.as_slice());
-    driven.feed(whole_store(alloc, INSTANCE, &CT_SET)?.as_slice());
-    let reply = reply(alloc, INSTANCE, status, None)?;
-    Ok(driven.wire().sent().ends_with(reply.as_slice()))
-}
-
 #[test]
 fn a_store_in_a_folder_that_is_synced(rt: HostRuntime) -> Result<(), Fail> {
     let dir = "a_store_in_a_folder_that_is_synced";
     fresh(&rt, dir)?;
-    assert!(rt; is_answered(&rt, dir, status::SUCCESS)?);
-    let mut files = Vec::new(rt.alloc());
-    files.push(file(rt.alloc(), EXPLICIT, INSTANCE, &CT_SET)?)?;
-    assert!(rt; are_in(&rt, dir, files.as_slice())?);
+    let store = (EXPLICIT, INSTANCE, CT_SET.as_slice(), status::SUCCESS, None);
+    let row = Row::of(rt.alloc(), &store)?;
+    let filing = FolderFiling::open(rt, dir)?;
+    let wire = MemoryWire::new(rt.alloc());
+    let mut driven = Driven::<_, _, 64>::open(&config(), wire, filing);
+    driven.feed(row.stream.as_slice());
+    assert!(rt; row.is_shown(&driven));
+    assert!(rt; are_in(&rt, dir, row.files.as_slice())?);
     fs::remove_dir_all(&rt, dir)?;
     Ok(())
 }
 
+/// Whether a row comes so, cut here, over a folder that has the last number in use, and leaves it as it was.
+fn comes_in_full_folder(rt: &HostRuntime, dir: &str, row: &Row, cut: usize) -> Result<bool, Fail> {
+    fresh(rt, dir)?;
+    put(rt, dir, "I9999999", b"last")?;
+    let filing = FolderFiling::open(*rt, dir)?.without_sync();
+    let wire = MemoryWire::new(rt.alloc());
+    let mut driven = Driven::<_, _, 64>::open(&config(), wire, filing);
+    driven.feed_cut(row.stream.as_slice(), cut);
+    Ok(row.is_shown(&driven) && count(rt, dir)? == 1 && holds(rt, dir, "I9999999", b"last")?)
+}
+
+/// Each of two stores is answered A700, in one piece, byte by byte and at each cut in two.
 #[test]
 fn a_folder_without_a_free_number(rt: HostRuntime) -> Result<(), Fail> {
     let dir = "a_folder_without_a_free_number";
-    fresh(&rt, dir)?;
-    put(&rt, dir, "I9999999", b"last")?;
-    assert!(rt; is_answered(&rt, dir, status::OUT_OF_RESOURCES)?);
-    assert!(rt; is_answered(&rt, dir, status::OUT_OF_RESOURCES)?);
-    assert_eq!(rt; count(&rt, dir)?, 1);
+    let alloc = rt.alloc();
+    let store = whole_store(alloc, INSTANCE, &CT_SET)?;
+    let reply = reply(alloc, INSTANCE, status::OUT_OF_RESOURCES, None)?;
+    let (stores, replies) = ([store.as_slice(); 2], [reply.as_slice(); 2]);
+    let row = Row::of_messages(alloc, &stores, &replies, Vec::new(alloc), State::Sta6)?;
+    for cut in 0..row.stream.len() + 2 {
+        assert!(rt; comes_in_full_folder(&rt, dir, &row, cut)?, "cut at {cut}");
+    }
     fs::remove_dir_all(&rt, dir)?;
     Ok(())
 }

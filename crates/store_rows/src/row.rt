@@ -5,7 +5,7 @@ use acceptor::State;
 use dimse::status;
 use fixtures::bytes::{after_first, joined};
 use fixtures::folders::{are_in, fresh};
-use fixtures::stores::{Cause, file, reply, request, whole_store};
+use fixtures::stores::{Cause, EXPLICIT, file, reply, request, whole_store};
 use harness::{Driven, config};
 use part10::{Filing, FolderFiling, MemoryFiling};
 use pdu::MemoryWire;
@@ -43,9 +43,30 @@ impl Row {
         })
     }
 
+    /// The row of an association that accepted Explicit, in which these messages come, and these replies
+    /// go out.
+    pub(crate) fn of_messages(
+        alloc: Global,
+        messages: &[&[u8]],
+        replies: &[&[u8]],
+        files: Vec<Vec<u8>>,
+        state: State,
+    ) -> Result<Row, AllocError> {
+        let mut stream = request(alloc, EXPLICIT)?;
+        for message in messages {
+            stream.extend_from_slice(message)?;
+        }
+        Ok(Row {
+            stream,
+            answer: joined(alloc, replies)?,
+            files,
+            state,
+        })
+    }
+
     /// Whether an association shows this. The one accepted context and the caller are held until it
     /// is left.
-    fn is_shown<F: Filing + Drop, const D: usize>(
+    pub(crate) fn is_shown<F: Filing + Drop, const D: usize>(
         &self,
         driven: &Driven<MemoryWire<Global>, F, D>,
     ) -> bool {

@@ -83,27 +83,6 @@ fn a_data_set_with_too_many_levels(rt: HostRuntime) -> Result<(), Fail> {
     Ok(())
 }
 
-/// The row of an association that accepted Explicit, in which these messages come, and these replies
-/// go out.
-fn row_of(
-    alloc: Global,
-    messages: &[&[u8]],
-    replies: &[&[u8]],
-    files: Vec<Vec<u8>>,
-    state: State,
-) -> Result<Row, AllocError> {
-    let mut stream = request(alloc, EXPLICIT)?;
-    for message in messages {
-        stream.extend_from_slice(message)?;
-    }
-    Ok(Row {
-        stream,
-        answer: joined(alloc, replies)?,
-        files,
-        state,
-    })
-}
-
 /// The file of the CT store alone.
 fn one_file(alloc: Global) -> Result<Vec<Vec<u8>>, AllocError> {
     let mut files = Vec::new(alloc);
@@ -118,7 +97,7 @@ fn a_release_in_its_data(rt: HostRuntime) -> Result<(), Fail> {
     let command = data(alloc, 3, store(alloc, INSTANCE)?.as_slice())?;
     let part = data(alloc, 0, front(&CT_SET, 20))?;
     let messages = [command.as_slice(), part.as_slice(), RELEASE];
-    let row = row_of(alloc, &messages, &[RELEASED], Vec::new(alloc), State::Sta13)?;
+    let row = Row::of_messages(alloc, &messages, &[RELEASED], Vec::new(alloc), State::Sta13)?;
     assert!(rt; comes(&rt, "a_release_in_its_data", &row)?);
     Ok(())
 }
@@ -132,7 +111,7 @@ fn a_store_before_a_bad_pdv(rt: HostRuntime) -> Result<(), Fail> {
     let messages = [command.as_slice(), &heads, &CT_SET, &[0, 0, 0, 1, 1, 3]];
     let reply = reply(alloc, INSTANCE, status::SUCCESS, None)?;
     let replies: [&[u8]; 2] = [reply.as_slice(), &[7, 0, 0, 0, 0, 4, 0, 0, 2, 6]];
-    let row = row_of(alloc, &messages, &replies, one_file(alloc)?, State::Sta13)?;
+    let row = Row::of_messages(alloc, &messages, &replies, one_file(alloc)?, State::Sta13)?;
     assert!(rt; comes(&rt, "a_store_before_a_bad_pdv", &row)?);
     Ok(())
 }
@@ -150,7 +129,7 @@ fn another_class_than_the_context(rt: HostRuntime) -> Result<(), Fail> {
     let mut reply = reply(alloc, INSTANCE, status::CLASS_NOT_SUPPORTED, None)?;
     *reply.as_mut_slice().get_mut(NAMED).ok_or("a reply")? = b'4';
     let (messages, replies) = ([store.as_slice()], [reply.as_slice()]);
-    let row = row_of(alloc, &messages, &replies, Vec::new(alloc), State::Sta6)?;
+    let row = Row::of_messages(alloc, &messages, &replies, Vec::new(alloc), State::Sta6)?;
     assert!(rt; comes(&rt, "another_class", &row)?);
     Ok(())
 }
@@ -164,7 +143,7 @@ fn two_stores_on_one_association(rt: HostRuntime) -> Result<(), Fail> {
     let second = reply(alloc, INSTANCE, status::SUCCESS, None)?;
     let messages = [bad.as_slice(), good.as_slice()];
     let replies = [first.as_slice(), second.as_slice()];
-    let row = row_of(alloc, &messages, &replies, one_file(alloc)?, State::Sta6)?;
+    let row = Row::of_messages(alloc, &messages, &replies, one_file(alloc)?, State::Sta6)?;
     assert!(rt; comes(&rt, "two_stores", &row)?);
     Ok(())
 }
