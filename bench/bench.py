@@ -10,7 +10,6 @@ and peak resident memory of the server's process.
 import argparse
 import os
 import resource
-import shutil
 import socket
 import statistics
 import struct
@@ -73,13 +72,23 @@ def stop(server):
     return usage.ru_utime + usage.ru_stime, peak
 
 
+def empty(folder):
+    """Frees the disk. The files stay until the end: ext4 looks at each inode that was freed lately when it makes a file."""
+    for name in os.listdir(folder):
+        os.truncate(f"{folder}/{name}", 0)
+
+
 def measured(work, words_of, sender, log):
     """Serves one sending, and returns wall seconds, processor seconds and peak memory."""
     folder = tempfile.mkdtemp(dir=work)
+    # (what the server before it left to be written is not charged to this one)
+    os.sync()
     server = start(words_of(folder), log)
-    seconds = sender(folder)
-    processor, peak = stop(server)
-    shutil.rmtree(folder)
+    try:
+        seconds = sender(folder)
+    finally:
+        processor, peak = stop(server)
+        empty(folder)
     return seconds, processor, peak
 
 
@@ -153,18 +162,18 @@ def growth(program, work, rounds, log):
 def filled(program, work, rounds, log):
     """Cost of 500 stores into an empty folder and into one that has 20,000 files."""
     words_of = servers(program, work)["dcmbox --no-sync"]
-    folder = tempfile.mkdtemp(dir=work)
-    results = {}
-    for there in (0, 20_000):
+    folders = {there: tempfile.mkdtemp(dir=work) for there in (0, 20_000)}
+    for there, folder in folders.items():
         for n in range(1, there + 1):
             open(f"{folder}/I{n:07d}", "w").close()
-        runs = []
-        for _ in range(rounds):
+    runs = {there: [] for there in folders}
+    for _ in range(rounds):
+        for there, folder in folders.items():
+            os.sync()
             server = start(words_of(folder), log)
             seconds = send(work, "tiny", "500")(folder)
-            runs.append((seconds, *stop(server)))
-        results[there] = medians(runs)
-    shutil.rmtree(folder)
+            runs[there].append((seconds, *stop(server)))
+    results = {there: medians(runs[there]) for there in folders}
     print(f"\n500 stores into a folder of 20,000 files take {ratio(results[20_000][0], results[0][0])} times the wall time of 500 into an empty one.")
 
 
@@ -209,7 +218,6 @@ def indexing(program, work, rounds):
             after = resource.getrusage(resource.RUSAGE_CHILDREN)
             assert done.stdout == f"records {4 * count}\n".encode(), done.stdout
             runs.append(after.ru_utime + after.ru_stime - before.ru_utime - before.ru_stime)
-        shutil.rmtree(folder)
         print(f"| {count} | {statistics.median(runs) / (count / 1e3):.3f} s |")
 
 

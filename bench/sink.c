@@ -49,22 +49,46 @@ static int pass(int fd, size_t n, int out) {
 
 static size_t be32(unsigned char *p) { return ((size_t)p[0] << 24) | (p[1] << 16) | (p[2] << 8) | p[3]; }
 
-static const unsigned char accept_user[] =
-  "\x21\0\0\x1b\1\0\0\0\x40\0\0\x13" "1.2.840.10008.1.2.1" "\x50\0\0\x08\x51\0\0\x04\0\0\x40\0";
+static size_t be16(const unsigned char *p) { return ((size_t)p[0] << 8) | p[1]; }
+static size_t le32(const unsigned char *p) { return ((size_t)p[3] << 24) | (p[2] << 16) | (p[1] << 8) | p[0]; }
 
-static void answer_request(int fd, unsigned char *body) {
-  unsigned char text[256] = {2, 0};
-  size_t n = 74;
+/* Accepts each presentation context of the request of n bytes, with its first transfer syntax. */
+static void answer_request(int fd, const unsigned char *body, size_t n) {
+  static const unsigned char user[] = "\x50\0\0\x08\x51\0\0\x04\0\0\x40\0";
+  static unsigned char text[ROOM];
+  size_t to_send = 74;
+  memset(text, 0, sizeof text);
+  text[0] = 2;
   memcpy(text + 6, body, 68);
-  n += (size_t)sprintf((char *)text + n, "%c%c%c%c%s", 0x10, 0, 0, 21, "1.2.840.10008.3.1.1.1");
-  memcpy(text + n, accept_user, sizeof accept_user - 1);
-  n += sizeof accept_user - 1;
-  text[5] = (unsigned char)(n - 6);
-  if (write(fd, text, n) < 0) exit(1);
+  for (size_t at = 68; at + 4 <= n; at += 4 + be16(body + at + 2)) {
+    const unsigned char *item = body + at;
+    if (item[0] == 0x10) {
+      memcpy(text + to_send, item, 4 + be16(item + 2));
+      to_send += 4 + be16(item + 2);
+    }
+    if (item[0] != 0x20) continue;
+    size_t syntax = 8 + 4 + be16(item + 8 + 2), length = 4 + be16(item + syntax + 2);
+    unsigned char answer[] = {0x21, 0, 0, (unsigned char)(4 + length), item[4], 0, 0, 0};
+    memcpy(text + to_send, answer, 8);
+    memcpy(text + to_send + 8, item + syntax, length);
+    to_send += 8 + length;
+  }
+  memcpy(text + to_send, user, sizeof user - 1);
+  to_send += sizeof user - 1;
+  text[4] = (unsigned char)((to_send - 6) >> 8);
+  text[5] = (unsigned char)(to_send - 6);
+  if (write(fd, text, to_send) < 0) exit(1);
+}
+
+/* Where the Message ID, (0000,0110), stands in a command set of n bytes. */
+static const unsigned char *message_id(const unsigned char *command, size_t n) {
+  for (size_t at = 0; at + 10 <= n; at += 8 + le32(command + at + 4))
+    if (memcmp(command + at, "\0\0\x10\1", 4) == 0) return command + at + 8;
+  exit(1);
 }
 
 /* The reply to every store: success. */
-static void reply(int fd) {
+static void reply(int fd, unsigned char context, const unsigned char *message) {
   static const unsigned char text[] =
     "\4\0\0\0\0\x4c\0\0\0\x48\1\3" "\0\0\0\0\4\0\0\0\x38\0\0\0" "\0\0\2\0\2\0\0\0\x31\0"
     "\0\0\0\1\2\0\0\0\1\x80" "\0\0\x20\1\2\0\0\0\0\0" "\0\0\0\x08\2\0\0\0\1\1" "\0\0\0\x09\2\0\0\0\0\0";
@@ -72,6 +96,8 @@ static void reply(int fd) {
   memcpy(bytes, text, sizeof bytes);
   bytes[5] = (unsigned char)(sizeof bytes - 6);
   bytes[9] = (unsigned char)(sizeof bytes - 10);
+  bytes[10] = context;
+  memcpy(bytes + 52, message, 2);
   if (write(fd, bytes, sizeof bytes) < 0) exit(1);
 }
 
@@ -90,12 +116,12 @@ int main(int argc, char **argv) {
     int fd = accept(listener, NULL, NULL), out = -1;
     setsockopt(fd, IPPROTO_TCP, TCP_NODELAY, &on, sizeof on);
     from = to = 0;
-    unsigned char head[6];
+    unsigned char head[6], message[2] = {0};
     while (take(fd, head, 6)) {
       size_t n = be32(head + 2);
       if (head[0] != 4) {
         if (n > sizeof body || !take(fd, body, n)) break;
-        if (head[0] == 1) answer_request(fd, body);
+        if (head[0] == 1) answer_request(fd, body, n);
         if (head[0] == 5 && write(fd, "\6\0\0\0\0\4\0\0\0\0", 10) < 0) break;
         continue;
       }
@@ -104,6 +130,7 @@ int main(int argc, char **argv) {
       n -= 6;
       if (pdv[5] & 1) {
         if (!take(fd, body, n)) break;
+        memcpy(message, message_id(body, n), 2);
         char name[16];
         snprintf(name, sizeof name, "I%07u", ++files);
         out = open(name, O_WRONLY | O_CREAT | O_TRUNC, 0666);
@@ -112,7 +139,7 @@ int main(int argc, char **argv) {
       if (!pass(fd, n, out)) break;
       if (pdv[5] & 2) {
         close(out);
-        reply(fd);
+        reply(fd, pdv[4], message);
       }
     }
     close(fd);
