@@ -6,7 +6,7 @@ use Rattle.byteorder.specs.Endian.{little_number}
 use Rattle.byteorder.specs.Numbers.{little_number-reads_back}
 use Rattle.element.specs.Numbers.{le, IsBytes}
 use Rattle.element.proofs.Public.{two_cells, four_cells}
-use Rattle.dimse.specs.Command.{CommandElement, IsElement, command_element_bytes}
+use Rattle.dimse.specs.Command.{CommandElement, IsCommandElement, command_element_bytes}
 use Rattle.dimse.specs.Reading.{is_element, element_at}
 
 abbrev pub front : ℕ → ℕ → List ℕ → List ℕ
@@ -31,7 +31,7 @@ read_front : (number size n k : ℕ) (value rest : List ℕ) → length value �
 read_front number size n k value rest len e f =
     rw (e, f, take_at value rest size len, drop_at value rest size len) refl
 
-pub element_again : (e : CommandElement) (rest : List ℕ) → IsElement e → element_at (command_element_bytes e ++ rest) ≡ Some (e, rest)
+pub element_again : (e : CommandElement) (rest : List ℕ) → IsCommandElement e → element_at (command_element_bytes e ++ rest) ≡ Some (e, rest)
 unfolding element_at
 element_again e rest h =
     let size = length e.value in
@@ -83,7 +83,7 @@ bytes_take n b bytes i =
 -- what a reader took from the front
 pub record Takes (b : List ℕ) (x : CommandElement × List ℕ) : Type 0 where
   pub parts : b ≡ command_element_bytes x.0 ++ x.1
-  pub element : IsElement x.0
+  pub element : IsCommandElement x.0
   pub value : IsBytes x.0.value
   pub bytes : IsBytes x.1
 

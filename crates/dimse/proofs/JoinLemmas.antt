@@ -12,7 +12,7 @@ use Rattle.dimse.specs.declared.fault.DimseFault.{DimseFault}
 use Rattle.dimse.specs.declared.stage.Stage.{Stage}
 use Rattle.dimse.specs.declared.stage.Stage.TheVariants.{Between, Command, Set}
 use Rattle.dimse.specs.Messages.{Begun, NoMessage, InCommand, InSet, head_refusal}
-use Rattle.dimse.specs.Joining.{Joining, Shows, shown, with_fragment, with_pdv, pdv_of, without_set, command_bytes, left_of, last_of}
+use Rattle.dimse.specs.Joining.{Joining, ShowsMessage, shown, with_fragment, with_pdv, pdv_of, without_set, command_bytes, left_of_pdv, is_last_begun}
 use Rattle.dimse.specs.machine.Fields.{message_at}
 
 -- ---- heads
@@ -51,10 +51,10 @@ head_part message bytes six =
     let none : drop 6 bytes ≡ [] = drop_all 6 bytes (omega arith) in
     rw (whole, none) (no_part (get_or bytes 4 0) message)
 
-head_left : (bytes : List ℕ) (left : ℕ) → length bytes ≡ 6 → left ≡ big_number 4 bytes - 2 → left ≡ left_of bytes
+head_left : (bytes : List ℕ) (left : ℕ) → length bytes ≡ 6 → left ≡ big_number 4 bytes - 2 → left ≡ left_of_pdv bytes
 head_left bytes left six e = rw (le-ltb (length bytes) 6 (omega arith)) (omega arith)
 
-head_last : (bytes : List ℕ) → length bytes ≡ 6 → is_last (get_or bytes 5 0) ≡ last_of bytes
+head_last : (bytes : List ℕ) → length bytes ≡ 6 → is_last (get_or bytes 5 0) ≡ is_last_begun bytes
 head_last bytes six = rw (le-ltb (length bytes) 6 (omega arith)) refl
 
 joining_is : (a b : Joining) → a.message ≡ b.message → a.command ≡ b.command → a.left ≡ b.left → a.last ≡ b.last → a ≡ b
@@ -63,7 +63,7 @@ joining_is a b m c l e = rw (← m, ← c, ← l, ← e) refl
 -- a head that is not refused
 head_shown : (room : ℕ) (message : Begun) (bytes : List ℕ) (left : ℕ) (new : Begun) → new ≡ begun_at (get_or bytes 4 0) (without_set message) → length bytes ≡ 6 → left ≡ big_number 4 bytes - 2
     → head_refusal room (without_set message) (pdv_head_of bytes) ≡ None
-    → Shows room (record { message = new; command = command_bytes new; left = left; last = is_last (get_or bytes 5 0) }) message bytes
+    → ShowsMessage room (record { message = new; command = command_bytes new; left = left; last = is_last (get_or bytes 5 0) }) message bytes
 head_shown room message bytes left new n six l ok =
     let m = head_part message bytes six in
     let same : new ≡ without_set (with_pdv bytes message) = n ∙ sym (ap without_set m ∙ begun_kept (get_or bytes 4 0) message) in
@@ -75,7 +75,7 @@ head_shown room message bytes left new n six l ok =
 
 pub first_head : (room : ℕ) (message old : Begun) (bytes : List ℕ) (h : PdvHead) (s t : Stage) (k l left : ℕ) (xs ys : List ℕ) → old ≡ message_at s k xs → s ≡ Between → t ≡ Command → l ≡ h.context → ys ≡ []
     → old ≡ without_set message → length bytes ≡ 6 → h ≡ pdv_head_of bytes → left ≡ h.length - 2 → head_refusal room old h ≡ None
-    → Shows room (record { message = message_at t l ys; command = ys; left = left; last = h.last }) message bytes
+    → ShowsMessage room (record { message = message_at t l ys; command = ys; left = left; last = h.last }) message bytes
 first_head room message old bytes h s t k l left xs ys v b d x y o six e n ok =
     let none : without_set message ≡ NoMessage = sym o ∙ v ∙ ap (λ (a : Stage). message_at a k xs) b in
     let same : InCommand (get_or bytes 4 0) [] ≡ begun_at (get_or bytes 4 0) (without_set message) = rw none refl in
@@ -84,7 +84,7 @@ first_head room message old bytes h s t k l left xs ys v b d x y o six e n ok =
 
 pub later_head : (room : ℕ) (first old : Begun) (bytes : List ℕ) (h : PdvHead) (s : Stage) (k left : ℕ) (xs : List ℕ) → old ≡ message_at s k xs → (s ≡ Between → ⊥)
     → old ≡ without_set first → length bytes ≡ 6 → h ≡ pdv_head_of bytes → left ≡ h.length - 2 → head_refusal room old h ≡ None
-    → Shows room (record { message = message_at s k xs; command = xs; left = left; last = h.last }) first bytes
+    → ShowsMessage room (record { message = message_at s k xs; command = xs; left = left; last = h.last }) first bytes
 later_head room first old bytes h Between k left xs v not o six e n ok = absurd (not refl)
 later_head room first old bytes h Command k left xs v not o six e n ok =
     let same : InCommand k xs ≡ begun_at (get_or bytes 4 0) (without_set first) = rw (← o, v) refl in
@@ -137,13 +137,13 @@ part_message context k Set xs part (InSet first command set) v c not = let f : k
 number_kept : (begun part : List ℕ) → 6 ≤ length begun → big_number 4 (begun ++ part) ≡ big_number 4 begun
 number_kept begun part le = (same_head begun part le).number
 
-left_kept : (begun part : List ℕ) (left : ℕ) → 6 ≤ length begun → left ≡ left_of begun → left - length part ≡ left_of (begun ++ part)
+left_kept : (begun part : List ℕ) (left : ℕ) → 6 ≤ length begun → left ≡ left_of_pdv begun → left - length part ≡ left_of_pdv (begun ++ part)
 left_kept begun part left le e =
     let now : left ≡ pdv_size begun - length begun = e ∙ rw (le-ltb (length begun) 6 le) refl in
     let more : 6 ≤ length (begun ++ part) = omega (arith, length-append begun part) in
     rw (le-ltb (length (begun ++ part)) 6 more) (omega (arith, now, number_kept begun part le, length-append begun part))
 
-last_kept : (begun part : List ℕ) → 6 ≤ length begun → last_of begun ≡ last_of (begun ++ part)
+last_kept : (begun part : List ℕ) → 6 ≤ length begun → is_last_begun begun ≡ is_last_begun (begun ++ part)
 last_kept begun part le =
     let more : 6 ≤ length (begun ++ part) = omega (arith, length-append begun part) in
     rw (le-ltb (length begun) 6 le, le-ltb (length (begun ++ part)) 6 more, get_or_append_left begun part 0 5 (omega arith)) refl
@@ -152,8 +152,8 @@ head_kept : (begun part : List ℕ) → 6 ≤ length begun → pdv_head_of (begu
 head_kept begun part le = rw (number_kept begun part le, get_or_append_left begun part 0 4 (omega arith), get_or_append_left begun part 0 5 (omega arith)) refl
 
 long_part : (room : ℕ) (m : Begun) (begun part : List ℕ) (s : Stage) (k left : ℕ) (last : Bool) (xs : List ℕ)
-    → Shows room (record { message = message_at s k xs; command = xs; left = left; last = last }) m begun → 6 ≤ length begun
-    → Shows room (record { message = message_at s k (with_part s xs part); command = with_part s xs part; left = left - length part; last = last }) m (begun ++ part)
+    → ShowsMessage room (record { message = message_at s k xs; command = xs; left = left; last = last }) m begun → 6 ≤ length begun
+    → ShowsMessage room (record { message = message_at s k (with_part s xs part); command = with_part s xs part; left = left - length part; last = last }) m (begun ++ part)
 long_part room m begun part s k left last xs h le =
     let context = get_or begun 4 0 in
     let some : with_pdv begun m ≡ NoMessage → ⊥ = λ e. is_begun context (drop 6 begun) m (sym (long_pdv begun m le) ∙ e) in
@@ -174,18 +174,18 @@ no_bytes Command xs = append-nil xs
 no_bytes Set xs = refl
 
 short_part : (room : ℕ) (m : Begun) (begun part : List ℕ) (s : Stage) (k left : ℕ) (last : Bool) (xs : List ℕ)
-    → Shows room (record { message = message_at s k xs; command = xs; left = left; last = last }) m begun → length begun < 6 → length part ≤ left
-    → Shows room (record { message = message_at s k (with_part s xs part); command = with_part s xs part; left = left - length part; last = last }) m (begun ++ part)
+    → ShowsMessage room (record { message = message_at s k xs; command = xs; left = left; last = last }) m begun → length begun < 6 → length part ≤ left
+    → ShowsMessage room (record { message = message_at s k (with_part s xs part); command = with_part s xs part; left = left - length part; last = last }) m (begun ++ part)
 short_part room m begun [] s k left last xs h lt le =
     let all : left ≡ left - length {A = ℕ} [] = omega arith in
-    rw (no_bytes s xs, append-nil begun) (subst (λ (n : ℕ). Shows room (record { message = message_at s k xs; command = xs; left = n; last = last }) m begun) all h)
+    rw (no_bytes s xs, append-nil begun) (subst (λ (n : ℕ). ShowsMessage room (record { message = message_at s k xs; command = xs; left = n; last = last }) m begun) all h)
 short_part room m begun (b ∷ part) s k left last xs h lt le =
     let none : left ≡ 0 = ap (λ (j : Joining). j.left) h.shows ∙ rw (lt-ltb (length begun) 6 lt) refl in
     absurd (omega arith)
 
 pub part_shown : (room : ℕ) (m : Begun) (begun part : List ℕ) (s : Stage) (k left : ℕ) (last : Bool) (xs : List ℕ)
-    → Shows room (record { message = message_at s k xs; command = xs; left = left; last = last }) m begun → length part ≤ left
-    → Shows room (record { message = message_at s k (with_part s xs part); command = with_part s xs part; left = left - length part; last = last }) m (begun ++ part)
+    → ShowsMessage room (record { message = message_at s k xs; command = xs; left = left; last = last }) m begun → length part ≤ left
+    → ShowsMessage room (record { message = message_at s k (with_part s xs part); command = with_part s xs part; left = left - length part; last = last }) m (begun ++ part)
 part_shown room m begun part s k left last xs h le =
     elim (cases_lt (length begun) 6) [
       | inl lt ↦ short_part room m begun part s k left last xs h lt le
@@ -206,7 +206,7 @@ taken (Ok x) ok holds = holds
 taken (Err e) ok holds = absurd cc
 
 -- while fewer than six bytes of a presentation data value have come a join shows none of them
-pub shows_short : (room : ℕ) (join : Joining) (m : Begun) (begun other : List ℕ) → length begun < 6 → length other < 6 → Shows room join m begun → Shows room join m other
+pub shows_short : (room : ℕ) (join : Joining) (m : Begun) (begun other : List ℕ) → length begun < 6 → length other < 6 → ShowsMessage room join m begun → ShowsMessage room join m other
 shows_short room join m begun other lt lt_other h =
     let was : shown (with_pdv begun m) begun ≡ shown m [] = rw (lt-ltb (length begun) 6 lt) refl in
     let now : shown (with_pdv other m) other ≡ shown m [] = rw (lt-ltb (length other) 6 lt_other) refl in
@@ -224,5 +224,5 @@ whole_pdv bytes le e =
     rw all refl
 
 -- how many bytes the fragment still lacks
-pub shows_left : (room : ℕ) (join : Joining) (m : Begun) (begun : List ℕ) → 6 ≤ length begun → Shows room join m begun → join.left ≡ pdv_size begun - length begun
+pub shows_left : (room : ℕ) (join : Joining) (m : Begun) (begun : List ℕ) → 6 ≤ length begun → ShowsMessage room join m begun → join.left ≡ pdv_size begun - length begun
 shows_left room join m begun le h = ap (λ (j : Joining). j.left) h.shows ∙ rw (le-ltb (length begun) 6 le) refl

@@ -6,7 +6,7 @@ use Rattle.pdu.specs.Heads.{is_command, is_last}
 use Rattle.dimse.specs.declared.fault.DimseFault.{DimseFault}
 use Rattle.dimse.specs.Command.{CommandRecord}
 use Rattle.dimse.specs.Reading.{command_in}
-use Rattle.dimse.specs.Messages.{Pdv, Message, IsFragment, AreFragments, bytes_of, IsSet, IsMessage, Begun, NoMessage, InCommand, InSet, if_room, if_context, refusal, Brought, Goes, Ends, Refuses, with_command, brought, Messages, unless_refused, next, with_message, with_later, messages_from, messages}
+use Rattle.dimse.specs.Messages.{Pdv, Message, IsFragment, AreFragments, fragments_of, IsSet, IsMessage, Begun, NoMessage, InCommand, InSet, if_room, if_context, refusal, Brought, Goes, Ends, Refuses, with_command, brought, Messages, unless_refused, next, with_message, with_later, messages_from, messages}
 use Rattle.dimse.specs.MessageLaws.{and_then}
 use Rattle.dimse.proofs.RowLemmas.{in_command, in_set, command_row, set_row, first_row}
 
@@ -67,9 +67,9 @@ next_first room p h =
     ap (λ (o : Option DimseFault). unless_refused o (brought NoMessage p)) same
     ∙ ap (unless_refused (refusal room (InCommand p.context []) n p.context p.control)) (first_row p (is_last p.control) h refl)
 
-walk_command : (room context : ℕ) (acc : List ℕ) (commands more : List Pdv) → AreFragments context true commands → length acc + length (bytes_of commands) ≤ room
+walk_command : (room context : ℕ) (acc : List ℕ) (commands more : List Pdv) → AreFragments context true commands → length acc + length (fragments_of commands) ≤ room
     → messages_from room (InCommand context acc) (commands ++ more)
-    ≡ with_later (with_command context (acc ++ bytes_of commands) (command_in (acc ++ bytes_of commands))) (λ b. messages_from room b more)
+    ≡ with_later (with_command context (acc ++ fragments_of commands) (command_in (acc ++ fragments_of commands))) (λ b. messages_from room b more)
 unfolding messages_from
 walk_command room context acc [] more h le = absurd h
 walk_command room context acc (p ∷ []) more h le =
@@ -77,14 +77,14 @@ walk_command room context acc (p ∷ []) more h le =
     ap (λ (x : Brought). with_later x (λ b. messages_from room b more)) (next_command room context acc p true h.0 h.1 size)
     ∙ ap (λ (t : List ℕ). with_later (with_command context (acc ++ t) (command_in (acc ++ t))) (λ b. messages_from room b more)) (sym (append-nil p.fragment))
 walk_command room context acc (p ∷ q ∷ ps) more h le =
-    let size : length acc + length p.fragment ≤ room = omega (arith, le, length-append p.fragment (bytes_of (q ∷ ps))) in
-    let all : length (acc ++ p.fragment) + length (bytes_of (q ∷ ps)) ≤ room = omega (arith, le, length-append acc p.fragment, length-append p.fragment (bytes_of (q ∷ ps))) in
+    let size : length acc + length p.fragment ≤ room = omega (arith, le, length-append p.fragment (fragments_of (q ∷ ps))) in
+    let all : length (acc ++ p.fragment) + length (fragments_of (q ∷ ps)) ≤ room = omega (arith, le, length-append acc p.fragment, length-append p.fragment (fragments_of (q ∷ ps))) in
     ap (λ (x : Brought). with_later x (λ b. messages_from room b ((q ∷ ps) ++ more))) (next_command room context acc p false h.0 h.1 size)
     ∙ walk_command room context (acc ++ p.fragment) (q ∷ ps) more h.2 all
-    ∙ ap (λ (t : List ℕ). with_later (with_command context t (command_in t)) (λ b. messages_from room b more)) (append_assoc acc p.fragment (bytes_of (q ∷ ps)))
+    ∙ ap (λ (t : List ℕ). with_later (with_command context t (command_in t)) (λ b. messages_from room b more)) (append_assoc acc p.fragment (fragments_of (q ∷ ps)))
 
 walk_set : (room context : ℕ) (command acc : List ℕ) (sets more : List Pdv) → AreFragments context false sets
-    → messages_from room (InSet context command acc) (sets ++ more) ≡ with_message (record { context = context; command = command; set = acc ++ bytes_of sets }) (messages_from room NoMessage more)
+    → messages_from room (InSet context command acc) (sets ++ more) ≡ with_message (record { context = context; command = command; set = acc ++ fragments_of sets }) (messages_from room NoMessage more)
 unfolding messages_from
 walk_set room context command acc [] more h = absurd h
 walk_set room context command acc (p ∷ []) more h =
@@ -93,7 +93,7 @@ walk_set room context command acc (p ∷ []) more h =
 walk_set room context command acc (p ∷ q ∷ ps) more h =
     ap (λ (x : Brought). with_later x (λ b. messages_from room b ((q ∷ ps) ++ more))) (next_set room context command acc p false h.0 h.1)
     ∙ walk_set room context command (acc ++ p.fragment) (q ∷ ps) more h.2
-    ∙ ap (λ (t : List ℕ). with_message (record { context = context; command = command; set = t }) (messages_from room NoMessage more)) (append_assoc acc p.fragment (bytes_of (q ∷ ps)))
+    ∙ ap (λ (t : List ℕ). with_message (record { context = context; command = command; set = t }) (messages_from room NoMessage more)) (append_assoc acc p.fragment (fragments_of (q ∷ ps)))
 
 first_of : (context : ℕ) (command : Bool) (p : Pdv) (ps : List Pdv) → AreFragments context command (p ∷ ps) → IsFragment context command p
 first_of context command p [] h = h.0
@@ -120,11 +120,11 @@ finishes room m true sets more h =
 pub message_is : (room : ℕ) (m : Message) (commands sets more : List Pdv) → IsMessage room m commands sets → messages room ((commands ++ sets) ++ more) ≡ with_message m (messages room more)
 unfolding messages
 message_is room m commands sets more h =
-    let fits : 0 + length (bytes_of commands) ≤ room = omega (arith, subst (λ (t : List ℕ). length t ≤ room) h.joined h.fits) in
-    let read : command_in (bytes_of commands) ≡ Ok h.command = ap command_in (sym h.joined) ∙ h.spells in
+    let fits : 0 + length (fragments_of commands) ≤ room = omega (arith, subst (λ (t : List ℕ). length t ≤ room) h.joined h.fits) in
+    let read : command_in (fragments_of commands) ≡ Ok h.command = ap command_in (sym h.joined) ∙ h.spells in
     ap (messages_from room NoMessage) (append_assoc commands sets more)
     ∙ starts room m.context commands (sets ++ more) h.fragments
     ∙ walk_command room m.context [] commands (sets ++ more) h.fragments fits
-    ∙ ap (λ (r : Result CommandRecord DimseFault). with_later (with_command m.context (bytes_of commands) r) (λ b. messages_from room b (sets ++ more))) read
+    ∙ ap (λ (r : Result CommandRecord DimseFault). with_later (with_command m.context (fragments_of commands) r) (λ b. messages_from room b (sets ++ more))) read
     ∙ ap (λ (t : List ℕ). with_later (with_command m.context t (Ok h.command)) (λ b. messages_from room b (sets ++ more))) (sym h.joined)
     ∙ finishes room m h.command.with_data sets more h.set

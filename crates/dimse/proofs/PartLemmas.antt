@@ -7,7 +7,7 @@ use Rattle.dimse.specs.declared.fault.DimseFault.{DimseFault}
 use Rattle.dimse.specs.declared.fault.DimseFault.TheVariants.{CommandTooLong, WrongKind, OtherContext}
 use Rattle.dimse.specs.Command.{CommandRecord}
 use Rattle.dimse.specs.Reading.{command_in}
-use Rattle.dimse.specs.Messages.{Pdv, Message, IsFragment, AreFragments, bytes_of, IsSet, IsMessage, Begun, NoMessage, InCommand, InSet, refusal, Brought, Goes, Ends, Refuses, with_command, brought, unless_refused, next, with_later, messages_from, messages}
+use Rattle.dimse.specs.Messages.{Pdv, Message, IsFragment, AreFragments, fragments_of, IsSet, IsMessage, Begun, NoMessage, InCommand, InSet, refusal, Brought, Goes, Ends, Refuses, with_command, brought, unless_refused, next, with_later, messages_from, messages}
 use Rattle.dimse.specs.MessageLaws.{BeginsWith}
 use Rattle.dimse.proofs.RowLemmas.{in_command, in_set, command_row, set_row, first_row}
 
@@ -25,15 +25,15 @@ the_last context command [] p h f e = (f, e)
 the_last context command (q ∷ []) p h f e = (h.0, h.1, (f, e))
 the_last context command (q ∷ r ∷ qs) p h f e = (h.0, h.1, the_last context command (r ∷ qs) p h.2 f e)
 
-bytes_then : (ps : List Pdv) (p : Pdv) → bytes_of (ps ++ p ∷ []) ≡ bytes_of ps ++ p.fragment
+bytes_then : (ps : List Pdv) (p : Pdv) → fragments_of (ps ++ p ∷ []) ≡ fragments_of ps ++ p.fragment
 bytes_then [] p = append-nil p.fragment
-bytes_then (q ∷ qs) p = ap (λ (t : List ℕ). q.fragment ++ t) (bytes_then qs p) ∙ sym (append_assoc q.fragment (bytes_of qs) p.fragment)
+bytes_then (q ∷ qs) p = ap (λ (t : List ℕ). q.fragment ++ t) (bytes_then qs p) ∙ sym (append_assoc q.fragment (fragments_of qs) p.fragment)
 
 -- ---- what has come, by its fragments
 
 record CommandCome (room context : ℕ) (command : List ℕ) (done : List Pdv) : Type 0 where
   pub fragments : NoneLast context true done
-  pub joined : command ≡ bytes_of done
+  pub joined : command ≡ fragments_of done
 
 record SetCome (room context : ℕ) (command set : List ℕ) (done : List Pdv) : Type 0 where
   pub commands : List Pdv
@@ -41,12 +41,12 @@ record SetCome (room context : ℕ) (command set : List ℕ) (done : List Pdv) :
   pub parts : done ≡ commands ++ sets
   pub fragments : AreFragments context true commands
   pub fits : length command ≤ room
-  pub joined : command ≡ bytes_of commands
+  pub joined : command ≡ fragments_of commands
   pub read : CommandRecord
   pub spells : command_in command ≡ Ok read
   pub due : read.with_data ≡ true
   pub set_fragments : NoneLast context false sets
-  pub set_joined : set ≡ bytes_of sets
+  pub set_joined : set ≡ fragments_of sets
 
 abbrev HasCome : ℕ → Begun → List Pdv → Type 0
 HasCome room NoMessage done = done ≡ []
@@ -60,7 +60,7 @@ Outcome room done (Refuses fault) = Unit {0}
 
 -- ---- a fragment of a command set
 
-due_outcome : (room context : ℕ) (command : List ℕ) (done : List Pdv) (read : CommandRecord) (b : Bool) → read.with_data ≡ b → AreFragments context true done → length command ≤ room → command ≡ bytes_of done
+due_outcome : (room context : ℕ) (command : List ℕ) (done : List Pdv) (read : CommandRecord) (b : Bool) → read.with_data ≡ b → AreFragments context true done → length command ≤ room → command ≡ fragments_of done
     → command_in command ≡ Ok read → Outcome room done (cond b (Goes (InSet context command [])) (Ends (record { context = context; command = command; set = [] })))
 due_outcome room context command done read true due all fits joined spells =
     record { commands = done; sets = []; parts = sym (append-nil done); fragments = all; fits = fits; joined = joined; read = read; spells = spells; due = due; set_fragments = tt; set_joined = refl }
@@ -69,7 +69,7 @@ due_outcome room context command done read false due all fits joined spells =
     let none : IsSet false m [] = (refl, refl) in
     (done, [], sym (append-nil done), record { command = read; fragments = all; fits = fits; joined = joined; spells = spells; set = subst (λ (x : Bool). IsSet x m []) (sym due) none })
 
-whole_outcome : (room context : ℕ) (command : List ℕ) (done : List Pdv) (r : Result CommandRecord DimseFault) → command_in command ≡ r → AreFragments context true done → length command ≤ room → command ≡ bytes_of done
+whole_outcome : (room context : ℕ) (command : List ℕ) (done : List Pdv) (r : Result CommandRecord DimseFault) → command_in command ≡ r → AreFragments context true done → length command ≤ room → command ≡ fragments_of done
     → Outcome room done (with_command context command r)
 whole_outcome room context command done (Err fault) e all fits joined = tt
 whole_outcome room context command done (Ok read) e all fits joined = due_outcome room context command done read read.with_data refl all fits joined e
@@ -79,7 +79,7 @@ command_outcome : (room context : ℕ) (acc : List ℕ) (done : List Pdv) (p : P
 command_outcome room context acc done p false e h f fits =
     record { fragments = one_more context true done p h.fragments f e; joined = ap (λ (t : List ℕ). t ++ p.fragment) h.joined ∙ sym (bytes_then done p) }
 command_outcome room context acc done p true e h f fits =
-    let joined : acc ++ p.fragment ≡ bytes_of (done ++ p ∷ []) = ap (λ (t : List ℕ). t ++ p.fragment) h.joined ∙ sym (bytes_then done p) in
+    let joined : acc ++ p.fragment ≡ fragments_of (done ++ p ∷ []) = ap (λ (t : List ℕ). t ++ p.fragment) h.joined ∙ sym (bytes_then done p) in
     whole_outcome room context (acc ++ p.fragment) (done ++ p ∷ []) (command_in (acc ++ p.fragment)) refl (the_last context true done p h.fragments f e) fits joined
 
 set_outcome : (room context : ℕ) (command acc : List ℕ) (done : List Pdv) (p : Pdv) (last : Bool) → is_last p.control ≡ last → SetCome room context command acc done → IsFragment context false p

@@ -5,7 +5,7 @@ use Rattle.element.specs.Numbers.{le}
 use Rattle.element.specs.Uid.{even_uid}
 use Rattle.dimse.specs.declared.detail.Detail.{Detail}
 use Rattle.dimse.specs.Command.{CommandElement, CommandRecord, command_element_bytes, command_elements_bytes}
-use Rattle.dimse.specs.Reply.{element, detail_elements, instance_elements, carried, reply_elements}
+use Rattle.dimse.specs.Reply.{element, detail_elements, instance_elements, detail_carried, reply_elements}
 
 pub element_length : (number : ℕ) (value : List ℕ) → length (command_element_bytes (element number value)) ≡ 8 + length value
 unfolding command_element_bytes
@@ -31,10 +31,10 @@ pub put_together : (command : CommandRecord) (status : ℕ) (detail : Option Det
     → s3 ≡ s2 ++ command_element_bytes (element 0x0120 (le command.message 2))
     → s4 ≡ s3 ++ command_element_bytes (element 0x0800 (le 0x0101 2))
     → s5 ≡ s4 ++ command_element_bytes (element 0x0900 (le status 2))
-    → s6 ≡ s5 ++ command_elements_bytes (detail_elements (carried command.field status detail))
+    → s6 ≡ s5 ++ command_elements_bytes (detail_elements (detail_carried command.field status detail))
     → s7 ≡ s6 ++ command_elements_bytes (instance_elements command.instance)
     → s7 ≡ command_elements_bytes (reply_elements command status detail)
 put_together command status detail s1 s2 s3 s4 s5 s6 s7 e1 e2 e3 e4 e5 e6 e7 =
     rw (e7, e6, e5, e4, e3, e2, e1)
     (laid_out (element 0x0002 (even_uid command.class)) (element 0x0100 (le (command.field + 0x8000) 2)) (element 0x0120 (le command.message 2)) (element 0x0800 (le 0x0101 2))
-    (element 0x0900 (le status 2)) (detail_elements (carried command.field status detail)) (instance_elements command.instance))
+    (element 0x0900 (le status 2)) (detail_elements (detail_carried command.field status detail)) (instance_elements command.instance))

@@ -4,7 +4,7 @@ use Rattle.std.specs.Option.{is_some}
 use Rattle.std.proofs.Math.Dec.{eqb-suc-zero}
 use Rattle.std.proofs.lemmas.Bool.{ltb-true, leb-true, lt-ltb, le-ltb}
 use Rattle.std.proofs.lemmas.List.{length-drop}
-use Rattle.dimse.specs.Command.{CommandElement, value_of}
+use Rattle.dimse.specs.Command.{CommandElement, command_value}
 use Rattle.dimse.specs.Reading.{is_element, element_at, with_element, elements_in, elements_of}
 
 pub guarded : (t : Bool) (x : CommandElement) (o : Option (List CommandElement)) (more : List CommandElement) → cond t (with_element x o) None ≡ Some more
@@ -47,7 +47,7 @@ pub record Left (n : ℕ) (es : List CommandElement) (b : List ℕ) : Type 0 whe
   pub last : ℕ
   pub more : List CommandElement
   pub here : elements_in most last b ≡ Some more
-  pub same : value_of n more ≡ value_of n es
+  pub same : command_value n more ≡ command_value n es
 
 pub left_all : (n : ℕ) (es : List CommandElement) (b : List ℕ) → elements_of b ≡ Some es → Left n es b
 unfolding elements_of
@@ -56,17 +56,17 @@ left_all n es b h = record { most = length b; last = 0; more = es; here = h; sam
 pub left_next : (n : ℕ) (es : List CommandElement) (b : List ℕ) (x : CommandElement × List ℕ) → Left n es b → Some x ≡ element_at b → eqb x.0.number n ≡ false → Left n es x.1
 left_next n es b x l e other =
     let f = first_in l.most l.last b x l.more (sym e) l.here in
-    let passed : value_of n (x.0 ∷ f.others) ≡ value_of n f.others = rw other refl in
-    record { most = f.most; last = x.0.number; more = f.others; here = f.after; same = sym passed ∙ sym (ap (value_of n) f.whole) ∙ l.same }
+    let passed : command_value n (x.0 ∷ f.others) ≡ command_value n f.others = rw other refl in
+    record { most = f.most; last = x.0.number; more = f.others; here = f.after; same = sym passed ∙ sym (ap (command_value n) f.whole) ∙ l.same }
 
-pub left_found : (n : ℕ) (es : List CommandElement) (b : List ℕ) (x : CommandElement × List ℕ) → Left n es b → Some x ≡ element_at b → eqb x.0.number n ≡ true → Some x.0.value ≡ value_of n es
+pub left_found : (n : ℕ) (es : List CommandElement) (b : List ℕ) (x : CommandElement × List ℕ) → Left n es b → Some x ≡ element_at b → eqb x.0.number n ≡ true → Some x.0.value ≡ command_value n es
 left_found n es b x l e this =
     let f = first_in l.most l.last b x l.more (sym e) l.here in
-    let found : value_of n (x.0 ∷ f.others) ≡ Some x.0.value = rw this refl in
-    sym found ∙ sym (ap (value_of n) f.whole) ∙ l.same
+    let found : command_value n (x.0 ∷ f.others) ≡ Some x.0.value = rw this refl in
+    sym found ∙ sym (ap (command_value n) f.whole) ∙ l.same
 
-pub left_none : (n : ℕ) (es : List CommandElement) (b : List ℕ) → Left n es b → None ≡ element_at b → None ≡ value_of n es
-left_none n es b l e = ap (value_of n) (sym (none_in l.most l.last b l.more (sym e) l.here)) ∙ l.same
+pub left_none : (n : ℕ) (es : List CommandElement) (b : List ℕ) → Left n es b → None ≡ element_at b → None ≡ command_value n es
+left_none n es b l e = ap (command_value n) (sym (none_in l.most l.last b l.more (sym e) l.here)) ∙ l.same
 
 -- what a test of the order still has before it
 pub record Ahead (whole b : List ℕ) (last : ℕ) : Type 0 where

@@ -21,7 +21,7 @@ command_elements_bytes [] = []
 command_elements_bytes (e ∷ es) = command_element_bytes e ++ command_elements_bytes es
 
 -- the number is one of the group, and the length even and of four bytes; so it is never the undefined length
-pub record IsElement (e : CommandElement) : Type 0 where
+pub record IsCommandElement (e : CommandElement) : Type 0 where
   pub in_group : e.number < 2 ^ 16
   pub even : length e.value % 2 ≡ 0
   pub fits : length e.value < 2 ^ 32
@@ -29,7 +29,7 @@ pub record IsElement (e : CommandElement) : Type 0 where
 -- elements whose numbers rise from above `last`
 abbrev pub AreRising : ℕ → List CommandElement → Type 0
 AreRising last [] = Unit {0}
-AreRising last (e ∷ es) = IsElement e × (last < e.number) × AreRising e.number es
+AreRising last (e ∷ es) = IsCommandElement e × (last < e.number) × AreRising e.number es
 
 -- a command set: (0000,0000), which counts the bytes after it, and the elements after it
 abbrev pub command_set_bytes : List CommandElement → List ℕ
@@ -42,9 +42,9 @@ pub record SpellsSet (text : List ℕ) (es : List CommandElement) : Type 0 where
   pub whole : text ≡ command_set_bytes es
 
 -- the value of the element of this number
-abbrev pub value_of : ℕ → List CommandElement → Option (List ℕ)
-value_of n [] = None
-value_of n (e ∷ es) = if nat_eq e.number n then Some e.value else value_of n es
+abbrev pub command_value : ℕ → List CommandElement → Option (List ℕ)
+command_value n [] = None
+command_value n (e ∷ es) = if nat_eq e.number n then Some e.value else command_value n es
 
 -- the number that a value of two bytes spells
 abbrev pub two_bytes : List ℕ → Option ℕ
@@ -96,9 +96,9 @@ needed reads value = ok_or (option_and_then reads value) BadCommand
 
 -- affected SOP class 0002, command field 0100, message id 0110, data set type 0800, and for
 -- C-STORE affected SOP instance 1000
-unfoldable pub stored : List ℕ → ℕ → List CommandElement → Result CommandRecord DimseFault
-stored class message es = do
-  instance ← needed uid_of (value_of 0x1000 es)
+unfoldable pub store_command : List ℕ → ℕ → List CommandElement → Result CommandRecord DimseFault
+store_command class message es = do
+  instance ← needed uid_of (command_value 0x1000 es)
   Ok (record { class = class; field = c_store; message = message; with_data = true; instance = Some instance })
 
 abbrev pub request_of : List ℕ → ℕ → ℕ → ℕ → List CommandElement → Result CommandRecord DimseFault
@@ -107,16 +107,16 @@ request_of class field message kind es =
     (if nat_eq kind no_data_set then Ok (record { class = class; field = c_echo; message = message; with_data = false; instance = None })
     else Err WrongKind)
     else (if nat_eq field c_store then
-    (if nat_eq kind no_data_set then Err WrongKind else stored class message es)
+    (if nat_eq kind no_data_set then Err WrongKind else store_command class message es)
     else Err UnknownField)
 
 -- the command that a set's elements say, or the first rule that they break
 unfoldable pub command_of : List CommandElement → Result CommandRecord DimseFault
 command_of es = do
-  class ← needed uid_of (value_of 0x0002 es)
-  field ← needed two_bytes (value_of 0x0100 es)
-  message ← needed two_bytes (value_of 0x0110 es)
-  kind ← needed two_bytes (value_of 0x0800 es)
+  class ← needed uid_of (command_value 0x0002 es)
+  field ← needed two_bytes (command_value 0x0100 es)
+  message ← needed two_bytes (command_value 0x0110 es)
+  kind ← needed two_bytes (command_value 0x0800 es)
   request_of class field message kind es
 
 -- the text spells the command

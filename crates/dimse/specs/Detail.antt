@@ -11,8 +11,8 @@ instance_mismatch = 46
 
 -- The names of the causes: of the faults of data sets, 10 to 21, but of 18 and 19, whose status is another; and of the
 -- mismatches of a data set with its command.
-abbrev pub name_of : ℕ → Option (List ℕ)
-name_of n =
+abbrev pub cause_name : ℕ → Option (List ℕ)
+cause_name n =
     if nat_eq n 10 then Some (codes "BadVr")
     else (if nat_eq n 11 then Some (codes "OddLength")
     else (if nat_eq n 12 then Some (codes "Order")
@@ -37,4 +37,4 @@ comment number name = padded 32 (codes "fault " ++ (two_digits number ++ (32 ∷
 
 -- the error comment of a number that has a name
 abbrev pub comment_of : ℕ → Option (List ℕ)
-comment_of number = option_map (comment number) (name_of number)
+comment_of number = option_map (comment number) (cause_name number)

@@ -49,23 +49,23 @@ command_bytes (InCommand context command) = command
 command_bytes (InSet context command set) = command
 
 -- the bytes that an unfinished presentation data value still lacks; none while its head is not whole
-abbrev pub left_of : List ℕ → ℕ
-left_of begun = if nat_lt (length begun) 6 then 0 else (pdv_size begun - length begun)
+abbrev pub left_of_pdv : List ℕ → ℕ
+left_of_pdv begun = if nat_lt (length begun) 6 then 0 else (pdv_size begun - length begun)
 
-abbrev pub last_of : List ℕ → Bool
-last_of begun = if nat_lt (length begun) 6 then false else is_last (get_or begun 5 0)
+abbrev pub is_last_begun : List ℕ → Bool
+is_last_begun begun = if nat_lt (length begun) 6 then false else is_last (get_or begun 5 0)
 
 abbrev pub shown : Begun → List ℕ → Joining
 shown message begun = record {
   message = without_set message;
   command = command_bytes message;
-  left = left_of begun;
-  last = last_of begun;
+  left = left_of_pdv begun;
+  last = is_last_begun begun;
 }
 
 -- The join shows what has come of a message: this of it by whole presentation data values, and these bytes of the next
 -- one, whose head was not refused.
-pub record Shows (room : ℕ) (join : Joining) (message : Begun) (begun : List ℕ) : Type 0 where
+pub record ShowsMessage (room : ℕ) (join : Joining) (message : Begun) (begun : List ℕ) : Type 0 where
   pub shows : join ≡ shown (with_pdv begun message) begun
   pub accepted : 6 ≤ length begun → head_refusal room message (pdv_head_of begun) ≡ None
 
@@ -88,6 +88,6 @@ lending command = record { message = NoMessage; command = command; left = 0; las
 -- What the end of a presentation data value makes of a join, by what it brings to the message: the join shows what has
 -- come then, or lends the command set of the message that has ended; a refusal leaves it unchanged.
 abbrev pub Joins : ℕ → Begun → Brought → Joining → Joining → Result Joined DimseFault → Type 0
-Joins room before (Goes later) old new result = (result ≡ Ok (goes_on before later)) × Shows room new later []
+Joins room before (Goes later) old new result = (result ≡ Ok (goes_on before later)) × ShowsMessage room new later []
 Joins room before (Ends m) old new result = (result ≡ Ok joined.Message) × (new ≡ lending m.command)
 Joins room before (Refuses fault) old new result = (result ≡ Err fault) × (new ≡ old)

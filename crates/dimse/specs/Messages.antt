@@ -33,21 +33,21 @@ AreFragments context command [] = ⊥
 AreFragments context command (p ∷ []) = IsFragment context command p × (is_last p.control ≡ true)
 AreFragments context command (p ∷ q ∷ ps) = IsFragment context command p × (is_last p.control ≡ false) × AreFragments context command (q ∷ ps)
 
-abbrev pub bytes_of : List Pdv → List ℕ
-bytes_of [] = []
-bytes_of (p ∷ ps) = p.fragment ++ bytes_of ps
+abbrev pub fragments_of : List Pdv → List ℕ
+fragments_of [] = []
+fragments_of (p ∷ ps) = p.fragment ++ fragments_of ps
 
 -- the fragments of the data set, which are there exactly where it is due
 abbrev pub IsSet : Bool → Message → List Pdv → Type 0
 IsSet false m sets = (sets ≡ []) × (m.set ≡ [])
-IsSet true m sets = AreFragments m.context false sets × (m.set ≡ bytes_of sets)
+IsSet true m sets = AreFragments m.context false sets × (m.set ≡ fragments_of sets)
 
 -- the fragments of a message's command set and of its data set
 pub record IsMessage (room : ℕ) (m : Message) (commands sets : List Pdv) : Type 0 where
   pub command : CommandRecord
   pub fragments : AreFragments m.context true commands
   pub fits : length m.command ≤ room
-  pub joined : m.command ≡ bytes_of commands
+  pub joined : m.command ≡ fragments_of commands
   pub spells : command_in m.command ≡ Ok command
   pub set : IsSet command.with_data m sets
 

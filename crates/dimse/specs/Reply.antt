@@ -32,8 +32,8 @@ detail_elements (Some detail) = elim (comment_of detail.number) [
 ]
 
 -- a reply to a C-STORE whose status is C000 or A900 names its cause, and no other one does
-abbrev pub carried : ℕ → ℕ → Option Detail → Option Detail
-carried field status detail =
+abbrev pub detail_carried : ℕ → ℕ → Option Detail → Option Detail
+detail_carried field status detail =
     if nat_eq field c_store && (nat_eq status cannot_understand || nat_eq status data_set_mismatch) then detail else None
 
 -- Affected SOP class 0002, command field 0100 (that of the request with its highest bit set), message id responded to
@@ -43,7 +43,7 @@ abbrev pub reply_elements : CommandRecord → ℕ → Option Detail → List Com
 reply_elements command status detail =
     element 0x0002 (even_uid command.class) ∷ element 0x0100 (le (command.field + 0x8000) 2) ∷ element 0x0120 (le command.message 2)
     ∷ element 0x0800 (le no_data_set 2) ∷ element 0x0900 (le status 2)
-    ∷ (detail_elements (carried command.field status detail) ++ instance_elements command.instance)
+    ∷ (detail_elements (detail_carried command.field status detail) ++ instance_elements command.instance)
 
 -- the command set of the response
 unfoldable pub reply_command : CommandRecord → ℕ → Option Detail → List ℕ

@@ -26,7 +26,7 @@ pub const INSTANCE_MISMATCH: u8 = 46;
 
 /// Returns the name of the cause with this number, or `None` if it has none.
 pub fn cause_name(number: u8) -> Option<&'static str>
-    ensures value { option_map (λ name. name.now) result ≡ spelling.name_of number }
+    ensures value { option_map (λ name. name.now) result ≡ spelling.cause_name number }
     ensures short { IfSome result (λ name. length name.now ≤ 16) }
 {
     let name = match number {

@@ -1,7 +1,7 @@
 //! The elements of a command set.
 ghost use Rattle.std.specs.Prelude.{◌≡◌, List, option_map, Some};
 ghost use Rattle.std.specs.Option.{is_some};
-ghost use Rattle.dimse.specs.Command.{CommandElement, value_of};
+ghost use Rattle.dimse.specs.Command.{CommandElement, command_value};
 ghost use Rattle.dimse.specs.Reading as spelling;
 
 use byteorder::{ByteOrder, LittleEndian};
@@ -44,7 +44,7 @@ pub fn are_rising(bytes: &[u8]) -> bool
 
 /// Returns the value of the element of this number, or `None` if there is none.
 pub fn value_in(bytes: &[u8], number: u16) -> Option<&[u8]>
-    ensures { (es : List CommandElement) → spelling.elements_of bytes.now ≡ Some es → option_map (λ v. v.now) result ≡ value_of number es }
+    ensures { (es : List CommandElement) → spelling.elements_of bytes.now ≡ Some es → option_map (λ v. v.now) result ≡ command_value number es }
 {
     let mut rest = bytes;
     while let Some((at, value, more)) = element_at(rest) {

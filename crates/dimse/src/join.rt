@@ -2,7 +2,7 @@
 ghost use Rattle.std.specs.Prelude.{◌≡◌, ◌-◌, ◌≤◌, ◌^◌, ◌++◌, [], List, ℕ, length, OnOk, OnErr};
 ghost use Rattle.pdu.specs.Heads.{pdv_head_of};
 ghost use Rattle.dimse.specs.Messages.{Begun, NoMessage, brought, head_refusal};
-ghost use Rattle.dimse.specs.Joining.{Shows, Joins, ok_unless, pdv_of, without_set};
+ghost use Rattle.dimse.specs.Joining.{ShowsMessage, Joins, ok_unless, pdv_of, without_set};
 ghost use Rattle.dimse.specs.machine.Fields.{ended_as};
 
 use crate::fault::DimseFault;
@@ -42,7 +42,7 @@ impl<const C: usize> Join<C> {
     /// Returns a join without any fragment.
     pub fn new() -> Join<C>
         requires { C ≤ 2 ^ 24 }
-        ensures { Shows C result NoMessage [] }
+        ensures { ShowsMessage C result NoMessage [] }
     {
         Join {
             stage: Stage::Between,
@@ -79,7 +79,7 @@ impl<const C: usize> Join<C> {
     /// reverse; `CommandTooLong` if the command set would have more than `C` bytes.
     pub fn head(&mut self, head: &PdvHead) -> Result<(), DimseFault>
         ensures judged { (message : Begun) → self.old.message ≡ without_set message → result ≡ ok_unless (head_refusal C message head.now) }
-        ensures begun { (message : Begun) (bytes : List ℕ) → self.old.message ≡ without_set message → length bytes ≡ 6 → head.now ≡ pdv_head_of bytes → OnOk result (Shows C self.new message bytes) }
+        ensures begun { (message : Begun) (bytes : List ℕ) → self.old.message ≡ without_set message → length bytes ≡ 6 → head.now ≡ pdv_head_of bytes → OnOk result (ShowsMessage C self.new message bytes) }
         ensures left { OnOk result (self.new.left ≡ head.now.length - 2) }
         ensures refused { OnErr result (self.new ≡ self.old) }
     {
@@ -99,7 +99,7 @@ impl<const C: usize> Join<C> {
     /// Takes the next part of the unfinished fragment. The bytes of a data set are only counted.
     pub fn take(&mut self, part: &[u8])
         requires { length part.now ≤ self.old.left }
-        ensures shows { (message : Begun) (begun : List ℕ) → Shows C self.old message begun → Shows C self.new message (begun ++ part.now) }
+        ensures shows { (message : Begun) (begun : List ℕ) → ShowsMessage C self.old message begun → ShowsMessage C self.new message (begun ++ part.now) }
         ensures left { self.new.left ≡ self.old.left - length part.now }
     {
         if let Stage::Command = self.stage {
@@ -130,7 +130,7 @@ impl<const C: usize> Join<C> {
     /// command, the fault (`BadCommand`, `UnknownField` or `WrongKind`) is the error, and the join
     /// stays unchanged. After `Message` the join lends the command until `clear` or the next message.
     pub fn end(&mut self) -> Result<Joined, DimseFault>
-        ensures { (message : Begun) (begun : List ℕ) → 6 ≤ length begun → Shows C self.old message begun → Joins C message (brought message (pdv_of begun)) self.old self.new result }
+        ensures { (message : Begun) (begun : List ℕ) → 6 ≤ length begun → ShowsMessage C self.old message begun → Joins C message (brought message (pdv_of begun)) self.old self.new result }
     {
         let joined = self.joined()?;
         match joined {
@@ -153,7 +153,7 @@ impl<const C: usize> Join<C> {
 
     /// Drops the message.
     pub fn clear(&mut self)
-        ensures { Shows C self.new NoMessage [] }
+        ensures { ShowsMessage C self.new NoMessage [] }
     {
         self.stage = Stage::Between;
         self.command.clear();

@@ -1,6 +1,6 @@
 //! Reads commands.
 ghost use Rattle.std.specs.Prelude.{◌≡◌, true, IfOk, IfErr};
-ghost use Rattle.dimse.specs.Command.{CommandFault, CommandRecord, CommandText, command_of, request_of, stored};
+ghost use Rattle.dimse.specs.Command.{CommandFault, CommandRecord, CommandText, command_of, request_of, store_command};
 ghost use Rattle.dimse.specs.Reading.{command_in};
 ghost use Rattle.element.specs.Uid.{is_uid};
 
@@ -10,10 +10,10 @@ use crate::fault::DimseFault;
 use crate::set::CommandSet;
 use element::Uid;
 
-#[tactic(auto, unfolding(crate::specs::Command::stored))]
+#[tactic(auto, unfolding(crate::specs::Command::store_command))]
 fn read_store(set: &CommandSet, class: Uid, message: u16) -> Result<Command, DimseFault>
     requires { is_uid class ≡ true }
-    ensures { result ≡ stored class message set.now }
+    ensures { result ≡ store_command class message set.now }
 {
     let instance = set.uid(INSTANCE)?;
     Ok(Command::store(class, message, instance))

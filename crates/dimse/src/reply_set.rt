@@ -110,7 +110,7 @@ fn put_instance(set: &mut ArrayVec<u8, ELEMENTS>, instance: Option<&Uid>)
 /// Returns the cause that a reply with this status names: only a C-STORE's reply does, if the data
 /// set cannot be understood or does not match.
 fn carried(field: u16, status: u16, detail: Option<Detail>) -> Option<Detail>
-    ensures { result ≡ spelling.carried field status detail }
+    ensures { result ≡ spelling.detail_carried field status detail }
 {
     if field == Command::C_STORE && (status == CANNOT_UNDERSTAND || status == DATA_SET_MISMATCH) {
         detail

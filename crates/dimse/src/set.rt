@@ -1,6 +1,6 @@
 //! Command sets.
 ghost use Rattle.std.specs.Prelude.{◌≡◌, true, length, option_map, IfOk};
-ghost use Rattle.dimse.specs.Command.{needed, two_bytes, value_of};
+ghost use Rattle.dimse.specs.Command.{needed, two_bytes, command_value};
 ghost use Rattle.dimse.specs.Reading as spelling;
 ghost use Rattle.dimse.specs.Reading.{set_of};
 ghost use Rattle.element.specs.Uid.{is_uid, uid_of};
@@ -53,7 +53,7 @@ impl<'a> CommandSet<'a> {
 
     /// Returns the value of the element of this number, or `None` if there is none.
     pub fn value(&self, number: u16) -> Option<&'a [u8]>
-        ensures { option_map (λ v. v.now) result ≡ value_of number self.now }
+        ensures { option_map (λ v. v.now) result ≡ command_value number self.now }
     {
         value_in(self.elements, number)
     }
@@ -61,7 +61,7 @@ impl<'a> CommandSet<'a> {
     /// Returns the unique identifier that this element holds, or `BadCommand` if it is missing or
     /// holds none.
     pub fn uid(&self, number: u16) -> Result<Uid, DimseFault>
-        ensures value { result ≡ needed uid_of (value_of number self.now) }
+        ensures value { result ≡ needed uid_of (command_value number self.now) }
         ensures is_uid { IfOk result (λ u. is_uid u ≡ true) }
     {
         let value = self.value(number).ok_or(DimseFault::BadCommand)?;
@@ -71,7 +71,7 @@ impl<'a> CommandSet<'a> {
     /// Returns the number of two bytes that this element holds, or `BadCommand` if it is missing or
     /// holds none.
     pub fn number(&self, number: u16) -> Result<u16, DimseFault>
-        ensures { result ≡ needed two_bytes (value_of number self.now) }
+        ensures { result ≡ needed two_bytes (command_value number self.now) }
     {
         match self.value(number) {
             Some(value) if value.len() == 2 => Ok(LittleEndian::read_u16(value)),

@@ -3,7 +3,7 @@ use Rattle.std.proofs.Common.{◌≡◌, ℕ, ◌≤◌, Bool, true, false, not,
 use Rattle.std.proofs.lemmas.Bool.Decides.{nat_tests}
 use Rattle.std.proofs.lemmas.Bool.{cases_lt}
 use Rattle.std.specs.List.{list_any}
-use Rattle.pdu.specs.Record.{Record}
+use Rattle.pdu.specs.Record.{RequestRecord}
 use Rattle.negotiate.specs.declared.answer.Answer.TheVariants.{Accept, Reject}
 use Rattle.negotiate.specs.Answer.{judged}
 use Rattle.negotiate.specs.Settings.{Settings}
@@ -33,5 +33,5 @@ accepts true true true false true h = cc
 accepts true true true true true h = cc
 
 -- a peer whose request is accepted takes any fragment, or names a maximum length of at least 8
-pub accepted_maximum : (s : Settings) (r : Record) → judged s r ≡ Accept → (r.maximum ≡ 0) ⊎ (8 ≤ r.maximum)
+pub accepted_maximum : (s : Settings) (r : RequestRecord) → judged s r ≡ Accept → (r.maximum ≡ 0) ⊎ (8 ≤ r.maximum)
 accepted_maximum s r h = not_small r.maximum (accepts _ _ _ _ _ h)

@@ -8,7 +8,7 @@ use Rattle.std.specs.List.{AllByRecursion, IsDistinct, cons_option, filter_map, 
 use Rattle.element.specs.declared.syntax.Syntax.{Syntax}
 use Rattle.dictionary.specs.declared.class.Class.{Class}
 use Rattle.dictionary.specs.Classes.{class_of}
-use Rattle.pdu.specs.Record.{Record, Proposal, ids}
+use Rattle.pdu.specs.Record.{RequestRecord, Proposal, ids}
 use Rattle.negotiate.specs.declared.proposals.Context.{Context}
 use Rattle.negotiate.specs.declared.table.ContextRow.{ContextRow}
 use Rattle.negotiate.specs.Contexts.{accepted, accepted_by, context_of, chosen, result_by, result_of}
@@ -22,7 +22,7 @@ one_more id None syntax rows = refl
 one_more id (Some class) None rows = refl
 one_more id (Some class) (Some syntax) rows = omega arith
 
-pub length-context_rows : (r : Record) → length (context_rows r) ≡ accepted_count r
+pub length-context_rows : (r : RequestRecord) → length (context_rows r) ≡ accepted_count r
 length-context_rows r =
     is_count_by (λ ps. length (filter_map row_of ps)) (λ p. nat_eq (result_of p) 0) refl
     (λ p ps. one_more p.id (class_of p.abstract_syntax) (chosen p.transfer_syntaxes) (filter_map row_of ps)) r.contexts
@@ -68,17 +68,17 @@ unfolding IsDistinct
 in_order id [] d = refl
 in_order id (p ∷ ps) (new, d) = first (nat_eq p.id id) id p ps refl new (in_order id ps d)
 
-pub context_in-context_rows : (r : Record) → IsDistinct eqb (ids r.contexts) → (id : ℕ) → context_in (context_rows r) id ≡ context_of r id
+pub context_in-context_rows : (r : RequestRecord) → IsDistinct eqb (ids r.contexts) → (id : ℕ) → context_in (context_rows r) id ≡ context_of r id
 context_in-context_rows r d id = in_order id r.contexts d
 
 -- ---- a table that is filled row by row, when no context is left
 
-whole : (r : Record) (table : List ContextRow) (left : List Proposal) → table ++ filter_map row_of left ≡ context_rows r → left ≡ [] → table ≡ context_rows r
+whole : (r : RequestRecord) (table : List ContextRow) (left : List Proposal) → table ++ filter_map row_of left ≡ context_rows r → left ≡ [] → table ≡ context_rows r
 whole r table left e none = sym (append-nil table) ∙ ap (λ ps. table ++ filter_map row_of ps) (sym none) ∙ e
 
-pub length-table : (r : Record) (table : List ContextRow) (left : List Proposal) → table ++ filter_map row_of left ≡ context_rows r → left ≡ [] → length table ≡ accepted_count r
+pub length-table : (r : RequestRecord) (table : List ContextRow) (left : List Proposal) → table ++ filter_map row_of left ≡ context_rows r → left ≡ [] → length table ≡ accepted_count r
 length-table r table left e none = ap length (whole r table left e none) ∙ length-context_rows r
 
-pub context_in-table : (r : Record) (table : List ContextRow) (left : List Proposal) → table ++ filter_map row_of left ≡ context_rows r → left ≡ [] → IsDistinct eqb (ids r.contexts) →
+pub context_in-table : (r : RequestRecord) (table : List ContextRow) (left : List Proposal) → table ++ filter_map row_of left ≡ context_rows r → left ≡ [] → IsDistinct eqb (ids r.contexts) →
     (id : ℕ) → context_in table id ≡ context_of r id
 context_in-table r table left e none d id = ap (λ rows. context_in rows id) (whole r table left e none) ∙ context_in-context_rows r d id

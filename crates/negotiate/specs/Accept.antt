@@ -5,7 +5,7 @@ use Rattle.std.specs.List.{flat_map}
 use Rattle.element.specs.Numbers.{be}
 use Rattle.dictionary.specs.Implementation.{implementation_class_uid, implementation_version_name}
 use Rattle.dictionary.specs.Syntaxes.{application_context, syntax_uid}
-use Rattle.pdu.specs.Record.{Record, Proposal}
+use Rattle.pdu.specs.Record.{RequestRecord, Proposal}
 use Rattle.pdu.specs.Texts.{pdu_text, reject_text}
 use Rattle.pdu.specs.Types.{associate_ac, application_context_item, answered_context_item, transfer_syntax_item, user_information_item, maximum_length_item, implementation_class_item, implementation_version_item}
 use Rattle.negotiate.specs.declared.answer.Answer.{Answer}
@@ -32,20 +32,20 @@ user_text max_pdu =
     ++ item_text implementation_version_item implementation_version_name)
 
 -- version 1, the titles and the 32 reserved bytes as in the request, 10H
-abbrev pub before_contexts : Record → List ℕ
+abbrev pub before_contexts : RequestRecord → List ℕ
 before_contexts r = 0 ∷ 1 ∷ 0 ∷ 0 ∷ (r.called ++ r.calling ++ r.reserved ++ item_text application_context_item application_context)
 
 -- then a 21H for each proposed context in its order, and 50H
-abbrev pub accept_body : Settings → Record → List ℕ
+abbrev pub accept_body : Settings → RequestRecord → List ℕ
 accept_body s r = before_contexts r ++ flat_map context_text r.contexts ++ user_text s.max_pdu
 
-abbrev pub accept_text : Settings → Record → List ℕ
+abbrev pub accept_text : Settings → RequestRecord → List ℕ
 accept_text s r = pdu_text associate_ac (accept_body s r)
 
-abbrev pub text_by : Answer → Settings → Record → List ℕ
+abbrev pub text_by : Answer → Settings → RequestRecord → List ℕ
 text_by Accept s r = accept_text s r
 text_by (Reject result source reason) s r = reject_text result source reason
 
 -- the bytes of the answer to this request
-abbrev pub answer_bytes : Settings → Record → List ℕ
+abbrev pub answer_bytes : Settings → RequestRecord → List ℕ
 answer_bytes s r = text_by (judged s r) s r

@@ -4,7 +4,7 @@ use Rattle.std.specs.List.{list_any}
 use Rattle.std.specs.Cmp.Lexicographic.{pointwise}
 use Rattle.dictionary.specs.Syntaxes.{application_context}
 use Rattle.element.specs.Title.{title_text}
-use Rattle.pdu.specs.Record.{Record}
+use Rattle.pdu.specs.Record.{RequestRecord}
 use Rattle.negotiate.specs.declared.answer.Answer.{Answer}
 use Rattle.negotiate.specs.declared.answer.Answer.TheVariants.{Accept, Reject}
 use Rattle.negotiate.specs.Rejections.{rejected_permanent, service_user, service_provider_acse, no_reason_given, application_context_name_not_supported, calling_ae_title_not_recognized, called_ae_title_not_recognized, protocol_version_not_supported}
@@ -25,12 +25,12 @@ abbrev pub may_call : (callers : List (List ℕ)) → (calling : List ℕ) → B
 may_call callers calling = nat_eq (length callers) 0 || is_among callers calling
 
 -- bit 0 is version 1
-abbrev pub has_version_1 : Record → Bool
+abbrev pub has_version_1 : RequestRecord → Bool
 has_version_1 r = nat_eq (r.version % 2) 1
 
 -- the first of these that holds. That a maximum length from 1 to 7, in which no fragment fits, is rejected is this
 -- product's own profile; so is that the last four are the local user's.
-abbrev pub judged : Settings → Record → Answer
+abbrev pub judged : Settings → RequestRecord → Answer
 judged s r =
     if not (has_version_1 r) then Reject rejected_permanent service_provider_acse protocol_version_not_supported
     else (if not (same_bytes r.application_context application_context) then Reject rejected_permanent service_user application_context_name_not_supported

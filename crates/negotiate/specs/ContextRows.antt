@@ -3,7 +3,7 @@ use Rattle.std.specs.Prelude.{ℕ, List, Option, nat_eq, option_map}
 use Rattle.std.specs.List.{count_by, filter_map, find}
 use Rattle.element.specs.declared.syntax.Syntax.TheVariants.{Implicit}
 use Rattle.dictionary.specs.declared.class.Class.TheVariants.{Verification}
-use Rattle.pdu.specs.Record.{Record, Proposal}
+use Rattle.pdu.specs.Record.{RequestRecord, Proposal}
 use Rattle.negotiate.specs.declared.proposals.Context.{Context}
 use Rattle.negotiate.specs.declared.table.ContextRow.{ContextRow}
 use Rattle.negotiate.specs.Contexts.{acceptance, accepted, result_of}
@@ -16,11 +16,11 @@ abbrev pub row_of : Proposal → Option ContextRow
 row_of p = option_map (row_with p.id) (accepted p)
 
 -- the table: a row for each accepted context, in the request's order
-abbrev pub context_rows : Record → List ContextRow
+abbrev pub context_rows : RequestRecord → List ContextRow
 context_rows r = filter_map row_of r.contexts
 
 -- how many of the proposed contexts are accepted
-abbrev pub accepted_count : Record → ℕ
+abbrev pub accepted_count : RequestRecord → ℕ
 accepted_count r = count_by (λ p. nat_eq (result_of p) acceptance) r.contexts
 
 abbrev pub context_by : ContextRow → Context

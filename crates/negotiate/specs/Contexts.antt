@@ -6,7 +6,7 @@ use Rattle.element.specs.declared.syntax.Syntax.TheVariants.{Implicit, Explicit}
 use Rattle.dictionary.specs.declared.class.Class.{Class}
 use Rattle.dictionary.specs.Classes.{class_of}
 use Rattle.dictionary.specs.Syntaxes.{syntax_of}
-use Rattle.pdu.specs.Record.{Record, Proposal}
+use Rattle.pdu.specs.Record.{RequestRecord, Proposal}
 use Rattle.negotiate.specs.declared.proposals.Context.{Context}
 
 abbrev pub is_explicit : Option Syntax → Bool
@@ -63,5 +63,5 @@ abbrev pub accepted : Proposal → Option Context
 accepted p = accepted_by (class_of p.abstract_syntax) (chosen p.transfer_syntaxes)
 
 -- the accepted context of this id
-abbrev pub context_of : Record → ℕ → Option Context
+abbrev pub context_of : RequestRecord → ℕ → Option Context
 context_of r id = option_and_then accepted (find (λ p. nat_eq p.id id) r.contexts)

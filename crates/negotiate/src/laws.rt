@@ -1,7 +1,7 @@
 //! Laws of the definitions, each the contract of a function that does nothing.
 ghost use Rattle.std.specs.Prelude.{◌≡◌, ◌≤◌, ◌⊎◌, ℕ, eqb, length};
 ghost use Rattle.std.specs.List.{IsDistinct};
-ghost use Rattle.pdu.specs.Record.{Record, ids};
+ghost use Rattle.pdu.specs.Record.{RequestRecord, ids};
 ghost use Rattle.negotiate.specs.ContextRows.{accepted_count, context_in, context_rows};
 ghost use Rattle.negotiate.specs.Contexts.{context_of};
 ghost use Rattle.negotiate.specs.Rejections as spelling;
@@ -20,13 +20,13 @@ use crate::rejection::{
 /// The table of a request has its accepted contexts, and nothing else: a row for each of them, and
 /// under each presentation context ID what the request has there.
 pub fn table_has_the_accepted_contexts()
-    ensures contexts { (r : Record) → IsDistinct eqb (ids r.contexts) → (id : ℕ) → context_in (context_rows r) id ≡ context_of r id }
-    ensures count { (r : Record) → length (context_rows r) ≡ accepted_count r }
+    ensures contexts { (r : RequestRecord) → IsDistinct eqb (ids r.contexts) → (id : ℕ) → context_in (context_rows r) id ≡ context_of r id }
+    ensures count { (r : RequestRecord) → length (context_rows r) ≡ accepted_count r }
 {}
 
 /// A peer whose request is accepted takes fragments: its maximum length is 0, for none, or at least 8.
 pub fn accepted_peers_take_fragments()
-    ensures { (s : Settings) (r : Record) → judged s r ≡ Accept → (r.maximum ≡ 0) ⊎ (8 ≤ r.maximum) }
+    ensures { (s : Settings) (r : RequestRecord) → judged s r ≡ Accept → (r.maximum ≡ 0) ⊎ (8 ≤ r.maximum) }
 {}
 
 /// The default settings are those of the definitions.

@@ -7,7 +7,7 @@ use Rattle.pdu.specs.Frames.{IsRest}
 use Rattle.pdu.specs.Marks.{Mark, Head, BadPdv, End, pdv_size, head_mark, pdv_mark, is_leftover, frame_kind, frame_length, pdv_marks}
 use Rattle.pdu.specs.Pdvs.{DataSpot, Dropped, Within, Marked, too_short, bad, unfinished, data_spot, new_pdv_marks}
 use Rattle.pdu.specs.Spot.{Opening, Plain, InPdv, spot_of, spot, room_left}
-use Rattle.pdu.specs.Parts.{IsInData, IsUnfinished, in_head, in_fragment, leftover_marks, leftover_spot, body_spot, end_mark, GoesOn, Comes}
+use Rattle.pdu.specs.Parts.{IsInData, IsUnfinishedPdv, in_head, in_fragment, leftover_marks, leftover_spot, body_spot, end_mark, GoesOn, Comes}
 use Rattle.pdu.proofs.PdvLemmas.{same_head, marks_are, spot_is}
 use Rattle.pdu.proofs.LaterLemmas.{begins_within, within_later, dropped_later}
 use Rattle.pdu.proofs.FrameLemmas.{same_frame}
@@ -33,7 +33,7 @@ pub record WithinPdv (r : List ℕ) (room : ℕ) (b : List ℕ) : Type 0 where
   pub kind : nat_eq (frame_kind r) 4 ≡ true
   pub stands : data_spot (frame_length r) (drop 6 r) ≡ Within room b
   pub room_is : room ≡ room_left r + length b
-  pub is : IsUnfinished room b
+  pub is : IsUnfinishedPdv room b
 
 pdv_of : (s : DataSpot) (b : List ℕ) → spot_of s ≡ InPdv b → (room : ℕ) × (s ≡ Within room b)
 pdv_of Dropped b e = absurd cc
@@ -62,7 +62,7 @@ within_pdv r b p e =
       ]
     ]
 
-pub unfinished_pdv : (r b : List ℕ) → IsRest r → spot r ≡ InPdv b → IsUnfinished (room_left r + length b) b
+pub unfinished_pdv : (r b : List ℕ) → IsRest r → spot r ≡ InPdv b → IsUnfinishedPdv (room_left r + length b) b
 unfinished_pdv r b p e = let v = within_pdv r b p e in rw (← v.1.room_is) v.1.is
 
 pub in_data : (r b : List ℕ) → IsRest r → spot r ≡ InPdv b → IsInData r
@@ -156,7 +156,7 @@ pdv_comes r c b room old new s p v was now =
 headless_marks : (room : ℕ) (b : List ℕ) → length b < 6 → pdv_marks room b ≡ []
 headless_marks room b lt = marks_are (too_short lt)
 
-begun_is : (room : ℕ) (b : List ℕ) → IsUnfinished room b → 6 ≤ length b → pdv_marks room b ≡ head_mark b ∷ []
+begun_is : (room : ℕ) (b : List ℕ) → IsUnfinishedPdv room b → 6 ≤ length b → pdv_marks room b ≡ head_mark b ∷ []
 begun_is room b (in_head lt) le = absurd (omega arith)
 begun_is room b (in_fragment h two fits short) le = marks_are (unfinished (record { headed = h; least = two; fits = fits }) short)
 
@@ -210,7 +210,7 @@ pub fragment_part : (r c b : List ℕ) → IsRest r → spot r ≡ InPdv b → 6
 fragment_part r c b p e six lt =
     let v = within_pdv r b p e in
     let s = same_head b c six in
-    let h : IsUnfinished v.0 b = v.1.is in
+    let h : IsUnfinishedPdv v.0 b = v.1.is in
     let long : 6 ≤ length (b ++ c) = omega (arith, length-append b c) in
     elim h [
       | in_head short ↦ absurd (omega arith)
@@ -227,7 +227,7 @@ pub fragment_done : (r c b : List ℕ) → IsRest r → spot r ≡ InPdv b → l
 fragment_done r c b p e le six size =
     let v = within_pdv r b p e in
     let s = same_head b c six in
-    let h : IsUnfinished v.0 b = v.1.is in
+    let h : IsUnfinishedPdv v.0 b = v.1.is in
     elim h [
       | in_head short ↦ absurd (omega arith)
       | in_fragment six_too two fits short ↦

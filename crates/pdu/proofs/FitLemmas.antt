@@ -5,8 +5,8 @@ use Rattle.std.specs.List.{AllByRecursion, list_any}
 use Rattle.std.specs.Option.{option_or}
 use Rattle.pdu.specs.declared.fault.PduFault.{PduFault}
 use Rattle.pdu.specs.declared.fault.PduFault.TheVariants.{BadItem, DoubleContext, Missing}
-use Rattle.pdu.specs.Items.{is_kind, of_kind, kind, content}
-use Rattle.pdu.specs.Refusal.{application_fault, information_part_fault, information_fault, id_of, context_part_fault, context_fault, has_id, item_fault, has_all, end_fault, list_fault}
+use Rattle.pdu.specs.Items.{is_kind, of_kind, kind, item_content}
+use Rattle.pdu.specs.Refusal.{application_fault, information_part_fault, information_fault, id_of, context_part_fault, context_fault, has_id, item_fault, has_all, ending_fault, list_fault}
 
 abbrev pub IsFresh : List (List ℕ) → List ℕ → Type 0
 IsFresh before i = list_any (has_id (id_of i)) before ≡ false
@@ -23,7 +23,7 @@ pub record Fit (before items : List (List ℕ)) : Type 0 where
   pub application : length (of_kind 0x10 before) + length (of_kind 0x10 items) ≡ 1
   pub information : length (of_kind 0x50 before) + length (of_kind 0x50 items) ≡ 1
   pub some : 1 ≤ length (of_kind 0x20 before) + length (of_kind 0x20 items)
-  pub informed : AllByRecursion (λ i. information_part_fault (content i) ≡ None) (of_kind 0x50 items)
+  pub informed : AllByRecursion (λ i. information_part_fault (item_content i) ≡ None) (of_kind 0x50 items)
   pub proposed : AllByRecursion (λ i. context_part_fault i ≡ None) (of_kind 0x20 items)
   pub fresh : AllByRecursion (IsFresh before) (of_kind 0x20 items)
   pub distinct : Distinct (of_kind 0x20 items)
@@ -158,7 +158,7 @@ fit_next before i is f =
               application = omega (arith, f.application, ap length a1, ap length b1);
               information = omega (arith, f.information, ap length a3, ap length b3);
               some = omega (arith, f.some, ap length a2, ap length b2);
-              informed = subst (AllByRecursion (λ j. information_part_fault (content j) ≡ None)) a3 f.informed;
+              informed = subst (AllByRecursion (λ j. information_part_fault (item_content j) ≡ None)) a3 f.informed;
               proposed = subst (AllByRecursion (λ j. context_part_fault j ≡ None)) a2 f.proposed;
               fresh = fresh_other i before (of_kind 0x20 is) w.context (subst (AllByRecursion (IsFresh before)) a2 f.fresh);
               distinct = subst Distinct a2 f.distinct;
@@ -178,7 +178,7 @@ fit_next before i is f =
               application = omega (arith, f.application, ap length a1, ap length b1);
               information = omega (arith, f.information, ap length a3, ap length b3);
               some = omega (arith, f.some, ap length a2, ap length b2);
-              informed = subst (AllByRecursion (λ j. information_part_fault (content j) ≡ None)) a3 f.informed;
+              informed = subst (AllByRecursion (λ j. information_part_fault (item_content j) ≡ None)) a3 f.informed;
               proposed = proposed.1;
               fresh = fresh_more i before (of_kind 0x20 is) fresh.1 distinct.0;
               distinct = distinct.1;
@@ -189,8 +189,8 @@ fit_next before i is f =
           let b2 = of_no 0x20 i before w.context in let a2 = of_no 0x20 i is w.context in
           let b3 = of_yes 0x50 i before w.information in let a3 = of_yes 0x50 i is w.information in
           let first : list_any (is_kind 0x50) before ≡ false = any_none 0x50 before (omega (arith, f.information, ap length a3)) in
-          let informed = subst (AllByRecursion (λ j. information_part_fault (content j) ≡ None)) a3 f.informed in
-          let part : information_part_fault (content i) ≡ None = informed.0 in (
+          let informed = subst (AllByRecursion (λ j. information_part_fault (item_content j) ≡ None)) a3 f.informed in
+          let part : information_part_fault (item_content i) ≡ None = informed.0 in (
             fault_information before i w ∙ ap (λ (o : Option PduFault). option_or o (if list_any (is_kind 0x50) before then Some BadItem else None)) part ∙ rw first refl,
             record {
               application = omega (arith, f.application, ap length a1, ap length b1);
@@ -211,7 +211,7 @@ fit_next before i is f =
               application = omega (arith, f.application, ap length a1, ap length b1);
               information = omega (arith, f.information, ap length a3, ap length b3);
               some = omega (arith, f.some, ap length a2, ap length b2);
-              informed = subst (AllByRecursion (λ j. information_part_fault (content j) ≡ None)) a3 f.informed;
+              informed = subst (AllByRecursion (λ j. information_part_fault (item_content j) ≡ None)) a3 f.informed;
               proposed = subst (AllByRecursion (λ j. context_part_fault j ≡ None)) a2 f.proposed;
               fresh = fresh_other i before (of_kind 0x20 is) w.context (subst (AllByRecursion (IsFresh before)) a2 f.fresh);
               distinct = subst Distinct a2 f.distinct;
@@ -244,7 +244,7 @@ once_next before i none o =
           record { application = omega (arith, empty, ap length (of_yes 0x10 i before w.application)); information = omega (arith, o.information, ap length (of_no 0x50 i before w.information)) }
       | inr (inl w) ↦ record { application = omega (arith, o.application, ap length (of_no 0x10 i before w.application)); information = omega (arith, o.information, ap length (of_no 0x50 i before w.information)) }
       | inr (inr (inl w)) ↦
-          let parts = or_none (information_part_fault (content i)) (if list_any (is_kind 0x50) before then Some BadItem else None) (sym (fault_information before i w) ∙ none) in
+          let parts = or_none (information_part_fault (item_content i)) (if list_any (is_kind 0x50) before then Some BadItem else None) (sym (fault_information before i w) ∙ none) in
           let empty = none_any 0x50 before (if_none (list_any (is_kind 0x50) before) BadItem parts.1) in
           record { application = omega (arith, o.application, ap length (of_no 0x10 i before w.application)); information = omega (arith, empty, ap length (of_yes 0x50 i before w.information)) }
       | inr (inr (inr w)) ↦ record { application = omega (arith, o.application, ap length (of_no 0x10 i before w.application)); information = omega (arith, o.information, ap length (of_no 0x50 i before w.information)) }
@@ -261,7 +261,7 @@ fit_back before i is none f =
             application = omega (arith, f.application, ap length a1, ap length b1);
             information = omega (arith, f.information, ap length a3, ap length b3);
             some = omega (arith, f.some, ap length a2, ap length b2);
-            informed = subst (AllByRecursion (λ j. information_part_fault (content j) ≡ None)) (sym a3) f.informed;
+            informed = subst (AllByRecursion (λ j. information_part_fault (item_content j) ≡ None)) (sym a3) f.informed;
             proposed = subst (AllByRecursion (λ j. context_part_fault j ≡ None)) (sym a2) f.proposed;
             fresh = subst (AllByRecursion (IsFresh before)) (sym a2) (fresh_back i before (of_kind 0x20 is) w.context f.fresh);
             distinct = subst Distinct (sym a2) f.distinct;
@@ -277,7 +277,7 @@ fit_back before i is none f =
             application = omega (arith, f.application, ap length a1, ap length b1);
             information = omega (arith, f.information, ap length a3, ap length b3);
             some = omega (arith, f.some, ap length a2, ap length b2);
-            informed = subst (AllByRecursion (λ j. information_part_fault (content j) ≡ None)) (sym a3) f.informed;
+            informed = subst (AllByRecursion (λ j. information_part_fault (item_content j) ≡ None)) (sym a3) f.informed;
             proposed = subst (AllByRecursion (λ j. context_part_fault j ≡ None)) (sym a2) (parts.0, f.proposed);
             fresh = subst (AllByRecursion (IsFresh before)) (sym a2) (here, apart.0);
             distinct = subst Distinct (sym a2) (apart.1, f.distinct);
@@ -286,12 +286,12 @@ fit_back before i is none f =
           let b1 = of_no 0x10 i before w.application in let a1 = of_no 0x10 i is w.application in
           let b2 = of_no 0x20 i before w.context in let a2 = of_no 0x20 i is w.context in
           let b3 = of_yes 0x50 i before w.information in let a3 = of_yes 0x50 i is w.information in
-          let parts = or_none (information_part_fault (content i)) (if list_any (is_kind 0x50) before then Some BadItem else None) (sym (fault_information before i w) ∙ none) in
+          let parts = or_none (information_part_fault (item_content i)) (if list_any (is_kind 0x50) before then Some BadItem else None) (sym (fault_information before i w) ∙ none) in
           record {
             application = omega (arith, f.application, ap length a1, ap length b1);
             information = omega (arith, f.information, ap length a3, ap length b3);
             some = omega (arith, f.some, ap length a2, ap length b2);
-            informed = subst (AllByRecursion (λ j. information_part_fault (content j) ≡ None)) (sym a3) (parts.0, f.informed);
+            informed = subst (AllByRecursion (λ j. information_part_fault (item_content j) ≡ None)) (sym a3) (parts.0, f.informed);
             proposed = subst (AllByRecursion (λ j. context_part_fault j ≡ None)) (sym a2) f.proposed;
             fresh = subst (AllByRecursion (IsFresh before)) (sym a2) (fresh_back i before (of_kind 0x20 is) w.context f.fresh);
             distinct = subst Distinct (sym a2) f.distinct;
@@ -304,14 +304,14 @@ fit_back before i is none f =
             application = omega (arith, f.application, ap length a1, ap length b1);
             information = omega (arith, f.information, ap length a3, ap length b3);
             some = omega (arith, f.some, ap length a2, ap length b2);
-            informed = subst (AllByRecursion (λ j. information_part_fault (content j) ≡ None)) (sym a3) f.informed;
+            informed = subst (AllByRecursion (λ j. information_part_fault (item_content j) ≡ None)) (sym a3) f.informed;
             proposed = subst (AllByRecursion (λ j. context_part_fault j ≡ None)) (sym a2) f.proposed;
             fresh = subst (AllByRecursion (IsFresh before)) (sym a2) (fresh_back i before (of_kind 0x20 is) w.context f.fresh);
             distinct = subst Distinct (sym a2) f.distinct;
           }
     ]
 
-end_fits : (before : List (List ℕ)) (rest : List ℕ) → end_fault before rest ≡ None → Once before → (rest ≡ []) × Fit before []
+end_fits : (before : List (List ℕ)) (rest : List ℕ) → ending_fault before rest ≡ None → Once before → (rest ≡ []) × Fit before []
 end_fits before [] none o =
     elim (cases_Bool (has_all before)) [
       | inl all ↦

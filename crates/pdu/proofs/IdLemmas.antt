@@ -5,7 +5,7 @@ use Rattle.std.proofs.lemmas.List.{length-map}
 use Rattle.std.proofs.lemmas.Map.Steps.{length-le_from_distinct_below}
 use Rattle.std.specs.List.{AllByRecursion, IsDistinct, list_any}
 use Rattle.element.specs.Numbers.{IsBytes}
-use Rattle.pdu.specs.Record.{Record, ids}
+use Rattle.pdu.specs.Record.{RequestRecord, ids}
 use Rattle.pdu.specs.Pieces.{joined}
 use Rattle.pdu.specs.Items.{is_kind, of_kind}
 use Rattle.pdu.specs.Request.{IsContextId, IsRequest}
@@ -71,7 +71,7 @@ pub few_ids : (ns : List ℕ) → AllByRecursion IsContextId ns → IsDistinct e
 few_ids ns all d =
     omega (arith, length-map ns half, length-le_from_distinct_below (map half ns) 128 (halves_distinct ns all d) (halves_below ns all))
 
-pub kept_few : (r s : Record) → r ≡ s → IsRequest r → length s.contexts ≤ 128
+pub kept_few : (r s : RequestRecord) → r ≡ s → IsRequest r → length s.contexts ≤ 128
 kept_few r s e k =
     let few = few_ids (ids r.contexts) k.ids_odd k.ids_distinct in
-    omega (arith, few, length-map r.contexts (λ p. p.id), ap (λ (q : Record). length q.contexts) e)
+    omega (arith, few, length-map r.contexts (λ p. p.id), ap (λ (q : RequestRecord). length q.contexts) e)

@@ -3,7 +3,7 @@ use Rattle.std.proofs.Common.{◌≡◌, ℕ, ◌+◌, ◌<◌, ◌≤◌, List,
 use Rattle.std.proofs.lemmas.List.{length-append, take-append-drop}
 use Rattle.std.specs.List.{AllByRecursion}
 use Rattle.byteorder.specs.Endian.{big_number}
-use Rattle.pdu.specs.Pieces.{IsWhole, joined, pieces_of}
+use Rattle.pdu.specs.Pieces.{IsWholePiece, joined, pieces_of}
 use Rattle.pdu.specs.Items.{item, items_of, left_over, Begins, BeginsNone}
 use Rattle.pdu.proofs.PieceLemmas.{Reads, pieces_none, pieces_next, cut_whole, whole_length, pieces_split}
 
@@ -29,7 +29,7 @@ begins_begun b h =
     let e = pieces_none item item_reads b (λ _. h) in
     record { items = ap (λ (p : List (List ℕ) × List ℕ). p.0) e; rest = ap (λ (p : List (List ℕ) × List ℕ). p.1) e }
 
-pub begins_with : (f t : List ℕ) → IsWhole item f → Begins (f ++ t) f t
+pub begins_with : (f t : List ℕ) → IsWholePiece item f → Begins (f ++ t) f t
 unfolding items_of left_over
 begins_with f t w =
     let e = pieces_next item item_reads f t w in
@@ -41,13 +41,13 @@ begins_with f t w =
 
 pub begins_cut : (b : List ℕ) (n : ℕ) → n ≡ 4 + big_number 2 (drop 2 b) → n ≤ length b → Begins b (take n b) (drop n b)
 begins_cut b n e le =
-    let whole : IsWhole item (take (4 + big_number 2 (drop 2 b)) b) = cut_whole item item_reads b (omega arith) (omega arith) in
-    let at : IsWhole item (take n b) = subst (λ (k : ℕ). IsWhole item (take k b)) (sym e) whole in
+    let whole : IsWholePiece item (take (4 + big_number 2 (drop 2 b)) b) = cut_whole item item_reads b (omega arith) (omega arith) in
+    let at : IsWholePiece item (take n b) = subst (λ (k : ℕ). IsWholePiece item (take k b)) (sym e) whole in
     subst (λ (x : List ℕ). Begins x (take n b) (drop n b)) (take-append-drop n b) (begins_with (take n b) (drop n b) at)
 
 -- ---- no text has more items than bytes
 
-few : (fs : List (List ℕ)) → AllByRecursion (IsWhole item) fs → length fs ≤ length (joined fs)
+few : (fs : List (List ℕ)) → AllByRecursion (IsWholePiece item) fs → length fs ≤ length (joined fs)
 few [] all = omega arith
 few (f ∷ fs) all = omega (arith, whole_length item item_reads f all.0, few fs all.1, length-append f (joined fs))
 

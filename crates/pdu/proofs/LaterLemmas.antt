@@ -3,7 +3,7 @@ use Rattle.std.proofs.Common.{◌≡◌, ℕ, ◌+◌, ◌-◌, ◌≤◌, true,
 use Rattle.std.proofs.lemmas.List.{append-nil, length-append, length-drop, drop-append-le}
 use Rattle.std.proofs.Math.Seq.{drop-append-add, drop-length}
 use Rattle.pdu.specs.Pdvs.{Mark, Leftover, DataSpot, Dropped, Within, pdv_size, IsGoodHead, head_mark, pdv_mark, is_leftover, Marked, too_short, bad, unfinished, whole_and_leftover, whole_and_more, pdv_marks, data_spot, new_pdv_marks}
-use Rattle.pdu.specs.Parts.{IsUnfinished, in_head, in_fragment}
+use Rattle.pdu.specs.Parts.{IsUnfinishedPdv, in_head, in_fragment}
 use Rattle.pdu.proofs.PdvLemmas.{head_stays, pdv_stays, size_later, good_later, bad_later, marked, marks_are, spot_is}
 
 -- ---- a whole value stands at the front, whatever follows
@@ -62,7 +62,7 @@ record Continues (room : ℕ) (bytes : List ℕ) (ms : List Mark) (r : ℕ) (q :
   pub values : List Mark
   pub before : ms ≡ values ++ pdv_marks r q
   pub now : (more : List ℕ) (ns : List Mark) (t : DataSpot) → Marked r (q ++ more) ns t → Marked room (bytes ++ more) (values ++ ns) t
-  pub is : IsUnfinished r q
+  pub is : IsUnfinishedPdv r q
   pub room_is : length bytes ≤ room → r + length bytes ≡ room + length q
 
 continues : {room : ℕ} {bytes : List ℕ} {ms : List Mark} {r : ℕ} {q : List ℕ} → Marked room bytes ms (Within r q) → Continues room bytes ms r q
@@ -85,7 +85,7 @@ continues_at room bytes r q e = continues (subst (Marked room bytes (pdv_marks r
 -- what has begun is less than a whole value, and has the room that is left
 pub record UnfinishedAt (room : ℕ) (bytes : List ℕ) (r : ℕ) (q : List ℕ) : Type 0 where
   pub room_is : r + length bytes ≡ room + length q
-  pub is : IsUnfinished r q
+  pub is : IsUnfinishedPdv r q
 
 pub begins_within : (room : ℕ) (bytes : List ℕ) (r : ℕ) (q : List ℕ) → length bytes ≤ room → data_spot room bytes ≡ Within r q → UnfinishedAt room bytes r q
 begins_within room bytes r q fits e = let c = continues_at room bytes r q e in record { room_is = c.room_is fits; is = c.is }
@@ -103,7 +103,7 @@ begins_with_head h (unfinished g d) = ([], refl)
 begins_with_head {bytes = bytes} h (whole_and_leftover g d t) = (pdv_mark bytes ∷ Leftover ∷ [], refl)
 begins_with_head {bytes = bytes} h (whole_and_more {later = later} g d t m) = (pdv_mark bytes ∷ later, refl)
 
-unfinished_grows : (r : ℕ) (q more : List ℕ) → IsUnfinished r q → Grows (pdv_marks r q) (pdv_marks r (q ++ more))
+unfinished_grows : (r : ℕ) (q more : List ℕ) → IsUnfinishedPdv r q → Grows (pdv_marks r q) (pdv_marks r (q ++ more))
 unfinished_grows r q more (in_head lt) = (pdv_marks r (q ++ more), ap (λ (ms : List Mark). ms ++ pdv_marks r (q ++ more)) (sym (marks_are {room = r} (too_short lt))))
 unfinished_grows r q more (in_fragment headed least fits short) =
     let g : IsGoodHead r q = record { headed = headed; least = least; fits = fits } in

@@ -5,27 +5,27 @@ use Rattle.std.proofs.lemmas.List.{append-nil}
 use Rattle.std.specs.List.{AllByRecursion}
 use Rattle.element.specs.Padding.{is_empty}
 use Rattle.pdu.specs.declared.fault.PduFault.TheVariants.{BadLength, BadItem, BadContextId}
-use Rattle.pdu.specs.Pieces.{IsWhole, joined, pieces_of}
-use Rattle.pdu.specs.Items.{item, items_of, left_over, of_kind, first_or_none, content, parts, is_context, four_or_none}
+use Rattle.pdu.specs.Pieces.{IsWholePiece, joined, pieces_of}
+use Rattle.pdu.specs.Items.{item, items_of, left_over, of_kind, first_or_none, item_content, parts, is_context, four_or_none}
 use Rattle.pdu.specs.Request.{One, MaximumText, InformationText}
-use Rattle.pdu.specs.Refusal.{is_whole, is_maximum, information_part_fault, has_syntaxes, id_of, context_part_fault}
+use Rattle.pdu.specs.Refusal.{are_whole_items, is_maximum, information_part_fault, has_syntaxes, id_of, context_part_fault}
 use Rattle.pdu.proofs.PieceLemmas.{pieces_unique, pieces_split}
 use Rattle.pdu.proofs.ItemLemmas.{item_reads}
 
 -- ---- a text of whole items
 
-pub items_joined : (fs : List (List ℕ)) → AllByRecursion (IsWhole item) fs → items_of (joined fs) ≡ fs
+pub items_joined : (fs : List (List ℕ)) → AllByRecursion (IsWholePiece item) fs → items_of (joined fs) ≡ fs
 unfolding items_of
 items_joined fs all = ap (λ (p : List (List ℕ) × List ℕ). p.0) (pieces_unique item item_reads (joined fs) fs [] (record { whole = sym (append-nil (joined fs)); each = all; partial = λ h. absurd (omega arith) }))
 
-pub left_joined : (fs : List (List ℕ)) → AllByRecursion (IsWhole item) fs → left_over (joined fs) ≡ []
+pub left_joined : (fs : List (List ℕ)) → AllByRecursion (IsWholePiece item) fs → left_over (joined fs) ≡ []
 unfolding left_over
 left_joined fs all = ap (λ (p : List (List ℕ) × List ℕ). p.1) (pieces_unique item item_reads (joined fs) fs [] (record { whole = sym (append-nil (joined fs)); each = all; partial = λ h. absurd (omega arith) }))
 
 -- what a text is that has nothing left over
 pub record Whole (text : List ℕ) : Type 0 where
   pub whole : text ≡ joined (items_of text)
-  pub each : AllByRecursion (IsWhole item) (items_of text)
+  pub each : AllByRecursion (IsWholePiece item) (items_of text)
 
 pub whole_is : (text : List ℕ) → left_over text ≡ [] → Whole text
 unfolding items_of left_over
@@ -37,7 +37,7 @@ pub empty_is : (xs : List ℕ) → is_empty xs ≡ true → xs ≡ []
 empty_is [] e = refl
 empty_is (x ∷ xs) e = absurd cc
 
-pub whole_joined : (text : List ℕ) (fs : List (List ℕ)) → text ≡ joined fs → AllByRecursion (IsWhole item) fs → is_whole text ≡ true
+pub whole_joined : (text : List ℕ) (fs : List (List ℕ)) → text ≡ joined fs → AllByRecursion (IsWholePiece item) fs → are_whole_items text ≡ true
 whole_joined text fs e all = ap is_empty (ap left_over e ∙ left_joined fs all)
 
 -- ---- one of a list
@@ -59,28 +59,28 @@ one_first P (i ∷ j ∷ is) o = absurd o
 
 -- ---- user information
 
-maximum_text : (ms : List (List ℕ)) → is_maximum ms ≡ true → MaximumText (four_or_none (content (first_or_none ms))) ms
+maximum_text : (ms : List (List ℕ)) → is_maximum ms ≡ true → MaximumText (four_or_none (item_content (first_or_none ms))) ms
 maximum_text [] e = refl
-maximum_text (m ∷ []) e = (eqb-true (length (content m)) 4 e, rw e refl)
+maximum_text (m ∷ []) e = (eqb-true (length (item_content m)) 4 e, rw e refl)
 maximum_text (m ∷ n ∷ ms) e = absurd cc
 
 maximum_fits : (n : ℕ) (ms : List (List ℕ)) → MaximumText n ms → is_maximum ms ≡ true
 maximum_fits n [] t = refl
-maximum_fits n (m ∷ []) t = eq-eqb (length (content m)) 4 t.0
+maximum_fits n (m ∷ []) t = eq-eqb (length (item_content m)) 4 t.0
 maximum_fits n (m ∷ k ∷ ms) t = absurd t
 
-pub maximum_is : (n : ℕ) (ms : List (List ℕ)) → MaximumText n ms → n ≡ four_or_none (content (first_or_none ms))
+pub maximum_is : (n : ℕ) (ms : List (List ℕ)) → MaximumText n ms → n ≡ four_or_none (item_content (first_or_none ms))
 maximum_is n [] t = t
-maximum_is n (m ∷ []) t = t.1 ∙ rw (eq-eqb (length (content m)) 4 t.0) refl
+maximum_is n (m ∷ []) t = t.1 ∙ rw (eq-eqb (length (item_content m)) 4 t.0) refl
 maximum_is n (m ∷ k ∷ ms) t = absurd t
 
 record InformationFine (text : List ℕ) : Type 0 where
-  pub whole : is_whole text ≡ true
+  pub whole : are_whole_items text ≡ true
   pub maximum : is_maximum (of_kind 0x51 (items_of text)) ≡ true
 
 information_fine : (text : List ℕ) → information_part_fault text ≡ None → InformationFine text
 information_fine text e =
-    elim (cases_Bool (is_whole text)) [
+    elim (cases_Bool (are_whole_items text)) [
       | inr w ↦ let bad : Some BadLength ≡ None = rw w at e in absurd cc
       | inl w ↦ elim (cases_Bool (is_maximum (of_kind 0x51 (items_of text)))) [
         | inr m ↦ let bad : Some BadItem ≡ None = rw (w, m) at e in absurd cc
@@ -88,29 +88,29 @@ information_fine text e =
       ]
     ]
 
-pub information_text : (i : List ℕ) → information_part_fault (content i) ≡ None → InformationText (four_or_none (content (first_or_none (of_kind 0x51 (items_of (content i)))))) i
+pub information_text : (i : List ℕ) → information_part_fault (item_content i) ≡ None → InformationText (four_or_none (item_content (first_or_none (of_kind 0x51 (items_of (item_content i)))))) i
 information_text i e =
-    let f = information_fine (content i) e in
-    let w = whole_is (content i) (empty_is (left_over (content i)) f.whole) in
-    record { parts = items_of (content i); whole = w.whole; each = w.each; maximum_is = maximum_text (of_kind 0x51 (items_of (content i))) f.maximum }
+    let f = information_fine (item_content i) e in
+    let w = whole_is (item_content i) (empty_is (left_over (item_content i)) f.whole) in
+    record { parts = items_of (item_content i); whole = w.whole; each = w.each; maximum_is = maximum_text (of_kind 0x51 (items_of (item_content i))) f.maximum }
 
-parts_are : (text : List ℕ) (fs : List (List ℕ)) → text ≡ joined fs → AllByRecursion (IsWhole item) fs → items_of text ≡ fs
+parts_are : (text : List ℕ) (fs : List (List ℕ)) → text ≡ joined fs → AllByRecursion (IsWholePiece item) fs → items_of text ≡ fs
 parts_are text fs e all = ap items_of e ∙ items_joined fs all
 
-pub information_fits : (n : ℕ) (i : List ℕ) → InformationText n i → information_part_fault (content i) ≡ None
+pub information_fits : (n : ℕ) (i : List ℕ) → InformationText n i → information_part_fault (item_content i) ≡ None
 information_fits n i t =
-    let w = whole_joined (content i) t.parts t.whole t.each in
-    let m : is_maximum (of_kind 0x51 (items_of (content i))) ≡ true = ap (λ (fs : List (List ℕ)). is_maximum (of_kind 0x51 fs)) (parts_are (content i) t.parts t.whole t.each) ∙ maximum_fits n (of_kind 0x51 t.parts) t.maximum_is in
+    let w = whole_joined (item_content i) t.parts t.whole t.each in
+    let m : is_maximum (of_kind 0x51 (items_of (item_content i))) ≡ true = ap (λ (fs : List (List ℕ)). is_maximum (of_kind 0x51 fs)) (parts_are (item_content i) t.parts t.whole t.each) ∙ maximum_fits n (of_kind 0x51 t.parts) t.maximum_is in
     rw (w, m) refl
 
-pub information_is : (n : ℕ) (i : List ℕ) → InformationText n i → n ≡ four_or_none (content (first_or_none (of_kind 0x51 (items_of (content i)))))
-information_is n i t = maximum_is n (of_kind 0x51 t.parts) t.maximum_is ∙ ap (λ (fs : List (List ℕ)). four_or_none (content (first_or_none (of_kind 0x51 fs)))) (sym (parts_are (content i) t.parts t.whole t.each))
+pub information_is : (n : ℕ) (i : List ℕ) → InformationText n i → n ≡ four_or_none (item_content (first_or_none (of_kind 0x51 (items_of (item_content i)))))
+information_is n i t = maximum_is n (of_kind 0x51 t.parts) t.maximum_is ∙ ap (λ (fs : List (List ℕ)). four_or_none (item_content (first_or_none (of_kind 0x51 fs)))) (sym (parts_are (item_content i) t.parts t.whole t.each))
 
 -- ---- a proposed context
 
 pub record ContextFine (i : List ℕ) : Type 0 where
   pub context : is_context i ≡ true
-  pub whole : is_whole (drop 8 i) ≡ true
+  pub whole : are_whole_items (drop 8 i) ≡ true
   pub syntaxes : has_syntaxes (parts i) ≡ true
   pub odd : nat_eq (id_of i % 2) 0 ≡ false
 
@@ -118,7 +118,7 @@ pub context_fine : (i : List ℕ) → context_part_fault i ≡ None → ContextF
 context_fine i e =
     elim (cases_Bool (is_context i)) [
       | inr c ↦ let bad : Some BadLength ≡ None = rw c at e in absurd cc
-      | inl c ↦ elim (cases_Bool (is_whole (drop 8 i))) [
+      | inl c ↦ elim (cases_Bool (are_whole_items (drop 8 i))) [
         | inr w ↦ let bad : Some BadLength ≡ None = rw (c, w) at e in absurd cc
         | inl w ↦ elim (cases_Bool (has_syntaxes (parts i))) [
           | inr s ↦ let bad : Some BadItem ≡ None = rw (c, w, s) at e in absurd cc

@@ -5,13 +5,13 @@ use Rattle.std.specs.Io.KnownBytes.{append_known}
 use Rattle.byteorder.specs.Endian.{big_number}
 use Rattle.pdu.specs.declared.wire.WireFailed.{WireFailed}
 use Rattle.pdu.specs.Sent.{Line, sent_all, Sends}
-use Rattle.pdu.specs.Record.{Record}
+use Rattle.pdu.specs.Record.{RequestRecord}
 use Rattle.pdu.specs.Request.{RequestText}
 use Rattle.pdu.specs.Refusal.{request_fault}
 use Rattle.pdu.specs.Frames.{IsRest, rest_of}
 use Rattle.pdu.specs.Marks.{Mark, Head, BadPdv, pdv_size, head_mark, pdv_mark, frame_kind, frame_length, marks, new_marks}
 use Rattle.pdu.specs.Spot.{Opening, Plain, InPdv, spot, room_left}
-use Rattle.pdu.specs.Parts.{SameFrame, SameHead, IsInData, IsUnfinished, GoesOn, Comes, leftover_marks, leftover_spot, body_spot}
+use Rattle.pdu.specs.Parts.{SameFrame, SameHead, IsInData, IsUnfinishedPdv, GoesOn, Comes, leftover_marks, leftover_spot, body_spot}
 use Rattle.pdu.proofs.SentLemmas as sending
 use Rattle.pdu.proofs.RequestLemmas as requests
 use Rattle.pdu.proofs.PdvLemmas as values
@@ -40,7 +40,7 @@ sends_then = sending.sends_then
 
 -- ---- requests
 
-pub request_fits : (r : Record) (b : List ℕ) → RequestText r b → request_fault b ≡ None
+pub request_fits : (r : RequestRecord) (b : List ℕ) → RequestText r b → request_fault b ≡ None
 request_fits = requests.request_fits
 
 -- ---- streams of PDUs
@@ -77,7 +77,7 @@ spot_opening = parts.spot_opening
 pub in_data : (r b : List ℕ) → IsRest r → spot r ≡ InPdv b → IsInData r
 in_data = parts.in_data
 
-pub unfinished_pdv : (r b : List ℕ) → IsRest r → spot r ≡ InPdv b → IsUnfinished (room_left r + length b) b
+pub unfinished_pdv : (r b : List ℕ) → IsRest r → spot r ≡ InPdv b → IsUnfinishedPdv (room_left r + length b) b
 unfinished_pdv = parts.unfinished_pdv
 
 pub head_part : (r c : List ℕ) → length (r ++ c) < 6 → GoesOn r c [] Opening

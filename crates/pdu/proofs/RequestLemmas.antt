@@ -7,9 +7,9 @@ use Rattle.element.specs.Numbers.{IsBytes}
 use Rattle.byteorder.specs.Endian.{big_number}
 use Rattle.pdu.specs.declared.fault.PduFault.{PduFault}
 use Rattle.pdu.specs.declared.fault.PduFault.TheVariants.{BadLength}
-use Rattle.pdu.specs.Record.{Record, ids}
+use Rattle.pdu.specs.Record.{RequestRecord, ids}
 use Rattle.pdu.specs.Pieces.{joined}
-use Rattle.pdu.specs.Items.{items_of, left_over, of_kind, first_or_none, content, identifier, proposal_of, proposals, four_or_none, maximum_in, record_of}
+use Rattle.pdu.specs.Items.{items_of, left_over, of_kind, first_or_none, item_content, identifier, proposal_of, proposals, four_or_none, maximum_in, request_record}
 use Rattle.pdu.specs.Request.{One, InformationText, ContextTexts, RequestText, IsRequest}
 use Rattle.pdu.specs.Refusal.{information_part_fault, items_fault, request_fault, as_result}
 use Rattle.pdu.proofs.IdLemmas.{bytes_past, bytes_each, bytes_kind}
@@ -56,7 +56,7 @@ two_same [] le = absurd (omega arith)
 two_same (x ∷ []) le = absurd (omega arith)
 two_same (x ∷ y ∷ b) le = refl
 
-pub request_text : (b : List ℕ) → request_fault b ≡ None → RequestText (record_of b) b
+pub request_text : (b : List ℕ) → request_fault b ≡ None → RequestText (request_record b) b
 request_text b none =
     let l = laid b none in
     let text = drop 68 b in
@@ -78,15 +78,15 @@ request_text b none =
       reserved_size = omega (arith, length-take 32 (drop 36 b), length-drop 36 b);
       version_is = two_same b (omega arith);
       each = w.each;
-      application = one_from (λ i. (record_of b).application_context ≡ identifier i) (of_kind 0x10 is) (omega (arith, f.application)) refl;
+      application = one_from (λ i. (request_record b).application_context ≡ identifier i) (of_kind 0x10 is) (omega (arith, f.application)) refl;
       information = informed is f;
       contexts = subst (λ ps. ContextTexts ps (of_kind 0x20 is)) (sym same) (texts_from (of_kind 0x20 is) f.proposed);
       some = omega (arith, f.some, ap length same, length-map (of_kind 0x20 is) proposal_of);
       distinct = subst (λ ps. IsDistinct eqb (ids ps)) (sym same) (distinct_from (of_kind 0x20 is) f.distinct);
     }
   where
-    informed_list : (us : List (List ℕ)) → length us ≡ 1 → AllByRecursion (λ i. information_part_fault (content i) ≡ None) us
-        → One (InformationText (four_or_none (content (first_or_none (of_kind 0x51 (items_of (content (first_or_none us)))))))) us
+    informed_list : (us : List (List ℕ)) → length us ≡ 1 → AllByRecursion (λ i. information_part_fault (item_content i) ≡ None) us
+        → One (InformationText (four_or_none (item_content (first_or_none (of_kind 0x51 (items_of (item_content (first_or_none us)))))))) us
     informed_list [] e all = absurd (omega arith)
     informed_list (u ∷ []) e all = information_text u all.0
     informed_list (u ∷ v ∷ us) e all = absurd (omega arith)
@@ -96,7 +96,7 @@ request_text b none =
 
 -- ---- a request: no fault
 
-record Placed (r : Record) (b : List ℕ) (t : RequestText r b) : Type 0 where
+record Placed (r : RequestRecord) (b : List ℕ) (t : RequestText r b) : Type 0 where
   pub long : 68 ≤ length b
   pub version : take 2 b ≡ t.version
   pub called : take 16 (drop 4 b) ≡ r.called
@@ -130,7 +130,7 @@ placed_in v u c d e x vs us cs ds es b whole =
       ),
     )
 
-placed : (r : Record) (b : List ℕ) (t : RequestText r b) → Placed r b t
+placed : (r : RequestRecord) (b : List ℕ) (t : RequestText r b) → Placed r b t
 placed r b t =
     let p = placed_in t.version t.unused r.called r.calling r.reserved (joined t.items) t.version_size t.unused_size t.called_size t.calling_size t.reserved_size b t.whole in
     record { long = p.0; version = p.1.0; called = p.1.1.0; calling = p.1.1.1.0; reserved = p.1.1.1.1.0; items = p.1.1.1.1.1 }
@@ -139,12 +139,12 @@ fresh_all : (is : List (List ℕ)) → AllByRecursion (IsFresh []) is
 fresh_all [] = tt
 fresh_all (i ∷ is) = (refl, fresh_all is)
 
-informed_all : (n : ℕ) (us : List (List ℕ)) → One (InformationText n) us → AllByRecursion (λ i. information_part_fault (content i) ≡ None) us
+informed_all : (n : ℕ) (us : List (List ℕ)) → One (InformationText n) us → AllByRecursion (λ i. information_part_fault (item_content i) ≡ None) us
 informed_all n [] o = absurd o
 informed_all n (u ∷ []) o = (information_fits n u o, tt)
 informed_all n (u ∷ v ∷ us) o = absurd o
 
-fits : (r : Record) (b : List ℕ) (t : RequestText r b) → Fit [] t.items
+fits : (r : RequestRecord) (b : List ℕ) (t : RequestText r b) → Fit [] t.items
 fits r b t =
     let are = texts_are r.contexts (of_kind 0x20 t.items) t.contexts in
     record {
@@ -157,7 +157,7 @@ fits r b t =
       distinct = distinct_back (of_kind 0x20 t.items) (subst (λ ps. IsDistinct eqb (ids ps)) (sym are) t.distinct);
     }
 
-pub request_fits : (r : Record) (b : List ℕ) → RequestText r b → request_fault b ≡ None
+pub request_fits : (r : RequestRecord) (b : List ℕ) → RequestText r b → request_fault b ≡ None
 unfolding items_fault
 request_fits r b t =
     let p = placed r b t in
@@ -165,7 +165,7 @@ request_fits r b t =
     let nothing : left_over (drop 68 b) ≡ [] = ap left_over p.items ∙ left_joined t.items t.each in
     rw (le-ltb (length b) 68 p.long, is, nothing) (fit_faultless [] t.items (fits r b t))
 
-pub request_is : (r : Record) (b : List ℕ) → RequestText r b → r ≡ record_of b
+pub request_is : (r : RequestRecord) (b : List ℕ) → RequestText r b → r ≡ request_record b
 request_is r b t =
     let p = placed r b t in
     let is : items_of (drop 68 b) ≡ t.items = ap items_of p.items ∙ items_joined t.items t.each in
@@ -177,17 +177,17 @@ request_is r b t =
     rw (is, ← version, p.called, p.calling, p.reserved, ← application, contexts, ← maximum) refl
 
 -- no body spells two requests
-pub one_request : (r q : Record) (b : List ℕ) → RequestText r b → RequestText q b → r ≡ q
+pub one_request : (r q : RequestRecord) (b : List ℕ) → RequestText r b → RequestText q b → r ≡ q
 one_request r q b t u = request_is r b t ∙ sym (request_is q b u)
 
 -- a body with a fault spells none
-pub none_where_fault : (b : List ℕ) (f : PduFault) → request_fault b ≡ Some f → (r : Record) → RequestText r b → ⊥
+pub none_where_fault : (b : List ℕ) (f : PduFault) → request_fault b ≡ Some f → (r : RequestRecord) → RequestText r b → ⊥
 none_where_fault b f e r t = let none = request_fits r b t in absurd cc
 
 -- ---- what its type keeps
 
 -- a request that is spelled by bytes has IDs of one byte
-pub request_kept : (r : Record) (b : List ℕ) → IsBytes b → RequestText r b → IsRequest r
+pub request_kept : (r : RequestRecord) (b : List ℕ) → IsBytes b → RequestText r b → IsRequest r
 request_kept r b bytes t =
     let p = placed r b t in
     let tail : IsBytes (joined t.items) = subst IsBytes p.items (bytes_past 68 b bytes) in

@@ -9,7 +9,7 @@ abbrev pub frame : Layout
 frame = record { head = 6; body = λ text. big_number 4 (drop 2 text) }
 
 abbrev pub IsFrame : List ℕ → Type 0
-IsFrame f = pieces.IsWhole frame f
+IsFrame f = pieces.IsWholePiece frame f
 
 -- less than a frame
 abbrev pub IsRest : List ℕ → Type 0

@@ -5,9 +5,9 @@ use Rattle.byteorder.specs.Endian.{big_number}
 use Rattle.element.specs.Padding.{is_padding, without_trailing}
 use Rattle.pdu.specs.Types.{application_context_item, proposed_context_item, abstract_syntax_item, transfer_syntax_item, user_information_item, maximum_length_item}
 use Rattle.pdu.specs.Pieces.{Layout, pieces_of}
-use Rattle.pdu.specs.Record.{Proposal, Record}
+use Rattle.pdu.specs.Record.{Proposal, RequestRecord}
 
--- type 1, reserved 1, length 2 of the content that follows
+-- type 1, reserved 1, length 2 of the item_content that follows
 abbrev pub item : Layout
 item = record { head = 4; body = λ text. big_number 2 (drop 2 text) }
 
@@ -33,8 +33,8 @@ pub record BeginsNone (text : List ℕ) : Type 0 where
 abbrev pub kind : List ℕ → ℕ
 kind i = get_or i 0 0
 
-abbrev pub content : List ℕ → List ℕ
-content i = drop 4 i
+abbrev pub item_content : List ℕ → List ℕ
+item_content i = drop 4 i
 
 abbrev pub is_kind : ℕ → List ℕ → Bool
 is_kind k i = nat_eq (kind i) k
@@ -46,9 +46,9 @@ abbrev pub first_or_none : List (List ℕ) → List ℕ
 first_or_none [] = []
 first_or_none (i ∷ is) = i
 
--- the content of the first item of this type; none where there is no such item
+-- the item_content of the first item of this type; none where there is no such item
 abbrev pub content_in : ℕ → List (List ℕ) → List ℕ
-content_in k items = content (first_or_none (of_kind k items))
+content_in k items = item_content (first_or_none (of_kind k items))
 
 -- a UID is read without trailing zero bytes and spaces
 abbrev pub unpadded : List ℕ → List ℕ
@@ -63,7 +63,7 @@ abbrev pub parts : List ℕ → List (List ℕ)
 parts i = items_of (drop 8 i)
 
 abbrev pub identifier : List ℕ → List ℕ
-identifier i = unpadded (content i)
+identifier i = unpadded (item_content i)
 
 -- the identifiers of the 40H among these items, in their order
 abbrev pub syntaxes : List (List ℕ) → List (List ℕ)
@@ -88,8 +88,8 @@ abbrev pub maximum_in : List (List ℕ) → ℕ
 maximum_in items = four_or_none (content_in maximum_length_item (items_of (content_in user_information_item items)))
 
 -- the record of a request, from its body: version 2, reserved 2, called title 16, calling title 16, reserved 32, items
-abbrev pub record_of : List ℕ → Record
-record_of b = let items = items_of (drop 68 b) in record {
+abbrev pub request_record : List ℕ → RequestRecord
+request_record b = let items = items_of (drop 68 b) in record {
   version = big_number 2 b;
   called = take 16 (drop 4 b);
   calling = take 16 (drop 20 b);

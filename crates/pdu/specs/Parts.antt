@@ -7,9 +7,9 @@ use Rattle.pdu.specs.Marks.{Mark, Leftover, End, pdv_size, is_leftover, frame_ki
 use Rattle.pdu.specs.Spot.{Spot, Plain, InPdv, spot}
 
 -- less than a whole presentation data value, of which the frame has room for this many bytes
-pub data IsUnfinished (room : ℕ) (b : List ℕ) : Type 0 where
-  in_head : length b < 6 → IsUnfinished room b
-  in_fragment : 6 ≤ length b → 2 ≤ big_number 4 b → pdv_size b ≤ room → length b < pdv_size b → IsUnfinished room b
+pub data IsUnfinishedPdv (room : ℕ) (b : List ℕ) : Type 0 where
+  in_head : length b < 6 → IsUnfinishedPdv room b
+  in_fragment : 6 ≤ length b → 2 ≤ big_number 4 b → pdv_size b ≤ room → length b < pdv_size b → IsUnfinishedPdv room b
 
 -- after a presentation data value that leaves this room in the frame
 abbrev pub leftover_marks : ℕ → List Mark

@@ -9,7 +9,7 @@ pub record Layout : Type 0 where
   pub body : List ℕ → ℕ
 
 -- a whole piece: its head, and all of its body
-pub record IsWhole (l : Layout) (piece : List ℕ) : Type 0 where
+pub record IsWholePiece (l : Layout) (piece : List ℕ) : Type 0 where
   pub headed : l.head ≤ length piece
   pub filled : length piece ≡ l.head + l.body piece
 
@@ -23,7 +23,7 @@ joined pieces = flat_map (λ piece. piece) pieces
 -- the text is these whole pieces, followed by less than one
 pub record Splits (l : Layout) (text : List ℕ) (pieces : List (List ℕ)) (rest : List ℕ) : Type 0 where
   pub whole : text ≡ joined pieces ++ rest
-  pub each : AllByRecursion (IsWhole l) pieces
+  pub each : AllByRecursion (IsWholePiece l) pieces
   pub partial : IsPartial l rest
 
 -- the first piece, where it is whole, and the text after it

@@ -14,7 +14,7 @@ ids ps = map (λ p. p.id) ps
 
 -- a request: the protocol version, the titles of 16 bytes, the 32 reserved bytes, the application context without
 -- trailing zero bytes and spaces, the contexts in their order, and the peer's maximum length, 0 where it has none
-pub record Record : Type 0 where
+pub record RequestRecord : Type 0 where
   pub version : ℕ
   pub called : List ℕ
   pub calling : List ℕ

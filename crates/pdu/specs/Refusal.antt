@@ -7,11 +7,11 @@ use Rattle.element.specs.Padding.{is_empty}
 use Rattle.pdu.specs.Types.{application_context_item, proposed_context_item, abstract_syntax_item, transfer_syntax_item, user_information_item, maximum_length_item}
 use Rattle.pdu.specs.declared.fault.PduFault.{PduFault}
 use Rattle.pdu.specs.declared.fault.PduFault.TheVariants.{BadLength, BadItem, BadContextId, DoubleContext, Missing}
-use Rattle.pdu.specs.Items.{items_of, left_over, is_kind, of_kind, content, parts, is_context}
+use Rattle.pdu.specs.Items.{items_of, left_over, is_kind, of_kind, item_content, parts, is_context}
 
 -- whole items and nothing else: no item passes the end
-abbrev pub is_whole : List ℕ → Bool
-is_whole text = is_empty (left_over text)
+abbrev pub are_whole_items : List ℕ → Bool
+are_whole_items text = is_empty (left_over text)
 
 -- a second application context is 32
 abbrev pub application_fault : List (List ℕ) → Option PduFault
@@ -20,19 +20,19 @@ application_fault before = if list_any (is_kind application_context_item) before
 -- at most one maximum length, of four bytes
 abbrev pub is_maximum : List (List ℕ) → Bool
 is_maximum [] = true
-is_maximum (m ∷ []) = nat_eq (length (content m)) 4
+is_maximum (m ∷ []) = nat_eq (length (item_content m)) 4
 is_maximum (m ∷ n ∷ ms) = false
 
 -- the sub-items of user information
 abbrev pub information_part_fault : List ℕ → Option PduFault
 information_part_fault text =
-    if not (is_whole text) then Some BadLength
+    if not (are_whole_items text) then Some BadLength
     else (if not (is_maximum (of_kind maximum_length_item (items_of text))) then Some BadItem
     else None)
 
 -- a second user information is 32
 abbrev pub information_fault : List (List ℕ) → List ℕ → Option PduFault
-information_fault before i = option_or (information_part_fault (content i)) (if list_any (is_kind user_information_item) before then Some BadItem else None)
+information_fault before i = option_or (information_part_fault (item_content i)) (if list_any (is_kind user_information_item) before then Some BadItem else None)
 
 -- one abstract syntax and one or more transfer syntaxes
 abbrev pub has_syntaxes : List (List ℕ) → Bool
@@ -45,7 +45,7 @@ id_of i = get_or i 4 0
 abbrev pub context_part_fault : List ℕ → Option PduFault
 context_part_fault i =
     if not (is_context i) then Some BadLength
-    else (if not (is_whole (drop 8 i)) then Some BadLength
+    else (if not (are_whole_items (drop 8 i)) then Some BadLength
     else (if not (has_syntaxes (parts i)) then Some BadItem
     else (if nat_eq (id_of i % 2) 0 then Some BadContextId
     else None)))
@@ -69,15 +69,15 @@ item_fault before i =
 abbrev pub has_all : List (List ℕ) → Bool
 has_all items = list_any (is_kind application_context_item) items && (list_any (is_kind proposed_context_item) items && list_any (is_kind user_information_item) items)
 
-abbrev pub end_fault : List (List ℕ) → List ℕ → Option PduFault
-end_fault items rest =
+abbrev pub ending_fault : List (List ℕ) → List ℕ → Option PduFault
+ending_fault items rest =
     if not (is_empty rest) then Some BadLength
     else (if has_all items then None
     else Some Missing)
 
 -- the first fault of these items and what is left after them; those before them, the last one first, have none
 abbrev pub list_fault : List (List ℕ) → List (List ℕ) → List ℕ → Option PduFault
-list_fault before [] rest = end_fault before rest
+list_fault before [] rest = ending_fault before rest
 list_fault before (i ∷ is) rest = option_or (item_fault before i) (list_fault (i ∷ before) is rest)
 
 unfoldable pub items_fault : List ℕ → Option PduFault

@@ -3,9 +3,9 @@ use Rattle.std.specs.Prelude.{◌≡◌, ℕ, ◌≤◌, ◌<◌, ◌%◌, eqb, 
 use Rattle.std.specs.List.{AllByRecursion, IsDistinct}
 use Rattle.byteorder.specs.Endian.{big_number}
 use Rattle.pdu.specs.Types.{application_context_item, proposed_context_item, abstract_syntax_item, user_information_item, maximum_length_item}
-use Rattle.pdu.specs.Record.{Proposal, Record, ids}
-use Rattle.pdu.specs.Pieces.{IsWhole, joined}
-use Rattle.pdu.specs.Items.{item, content, of_kind, identifier, syntaxes}
+use Rattle.pdu.specs.Record.{Proposal, RequestRecord, ids}
+use Rattle.pdu.specs.Pieces.{IsWholePiece, joined}
+use Rattle.pdu.specs.Items.{item, item_content, of_kind, identifier, syntaxes}
 
 -- there is exactly one, and P holds of it
 abbrev pub One : (List ℕ → Type 0) → List (List ℕ) → Type 0
@@ -16,14 +16,14 @@ One P (i ∷ j ∷ is) = ⊥
 -- at most one 51H, of four bytes
 abbrev pub MaximumText : ℕ → List (List ℕ) → Type 0
 MaximumText maximum [] = maximum ≡ 0
-MaximumText maximum (m ∷ []) = (length (content m) ≡ 4) × (maximum ≡ big_number 4 (content m))
+MaximumText maximum (m ∷ []) = (length (item_content m) ≡ 4) × (maximum ≡ big_number 4 (item_content m))
 MaximumText maximum (m ∷ n ∷ ms) = ⊥
 
 -- user information (PS3.8 section 9.3.2.3): sub-items, of which 51H is the maximum length; others are ignored
 pub record InformationText (maximum : ℕ) (i : List ℕ) : Type 0 where
   pub parts : List (List ℕ)
-  pub whole : content i ≡ joined parts
-  pub each : AllByRecursion (IsWhole item) parts
+  pub whole : item_content i ≡ joined parts
+  pub each : AllByRecursion (IsWholePiece item) parts
   pub maximum_is : MaximumText maximum (of_kind maximum_length_item parts)
 
 -- a proposed presentation context (PS3.8 section 9.3.2.2): its ID, which is odd, three reserved bytes, and
@@ -33,8 +33,8 @@ pub record ContextText (p : Proposal) (i : List ℕ) : Type 0 where
   pub b : ℕ
   pub c : ℕ
   pub parts : List (List ℕ)
-  pub whole : content i ≡ p.id ∷ a ∷ b ∷ c ∷ joined parts
-  pub each : AllByRecursion (IsWhole item) parts
+  pub whole : item_content i ≡ p.id ∷ a ∷ b ∷ c ∷ joined parts
+  pub each : AllByRecursion (IsWholePiece item) parts
   pub abstract_one : One (λ s. p.abstract_syntax ≡ identifier s) (of_kind abstract_syntax_item parts)
   pub transfer : p.transfer_syntaxes ≡ syntaxes parts
   pub some : 1 ≤ length p.transfer_syntaxes
@@ -49,7 +49,7 @@ ContextTexts (p ∷ ps) (i ∷ is) = ContextText p i × ContextTexts ps is
 
 -- the body b spells the request r: version, two reserved bytes, titles, 32 reserved bytes, and items in any order,
 -- one of them 10H, one 50H, one or more 20H; others are ignored
-pub record RequestText (r : Record) (b : List ℕ) : Type 0 where
+pub record RequestText (r : RequestRecord) (b : List ℕ) : Type 0 where
   pub version : List ℕ
   pub unused : List ℕ
   pub items : List (List ℕ)
@@ -60,7 +60,7 @@ pub record RequestText (r : Record) (b : List ℕ) : Type 0 where
   pub calling_size : length r.calling ≡ 16
   pub reserved_size : length r.reserved ≡ 32
   pub version_is : r.version ≡ big_number 2 version
-  pub each : AllByRecursion (IsWhole item) items
+  pub each : AllByRecursion (IsWholePiece item) items
   pub application : One (λ i. r.application_context ≡ identifier i) (of_kind application_context_item items)
   pub information : One (InformationText r.maximum) (of_kind user_information_item items)
   pub contexts : ContextTexts r.contexts (of_kind proposed_context_item items)
@@ -72,7 +72,7 @@ abbrev pub IsContextId : ℕ → Type 0
 IsContextId id = (id % 2 ≡ 1) × (id < 256)
 
 -- what the type of a request guarantees: 32 reserved bytes, and IDs that are odd and distinct
-pub record IsRequest (r : Record) : Type 0 where
+pub record IsRequest (r : RequestRecord) : Type 0 where
   pub reserved_size : length r.reserved ≡ 32
   pub ids_odd : AllByRecursion IsContextId (ids r.contexts)
   pub ids_distinct : IsDistinct eqb (ids r.contexts)

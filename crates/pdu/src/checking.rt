@@ -2,7 +2,7 @@
 ghost use Rattle.std.specs.Prelude.{◌≡◌, [], ◌∷◌, ℕ, List, true, OnOk, IfOk, Err};
 ghost use Rattle.pdu.specs.Items.{kind, is_kind};
 ghost use Rattle.pdu.specs.Types.{application_context_item, proposed_context_item, user_information_item};
-ghost use Rattle.pdu.specs.Refusal.{id_of, as_result, application_fault, context_fault, context_part_fault, end_fault, information_fault, information_part_fault, item_fault, items_fault};
+ghost use Rattle.pdu.specs.Refusal.{id_of, as_result, application_fault, context_fault, context_part_fault, ending_fault, information_fault, information_part_fault, item_fault, items_fault};
 
 use crate::fault::PduFault;
 use crate::item::{Item, content_in, count_of, first_item, is_whole};
@@ -91,7 +91,7 @@ impl ItemsSoFar {
 
     /// Checks that all that is required has come, and that no byte is left after the last item.
     pub fn check_end(&self, rest: &[u8]) -> Result<(), PduFault>
-        ensures { (before : List (List ℕ)) → Knows self.now before → result ≡ as_result (end_fault before rest.now) }
+        ensures { (before : List (List ℕ)) → Knows self.now before → result ≡ as_result (ending_fault before rest.now) }
     {
         if !rest.is_empty() {
             Err(PduFault::BadLength)

@@ -47,7 +47,7 @@ impl<'a> Item<'a> {
 
     /// Returns its content, which follows the head.
     pub fn content(self) -> &'a [u8]
-        ensures { result.now ≡ spelling.content self.entry.bytes.now }
+        ensures { result.now ≡ spelling.item_content self.entry.bytes.now }
     {
         &self.bytes[4..]
     }

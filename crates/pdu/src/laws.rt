@@ -6,9 +6,9 @@ ghost use Rattle.element.specs.Numbers.{IsBytes};
 ghost use Rattle.pdu.specs.declared.wire.WireFailed as wire;
 ghost use Rattle.pdu.specs.Sent.{Line, Sends, sent_all};
 ghost use Rattle.pdu.specs.Types.{associate_rq, associate_ac, associate_rj, p_data_tf, release_rq, release_rp, abort, application_context_item, proposed_context_item, answered_context_item, abstract_syntax_item, transfer_syntax_item, user_information_item, maximum_length_item, implementation_class_item, implementation_version_item};
-ghost use Rattle.pdu.specs.Record.{Record};
+ghost use Rattle.pdu.specs.Record.{RequestRecord};
 ghost use Rattle.pdu.specs.Request.{RequestText, IsContextId, IsRequest};
-ghost use Rattle.pdu.specs.Items.{record_of};
+ghost use Rattle.pdu.specs.Items.{request_record};
 ghost use Rattle.pdu.specs.Refusal.{request_fault};
 ghost use Rattle.pdu.specs.Pieces.{joined};
 ghost use Rattle.pdu.specs.Frames.{IsRest, Splits, frames_of, rest_of};
@@ -51,12 +51,12 @@ pub fn item_types()
 
 /// No body spells two requests (PS3.8 section 9.3.2).
 pub fn body_has_one_request()
-    ensures { (r q : Record) (b : List ℕ) → RequestText r b → RequestText q b → r ≡ q }
+    ensures { (r q : RequestRecord) (b : List ℕ) → RequestText r b → RequestText q b → r ≡ q }
 {}
 
 /// Each request has 32 reserved bytes, and IDs that are odd and distinct.
 pub fn requests_keep_their_form()
-    ensures { (r : Record) (b : List ℕ) → IsBytes b → RequestText r b → IsRequest r }
+    ensures { (r : RequestRecord) (b : List ℕ) → IsBytes b → RequestText r b → IsRequest r }
 {}
 
 /// There are 128 odd numbers of one byte, so a request proposes at most 128 contexts.
@@ -66,8 +66,8 @@ pub fn ids_are_few()
 
 /// A body has no fault exactly where it spells a request, and then it spells the one that is read.
 pub fn body_without_fault_is_a_request()
-    ensures text { (b : List ℕ) → request_fault b ≡ None → RequestText (record_of b) b }
-    ensures none { (r : Record) (b : List ℕ) → RequestText r b → request_fault b ≡ None }
+    ensures text { (b : List ℕ) → request_fault b ≡ None → RequestText (request_record b) b }
+    ensures none { (r : RequestRecord) (b : List ℕ) → RequestText r b → request_fault b ≡ None }
 {}
 
 /// Texts that are sent one after the other are one text: nothing sends nothing, and a send that failed

@@ -6,7 +6,7 @@ ghost use Rattle.byteorder.specs.Endian.{big_number};
 ghost use Rattle.pdu.specs.Frames.{IsRest};
 ghost use Rattle.pdu.specs.Marks.{Head, BadPdv, pdv_size, head_mark, pdv_mark, frame_kind, frame_length};
 ghost use Rattle.pdu.specs.Spot.{Opening, Plain, InPdv, spot, room_left};
-ghost use Rattle.pdu.specs.Parts.{IsInData, IsUnfinished, SameFrame, SameHead, GoesOn, Comes, leftover_marks, leftover_spot, body_spot};
+ghost use Rattle.pdu.specs.Parts.{IsInData, IsUnfinishedPdv, SameFrame, SameHead, GoesOn, Comes, leftover_marks, leftover_spot, body_spot};
 
 /// What a head says does not change with what follows it: that of a PDU, and that of a presentation
 /// data value.
@@ -41,7 +41,7 @@ pub fn a_part_of_a_body()
 /// The bytes of an unfinished presentation data value are less than a whole one, and fit what is left of
 /// the PDU.
 pub fn an_unfinished_pdv()
-    ensures { (r b : List ℕ) → IsRest r → spot r ≡ InPdv b → IsUnfinished (room_left r + length b) b }
+    ensures { (r b : List ℕ) → IsRest r → spot r ≡ InPdv b → IsUnfinishedPdv (room_left r + length b) b }
 {}
 
 /// Within the head of a presentation data value nothing is marked.

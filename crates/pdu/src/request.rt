@@ -1,7 +1,7 @@
 //! Association requests.
 ghost use Rattle.std.specs.Prelude.{◌≡◌, ◌≤◌, ◌+◌, length, take, drop, List, ℕ, IfOk, IfErr, OnErr, None};
-ghost use Rattle.pdu.specs.Items.{record_of, maximum_in, items_of};
-ghost use Rattle.pdu.specs.Record.{Record};
+ghost use Rattle.pdu.specs.Items.{request_record, maximum_in, items_of};
+ghost use Rattle.pdu.specs.Record.{RequestRecord};
 ghost use Rattle.pdu.specs.Request.{RequestText, IsRequest};
 ghost use Rattle.pdu.specs.Refusal.{RequestFault, request_fault};
 
@@ -27,10 +27,10 @@ pub struct Request<'a> {
 }
 
 impl<'a> Model for Request<'a> {
-    ghost use Rattle.pdu.specs.Record.{Record};
+    ghost use Rattle.pdu.specs.Record.{RequestRecord};
     ghost use Rattle.pdu.specs.Request.{IsRequest};
 
-    ghost Value = { Record };
+    ghost Value = { RequestRecord };
 
     ghost use Rattle.pdu.specs.machine.View.{asked};
 
@@ -110,10 +110,10 @@ const BEFORE_ITEMS: usize = 68;
 /// Reads the body of an A-ASSOCIATE-RQ (PS3.8 section 9.3.2). It allocates nothing, and takes time
 /// linear in the body. An invalid body fails with the first fault of its items (see `PduFault`).
 pub fn read_request(body: &[u8]) -> Result<Request<'_>, PduFault>
-    ensures record { IfOk result (λ r. r ≡ record_of body.now) }
+    ensures record { IfOk result (λ r. r ≡ request_record body.now) }
     ensures text { IfOk result (λ r. RequestText r body.now) }
     ensures fault { IfErr result (λ f. RequestFault body.now f) }
-    ensures only { OnErr result ((r : Record) → RequestText r body.now → ⊥) }
+    ensures only { OnErr result ((r : RequestRecord) → RequestText r body.now → ⊥) }
 {
     if body.len() < BEFORE_ITEMS {
         return Err(PduFault::BadLength);
@@ -128,7 +128,7 @@ pub fn read_request(body: &[u8]) -> Result<Request<'_>, PduFault>
 /// Returns the view of a valid body.
 fn view<'a>(body: &'a [u8]) -> Request<'a>
     requires { request_fault body.now ≡ None }
-    ensures { result ≡ record_of body.now }
+    ensures { result ≡ request_record body.now }
 {
     let (_fixed, items) = body.split_at(BEFORE_ITEMS);
     Request {

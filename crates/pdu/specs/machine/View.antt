@@ -1,9 +1,9 @@
 -- The record of a request, from the fields that view its body.
 use Rattle.pdu.specs.declared.request.Request.TheInside.{Inside}
-use Rattle.pdu.specs.Record.{Record}
+use Rattle.pdu.specs.Record.{RequestRecord}
 use Rattle.pdu.specs.Items.{items_of, proposals}
 
-abbrev pub asked : Inside → Record
+abbrev pub asked : Inside → RequestRecord
 asked r = record {
   version = r.version;
   called = r.called.0;

@@ -1,6 +1,6 @@
 use Rattle.std.proofs.Common.{◌+◌, ◌≤◌, length, sym, subst, arith}
 use Rattle.arrayvec.specs.ArrayVec.{array_vec_len}
-use Rattle.dimse.specs.Joining.{Joining, Shows}
+use Rattle.dimse.specs.Joining.{Joining, ShowsMessage}
 use Rattle.dimse.proofs.JoinLemmas.{part_shown, command_part, other_part, taken}
 use Rattle.dimse.proofs.join.Join.take.Goals as goal
 use Rattle.dimse.proofs.join.Join.take.Goals.{in-Command, in_default}
@@ -8,7 +8,7 @@ use Rattle.dimse.proofs.join.Join.take.Goals.{in-Command, in_default}
 pub returns-clause-shows : goal.returns-clause-shows
 returns-clause-shows g c first begun h =
     let was = c.self.inside in
-    let now = subst (λ (j : Joining). Shows g.row.C j first begun) (sym c.self.view_is) h in
+    let now = subst (λ (j : Joining). ShowsMessage g.row.C j first begun) (sym c.self.view_is) h in
     let fits : length c.args.part.now ≤ was.left = subst (λ (j : Joining). length c.args.part.now ≤ j.left) (sym c.self.view_is) c.requires in
     let part = part_shown g.row.C first begun c.args.part.now was.stage was.context was.left was.last was.command.items now fits in
     elim c.match-self.branch [
