@@ -3,20 +3,19 @@ use Rattle.std.proofs.Common.{◌≡◌, ℕ, ◌<◌, ◌≤◌, Bool, true, fa
 use Rattle.element.specs.declared.syntax.Syntax.{Syntax}
 use Rattle.element.specs.declared.tag.Tag.{Tag}
 use Rattle.element.specs.declared.header.Header.{Header}
-use Rattle.element.specs.Header.{is_marker}
+use Rattle.element.specs.Header.{is_marker, item_tag}
 use Rattle.sequence.specs.declared.fault.Fault.{Fault}
 use Rattle.sequence.specs.declared.stage.Stage.{Stage}
 use Rattle.sequence.specs.declared.stage.Stage.TheVariants as stages
 use Rattle.sequence.specs.declared.step.Step.TheVariants.{Element, Opened, Closed, Refused}
 use Rattle.sequence.specs.declared.walker.Walker.{Walker}
-use Rattle.sequence.specs.Tree.{item_tag}
 use Rattle.sequence.specs.Rules.{Limits, same_tag}
 use Rattle.sequence.specs.FirstFault.{IsUnbroken, FirstFault}
 use Rattle.sequence.specs.Answering.{EndsHeader, EndsPart, Answers, stays, element, opened, closed}
 use Rattle.sequence.specs.machine.Machine.{State, at, Stopped, run, start}
 use Rattle.sequence.specs.machine.Scopes.{top_of, below_of}
 use Rattle.sequence.specs.machine.Keeping.{keeps}
-use Rattle.sequence.specs.machine.State.{mode_of, limits_of, syntax_of}
+use Rattle.sequence.specs.machine.State.{mode_of, limits_of, walker_syntax}
 use Rattle.sequence.specs.machine.Standing.{IsStopped, Stands}
 use Rattle.sequence.proofs.Runs.{HasStopped}
 use Rattle.sequence.proofs.Holding.{Walks}
@@ -32,10 +31,10 @@ pub record HasFault (s : Syntax) (lim : Limits) (c : List ℕ) (fault : Fault) :
 -- of a walker, by its stage
 
 module _ {V D : ℕ} (w : Walker V D) (c : List ℕ) (h : Walks w c) where
-  pub stopped_first : (fault : Fault) → w.stage ≡ stages.Stopped fault → HasFault (syntax_of w) (limits_of w) c fault
+  pub stopped_first : (fault : Fault) → w.stage ≡ stages.Stopped fault → HasFault (walker_syntax w) (limits_of w) c fault
   stopped_first fault e =
       let lim = limits_of w in
-      let s = syntax_of w in
+      let s = walker_syntax w in
       let f = top_of w.root w.levels.items in
       let fs = below_of w.root [] w.levels.items in
       let state : run lim (start s) c ≡ at f fs w.place (Stopped fault.number fault.place fault.tag) = sym h.state ∙ ap (λ z. at f fs w.place (mode_of z w.place w.header.items)) e in
@@ -44,21 +43,21 @@ module _ {V D : ℕ} (w : Walker V D) (c : List ℕ) (h : Walks w c) where
       record { before = k.before; bytes = k.u; first = first; place = k.place-is }
 
   -- a step on a walker that has stopped
-  pub stopped_answers : (piece : List ℕ) (fault : Fault) → w.stage ≡ stages.Stopped fault → Answers (syntax_of w) (limits_of w) c piece [] (Refused fault)
+  pub stopped_answers : (piece : List ℕ) (fault : Fault) → w.stage ≡ stages.Stopped fault → Answers (walker_syntax w) (limits_of w) c piece [] (Refused fault)
   stopped_answers piece fault e =
       let k = stopped_first fault e in
-      subst (λ n. Answers (syntax_of w) (limits_of w) c piece [] (Refused (record { number = fault.number; place = n; tag = fault.tag }))) (sym k.place) (stays k.first refl)
+      subst (λ n. Answers (walker_syntax w) (limits_of w) c piece [] (Refused (record { number = fault.number; place = n; tag = fault.tag }))) (sym k.place) (stays k.first refl)
 
-  pub heading_unbroken : w.stage ≡ stages.Heading → IsUnbroken (syntax_of w) (limits_of w) c
-  heading_unbroken e = goes_unbroken (syntax_of w) (limits_of w) c (λ k. subst (λ (z : Stage). HasStopped (mode_of z w.place w.header.items)) e (subst (λ (z : State). HasStopped z.mode) (sym h.state) k))
+  pub heading_unbroken : w.stage ≡ stages.Heading → IsUnbroken (walker_syntax w) (limits_of w) c
+  heading_unbroken e = goes_unbroken (walker_syntax w) (limits_of w) c (λ k. subst (λ (z : Stage). HasStopped (mode_of z w.place w.header.items)) e (subst (λ (z : State). HasStopped z.mode) (sym h.state) k))
 
-  pub value_unbroken : (tag : Tag) (left : ℕ) (kept : Bool) → w.stage ≡ stages.Value tag left kept → IsUnbroken (syntax_of w) (limits_of w) c
-  value_unbroken tag left kept e = goes_unbroken (syntax_of w) (limits_of w) c (λ k. subst (λ (z : Stage). HasStopped (mode_of z w.place w.header.items)) e (subst (λ (z : State). HasStopped z.mode) (sym h.state) k))
+  pub value_unbroken : (tag : Tag) (left : ℕ) (kept : Bool) → w.stage ≡ stages.Value tag left kept → IsUnbroken (walker_syntax w) (limits_of w) c
+  value_unbroken tag left kept e = goes_unbroken (walker_syntax w) (limits_of w) c (λ k. subst (λ (z : Stage). HasStopped (mode_of z w.place w.header.items)) e (subst (λ (z : State). HasStopped z.mode) (sym h.state) k))
 
-  pub heading_part : (taken : List ℕ) → 0 < length taken → length taken ≤ length w.header.items → w.stage ≡ stages.Heading → EndsPart (syntax_of w) c taken
+  pub heading_part : (taken : List ℕ) → 0 < length taken → length taken ≤ length w.header.items → w.stage ≡ stages.Heading → EndsPart (walker_syntax w) c taken
   heading_part taken some own e =
       let lim = limits_of w in
-      let s = syntax_of w in
+      let s = walker_syntax w in
       let f = top_of w.root w.levels.items in
       let fs = below_of w.root [] w.levels.items in
       let state : run lim (start s) c ≡ at f fs w.place (mode_of stages.Heading w.place w.header.items) = sym h.state ∙ ap (λ z. at f fs w.place (mode_of z w.place w.header.items)) e in

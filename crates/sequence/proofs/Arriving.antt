@@ -5,7 +5,7 @@ use Rattle.element.specs.declared.header.Header.{Header}
 use Rattle.element.specs.Header.{need, is_whole}
 use Rattle.sequence.specs.declared.level.Scope.{Scope}
 use Rattle.sequence.specs.declared.wanted.Want.{Want}
-use Rattle.sequence.specs.Open.{IsUnfinished, IsLeft}
+use Rattle.sequence.specs.Open.{IsUnfinishedHeader, IsLeft}
 use Rattle.sequence.specs.Wanted.{Values}
 use Rattle.sequence.specs.Rules.{Limits, Broken, broken_due, ◌or_else◌, broken}
 use Rattle.sequence.specs.machine.Machine.{State, spot_of, nearer, nearest, stops_at, arrive, due, due_by}
@@ -28,7 +28,7 @@ pub none_none : (x : Broken) → (x or_else None or_else None or_else None) ≡ 
 none_none None = refl
 none_none (Some x) = refl
 
-pub no_header : (s : Syntax) → IsUnfinished s []
+pub no_header : (s : Syntax) → IsUnfinishedHeader s []
 unfolding is_whole need
 no_header s = record { part = refl; good = λ e. absurd cc }
 

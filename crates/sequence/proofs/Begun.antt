@@ -5,7 +5,7 @@ use Rattle.element.specs.Header.{need, is_whole}
 use Rattle.sequence.specs.declared.level.Scope.{Scope}
 use Rattle.sequence.specs.declared.stage.Stage.{Stage}
 use Rattle.sequence.specs.declared.stage.Stage.TheVariants as stages
-use Rattle.sequence.specs.Open.{IsUnfinished}
+use Rattle.sequence.specs.Open.{IsUnfinishedHeader}
 use Rattle.sequence.specs.Rules.{Limits, Broken}
 use Rattle.sequence.specs.machine.Machine.{spot_of}
 use Rattle.sequence.specs.machine.Heading.{IsQuiet, is_begun}
@@ -36,11 +36,11 @@ pub begun_quiet : (lim : Limits) (f : Scope) (fs : List Scope) (p : ℕ) (t : Li
 begun_quiet lim f fs p [] e some = absurd (omega (arith, some))
 begun_quiet lim f fs p (x ∷ t) e some = let k = both _ _ e in record { fine = none_is _ k.0; part = not_true _ k.1 }
 
-nothing_unfinished : (s : Syntax) → IsUnfinished s []
+nothing_unfinished : (s : Syntax) → IsUnfinishedHeader s []
 unfolding is_whole need
 nothing_unfinished s = record { part = refl; good = λ e. absurd cc }
 
-pub begun_tail : (lim : Limits) (f : Scope) (fs : List Scope) (p : ℕ) (t : List ℕ) → is_begun lim f fs p t ≡ true → IsUnfinished f.syntax t
+pub begun_tail : (lim : Limits) (f : Scope) (fs : List Scope) (p : ℕ) (t : List ℕ) → is_begun lim f fs p t ≡ true → IsUnfinishedHeader f.syntax t
 begun_tail lim f fs p [] e = nothing_unfinished f.syntax
 begun_tail lim f fs p (x ∷ t) e = let q = begun_quiet lim f fs p (x ∷ t) e (omega arith) in on_tail lim _ (x ∷ t) q.fine q.part
 
@@ -48,4 +48,4 @@ begun_tail lim f fs p (x ∷ t) e = let q = begun_quiet lim f fs p (x ∷ t) e (
 pub none_told : (lim : Limits) (f : Scope) (fs : List Scope) (p : ℕ) (t piece : List ℕ) (stage : Stage) → is_begun lim f fs p t ≡ true → stage ≡ stages.Heading → piece ≡ [] → IsTaken f.syntax t piece p 0 stage t None
 none_told lim f fs p t piece stage b e none =
     let all : t ≡ t ++ piece = sym (ap (λ z. t ++ z) none ∙ append-nil t) in
-    subst (λ z. IsTaken f.syntax t piece p 0 z t None) (sym e) (sym (ap length none), all, subst (IsUnfinished f.syntax) all (begun_tail lim f fs p t b))
+    subst (λ z. IsTaken f.syntax t piece p 0 z t None) (sym e) (sym (ap length none), all, subst (IsUnfinishedHeader f.syntax) all (begun_tail lim f fs p t b))

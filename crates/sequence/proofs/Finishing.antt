@@ -13,11 +13,11 @@ use Rattle.sequence.specs.Open.{in_header, in_value, last_of}
 use Rattle.sequence.specs.Wanted.{Values}
 use Rattle.sequence.specs.Rules.{Limits}
 use Rattle.sequence.specs.FirstFault.{EndFault, tag_of_tail}
-use Rattle.sequence.specs.Ending.{IsWhole, Fails, breaks_rule, ends_early}
+use Rattle.sequence.specs.Ending.{IsWholeDataSet, Fails, breaks_rule, ends_early}
 use Rattle.sequence.specs.machine.Machine.{set_scope, State, at, Heading, Reading, Stopped, arrive, due, run, start}
 use Rattle.sequence.specs.machine.Scopes.{top_of, below_of}
 use Rattle.sequence.specs.machine.Keeping.{keeps}
-use Rattle.sequence.specs.machine.State.{mode_of, limits_of, syntax_of}
+use Rattle.sequence.specs.machine.State.{mode_of, limits_of, walker_syntax}
 use Rattle.sequence.specs.machine.Standing.{IsBytes, Reaches, at_root, IsHeading, IsReading, IsStopped, Stands}
 use Rattle.sequence.proofs.Runs.{HasStopped, elements_run}
 use Rattle.sequence.proofs.Depths.{never_deeper}
@@ -84,22 +84,22 @@ reading_ends s lim f fs p t n b bytes state r =
     by es (inl root) = let k : Reading t n ≡ Heading root.place [] = ap (λ (z : State). z.mode) (sym state) ∙ root.mode in absurd cc
     by es (inr k) = subst (λ (z : State). HasStopped z.mode) state k
 
-root_whole : {s : Syntax} {values : Values} {f : Scope} {b : List ℕ} (lim : Limits) → Reaches s lim.wanted values f [] b → length b ≤ lim.bytes → IsBytes b → (HasStopped (run lim (start s) b).mode → ⊥) → IsWhole s lim b
+root_whole : {s : Syntax} {values : Values} {f : Scope} {b : List ℕ} (lim : Limits) → Reaches s lim.wanted values f [] b → length b ≤ lim.bytes → IsBytes b → (HasStopped (run lim (start s) b).mode → ⊥) → IsWholeDataSet s lim b
 root_whole {s = s} {b = b} lim (at_root {es = es} set e k fits) short bytes going-on = record { elements = es; text = set; within = record { bytes = short; depth = λ p rest some path last tail same o. never_deeper s lim b bytes going-on p rest some path last tail same o; rooms = fits } }
 
 -- where no header, value or level is begun
-heading_whole : (s : Syntax) (lim : Limits) (values : Values) (f : Scope) (begin : ℕ) (b : List ℕ) → IsBytes b → (HasStopped (run lim (start s) b).mode → ⊥) → IsHeading s lim values f [] begin [] b → IsWhole s lim b
+heading_whole : (s : Syntax) (lim : Limits) (values : Values) (f : Scope) (begin : ℕ) (b : List ℕ) → IsBytes b → (HasStopped (run lim (start s) b).mode → ⊥) → IsHeading s lim values f [] begin [] b → IsWholeDataSet s lim b
 heading_whole s lim values f begin b bytes going-on h =
     let same : b ≡ h.before = h.text ∙ append-nil h.before in
-    subst (IsWhole s lim) (sym same) (root_whole lim h.due.reaches h.due.levels.short (subst IsBytes same bytes) (λ k. going-on (subst (λ z. HasStopped (run lim (start s) z).mode) (sym same) k)))
+    subst (IsWholeDataSet s lim) (sym same) (root_whole lim h.due.reaches h.due.levels.short (subst IsBytes same bytes) (λ k. going-on (subst (λ z. HasStopped (run lim (start s) z).mode) (sym same) k)))
 
 -- of a walker
 
 module _ {V D : ℕ} (w : Walker V D) (b : List ℕ) (h : Walks w b) where
-  pub stopped_fails : (fault : Fault) → w.stage ≡ stages.Stopped fault → Fails (syntax_of w) (limits_of w) b fault
+  pub stopped_fails : (fault : Fault) → w.stage ≡ stages.Stopped fault → Fails (walker_syntax w) (limits_of w) b fault
   stopped_fails fault e =
       let lim = limits_of w in
-      let s = syntax_of w in
+      let s = walker_syntax w in
       let f = top_of w.root w.levels.items in
       let fs = below_of w.root [] w.levels.items in
       let m = mode_of w.stage w.place w.header.items in
@@ -108,20 +108,20 @@ module _ {V D : ℕ} (w : Walker V D) (b : List ℕ) (h : Walks w b) where
       let first = stop_first s lim (keeps lim (start s) [] b) f fs w.place fault.number fault.place fault.tag b h.bytes state k in
       subst (λ n. Fails s lim b (record { number = fault.number; place = n; tag = fault.tag })) (sym k.place-is) (breaks_rule first)
 
-  pub reading_fails : (tag : Tag) (left : ℕ) (kept : Bool) → w.stage ≡ stages.Value tag left kept → Fails (syntax_of w) (limits_of w) b (record { number = 20; place = w.place; tag = tag })
+  pub reading_fails : (tag : Tag) (left : ℕ) (kept : Bool) → w.stage ≡ stages.Value tag left kept → Fails (walker_syntax w) (limits_of w) b (record { number = 20; place = w.place; tag = tag })
   reading_fails tag left kept e =
       let lim = limits_of w in
-      let s = syntax_of w in
+      let s = walker_syntax w in
       let f = top_of w.root w.levels.items in
       let fs = below_of w.root [] w.levels.items in
       let state : run lim (start s) b ≡ at f fs w.place (Reading tag left) = sym h.state ∙ ap (λ z. at f fs w.place (mode_of z w.place w.header.items)) e in
       let k : (w.place ≡ length b) × IsReading s lim (keeps lim (start s) [] b) f fs tag left b = subst (λ z. Stands s lim z (keeps lim (start s) [] b) b) state (stands s lim b h.bytes) in
       subst (λ n. Fails s lim b (record { number = 20; place = n; tag = tag })) (sym k.0) (ends_early (reading_ends s lim f fs w.place tag left b h.bytes state k.1))
 
-  pub heading_fails : w.stage ≡ stages.Heading → ((w.levels.items ≡ []) × (w.header.items ≡ []) → ⊥) → Fails (syntax_of w) (limits_of w) b (record { number = 20; place = w.place; tag = tag_of_tail (in_header w.header.items) })
+  pub heading_fails : w.stage ≡ stages.Heading → ((w.levels.items ≡ []) × (w.header.items ≡ []) → ⊥) → Fails (walker_syntax w) (limits_of w) b (record { number = 20; place = w.place; tag = tag_of_tail (in_header w.header.items) })
   heading_fails e open_still =
       let lim = limits_of w in
-      let s = syntax_of w in
+      let s = walker_syntax w in
       let f = top_of w.root w.levels.items in
       let fs = below_of w.root [] w.levels.items in
       let state : run lim (start s) b ≡ at f fs w.place (mode_of stages.Heading w.place w.header.items) = sym h.state ∙ ap (λ z. at f fs w.place (mode_of z w.place w.header.items)) e in
@@ -133,10 +133,10 @@ module _ {V D : ℕ} (w : Walker V D) (b : List ℕ) (h : Walks w b) where
       no_levels root [] e = refl
       no_levels root (l ∷ levels) e = absurd (let k = below_length root [] (l ∷ levels) in omega (arith, k, ap length e))
 
-  pub heading_ok : w.stage ≡ stages.Heading → w.levels.items ≡ [] → w.header.items ≡ [] → IsWhole (syntax_of w) (limits_of w) b
+  pub heading_ok : w.stage ≡ stages.Heading → w.levels.items ≡ [] → w.header.items ≡ [] → IsWholeDataSet (walker_syntax w) (limits_of w) b
   heading_ok e none nothing =
       let lim = limits_of w in
-      let s = syntax_of w in
+      let s = walker_syntax w in
       let state : run lim (start s) b ≡ at w.root [] w.place (Heading w.place []) =
       sym h.state ∙ ap (λ z. at (top_of w.root w.levels.items) (below_of w.root [] w.levels.items) w.place (mode_of z w.place w.header.items)) e
       ∙ ap (λ z. at (top_of w.root z) (below_of w.root [] z) w.place (mode_of stages.Heading w.place w.header.items)) none
@@ -147,12 +147,12 @@ module _ {V D : ℕ} (w : Walker V D) (b : List ℕ) (h : Walks w b) where
       whole_place : (n : ℕ) → n - 0 ≡ n
       whole_place n = omega arith
 
-  pub between_ok : w.stage ≡ stages.Heading → (nat_eq (length w.header.items) 0 && nat_eq (length w.levels.items) 0) ≡ true → IsWhole (syntax_of w) (limits_of w) b
+  pub between_ok : w.stage ≡ stages.Heading → (nat_eq (length w.header.items) 0 && nat_eq (length w.levels.items) 0) ≡ true → IsWholeDataSet (walker_syntax w) (limits_of w) b
   between_ok e k =
       let p = and_true (nat_eq (length w.header.items) 0) (nat_eq (length w.levels.items) 0) k in
       heading_ok e (nil_from_length w.levels.items (eqb-true _ 0 p.1)) (nil_from_length w.header.items (eqb-true _ 0 p.0))
 
-  pub between_fails : (tag : Tag) (header : List ℕ) → w.stage ≡ stages.Heading → (nat_eq (length w.header.items) 0 && nat_eq (length w.levels.items) 0) ≡ false → header ≡ w.header.items → tag ≡ tag_of_tail (in_header header) → Fails (syntax_of w) (limits_of w) b (record { number = 20; place = w.place; tag = tag })
+  pub between_fails : (tag : Tag) (header : List ℕ) → w.stage ≡ stages.Heading → (nat_eq (length w.header.items) 0 && nat_eq (length w.levels.items) 0) ≡ false → header ≡ w.header.items → tag ≡ tag_of_tail (in_header header) → Fails (walker_syntax w) (limits_of w) b (record { number = 20; place = w.place; tag = tag })
   between_fails tag header e k same tag-is =
-      subst (λ z. Fails (syntax_of w) (limits_of w) b (record { number = 20; place = w.place; tag = z })) (sym (tag-is ∙ ap (λ z. tag_of_tail (in_header z)) same))
+      subst (λ z. Fails (walker_syntax w) (limits_of w) b (record { number = 20; place = w.place; tag = z })) (sym (tag-is ∙ ap (λ z. tag_of_tail (in_header z)) same))
       (heading_fails e (λ none. let j : true ≡ false = sym (ap (λ z. nat_eq (length z) 0 && nat_eq (length w.levels.items) 0) none.1 ∙ ap (λ z. nat_eq (length z) 0) none.0) ∙ k in cc))

@@ -9,7 +9,7 @@ use Rattle.sequence.specs.declared.shape.Shape.{Shape}
 use Rattle.sequence.specs.declared.stage.Stage.{Stage}
 use Rattle.sequence.specs.declared.stage.Stage.TheVariants as stages
 use Rattle.sequence.specs.declared.heading.End.TheVariants as ends
-use Rattle.sequence.specs.Open.{IsUnfinished}
+use Rattle.sequence.specs.Open.{IsUnfinishedHeader}
 use Rattle.sequence.specs.Wanted.{Values}
 use Rattle.sequence.specs.Rules.{Limits, broken}
 use Rattle.sequence.specs.machine.Machine.{at, Heading, Stopped, ArrivesAt, spot_of, take_header, headed, run}
@@ -128,7 +128,7 @@ module _ (lim : Limits) (f : Scope) (fs : List Scope) (p : ℕ) (t piece : List 
         subst (λ z. keep_header lim f fs h values ≡ keeps lim (at f fs p (mode_of stage p t)) values (take (n - z) piece)) (sym begun-is)
         (sym (ap (λ z. keeps lim (at f fs p (mode_of z p t)) values (take (n - length t) piece)) is ∙ keeps_to values n k.0.more k.0.some k.2 ∙ kept_whole lim f fs (p - length t) (take n (t ++ piece)) values h k.1.fine k.1.whole k.1.read))
 
-    made_by : (n : ℕ) (h : Header) (sh : Shape) → IsEnd lim (spot_of f fs (p - length t)) (t ++ piece) (length t) (ends.Whole n h sh) → IsUnfinished f.syntax t → IsMade f.syntax t (take (n - length t) piece) h
+    made_by : (n : ℕ) (h : Header) (sh : Shape) → IsEnd lim (spot_of f fs (p - length t)) (t ++ piece) (length t) (ends.Whole n h sh) → IsUnfinishedHeader f.syntax t → IsMade f.syntax t (take (n - length t) piece) h
     made_by n h sh k u =
         let size = taken_size n k.0.some in
         let text = taken_text n (omega (arith, k.0.more)) in
@@ -142,9 +142,9 @@ module _ (lim : Limits) (f : Scope) (fs : List Scope) (p : ℕ) (t piece : List 
           read = ap (header_at f.syntax) text ∙ sym k.1.read;
         }
       where
-        before : (q : Bool) → nat_eq (length (take (n - length t) piece) - 1) 0 ≡ q → IsUnfinished f.syntax (t ++ take (length (take (n - length t) piece) - 1) (take (n - length t) piece))
+        before : (q : Bool) → nat_eq (length (take (n - length t) piece) - 1) 0 ≡ q → IsUnfinishedHeader f.syntax (t ++ take (length (take (n - length t) piece) - 1) (take (n - length t) piece))
         before true e =
-            subst (IsUnfinished f.syntax) (sym (ap (λ z. t ++ take z (take (n - length t) piece)) (eqb-true (length (take (n - length t) piece) - 1) 0 e) ∙ append-nil t)) u
+            subst (IsUnfinishedHeader f.syntax) (sym (ap (λ z. t ++ take z (take (n - length t) piece)) (eqb-true (length (take (n - length t) piece) - 1) 0 e) ∙ append-nil t)) u
         before false e =
             let some = false-eqb (length (take (n - length t) piece) - 1) 0 (sym e) in
             let q = taken_quiet n k.0.more k.0.some k.2 (length (take (n - length t) piece) - 1) (omega (arith, some)) (omega (arith, some)) in
@@ -155,7 +155,7 @@ module _ (lim : Limits) (f : Scope) (fs : List Scope) (p : ℕ) (t piece : List 
     told_by (stages.Value tag left kept) place header k h m arrives = m
     told_by (stages.Stopped fault) place header k h m arrives = (m, arrives)
 
-    pub whole_told : (new : Stage) (place : ℕ) (header : List ℕ) (n : ℕ) (h : Header) (sh : Shape) → IsEnd lim (spot_of f fs (p - length t)) (t ++ piece) (length t) (ends.Whole n h sh) → IsUnfinished f.syntax t → ArrivesAt (mode_of new place header) (p - begun + n) → IsTaken f.syntax t piece p (n - begun) new header (Some h)
+    pub whole_told : (new : Stage) (place : ℕ) (header : List ℕ) (n : ℕ) (h : Header) (sh : Shape) → IsEnd lim (spot_of f fs (p - length t)) (t ++ piece) (length t) (ends.Whole n h sh) → IsUnfinishedHeader f.syntax t → ArrivesAt (mode_of new place header) (p - begun + n) → IsTaken f.syntax t piece p (n - begun) new header (Some h)
     whole_told new place header n h sh k u arrives =
         let end : p - begun + n ≡ p + (n - begun) = omega (arith, begun-is, k.0.more, behind) in
         told_by new place header (n - begun) h (subst (λ z. IsMade f.syntax t (take (n - z) piece) h) (sym begun-is) (made_by n h sh k u)) (subst (ArrivesAt (mode_of new place header)) end arrives)

@@ -27,7 +27,7 @@ use Rattle.sequence.specs.Taken.{holding_by}
 use Rattle.sequence.specs.machine.Scopes.{top_of, below_of}
 use Rattle.sequence.specs.machine.Spare.{head_room}
 use Rattle.sequence.specs.machine.Holding.{IsIn}
-use Rattle.sequence.specs.machine.State.{mode_of, top, below, state_of, kept_values, limits_of, syntax_of, fault_by, fault_of, told_by, HoldsFront, StandsAt}
+use Rattle.sequence.specs.machine.State.{mode_of, top, below, state_of, kept_values, limits_of, walker_syntax, fault_by, fault_of, told_by, HoldsFront, StandsAt}
 use Rattle.sequence.specs.machine.Standing.{IsStopped, StandsIn, Stands}
 use Rattle.sequence.proofs.Runs.{HasStopped}
 use Rattle.sequence.proofs.Plug.{IsFront}
@@ -72,8 +72,8 @@ tells_refused s lim b p u rule tag told f (refused {p = p2} {u = u2} {rule = rul
 -- a walker whose fields are the machine's at the bytes b
 pub record Walks {V D : ℕ} (w : Walker V D) (b : List ℕ) : Type 0 where
   pub bytes : IsBytes b
-  pub state : state_of w ≡ run (limits_of w) (start (syntax_of w)) b
-  pub values : values_of w.kept ≡ keeps (limits_of w) (start (syntax_of w)) [] b
+  pub state : state_of w ≡ run (limits_of w) (start (walker_syntax w)) b
+  pub values : values_of w.kept ≡ keeps (limits_of w) (start (walker_syntax w)) [] b
 
 -- from the machine
 
@@ -86,14 +86,14 @@ no_header_kept [] few = refl
 no_header_kept (x ∷ header) few = absurd (omega (arith, few))
 
 module _ {V D : ℕ} (w : Walker V D) (b : List ℕ) (h : Walks w b) where
-  run_is : (stage : Stage) → w.stage ≡ stage → run (limits_of w) (start (syntax_of w)) b ≡ at (top w) (below w) w.place (mode_of stage w.place w.header.items)
+  run_is : (stage : Stage) → w.stage ≡ stage → run (limits_of w) (start (walker_syntax w)) b ≡ at (top w) (below w) w.place (mode_of stage w.place w.header.items)
   run_is stage e = sym h.state ∙ ap (λ z. at (top w) (below w) w.place (mode_of z w.place w.header.items)) e
 
-  stands_in : (stage : Stage) → w.stage ≡ stage → StandsIn (syntax_of w) (limits_of w) (keeps (limits_of w) (start (syntax_of w)) [] b) (top w) (below w) w.place (mode_of stage w.place w.header.items) b
-  stands_in stage e = subst (λ (z : State). Stands (syntax_of w) (limits_of w) z (keeps (limits_of w) (start (syntax_of w)) [] b) b) (run_is stage e) (stands (syntax_of w) (limits_of w) b h.bytes)
+  stands_in : (stage : Stage) → w.stage ≡ stage → StandsIn (walker_syntax w) (limits_of w) (keeps (limits_of w) (start (walker_syntax w)) [] b) (top w) (below w) w.place (mode_of stage w.place w.header.items) b
+  stands_in stage e = subst (λ (z : State). Stands (walker_syntax w) (limits_of w) z (keeps (limits_of w) (start (walker_syntax w)) [] b) b) (run_is stage e) (stands (walker_syntax w) (limits_of w) b h.bytes)
 
-  not_stopped : (stage : Stage) → w.stage ≡ stage → (HasStopped (mode_of stage w.place w.header.items) → ⊥) → IsUnbroken (syntax_of w) (limits_of w) b
-  not_stopped stage e on = goes_unbroken (syntax_of w) (limits_of w) b (λ k. on (subst (λ (z : State). HasStopped z.mode) (run_is stage e) k))
+  not_stopped : (stage : Stage) → w.stage ≡ stage → (HasStopped (mode_of stage w.place w.header.items) → ⊥) → IsUnbroken (walker_syntax w) (limits_of w) b
+  not_stopped stage e on = goes_unbroken (walker_syntax w) (limits_of w) b (λ k. on (subst (λ (z : State). HasStopped z.mode) (run_is stage e) k))
 
   levels_are : scopes_in (w.root ∷ []) w.levels.items ≡ top w ∷ below w
   levels_are = scopes_are w.root [] w.levels.items
@@ -101,39 +101,39 @@ module _ {V D : ℕ} (w : Walker V D) (b : List ℕ) (h : Walks w b) where
   pending_is : (stage : Stage) → w.stage ≡ stage → holding_by w ≡ record { levels = top w ∷ below w; pending = pending_by stage w.header.items; values = kept_values w }
   pending_is stage e = λ i. record { levels = levels_are i; pending = pending_by (e i) w.header.items; values = kept_values w }
 
-  holds_by : (stage : Stage) → w.stage ≡ stage → Holds (syntax_of w) (limits_of w) b (holding_by w)
+  holds_by : (stage : Stage) → w.stage ≡ stage → Holds (walker_syntax w) (limits_of w) b (holding_by w)
   holds_by stages.Heading e =
       let k = (stands_in stages.Heading e).1 in
-      let y = heading_at (syntax_of w) (limits_of w) (keeps (limits_of w) (start (syntax_of w)) [] b) (top w) (below w) _ w.header.items b k in
+      let y = heading_at (walker_syntax w) (limits_of w) (keeps (limits_of w) (start (walker_syntax w)) [] b) (top w) (below w) _ w.header.items b k in
       let levels = front_levels y.front in
       let values : kept_values w ≡ kept_of (wants_of w.kept) y.front.elements = h.values ∙ y.front.kept in
-      let same : holding_by w ≡ holding_of (syntax_of w) (wants_of w.kept) (length b) y.front.elements y.front.path y.front.last (in_header w.header.items) =
+      let same : holding_by w ≡ holding_of (walker_syntax w) (wants_of w.kept) (length b) y.front.elements y.front.path y.front.last (in_header w.header.items) =
       pending_is stages.Heading e ∙ (λ i. record { levels = levels i; pending = header_begun w.header.items; values = values i }) in
-      subst (λ z. Holds (syntax_of w) (limits_of w) b z) (sym same) (of_all (not_stopped stages.Heading e (λ z. z)) y.is_open)
+      subst (λ z. Holds (walker_syntax w) (limits_of w) b z) (sym same) (of_all (not_stopped stages.Heading e (λ z. z)) y.is_open)
   holds_by (stages.Value t n kept) e =
       let r = (stands_in (stages.Value t n kept) e).1 in
-      let y = reading_at (syntax_of w) (limits_of w) (keeps (limits_of w) (start (syntax_of w)) [] b) (top w) (below w) t n b r in
-      let levels : top w ∷ below w ≡ with_begun (in_value r.h r.v) (levels_at (length b) y.front.path (syntax_of w) y.front.last) = ap (λ z. z ∷ below w) r.top ∙ ap (with_begun (in_value r.h r.v)) (front_levels y.front) in
+      let y = reading_at (walker_syntax w) (limits_of w) (keeps (limits_of w) (start (walker_syntax w)) [] b) (top w) (below w) t n b r in
+      let levels : top w ∷ below w ≡ with_begun (in_value r.h r.v) (levels_at (length b) y.front.path (walker_syntax w) y.front.last) = ap (λ z. z ∷ below w) r.top ∙ ap (with_begun (in_value r.h r.v)) (front_levels y.front) in
       let values : kept_values w ≡ values_at (wants_of w.kept) y.front.elements y.front.path (in_value r.h r.v) =
       h.values ∙ r.kept ∙ ap (λ z. with_value (limits_of w) (below w) (number r.h.tag) r.v z) y.front.kept ∙ value_at (limits_of w) (below w) y.front.path r.h r.v y.front.elements (levels_is y.front) in
       let left : n ≡ r.h.length - length r.v = omega (arith, r.size) in
       let tag = r.tagged in
-      let same : holding_by w ≡ holding_of (syntax_of w) (wants_of w.kept) (length b) y.front.elements y.front.path y.front.last (in_value r.h r.v) =
+      let same : holding_by w ≡ holding_of (walker_syntax w) (wants_of w.kept) (length b) y.front.elements y.front.path y.front.last (in_value r.h r.v) =
       pending_is (stages.Value t n kept) e ∙ (λ i. record { levels = levels i; pending = value_due (tag i) (left i); values = values i }) in
-      subst (λ z. Holds (syntax_of w) (limits_of w) b z) (sym same) (of_all (not_stopped (stages.Value t n kept) e (λ z. z)) y.is_open)
+      subst (λ z. Holds (walker_syntax w) (limits_of w) b z) (sym same) (of_all (not_stopped (stages.Value t n kept) e (λ z. z)) y.is_open)
   holds_by (stages.Stopped fault) e =
-      let k : IsStopped (syntax_of w) (limits_of w) (keeps (limits_of w) (start (syntax_of w)) [] b) (top w) (below w) w.place fault.number fault.place fault.tag b = stands_in (stages.Stopped fault) e in
-      let first = stop_first (syntax_of w) (limits_of w) (keeps (limits_of w) (start (syntax_of w)) [] b) (top w) (below w) w.place fault.number fault.place fault.tag b h.bytes (run_is (stages.Stopped fault) e) k in
-      let x = open_due (syntax_of w) (limits_of w) (keeps (limits_of w) (start (syntax_of w)) [] b) (top w) (below w) k.before k.due in
-      let due = due_open (syntax_of w) (limits_of w) (keeps (limits_of w) (start (syntax_of w)) [] b) (top w) (below w) k.before k.due in
+      let k : IsStopped (walker_syntax w) (limits_of w) (keeps (limits_of w) (start (walker_syntax w)) [] b) (top w) (below w) w.place fault.number fault.place fault.tag b = stands_in (stages.Stopped fault) e in
+      let first = stop_first (walker_syntax w) (limits_of w) (keeps (limits_of w) (start (walker_syntax w)) [] b) (top w) (below w) w.place fault.number fault.place fault.tag b h.bytes (run_is (stages.Stopped fault) e) k in
+      let x = open_due (walker_syntax w) (limits_of w) (keeps (limits_of w) (start (walker_syntax w)) [] b) (top w) (below w) k.before k.due in
+      let due = due_open (walker_syntax w) (limits_of w) (keeps (limits_of w) (start (walker_syntax w)) [] b) (top w) (below w) k.before k.due in
       let levels = front_levels x in
       let values : kept_values w ≡ kept_of (wants_of w.kept) x.elements = h.values ∙ x.kept in
       let none : w.header.items ≡ [] = no_header_kept w.header.items (subst (λ z. length w.header.items ≤ head_room z) e w.few) in
-      let same : holding_by w ≡ holding_of (syntax_of w) (wants_of w.kept) (length k.before) x.elements x.path x.last (in_header []) =
+      let same : holding_by w ≡ holding_of (walker_syntax w) (wants_of w.kept) (length k.before) x.elements x.path x.last (in_header []) =
       pending_is (stages.Stopped fault) e ∙ (λ i. record { levels = levels i; pending = header_begun (none i); values = values i }) in
-      subst (λ z. Holds (syntax_of w) (limits_of w) b z) (sym same) (before_fault first due)
+      subst (λ z. Holds (walker_syntax w) (limits_of w) b z) (sym same) (before_fault first due)
 
-  pub walker_holds : Holds (syntax_of w) (limits_of w) b (holding_by w)
+  pub walker_holds : Holds (walker_syntax w) (limits_of w) b (holding_by w)
   walker_holds = holds_by w.stage refl
 
 -- what is held of a front
@@ -161,7 +161,7 @@ in_tail (stages.Value tag left kept) header (in_value h v) none e short =
     (tags, omega (arith, lefts, short))
 in_tail (stages.Stopped fault) header tail none e short = absurd cc
 
-front_by : {V D : ℕ} (w : Walker V D) (n : ℕ) (es : Elements) (path : List PathEntry) (last : ℕ) (tail : Tail) → holding_by w ≡ holding_of (syntax_of w) (wants_of w.kept) n es path last tail → HoldsFront w n es path last tail
+front_by : {V D : ℕ} (w : Walker V D) (n : ℕ) (es : Elements) (path : List PathEntry) (last : ℕ) (tail : Tail) → holding_by w ≡ holding_of (walker_syntax w) (wants_of w.kept) n es path last tail → HoldsFront w n es path last tail
 front_by w n es path last tail e = record { levels = sym (scopes_are w.root [] w.levels.items) ∙ ap (λ (z : Holding). z.levels) e; values = ap (λ (z : Holding). z.values) e }
 
 tells_unbroken : (s : Syntax) (lim : Limits) (b : List ℕ) (told : Told) → told.fault ≡ None → Tells s lim b told → IsUnbroken s lim b
@@ -170,16 +170,16 @@ tells_unbroken s lim b told e (refused f o) = absurd cc
 
 -- of a walker that refused nothing, and of one that refused
 
-pub stands_going : {V D : ℕ} (w : Walker V D) (b : List ℕ) → StandsAt w b → (es : Elements) (path : List PathEntry) (last : ℕ) (tail : Tail) → fault_of w ≡ None → Open (syntax_of w) b es path last tail → HoldsFront w (length b) es path last tail × IsIn w.stage w.header.items tail
+pub stands_going : {V D : ℕ} (w : Walker V D) (b : List ℕ) → StandsAt w b → (es : Elements) (path : List PathEntry) (last : ℕ) (tail : Tail) → fault_of w ≡ None → Open (walker_syntax w) b es path last tail → HoldsFront w (length b) es path last tail × IsIn w.stage w.header.items tail
 stands_going w b h es path last tail none o =
-    let e = one_holding (syntax_of w) (limits_of w) b (holding_by w) (holding_of (syntax_of w) (wants_of w.kept) (length b) es path last tail) h.holds (of_all (tells_unbroken (syntax_of w) (limits_of w) b (told_by w) none h.tells) o) in
+    let e = one_holding (walker_syntax w) (limits_of w) b (holding_by w) (holding_of (walker_syntax w) (wants_of w.kept) (length b) es path last tail) h.holds (of_all (tells_unbroken (walker_syntax w) (limits_of w) b (told_by w) none h.tells) o) in
     (front_by w (length b) es path last tail e, in_tail w.stage w.header.items tail none (ap (λ (z : Holding). z.pending) e) (nested_short o.nested))
 
-stands_refused : {V D : ℕ} (w : Walker V D) (b : List ℕ) → StandsAt w b → (p u : List ℕ) (rule : ℕ) (tag : Tag) (es : Elements) (path : List PathEntry) (last : ℕ) → FirstFault (syntax_of w) (limits_of w) b p u rule tag → Open (syntax_of w) p es path last (in_header [])
+stands_refused : {V D : ℕ} (w : Walker V D) (b : List ℕ) → StandsAt w b → (p u : List ℕ) (rule : ℕ) (tag : Tag) (es : Elements) (path : List PathEntry) (last : ℕ) → FirstFault (walker_syntax w) (limits_of w) b p u rule tag → Open (walker_syntax w) p es path last (in_header [])
     → HoldsFront w (length p) es path last (in_header [])
 stands_refused w b h p u rule tag es path last f o =
     front_by w (length p) es path last (in_header [])
-    (one_holding (syntax_of w) (limits_of w) b (holding_by w) (holding_of (syntax_of w) (wants_of w.kept) (length p) es path last (in_header [])) h.holds (before_fault f o))
+    (one_holding (walker_syntax w) (limits_of w) b (holding_by w) (holding_of (walker_syntax w) (wants_of w.kept) (length p) es path last (in_header [])) h.holds (before_fault f o))
 
 -- back to the machine
 
@@ -216,11 +216,11 @@ record IsState {V D : ℕ} (w : Walker V D) (st : State) (values : Values) : Typ
   kept : kept_values w ≡ values
 
 module _ {V D : ℕ} (w : Walker V D) (b : List ℕ) (h : StandsAt w b) where
-  state_by : (f : Scope) (fs : List Scope) (p : ℕ) (m : Mode) → run (limits_of w) (start (syntax_of w)) b ≡ at f fs p m → StandsIn (syntax_of w) (limits_of w) (keeps (limits_of w) (start (syntax_of w)) [] b) f fs p m b → IsState w (at f fs p m) (keeps (limits_of w) (start (syntax_of w)) [] b)
+  state_by : (f : Scope) (fs : List Scope) (p : ℕ) (m : Mode) → run (limits_of w) (start (walker_syntax w)) b ≡ at f fs p m → StandsIn (walker_syntax w) (limits_of w) (keeps (limits_of w) (start (walker_syntax w)) [] b) f fs p m b → IsState w (at f fs p m) (keeps (limits_of w) (start (walker_syntax w)) [] b)
   state_by f fs p (Heading begin t) e k =
-      let ok = goes_unbroken (syntax_of w) (limits_of w) b (λ z. subst (λ (st : State). HasStopped st.mode) e z) in
-      let told = tells_going (syntax_of w) (limits_of w) b (told_by w) ok h.tells in
-      let y = heading_at (syntax_of w) (limits_of w) (keeps (limits_of w) (start (syntax_of w)) [] b) f fs begin t b k.1 in
+      let ok = goes_unbroken (walker_syntax w) (limits_of w) b (λ z. subst (λ (st : State). HasStopped st.mode) e z) in
+      let told = tells_going (walker_syntax w) (limits_of w) b (told_by w) ok h.tells in
+      let y = heading_at (walker_syntax w) (limits_of w) (keeps (limits_of w) (start (walker_syntax w)) [] b) f fs begin t b k.1 in
       let g = stands_going w b h y.front.elements y.front.path y.front.last (in_header t) told.fault y.is_open in
       let levels = same_levels (top w) f (below w) fs (g.0.levels ∙ sym (front_levels y.front)) in
       let mode = mode_heading w.stage w.place w.header.items k.1.before t b g.1 told.place k.1.text ∙ ap (λ z. Heading z t) (sym k.1.place) in
@@ -228,9 +228,9 @@ module _ {V D : ℕ} (w : Walker V D) (b : List ℕ) (h : StandsAt w b) where
       record { state = λ i. at (levels.first i) (levels.rest i) (place i) (mode i); kept = g.0.values ∙ sym y.front.kept }
   state_by f fs p (Reading t n) e k =
       let r = k.1 in
-      let ok = goes_unbroken (syntax_of w) (limits_of w) b (λ z. subst (λ (st : State). HasStopped st.mode) e z) in
-      let told = tells_going (syntax_of w) (limits_of w) b (told_by w) ok h.tells in
-      let y = reading_at (syntax_of w) (limits_of w) (keeps (limits_of w) (start (syntax_of w)) [] b) f fs t n b k.1 in
+      let ok = goes_unbroken (walker_syntax w) (limits_of w) b (λ z. subst (λ (st : State). HasStopped st.mode) e z) in
+      let told = tells_going (walker_syntax w) (limits_of w) b (told_by w) ok h.tells in
+      let y = reading_at (walker_syntax w) (limits_of w) (keeps (limits_of w) (start (walker_syntax w)) [] b) f fs t n b k.1 in
       let g = stands_going w b h y.front.elements y.front.path y.front.last (in_value r.h r.v) told.fault y.is_open in
       let levels = same_levels (top w) f (below w) fs (g.0.levels ∙ ap (with_begun (in_value r.h r.v)) (sym (front_levels y.front)) ∙ ap (λ z. z ∷ fs) (sym r.top)) in
       let mode = mode_reading w.stage w.place w.header.items r.v r.h t n g.1 r.tagged r.size in
@@ -240,11 +240,11 @@ module _ {V D : ℕ} (w : Walker V D) (b : List ℕ) (h : StandsAt w b) where
         kept = g.0.values ∙ sym (r.kept ∙ ap (λ z. with_value (limits_of w) fs (number r.h.tag) r.v z) y.front.kept ∙ value_at (limits_of w) fs y.front.path r.h r.v y.front.elements (levels_is y.front));
       }
   state_by f fs p (Stopped rule place t) e k =
-      let values = keeps (limits_of w) (start (syntax_of w)) [] b in
-      let first = stop_first (syntax_of w) (limits_of w) (keeps (limits_of w) (start (syntax_of w)) [] b) f fs p rule place t b h.bytes e k in
-      let told = tells_refused (syntax_of w) (limits_of w) b k.before k.u rule t (told_by w) first h.tells in
-      let x = open_due (syntax_of w) (limits_of w) (keeps (limits_of w) (start (syntax_of w)) [] b) f fs k.before k.due in
-      let due = due_open (syntax_of w) (limits_of w) (keeps (limits_of w) (start (syntax_of w)) [] b) f fs k.before k.due in
+      let values = keeps (limits_of w) (start (walker_syntax w)) [] b in
+      let first = stop_first (walker_syntax w) (limits_of w) (keeps (limits_of w) (start (walker_syntax w)) [] b) f fs p rule place t b h.bytes e k in
+      let told = tells_refused (walker_syntax w) (limits_of w) b k.before k.u rule t (told_by w) first h.tells in
+      let x = open_due (walker_syntax w) (limits_of w) (keeps (limits_of w) (start (walker_syntax w)) [] b) f fs k.before k.due in
+      let due = due_open (walker_syntax w) (limits_of w) (keeps (limits_of w) (start (walker_syntax w)) [] b) f fs k.before k.due in
       let g = stands_refused w b h k.before k.u rule t x.elements x.path x.last first due in
       let levels = same_levels (top w) f (below w) fs (g.levels ∙ sym (front_levels x)) in
       let mode = mode_stopped w.stage w.place w.header.items (record { number = rule; place = length k.before; tag = t }) told.fault ∙ ap (λ z. Stopped rule z t) (sym k.place-is) in
@@ -253,6 +253,6 @@ module _ {V D : ℕ} (w : Walker V D) (b : List ℕ) (h : StandsAt w b) where
 
   pub walks : Walks w b
   walks =
-      let st = run (limits_of w) (start (syntax_of w)) b in
-      let k = state_by st.top st.below st.place st.mode refl (stands (syntax_of w) (limits_of w) b h.bytes) in
+      let st = run (limits_of w) (start (walker_syntax w)) b in
+      let k = state_by st.top st.below st.place st.mode refl (stands (walker_syntax w) (limits_of w) b h.bytes) in
       record { bytes = h.bytes; state = k.state; values = k.kept }

@@ -2,11 +2,11 @@
 use Rattle.std.proofs.Common.{◌≡◌, ℕ, List, [], ◌∷◌, ◌++◌, length, refl, sym, subst, append_assoc, append-nil}
 use Rattle.element.specs.declared.syntax.Syntax.{Syntax}
 use Rattle.element.specs.declared.header.Header.{Header}
-use Rattle.element.specs.Header.{number}
+use Rattle.element.specs.Header.{number, item_end_tag, sequence_end_tag}
 use Rattle.sequence.specs.Shape.{shape}
 use Rattle.sequence.specs.declared.shape.Shape.{Shape}
 use Rattle.sequence.specs.declared.shape.Shape.TheVariants.{Sequence}
-use Rattle.sequence.specs.Tree.{item_end_tag, sequence_end_tag, delimitation, Elements, no_elements, value, sequence, Items, no_items, item, Ended, counted, delimited, IsElement, IsItem, DataSet, nothing, value_then, sequence_then, ItemList, no_more, item_then}
+use Rattle.sequence.specs.Tree.{delimitation, Elements, no_elements, value, sequence, Items, no_items, item, Ended, counted, delimited, IsElement, IsItem, DataSet, nothing, value_then, sequence_then, ItemList, no_more, item_then}
 use Rattle.sequence.specs.Open.{last_of, PathEntry, Tail, in_header, item_entry, text_of, entry_of, IsTail, header_tail, value_tail, Nested, at_elements, in_sequence_of, in_item_of, Open}
 use Rattle.sequence.proofs.Arriving.{no_header}
 use Rattle.sequence.proofs.Readings.{End, in_tail, at_mark, Reads, ends, marked, element, Behind, value_ends, value_on, open_sequence, counted_sequence, delimited_sequence, ReadsItems, items_end, items_marked, one_item, open_item, counted_item, delimited_item, reads_once}

@@ -10,7 +10,7 @@ use Rattle.element.specs.Header.{need, is_marker, header_at, SpellsHeader, plain
 use Rattle.element.specs.Needs.{NeedIs, few, plain_eight, no_vr, refused, short_eight, long_twelve}
 use Rattle.element.proofs.Public.{need_is, need_on, bad_on, exact_spells, more_short, size_eight}
 use Rattle.sequence.specs.Tree.{delimitation}
-use Rattle.sequence.specs.Open.{IsUnfinished}
+use Rattle.sequence.specs.Open.{IsUnfinishedHeader}
 use Rattle.sequence.specs.machine.Standing.{IsBytes}
 
 asked_by : (s : Syntax) (t : List ℕ) (x k : ℕ) (n : Need) → need s t ≡ n → has_size n (length t) ≡ false → n ≢ BadVr → need s (t ++ x ∷ []) ≡ Size k → k ≤ length (t ++ x ∷ []) → 8 ≤ k → length (t ++ x ∷ []) ≡ k
@@ -23,7 +23,7 @@ asked_by s t x k (Size j) e part good g at_most eight =
     omega (arith, lt, at_most, same, length-append t (x ∷ []))
 
 -- what has just become whole spells the header that is read
-pub whole_spells : (s : Syntax) (t : List ℕ) (x : ℕ) → IsUnfinished s t → IsBytes (t ++ x ∷ []) → is_whole s (t ++ x ∷ []) ≡ true → SpellsHeader s (header_at s (t ++ x ∷ [])) (t ++ x ∷ [])
+pub whole_spells : (s : Syntax) (t : List ℕ) (x : ℕ) → IsUnfinishedHeader s t → IsBytes (t ++ x ∷ []) → is_whole s (t ++ x ∷ []) ≡ true → SpellsHeader s (header_at s (t ++ x ∷ [])) (t ++ x ∷ [])
 unfolding is_whole
 whole_spells s t x tail bytes w = by (need s (t ++ x ∷ [])) refl w
   where
@@ -43,7 +43,7 @@ short_by More (no_vr ge p lt) part good = omega arith
 short_by BadVr (refused ge p c) part good = absurd (good refl)
 
 -- what is not whole has fewer than twelve bytes
-pub part_short : (s : Syntax) (b : List ℕ) → IsUnfinished s b → length b < 12
+pub part_short : (s : Syntax) (b : List ℕ) → IsUnfinishedHeader s b → length b < 12
 unfolding is_whole
 part_short s b tail = short_by (need s b) (need_is s b) tail.part tail.good
 
@@ -64,6 +64,6 @@ front_by s w v (Size k) e part good =
     (grind (arith, nat_tests, lt, length-append w v), λ same. absurd cc)
 
 -- the beginning of what is not whole is not whole
-pub unfinished_front : (s : Syntax) (w v : List ℕ) → IsUnfinished s (w ++ v) → IsUnfinished s w
+pub unfinished_front : (s : Syntax) (w v : List ℕ) → IsUnfinishedHeader s (w ++ v) → IsUnfinishedHeader s w
 unfolding is_whole
 unfinished_front s w v tail = let f = front_by s w v (need s w) refl tail.part tail.good in record { part = f.0; good = f.1 }

@@ -3,7 +3,7 @@ use Rattle.std.proofs.Common.{◌≡◌, ℕ, ◌+◌, ◌-◌, ◌<◌, ◌≤�
 use Rattle.std.proofs.lemmas.Bool.Decides.{nat_tests}
 use Rattle.element.specs.declared.tag.Tag.{Tag}
 use Rattle.element.specs.declared.header.Header.{Header}
-use Rattle.element.specs.Header.{number, is_marker}
+use Rattle.element.specs.Header.{number, is_marker, item_tag}
 use Rattle.sequence.specs.declared.level.Scope.{Scope}
 use Rattle.sequence.specs.declared.level.Level.{Level}
 use Rattle.sequence.specs.declared.stage.Stage.{Stage}
@@ -11,7 +11,6 @@ use Rattle.sequence.specs.declared.stage.Stage.TheVariants as stages
 use Rattle.sequence.specs.declared.shape.Shape.{Shape}
 use Rattle.sequence.specs.declared.shape.Shape.TheVariants.{Value, Sequence, NotAllowed}
 use Rattle.sequence.specs.Shape.{shape}
-use Rattle.sequence.specs.Tree.{item_tag}
 use Rattle.sequence.specs.Wanted.{Values}
 use Rattle.sequence.specs.Rules.{Limits, Broken, broken_due, same_tag}
 use Rattle.sequence.specs.machine.Machine.{State, at, arrive, due, due_by, spot_of, stops_at, stop_of, set_scope, sequence_scope, begin_value, begin_level, leave, begun, take_element, take_header, ArrivesAt, Reading, read, run}

@@ -15,7 +15,7 @@ use Rattle.sequence.specs.declared.heading.End.{End}
 use Rattle.sequence.specs.declared.heading.End.TheVariants as ends
 use Rattle.sequence.specs.declared.reading.Front.{Front}
 use Rattle.sequence.specs.machine.Heading.{is_part, is_end, IsQuiet, IsRefused, IsRead, IsCount, IsExamined, IsEnd, IsFront, broken_whole}
-use Rattle.sequence.specs.Open.{IsUnfinished}
+use Rattle.sequence.specs.Open.{IsUnfinishedHeader}
 use Rattle.sequence.proofs.Unbroken.{BreaksNone, none_first, when_none, unbroken_is, on_tail}
 use Rattle.sequence.proofs.Parts.{part_short}
 
@@ -59,7 +59,7 @@ steady lim spot u v ok part more four six =
     tag le (inl ge) = ap (broken_tag spot) (tag_on u v ge) ∙ (unbroken_is lim spot u ok).tag_ok ge
     tag le (inr lt) = absurd (omega (arith, le, lt))
 
-    vr : 6 ≤ length (u ++ v) → is_plain spot.syntax (tag_at (u ++ v)) ≡ false → IsSide 6 (length u) (length (u ++ v)) → BreaksNone lim spot u → IsUnfinished spot.syntax u → broken_need spot (need spot.syntax (u ++ v)) (tag_at (u ++ v)) ≡ None
+    vr : 6 ≤ length (u ++ v) → is_plain spot.syntax (tag_at (u ++ v)) ≡ false → IsSide 6 (length u) (length (u ++ v)) → BreaksNone lim spot u → IsUnfinishedHeader spot.syntax u → broken_need spot (need spot.syntax (u ++ v)) (tag_at (u ++ v)) ≡ None
     vr le p (inl ge) k tail =
         let same = need_stays spot.syntax u v (need spot.syntax u) refl ge tail.good in
         ap (λ z. broken_need spot z (tag_at (u ++ v))) same ∙ ap (broken_need spot (need spot.syntax u)) (tag_on u v (omega (arith, ge))) ∙ k.vr_ok ge (ap (is_plain spot.syntax) (sym (tag_on u v (omega (arith, ge)))) ∙ p)

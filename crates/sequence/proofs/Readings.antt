@@ -5,13 +5,13 @@ use Rattle.element.specs.declared.syntax.Syntax.{Syntax}
 use Rattle.element.specs.declared.tag.Tag.{Tag}
 use Rattle.element.specs.declared.header.Header.{Header}
 use Rattle.element.specs.declared.size.Need.TheVariants.{Size}
-use Rattle.element.specs.Header.{number, is_marker, is_whole, has_size, SpellsHeader, plain}
+use Rattle.element.specs.Header.{number, is_marker, is_whole, has_size, SpellsHeader, plain, item_end_tag, sequence_end_tag}
 use Rattle.element.proofs.Public.{spelled_need, one_spelling}
 use Rattle.sequence.specs.Shape.{undefined_length, shape}
 use Rattle.sequence.specs.declared.shape.Shape.{Shape}
 use Rattle.sequence.specs.declared.shape.Shape.TheVariants.{Value, Sequence}
-use Rattle.sequence.specs.Tree.{item_end_tag, sequence_end_tag, delimitation, Elements, no_elements, value, sequence, Items, no_items, item, IsElement, IsItem}
-use Rattle.sequence.specs.Open.{PathEntry, Tail, in_header, in_value, left_of, sequence_entry, item_entry, IsUnfinished, IsOpenLevel, IsInnermost}
+use Rattle.sequence.specs.Tree.{delimitation, Elements, no_elements, value, sequence, Items, no_items, item, IsElement, IsItem}
+use Rattle.sequence.specs.Open.{PathEntry, Tail, in_header, in_value, left_of, sequence_entry, item_entry, IsUnfinishedHeader, IsOpenLevel, IsInnermost}
 use Rattle.sequence.proofs.Runs.{sequence_end_mark, item_end_mark, IsMark}
 
 -- where a reading ends: in a tail, or at a delimitation, after which this text stands
@@ -22,7 +22,7 @@ pub data End : Type 0 where
 mutual
   -- x is elements above the tag `last`, and what is open after them
   pub data Reads : Syntax → ℕ → List ℕ → Elements → List PathEntry → ℕ → End → Type 0 where
-    ends : {s : Syntax} {last : ℕ} {t : List ℕ} → IsUnfinished s t → Reads s last t no_elements [] last (in_tail (in_header t))
+    ends : {s : Syntax} {last : ℕ} {t : List ℕ} → IsUnfinishedHeader s t → Reads s last t no_elements [] last (in_tail (in_header t))
     marked : {s : Syntax} {last : ℕ} {b : List ℕ} → Reads s last (delimitation item_end_tag ++ b) no_elements [] last (at_mark b)
     element : {s : Syntax} {last : ℕ} {h : Header} {hb x : List ℕ} {es : Elements} {path : List PathEntry} {l : ℕ} {e : End}
         → IsElement s last h hb → Behind (shape s h) s last h x es path l e → Reads s last (hb ++ x) es path l e
@@ -44,7 +44,7 @@ mutual
 
   -- the same of items
   pub data ReadsItems : Syntax → List ℕ → Items → List PathEntry → End → Type 0 where
-    items_end : {s : Syntax} {t : List ℕ} → IsUnfinished s t → ReadsItems s t no_items [] (in_tail (in_header t))
+    items_end : {s : Syntax} {t : List ℕ} → IsUnfinishedHeader s t → ReadsItems s t no_items [] (in_tail (in_header t))
     items_marked : {s : Syntax} {b : List ℕ} → ReadsItems s (delimitation sequence_end_tag ++ b) no_items [] (at_mark b)
     one_item : {s : Syntax} {h : Header} {hb x : List ℕ} {is : Items} {path : List PathEntry} {e : End}
         → IsItem s h hb → InItem s h x is path e → ReadsItems s (hb ++ x) is path e
@@ -80,7 +80,7 @@ whole_front s h hb x t e same = rw (spelled_need s h hb x t e same) (long (omega
     long : length hb ≤ length t → has_size (Size (length hb)) (length t) ≡ true
     long le = le-leb (length hb) (length t) le
 
-unfinished_not : {s : Syntax} {h : Header} {hb t : List ℕ} {A : Type 0} (x : List ℕ) → IsUnfinished s t → SpellsHeader s h hb → t ≡ hb ++ x → A
+unfinished_not : {s : Syntax} {h : Header} {hb t : List ℕ} {A : Type 0} (x : List ℕ) → IsUnfinishedHeader s t → SpellsHeader s h hb → t ≡ hb ++ x → A
 unfinished_not {s} {h} {hb} {t} x u e same = absurd (let k : true ≡ false = sym (whole_front s h hb x t e same) ∙ u.part in cc)
 
 -- the header of an element is that of no delimitation, and the header of an item neither

@@ -7,7 +7,7 @@ use Rattle.sequence.specs.Rules.{Limits}
 use Rattle.sequence.specs.Laws.{RefusedStands}
 use Rattle.sequence.specs.Walk.{Told, Tells, going, refused}
 use Rattle.sequence.specs.Holding.{Holding, Holds, of_all, before_fault}
-use Rattle.sequence.specs.Taken.{syntax_of, limits_of, told_by, holding_by}
+use Rattle.sequence.specs.Taken.{walker_syntax, limits_of, told_by, holding_by}
 use Rattle.sequence.proofs.Staying.{fault_stays, refusal_stays}
 use Rattle.sequence.proofs.Stepping.{both_bytes}
 
@@ -23,6 +23,6 @@ refused_stands V D w b more fault e bytes k =
     let all : IsBytes (b ++ more) = both_bytes b more k.bytes bytes in
     record {
       bytes = all;
-      tells = refusal_stays (syntax_of w) (limits_of w) b more (told_by w) fault all e k.tells;
-      holds = holds_stay (syntax_of w) (limits_of w) b more (told_by w) fault (holding_by w) all e k.tells k.holds;
+      tells = refusal_stays (walker_syntax w) (limits_of w) b more (told_by w) fault all e k.tells;
+      holds = holds_stay (walker_syntax w) (limits_of w) b more (told_by w) fault (holding_by w) all e k.tells k.holds;
     }

@@ -7,10 +7,10 @@ use Rattle.element.specs.declared.tag.Tag.{Tag}
 use Rattle.element.specs.declared.header.Header.{Header}
 use Rattle.sequence.specs.declared.level.Scope.{Scope}
 use Rattle.sequence.specs.Rules.{Limits}
-use Rattle.element.specs.Header.{number, is_marker, is_plain, header_at, IsTag, SpellsHeader, plain}
+use Rattle.element.specs.Header.{number, is_marker, is_plain, header_at, IsTag, SpellsHeader, plain, item_tag, item_end_tag, sequence_end_tag}
 use Rattle.sequence.specs.Shape.{is_undefined, undefined_length, shape}
 use Rattle.sequence.specs.declared.shape.Shape.TheVariants.{Value, Sequence}
-use Rattle.sequence.specs.Tree.{item_tag, item_end_tag, sequence_end_tag, delimitation, Elements, Items, IsElement, IsItem, IsValue, Ended, counted, delimited, DataSet, nothing, value_then, sequence_then, ItemList, no_more, item_then}
+use Rattle.sequence.specs.Tree.{delimitation, Elements, Items, IsElement, IsItem, IsValue, Ended, counted, delimited, DataSet, nothing, value_then, sequence_then, ItemList, no_more, item_then}
 use Rattle.sequence.specs.Open.{last_of}
 use Rattle.sequence.specs.Rules.{Broken, broken_due, broken}
 use Rattle.element.specs.Header.{is_whole}

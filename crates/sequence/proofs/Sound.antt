@@ -4,9 +4,8 @@ use Rattle.element.specs.declared.tag.Tag.{Tag}
 use Rattle.element.specs.declared.header.Header.{Header}
 use Rattle.sequence.specs.declared.spot.Spot.{Spot}
 use Rattle.sequence.specs.Rules.{Limits}
-use Rattle.element.specs.Header.{number, is_marker}
+use Rattle.element.specs.Header.{number, is_marker, item_tag, item_end_tag, sequence_end_tag}
 use Rattle.sequence.specs.Shape.{is_undefined, undefined_length, shape}
-use Rattle.sequence.specs.Tree.{item_tag, item_end_tag, sequence_end_tag}
 use Rattle.sequence.specs.Rules.{broken_tag, broken_header, same_tag, is_not_allowed, is_long_mark, is_too_long, opens, counted_length, passes}
 use Rattle.sequence.specs.machine.Standing.{IsLength}
 

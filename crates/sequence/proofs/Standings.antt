@@ -7,7 +7,7 @@ use Rattle.sequence.specs.declared.level.Level.{Level}
 use Rattle.sequence.specs.declared.stage.Stage.{Stage}
 use Rattle.sequence.specs.declared.stage.Stage.TheVariants as stages
 use Rattle.sequence.specs.declared.walker.Walker.{Walker}
-use Rattle.sequence.specs.Wanted.{Values, bytes_of}
+use Rattle.sequence.specs.Wanted.{Values, size_of_values}
 use Rattle.sequence.specs.Rules.{Limits}
 use Rattle.sequence.specs.Walk.{Told, Tells}
 use Rattle.sequence.specs.machine.Machine.{set_scope, State, at, Heading, next, run, start}
@@ -16,7 +16,7 @@ use Rattle.sequence.specs.machine.Keeping.{keep, keeps, wanted_at}
 use Rattle.sequence.specs.Fields.{but_last, told_values, is_kept}
 use Rattle.sequence.specs.Stored.{values_of}
 use Rattle.sequence.specs.machine.Spare.{head_room, is_wanted_in}
-use Rattle.sequence.specs.machine.State.{mode_of, state_of, IsSameWalk, limits_of, syntax_of, fault_by, StandsAt}
+use Rattle.sequence.specs.machine.State.{mode_of, state_of, IsSameWalk, limits_of, walker_syntax, fault_by, StandsAt}
 use Rattle.sequence.specs.machine.Standing.{IsBytes}
 use Rattle.sequence.proofs.Tops.{below_length}
 use Rattle.sequence.proofs.Walks.{wanted_is}
@@ -29,7 +29,7 @@ told_of stage levels place header values = record {
   fault = fault_by stage;
   levels = length levels;
   place = place;
-  held = length header + bytes_of values + 16 * length levels;
+  held = length header + size_of_values values + 16 * length levels;
   kept = told_values (is_kept stage) values;
 }
 
@@ -37,24 +37,24 @@ told_is : (lim : Limits) (root : Scope) (levels : List Level) (stage : Stage) (p
     → told_of stage levels place header values ≡ told_in lim (at (top_of root levels) (below_of root [] levels) place (mode_of stage place header)) values
 told_is lim root levels stages.Heading place header values few flag =
     let same : length levels ≡ length (below_of root [] levels) = omega (arith, below_length root [] levels) in
-    λ i. record { fault = None; levels = same i; place = place; held = length header + bytes_of values + 16 * same i; kept = values }
+    λ i. record { fault = None; levels = same i; place = place; held = length header + size_of_values values + 16 * same i; kept = values }
 told_is lim root levels (stages.Value tag left kept) place header values few flag =
     let same : length levels ≡ length (below_of root [] levels) = omega (arith, below_length root [] levels) in
     let none : length header ≡ 0 = omega (arith, few) in
     let wanted : kept ≡ wanted_at lim (below_of root [] levels) (number tag) = flag ∙ wanted_is lim root levels (number tag) in
-    λ i. record { fault = None; levels = same i; place = place; held = none i + bytes_of values + 16 * same i; kept = if wanted i then but_last values else values }
+    λ i. record { fault = None; levels = same i; place = place; held = none i + size_of_values values + 16 * same i; kept = if wanted i then but_last values else values }
 told_is lim root levels (stages.Stopped fault) place header values few flag =
     let same : length levels ≡ length (below_of root [] levels) = omega (arith, below_length root [] levels) in
     let none : length header ≡ 0 = omega (arith, few) in
-    λ i. record { fault = Some fault; levels = same i; place = place; held = none i + bytes_of values + 16 * same i; kept = values }
+    λ i. record { fault = Some fault; levels = same i; place = place; held = none i + size_of_values values + 16 * same i; kept = values }
 
-pub walker_stands : {V D : ℕ} (w : Walker V D) (b : List ℕ) → IsBytes b → state_of w ≡ run (limits_of w) (start (syntax_of w)) b → values_of w.kept ≡ keeps (limits_of w) (start (syntax_of w)) [] b → StandsAt w b
+pub walker_stands : {V D : ℕ} (w : Walker V D) (b : List ℕ) → IsBytes b → state_of w ≡ run (limits_of w) (start (walker_syntax w)) b → values_of w.kept ≡ keeps (limits_of w) (start (walker_syntax w)) [] b → StandsAt w b
 walker_stands w b bytes state values =
-    let told = subst (Tells (syntax_of w) (limits_of w) b)
+    let told = subst (Tells (walker_syntax w) (limits_of w) b)
     (sym (told_is (limits_of w) w.root w.levels.items w.stage w.place w.header.items (values_of w.kept) w.few w.flag
     ∙ ap (λ z. told_in (limits_of w) z (values_of w.kept)) state
-    ∙ ap (λ z. told_in (limits_of w) (run (limits_of w) (start (syntax_of w)) b) z) values))
-    (tells (syntax_of w) (limits_of w) b bytes) in
+    ∙ ap (λ z. told_in (limits_of w) (run (limits_of w) (start (walker_syntax w)) b) z) values))
+    (tells (walker_syntax w) (limits_of w) b bytes) in
     record { bytes = bytes; tells = told; holds = walker_holds w b (record { bytes = bytes; state = state; values = values }) }
 
 pub no_bytes : IsBytes []
@@ -71,7 +71,7 @@ same_limits {D = D} old new same = λ i. record { wanted = same.wanted i; depth 
 pub none_stands : {V D : ℕ} (w : Walker V D) (b : List ℕ) → StandsAt w b → StandsAt w (b ++ [])
 none_stands w b h = subst (StandsAt w) (sym (append-nil b)) h
 
-pub new_stands : {V D : ℕ} (w : Walker V D) → state_of w ≡ start (syntax_of w) → values_of w.kept ≡ [] → StandsAt w []
+pub new_stands : {V D : ℕ} (w : Walker V D) → state_of w ≡ start (walker_syntax w) → values_of w.kept ≡ [] → StandsAt w []
 unfolding run keeps
 new_stands w state values = walker_stands w [] no_bytes state values
 

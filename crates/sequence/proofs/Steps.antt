@@ -7,7 +7,7 @@ use Rattle.element.proofs.Public.{tag_read, spelled_long}
 use Rattle.sequence.specs.declared.level.Scope.{Scope}
 use Rattle.sequence.specs.declared.spot.Spot.{Spot}
 use Rattle.sequence.specs.Tree.{no_elements, value, IsValue, DataSet, nothing, value_then}
-use Rattle.sequence.specs.Open.{IsUnfinished}
+use Rattle.sequence.specs.Open.{IsUnfinishedHeader}
 use Rattle.sequence.specs.Wanted.{Values}
 use Rattle.sequence.specs.Rules.{Limits, Broken, broken_tag, broken}
 use Rattle.sequence.specs.machine.Machine.{set_scope, Mode, Heading, Reading, Stopped, State, at, spot_of, arrive, take_header, headed_by, headed, read, next, next_by}
@@ -32,8 +32,8 @@ more_unbroken : (lim : Limits) (spot : Spot) (t : List ℕ) (x : ℕ) → Unbrok
 more_unbroken lim spot t x ok last u [] e = rw (sym (append-nil u) ∙ sym e) last
 more_unbroken lim spot t x ok last u (y ∷ z) e = let f = front_of t u x y z e in ok u f.0 f.1
 
-front_unfinished : (s : Syntax) (t w v : List ℕ) → t ≡ w ++ v → IsUnfinished s t → IsUnfinished s w
-front_unfinished s t w v e tail = unfinished_front s w v (subst (IsUnfinished s) e tail)
+front_unfinished : (s : Syntax) (t w v : List ℕ) → t ≡ w ++ v → IsUnfinishedHeader s t → IsUnfinishedHeader s w
+front_unfinished s t w v e tail = unfinished_front s w v (subst (IsUnfinishedHeader s) e tail)
 
 pub more_bytes : (t : List ℕ) (x : ℕ) → IsBytes t → x < 256 → IsBytes (t ++ x ∷ [])
 more_bytes [] x h lt zero = lt

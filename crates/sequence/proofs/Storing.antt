@@ -3,7 +3,7 @@ use Rattle.std.proofs.Common.{◌≡◌, ℕ, zero, suc, ◌+◌, ◌-◌, ◌<�
 use Rattle.std.proofs.lemmas.List.{take-append-le, drop-append-le, length-drop, length-take-le, take_all}
 use Rattle.sequence.specs.declared.wanted.Want.{Want}
 use Rattle.element.specs.Header.{number}
-use Rattle.sequence.specs.Wanted.{Values, value_of, bytes_of, rooms, room_of, are_rising}
+use Rattle.sequence.specs.Wanted.{Values, value_of, size_of_values, rooms, room_of, are_rising}
 use Rattle.sequence.specs.machine.Keeping.{with_byte, counts, are_stored, all_absent, is_latest, left_at, place_from}
 use Rattle.sequence.specs.Fields.{absent, is_absent, stored, but_last, told_values}
 
@@ -276,11 +276,11 @@ begun_at i ws ns bytes t last e r s lt long =
 
 -- the values that are reported
 
-bytes_by : (a : Bool) (n : ℕ) (one : ℕ × List ℕ) (v1 v2 : Values) (c k : ℕ) → (a ≡ true → bytes_of v1 ≡ c) → (a ≡ false → length one.1 + bytes_of v2 ≡ n + c) → bytes_of (if a then v1 else one ∷ v2) ≡ (if a then c else (n + c))
+bytes_by : (a : Bool) (n : ℕ) (one : ℕ × List ℕ) (v1 v2 : Values) (c k : ℕ) → (a ≡ true → size_of_values v1 ≡ c) → (a ≡ false → length one.1 + size_of_values v2 ≡ n + c) → size_of_values (if a then v1 else one ∷ v2) ≡ (if a then c else (n + c))
 bytes_by true n one v1 v2 c k e f = e refl
 bytes_by false n one v1 v2 c k e f = f refl
 
-pub stored_bytes : (ws : List Want) (ns bytes : List ℕ) → counts ws ns ≤ length bytes → bytes_of (stored ws ns bytes) ≡ counts ws ns
+pub stored_bytes : (ws : List Want) (ns bytes : List ℕ) → counts ws ns ≤ length bytes → size_of_values (stored ws ns bytes) ≡ counts ws ns
 stored_bytes [] ns bytes c = refl
 stored_bytes (w ∷ ws) [] bytes c = refl
 stored_bytes (w ∷ ws) (n ∷ ns) bytes c =

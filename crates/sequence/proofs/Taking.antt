@@ -4,14 +4,14 @@ use Rattle.element.specs.declared.syntax.Syntax.{Syntax}
 use Rattle.element.specs.declared.syntax.Syntax.TheVariants.{Implicit, Explicit}
 use Rattle.element.specs.declared.tag.Tag.{Tag}
 use Rattle.element.specs.declared.header.Header.{Header}
-use Rattle.element.specs.Header.{number, is_marker, SpellsHeader}
+use Rattle.element.specs.Header.{number, is_marker, SpellsHeader, item_tag, item_end_tag, sequence_end_tag}
 use Rattle.dictionary.specs.Tags.{vr_of}
 use Rattle.sequence.specs.declared.level.Scope.{Scope}
 use Rattle.sequence.specs.declared.wanted.Want.{Want}
 use Rattle.sequence.specs.declared.shape.Shape.{Shape}
 use Rattle.sequence.specs.declared.shape.Shape.TheVariants.{Value, Sequence, NotAllowed}
 use Rattle.sequence.specs.Shape.{is_undefined, undefined_length, shape, shape_by, implicit_shape, is_vr}
-use Rattle.sequence.specs.Tree.{item_tag, item_end_tag, sequence_end_tag, delimitation, no_elements, value, sequence, no_items, item, IsEven, IsElement, IsItem, IsValue, counted, DataSet, nothing, value_then, sequence_then, ItemList, no_more, item_then}
+use Rattle.sequence.specs.Tree.{delimitation, no_elements, value, sequence, no_items, item, IsEven, IsElement, IsItem, IsValue, counted, DataSet, nothing, value_then, sequence_then, ItemList, no_more, item_then}
 use Rattle.sequence.specs.Wanted.{Values, room_of}
 use Rattle.sequence.specs.Rules.{Limits, broken_tag, same_tag, is_not_allowed, is_value, is_sequence, passes}
 use Rattle.sequence.specs.machine.Machine.{set_scope, sequence_scope, Reading, at, spot_of, is_none, is_empty, stop_of, arrive, begin_value, begin_level, leave, take_header}

@@ -9,7 +9,7 @@ use Rattle.sequence.specs.declared.spot.Spot.{Spot}
 use Rattle.sequence.specs.declared.wanted.Want.{Want}
 use Rattle.sequence.specs.Tree.{Elements, nothing}
 use Rattle.sequence.specs.Open.{PathEntry, Tail, in_header, in_value, Open}
-use Rattle.sequence.specs.Wanted.{Values, is_wanted, kept_of, bytes_of, begun_bytes, held_of}
+use Rattle.sequence.specs.Wanted.{Values, is_wanted, kept_of, size_of_values, begun_bytes, held_of}
 use Rattle.sequence.specs.Rules.{Limits, broken}
 use Rattle.sequence.specs.FirstFault.{IsNoLater, spot_behind, Breaks, IsUnbroken, FirstFault}
 use Rattle.sequence.specs.Walk.{Tells, going, refused}
@@ -171,20 +171,20 @@ heading_front s lim values f fs begin t b h =
 heading_tells : (s : Syntax) (lim : Limits) (values : Values) (f : Scope) (fs : List Scope) (p begin : ℕ) (t b : List ℕ) → IsUnbroken s lim b → (p ≡ length b) × IsHeading s lim values f fs begin t b → Tells s lim b (told_in lim (at f fs p (Heading begin t)) values)
 heading_tells s lim values f fs p begin t b ok both =
     let x = heading_front s lim values f fs begin t b both.1 in
-    let held : held_of lim.wanted x.elements x.path (in_header t) ≡ length t + bytes_of values + 16 * length fs = omega (arith, no_value lim.wanted x.path t, x.levels, ap bytes_of x.kept) in
+    let held : held_of lim.wanted x.elements x.path (in_header t) ≡ length t + size_of_values values + 16 * length fs = omega (arith, no_value lim.wanted x.path t, x.levels, ap size_of_values x.kept) in
     subst (Tells s lim b) (λ i. record { fault = None; levels = x.levels i; place = sym both.0 i; held = held i; kept = sym x.kept i }) (going ok x.front)
 
-value_held : (lim : Limits) (fs : List Scope) (path : List PathEntry) (h : Header) (v : List ℕ) (whole : Values) → length path ≡ length fs → bytes_of (with_value lim fs (number h.tag) v whole) ≡ bytes_of whole + begun_bytes lim.wanted path (in_value h v)
+value_held : (lim : Limits) (fs : List Scope) (path : List PathEntry) (h : Header) (v : List ℕ) (whole : Values) → length path ≡ length fs → size_of_values (with_value lim fs (number h.tag) v whole) ≡ size_of_values whole + begun_bytes lim.wanted path (in_value h v)
 value_held lim [] (e ∷ path) h v whole same = absurd (omega arith)
 value_held lim (f ∷ fs) [] h v whole same = absurd (omega arith)
 value_held lim (f ∷ fs) (e ∷ path) h v whole same = omega arith
 value_held lim [] [] h v whole same = by (is_wanted lim.wanted (number h.tag))
   where
-    sum : (values : Values) (one : ℕ × List ℕ) → bytes_of (values ++ one ∷ []) ≡ bytes_of values + length one.1
+    sum : (values : Values) (one : ℕ × List ℕ) → size_of_values (values ++ one ∷ []) ≡ size_of_values values + length one.1
     sum [] one = omega arith
     sum (a ∷ values) one = let k = sum values one in omega (arith, k)
 
-    by : (w : Bool) → bytes_of (if w then whole ++ (number h.tag, v) ∷ [] else whole) ≡ bytes_of whole + (if w then length v else 0)
+    by : (w : Bool) → size_of_values (if w then whole ++ (number h.tag, v) ∷ [] else whole) ≡ size_of_values whole + (if w then length v else 0)
     by true = sum whole (number h.tag, v)
     by false = omega arith
 
@@ -218,8 +218,8 @@ reading_tells : (s : Syntax) (lim : Limits) (values : Values) (f : Scope) (fs : 
 reading_tells s lim values f fs p t n b ok both =
     let r = both.1 in
     let x = reading_front s lim values f fs t n b r in
-    let values-held : bytes_of values ≡ bytes_of r.whole + begun_bytes lim.wanted x.path (in_value r.h r.v) = ap bytes_of r.kept ∙ value_held lim fs x.path r.h r.v r.whole x.levels in
-    let held : held_of lim.wanted x.elements x.path (in_value r.h r.v) ≡ 0 + bytes_of values + 16 * length fs = omega (arith, values-held, x.levels, ap bytes_of x.kept) in
+    let values-held : size_of_values values ≡ size_of_values r.whole + begun_bytes lim.wanted x.path (in_value r.h r.v) = ap size_of_values r.kept ∙ value_held lim fs x.path r.h r.v r.whole x.levels in
+    let held : held_of lim.wanted x.elements x.path (in_value r.h r.v) ≡ 0 + size_of_values values + 16 * length fs = omega (arith, values-held, x.levels, ap size_of_values x.kept) in
     let whole : (if wanted_at lim fs (number t) then but_last values else values) ≡ r.whole =
     ap (λ z. if wanted_at lim fs (number z) then but_last values else values) r.tagged ∙ ap (λ z. if wanted_at lim fs (number r.h.tag) then but_last z else z) r.kept ∙ value_whole lim fs (number r.h.tag) r.v r.whole in
     subst (Tells s lim b) (λ i. record { fault = None; levels = x.levels i; place = sym both.0 i; held = held i; kept = sym (whole ∙ x.kept) i }) (going ok x.front)
@@ -229,7 +229,7 @@ stopped_tells s lim values f fs p rule place t b bytes state h =
     let x = open_due s lim values f fs h.before h.due in
     let o = due_open s lim values f fs h.before h.due in
     let levels = levels_is x in
-    let held : held_of lim.wanted x.elements x.path (in_header []) ≡ 0 + bytes_of values + 16 * length fs = omega (arith, no_value lim.wanted x.path [], levels, ap bytes_of x.kept) in
+    let held : held_of lim.wanted x.elements x.path (in_header []) ≡ 0 + size_of_values values + 16 * length fs = omega (arith, no_value lim.wanted x.path [], levels, ap size_of_values x.kept) in
     subst (Tells s lim b) (λ i. record { fault = Some (record { number = rule; place = sym h.place-is i; tag = t }); levels = levels i; place = sym h.came i; held = held i; kept = sym x.kept i })
     (refused (stop_first s lim values f fs p rule place t b bytes state h) o)
 

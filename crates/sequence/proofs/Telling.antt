@@ -14,7 +14,7 @@ use Rattle.sequence.specs.declared.wanted.Want.{Want}
 use Rattle.sequence.specs.declared.shape.Shape.TheVariants.{Value}
 use Rattle.sequence.specs.Shape.{shape}
 use Rattle.sequence.specs.Tree.{IsElement}
-use Rattle.sequence.specs.Open.{PathEntry, Tail, in_header, in_value, header_tail, value_tail, IsUnfinished, IsLeft, AreLeft, IsInnermost, Nested, at_elements, in_sequence_of, Open, sequence_entry}
+use Rattle.sequence.specs.Open.{PathEntry, Tail, in_header, in_value, header_tail, value_tail, IsUnfinishedHeader, IsLeft, AreLeft, IsInnermost, Nested, at_elements, in_sequence_of, Open, sequence_entry}
 use Rattle.sequence.specs.Wanted.{Values}
 use Rattle.sequence.specs.Rules.{Limits, broken, passes, broken_need}
 use Rattle.sequence.specs.machine.Machine.{set_scope, stops_at, less}
@@ -66,7 +66,7 @@ open_of {s = s} {n = n} {f = f} {fs = fs} x nested stays = record {
 
 -- where a header is due or begun
 
-front_sequence : {s : Syntax} {ws : List Want} {values : Values} {f : Scope} {fs : List Scope} {before : List ℕ} (t : List ℕ) (n : ℕ) → Reaches s ws values f fs before → f.in_sequence ≡ true → IsUnfinished f.syntax t → AllLastTo (f ∷ fs) n → n ≡ length (before ++ t) → IsFront s ws values n (before ++ t) (in_header t) f fs
+front_sequence : {s : Syntax} {ws : List Want} {values : Values} {f : Scope} {fs : List Scope} {before : List ℕ} (t : List ℕ) (n : ℕ) → Reaches s ws values f fs before → f.in_sequence ≡ true → IsUnfinishedHeader f.syntax t → AllLastTo (f ∷ fs) n → n ≡ length (before ++ t) → IsFront s ws values n (before ++ t) (in_header t) f fs
 front_sequence t n (at_root d e k fits) here tail hold n-is = absurd cc
 front_sequence t n (into_item r it len some set stop-is last-is b-is) here tail hold n-is = absurd cc
 front_sequence {s = s} {ws = ws} {values = values} t n (into_sequence {s1 = s1} {stop = stop} {out = out} {last = last} {fs = fs} {q = q} {h = h} {hb = hb} {inner = inner} {is = is} {ib = ib} {b = b} {k = k} r el sh len some items stop-is k-is b-is) here tail hold n-is =
@@ -88,11 +88,11 @@ front_sequence {s = s} {ws = ws} {values = values} t n (into_sequence {s1 = s1} 
       fits = front.fits;
     }
 
-front_elements : {s : Syntax} {ws : List Want} {values : Values} {s1 : Syntax} {stop : Option ℕ} {last : ℕ} {fs : List Scope} {before : List ℕ} (t : List ℕ) (n : ℕ) → Reaches s ws values (set_scope s1 stop last) fs before → IsUnfinished s1 t → LastsTo stop n → AllLastTo fs n → n ≡ length (before ++ t) → IsFront s ws values n (before ++ t) (in_header t) (set_scope s1 stop last) fs
+front_elements : {s : Syntax} {ws : List Want} {values : Values} {s1 : Syntax} {stop : Option ℕ} {last : ℕ} {fs : List Scope} {before : List ℕ} (t : List ℕ) (n : ℕ) → Reaches s ws values (set_scope s1 stop last) fs before → IsUnfinishedHeader s1 t → LastsTo stop n → AllLastTo fs n → n ≡ length (before ++ t) → IsFront s ws values n (before ++ t) (in_header t) (set_scope s1 stop last) fs
 front_elements {s1 = s1} {last = last} t n r tail hold all n-is =
     plug t (in_header t) [] last n r n-is hold all (λ es eb set e. subst (λ z. Nested s1 (eb ++ t) es [] z (in_header t)) (sym e) (at_elements set (header_tail tail)))
 
-pub front_heading : (s : Syntax) (ws : List Want) (values : Values) (f : Scope) (fs : List Scope) (before t : List ℕ) (n : ℕ) → Reaches s ws values f fs before → IsUnfinished f.syntax t → AllLastTo (f ∷ fs) n → n ≡ length (before ++ t) → IsFront s ws values n (before ++ t) (in_header t) f fs
+pub front_heading : (s : Syntax) (ws : List Want) (values : Values) (f : Scope) (fs : List Scope) (before t : List ℕ) (n : ℕ) → Reaches s ws values f fs before → IsUnfinishedHeader f.syntax t → AllLastTo (f ∷ fs) n → n ≡ length (before ++ t) → IsFront s ws values n (before ++ t) (in_header t) f fs
 front_heading s ws values f fs before t n r tail hold n-is = by f.in_sequence refl
   where
     by : (q : Bool) → f.in_sequence ≡ q → IsFront s ws values n (before ++ t) (in_header t) f fs
@@ -126,7 +126,7 @@ inside_by lim spot t (long_twelve ge p c h) e part good ok =
     let n : broken_need spot (Size 12) (tag_at t) ≡ None = ap (λ z. broken_need spot z (tag_at t)) (sym e) ∙ ok.vr_ok ge p in
     passes_less spot.near (length t + 1) 12 (if_some (passes spot.near 12) _ n).0 (omega (arith, lt))
 
-pub inside : (lim : Limits) (spot : Spot) (t : List ℕ) → IsUnfinished spot.syntax t → broken lim spot t ≡ None → passes spot.near (length t + 1) ≡ false
+pub inside : (lim : Limits) (spot : Spot) (t : List ℕ) → IsUnfinishedHeader spot.syntax t → broken lim spot t ≡ None → passes spot.near (length t + 1) ≡ false
 unfolding is_whole
 inside lim spot t tail ok = inside_by lim spot t (need_is spot.syntax t) refl tail.part tail.good (unbroken_is lim spot t ok)
 

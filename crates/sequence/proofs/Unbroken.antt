@@ -4,7 +4,7 @@ use Rattle.element.specs.declared.size.Need.TheVariants.{BadVr}
 use Rattle.element.specs.Header.{is_plain, tag_at, need, header_at, is_whole}
 use Rattle.element.proofs.Public.{refused_long}
 use Rattle.sequence.specs.declared.spot.Spot.{Spot}
-use Rattle.sequence.specs.Open.{IsUnfinished}
+use Rattle.sequence.specs.Open.{IsUnfinishedHeader}
 use Rattle.sequence.specs.Rules.{Limits, Broken, broken_due, broken_tag, broken_need, broken_header, broken, ◌or_else◌, when}
 use Rattle.sequence.proofs.Sound.{and_not}
 
@@ -45,5 +45,5 @@ good_vr lim spot t ok bad =
     let j : ◌≡◌ {A = Broken} (Some (10, tag_at t)) None = ap (λ z. broken_need spot z (tag_at t)) (sym bad) ∙ k in
     cc
 
-pub on_tail : (lim : Limits) (spot : Spot) (t : List ℕ) → broken lim spot t ≡ None → is_whole spot.syntax t ≡ false → IsUnfinished spot.syntax t
+pub on_tail : (lim : Limits) (spot : Spot) (t : List ℕ) → broken lim spot t ≡ None → is_whole spot.syntax t ≡ false → IsUnfinishedHeader spot.syntax t
 on_tail lim spot t ok part = record { part = part; good = good_vr lim spot t ok }

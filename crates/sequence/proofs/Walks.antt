@@ -2,7 +2,7 @@
 use Rattle.std.proofs.Common.{◌≡◌, ℕ, ◌+◌, ◌-◌, ◌<◌, ◌≤◌, Bool, true, false, not, ◌&&◌, List, [], ◌∷◌, ◌++◌, length, Some, None, refl, sym, ap, ◌∙◌, inl, inr, ◌⊎◌, arith, nat_lt, nat_eq, eq-eqb, ltb-false, if◌then◌else◌}
 use Rattle.element.specs.declared.syntax.Syntax.{Syntax}
 use Rattle.element.specs.declared.header.Header.{Header}
-use Rattle.element.specs.Header.{number, is_marker, header_at, is_whole}
+use Rattle.element.specs.Header.{number, is_marker, header_at, is_whole, item_tag, sequence_end_tag}
 use Rattle.element.proofs.Public.{tag_read, whole_eight}
 use Rattle.sequence.specs.declared.level.Scope.{Scope}
 use Rattle.sequence.specs.declared.level.Level.{Level}
@@ -12,7 +12,6 @@ use Rattle.sequence.specs.declared.stage.Stage.{Stage}
 use Rattle.sequence.specs.declared.shape.Shape.{Shape}
 use Rattle.sequence.specs.declared.shape.Shape.TheVariants.{Value, Sequence, NotAllowed}
 use Rattle.sequence.specs.Shape.{shape}
-use Rattle.sequence.specs.Tree.{item_tag, sequence_end_tag}
 use Rattle.sequence.specs.Wanted.{Values}
 use Rattle.sequence.specs.Rules.{Limits, Broken, broken_due, broken_tag, broken, same_tag, counted_length, is_value, passes}
 use Rattle.sequence.specs.machine.Machine.{at, arrive, due, due_by, spot_of, Heading, stop_of, set_scope, sequence_scope, begin_level, begin_value, leave, begun, take_element, take_header}

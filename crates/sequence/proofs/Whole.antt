@@ -4,16 +4,16 @@ use Rattle.std.proofs.lemmas.Bool.Decides.{nat_tests}
 use Rattle.element.specs.declared.syntax.Syntax.{Syntax}
 use Rattle.element.specs.declared.tag.Tag.{Tag}
 use Rattle.element.specs.declared.header.Header.{Header}
-use Rattle.element.specs.Header.{number, is_marker, plain}
+use Rattle.element.specs.Header.{number, is_marker, plain, item_tag, item_end_tag, sequence_end_tag}
 use Rattle.sequence.specs.declared.level.Scope.{Scope}
 use Rattle.sequence.specs.declared.wanted.Want.{Want}
 use Rattle.sequence.specs.declared.shape.Shape.TheVariants.{Value, Sequence}
 use Rattle.sequence.specs.Shape.{is_undefined, undefined_length, shape}
-use Rattle.sequence.specs.Tree.{item_tag, item_end_tag, sequence_end_tag, delimitation, Elements, no_elements, value, sequence, Items, no_items, item, IsElement, IsItem, IsValue, Ended, counted, delimited, DataSet, nothing, value_then, sequence_then, ItemList, no_more, item_then}
+use Rattle.sequence.specs.Tree.{delimitation, Elements, no_elements, value, sequence, Items, no_items, item, IsElement, IsItem, IsValue, Ended, counted, delimited, DataSet, nothing, value_then, sequence_then, ItemList, no_more, item_then}
 use Rattle.sequence.specs.Open.{last_of}
 use Rattle.sequence.specs.Wanted.{room_of}
 use Rattle.sequence.specs.Rules.{Limits, broken_tag, same_tag, passes, is_value, is_sequence, is_not_allowed, is_long_mark, is_too_long, counted_length}
-use Rattle.sequence.specs.Ending.{IsWhole, breaks_rule, ends_early, WholeBreaksNoRule, WholeHasNoFault}
+use Rattle.sequence.specs.Ending.{IsWholeDataSet, breaks_rule, ends_early, WholeBreaksNoRule, WholeHasNoFault}
 use Rattle.sequence.specs.machine.Machine.{set_scope, sequence_scope, spot_of, stop_of, State, at, Heading, start, due, arrive, begin_level, run}
 use Rattle.sequence.specs.machine.Standing.{at_root, into_sequence, into_item, LastsTo, AllLastTo}
 use Rattle.sequence.proofs.Runs.{HasStopped, run_append, arrive_stopped, value_on, IsMark, sequence_end_mark, item_end_mark, taken_value, taken_sequence, taken_item}
@@ -235,7 +235,7 @@ module _ (s : Syntax) (lim : Limits) (whole : List ℕ) (short : length whole �
 
 -- the law
 
-start_goes : (s : Syntax) (lim : Limits) (b : List ℕ) (w : IsWhole s lim b) → run lim (start s) b ≡ at (set_scope s None (last_of 0 w.elements)) [] (length b) (Heading (length b) [])
+start_goes : (s : Syntax) (lim : Limits) (b : List ℕ) (w : IsWholeDataSet s lim b) → run lim (start s) b ≡ at (set_scope s None (last_of 0 w.elements)) [] (length b) (Heading (length b) [])
 unfolding arrive due
 start_goes s lim b w =
     elements_go s lim b w.within.bytes w.within.depth w.text None [] [] 0 (length b)

@@ -9,7 +9,7 @@ use Rattle.sequence.specs.declared.step.Step.TheVariants.{More, Element, Run, Op
 use Rattle.sequence.specs.Tree.{Elements}
 use Rattle.sequence.specs.Open.{PathEntry, in_header, in_value, Open}
 use Rattle.sequence.specs.Rules.{Limits, same_tag}
-use Rattle.sequence.specs.Tree.{item_tag}
+use Rattle.element.specs.Header.{item_tag}
 use Rattle.sequence.specs.FirstFault.{spot_behind, IsUnbroken, FirstFault}
 
 -- c ends with a whole header h, of an element, an item or a delimitation

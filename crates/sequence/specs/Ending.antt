@@ -10,7 +10,7 @@ use Rattle.sequence.specs.Rules.{Limits, truncated}
 use Rattle.sequence.specs.FirstFault.{IsUnbroken, FirstFault, EndFault}
 
 -- b is a whole data set within the limits
-pub record IsWhole (s : Syntax) (lim : Limits) (b : List ℕ) : Type 0 where
+pub record IsWholeDataSet (s : Syntax) (lim : Limits) (b : List ℕ) : Type 0 where
   pub elements : Elements
   pub text : DataSet s 0 elements b
   pub within : Within s lim elements b
@@ -22,12 +22,12 @@ pub data Fails (s : Syntax) (lim : Limits) (b : List ℕ) : Fault → Type 0 whe
 
 -- a whole data set within the limits breaks no rule
 abbrev pub WholeBreaksNoRule : Type 0
-WholeBreaksNoRule = (s : Syntax) (lim : Limits) (b : List ℕ) → IsWhole s lim b → IsUnbroken s lim b
+WholeBreaksNoRule = (s : Syntax) (lim : Limits) (b : List ℕ) → IsWholeDataSet s lim b → IsUnbroken s lim b
 
 -- so nothing is wrong with it
 abbrev pub WholeHasNoFault : Type 0
-WholeHasNoFault = (s : Syntax) (lim : Limits) (b : List ℕ) (fault : Fault) → IsWhole s lim b → Fails s lim b fault → ⊥
+WholeHasNoFault = (s : Syntax) (lim : Limits) (b : List ℕ) (fault : Fault) → IsWholeDataSet s lim b → Fails s lim b fault → ⊥
 
 -- a fault comes only where no text that goes on from b is a whole data set within its limits
 abbrev pub FaultIsFinal : Type 0
-FaultIsFinal = (s : Syntax) (lim : Limits) (b more p u : List ℕ) (rule : ℕ) (tag : Tag) → IsBytes (b ++ more) → FirstFault s lim b p u rule tag → IsWhole s lim (b ++ more) → ⊥
+FaultIsFinal = (s : Syntax) (lim : Limits) (b more p u : List ℕ) (rule : ℕ) (tag : Tag) → IsBytes (b ++ more) → FirstFault s lim b p u rule tag → IsWholeDataSet s lim (b ++ more) → ⊥

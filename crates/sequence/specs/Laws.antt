@@ -8,7 +8,7 @@ use Rattle.element.specs.Header.{need}
 use Rattle.element.specs.Numbers.{IsBytes}
 use Rattle.sequence.specs.declared.fault.Fault.{Fault}
 use Rattle.sequence.specs.Tree.{Elements, DataSet}
-use Rattle.sequence.specs.Open.{PathEntry, Tail, IsUnfinished, Open}
+use Rattle.sequence.specs.Open.{PathEntry, Tail, IsUnfinishedHeader, Open}
 use Rattle.sequence.specs.Rules.{Limits}
 use Rattle.sequence.specs.FirstFault.{IsUnbroken, FirstFault}
 use Rattle.sequence.specs.declared.walker.Walker.{Walker}
@@ -92,7 +92,7 @@ NothingIsUnbroken = (s : Syntax) (lim : Limits) → IsUnbroken s lim []
 
 -- where no byte of a header came, it is unfinished
 abbrev pub NoHeader : Type 0
-NoHeader = (s : Syntax) → IsUnfinished s []
+NoHeader = (s : Syntax) → IsUnfinishedHeader s []
 
 -- a header takes at least eight bytes
 abbrev pub LeastHeader : Type 0

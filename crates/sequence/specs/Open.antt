@@ -42,13 +42,13 @@ pub data Tail : Type 0 where
   in_value : Header → List ℕ → Tail
 
 -- t is nothing, or the beginning of a header
-pub record IsUnfinished (s : Syntax) (t : List ℕ) : Type 0 where
+pub record IsUnfinishedHeader (s : Syntax) (t : List ℕ) : Type 0 where
   pub part : is_whole s t ≡ false
   pub good : need s t ≢ BadVr
 
 -- t is this tail, where an element above the tag `last` is due
 pub data IsTail (s : Syntax) (last : ℕ) : Tail → List ℕ → Type 0 where
-  header_tail : {t : List ℕ} → IsUnfinished s t → IsTail s last (in_header t) t
+  header_tail : {t : List ℕ} → IsUnfinishedHeader s t → IsTail s last (in_header t) t
   value_tail : {h : Header} {hb : List ℕ} (v : List ℕ) → IsElement s last h hb → shape s h ≡ Value → length v < h.length → IsTail s last (in_value h v) (hb ++ v)
 
 -- after the header of a level that is open, so many bytes came: its length is not 0, and they are not more
@@ -92,7 +92,7 @@ pub data Nested : Syntax → List ℕ → Elements → List PathEntry → ℕ �
       → Nested s (b ++ t) es [] (last_of 0 es) tail
   -- after the whole items of a sequence stands the beginning of a header, or nothing
   in_sequence_of : {s : Syntax} (q : OpenSequence s) {t : List ℕ}
-      → IsOpenLevel q.header.length (length (came_of q t)) → IsUnfinished q.inner t
+      → IsOpenLevel q.header.length (length (came_of q t)) → IsUnfinishedHeader q.inner t
       → Nested s (text_of q t) q.elements (entry_of q t ∷ []) (number q.header.tag) (in_header t)
   -- or the header k of an item, and after it a front b2 of a data set
   in_item_of : {s : Syntax} (q : OpenSequence s) {k : Header} {kb b2 : List ℕ} {es : Elements} {path : List PathEntry} {last : ℕ} {tail : Tail}

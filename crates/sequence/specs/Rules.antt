@@ -5,13 +5,12 @@ use Rattle.element.specs.declared.tag.Tag.{Tag}
 use Rattle.element.specs.declared.header.Header.{Header}
 use Rattle.element.specs.declared.size.Need.{Need}
 use Rattle.element.specs.declared.size.Need.TheVariants.{More, Size, BadVr}
-use Rattle.element.specs.Header.{number, is_marker, is_plain, tag_at, need, is_whole, header_at}
+use Rattle.element.specs.Header.{number, is_marker, is_plain, tag_at, need, is_whole, header_at, item_tag, item_end_tag, sequence_end_tag}
 use Rattle.sequence.specs.declared.wanted.Want.{Want}
 use Rattle.sequence.specs.declared.spot.Spot.{Spot}
 use Rattle.sequence.specs.declared.shape.Shape.{Shape}
 use Rattle.sequence.specs.declared.shape.Shape.TheVariants.{Value, Sequence, NotAllowed}
 use Rattle.sequence.specs.Shape.{is_undefined, shape}
-use Rattle.sequence.specs.Tree.{item_tag, item_end_tag, sequence_end_tag}
 use Rattle.sequence.specs.Wanted.{room_of}
 
 -- what a data set is held to: the wanted tags with their rooms, so many open levels, and so many bytes

@@ -4,7 +4,7 @@ use Rattle.element.specs.Numbers.{IsBytes}
 use Rattle.element.specs.declared.syntax.Syntax.{Syntax}
 use Rattle.sequence.specs.declared.fault.Fault.{Fault}
 use Rattle.sequence.specs.declared.walker.Walker.{Walker}
-use Rattle.sequence.specs.Wanted.{bytes_of}
+use Rattle.sequence.specs.Wanted.{size_of_values}
 use Rattle.sequence.specs.Rules.{Limits}
 use Rattle.sequence.specs.Walk.{Told, Tells}
 use Rattle.sequence.specs.Holding.{Holding, Holds}
@@ -16,8 +16,8 @@ abbrev pub limits_of : {V D : ℕ} → Walker V D → Limits
 limits_of {D = D} w = record { wanted = wants_of w.kept; depth = D; bytes = w.limit }
 
 -- the syntax of its data set
-abbrev pub syntax_of : {V D : ℕ} → Walker V D → Syntax
-syntax_of w = w.root.syntax
+abbrev pub walker_syntax : {V D : ℕ} → Walker V D → Syntax
+walker_syntax w = w.root.syntax
 
 -- its refusal, if there is one
 abbrev pub fault_of : {V D : ℕ} → Walker V D → Option Fault
@@ -29,7 +29,7 @@ told_by w = record {
   fault = fault_by w.stage;
   levels = length w.levels.items;
   place = w.place;
-  held = length w.header.items + bytes_of (values_of w.kept) + 16 * length w.levels.items;
+  held = length w.header.items + size_of_values (values_of w.kept) + 16 * length w.levels.items;
   kept = told_values (is_kept w.stage) (values_of w.kept);
 }
 
@@ -45,6 +45,6 @@ holding_by w = record {
 pub record StandsAt {V D : ℕ} (w : Walker V D) (b : List ℕ) : Type 0 where
   pub bytes : IsBytes b
   -- it reports what there is to report after b: of b itself, and after a refusal of the part before the faulty header
-  pub tells : Tells (syntax_of w) (limits_of w) b (told_by w)
+  pub tells : Tells (walker_syntax w) (limits_of w) b (told_by w)
   -- it holds, of the same text, the open levels with their ends and last tags, what is unfinished, and the wanted values
-  pub holds : Holds (syntax_of w) (limits_of w) b (holding_by w)
+  pub holds : Holds (walker_syntax w) (limits_of w) b (holding_by w)

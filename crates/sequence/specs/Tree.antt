@@ -4,7 +4,7 @@ use Rattle.element.specs.declared.syntax.Syntax.{Syntax}
 use Rattle.element.specs.declared.tag.Tag.{Tag}
 use Rattle.element.specs.declared.header.Header.{Header}
 use Rattle.element.specs.Numbers.{le}
-use Rattle.element.specs.Header.{number, is_marker, tag_bytes, SpellsHeader}
+use Rattle.element.specs.Header.{number, is_marker, tag_bytes, SpellsHeader, item_tag, item_end_tag, sequence_end_tag}
 use Rattle.sequence.specs.Shape.{undefined_length, shape}
 use Rattle.sequence.specs.declared.shape.Shape.TheVariants.{Value, Sequence}
 
@@ -18,15 +18,6 @@ mutual
   pub data Items : Type 0 where
     no_items : Items
     item : Header → Elements → Items → Items
-
-abbrev pub item_tag : Tag
-item_tag = record { 0 = 0xfffe; 1 = 0xe000 }
-
-abbrev pub item_end_tag : Tag
-item_end_tag = record { 0 = 0xfffe; 1 = 0xe00d }
-
-abbrev pub sequence_end_tag : Tag
-sequence_end_tag = record { 0 = 0xfffe; 1 = 0xe0dd }
 
 -- a delimitation, the header of length 0 with its tag
 abbrev pub delimitation : Tag → List ℕ

@@ -33,9 +33,9 @@ value_of [] t = None
 value_of (one ∷ values) t = if nat_eq one.0 t then Some one.1 else value_of values t
 
 -- their bytes
-abbrev pub bytes_of : Values → ℕ
-bytes_of [] = 0
-bytes_of (one ∷ values) = length one.1 + bytes_of values
+abbrev pub size_of_values : Values → ℕ
+size_of_values [] = 0
+size_of_values (one ∷ values) = length one.1 + size_of_values values
 
 -- the values of the wanted tags among these elements
 abbrev pub kept_of : List Want → Elements → Values
@@ -44,7 +44,7 @@ kept_of ws (value h v es) = if is_wanted ws (number h.tag) then (number h.tag, v
 kept_of ws (sequence h is es) = kept_of ws es
 
 -- the values of the wanted tags among the whole elements of the front b
-pub record Kept (s : Syntax) (ws : List Want) (b : List ℕ) (values : Values) : Type 0 where
+pub record KeepsWanted (s : Syntax) (ws : List Want) (b : List ℕ) (values : Values) : Type 0 where
   pub elements : Elements
   pub path : List PathEntry
   pub last : ℕ
@@ -65,4 +65,4 @@ unfinished_bytes (in_value h v) = 0
 -- the bytes that a walk holds of a front: its unfinished header, the wanted values with what came of a begun one,
 -- and 16 for each open level
 abbrev pub held_of : List Want → Elements → List PathEntry → Tail → ℕ
-held_of ws es path tail = unfinished_bytes tail + (bytes_of (kept_of ws es) + begun_bytes ws path tail) + 16 * length path
+held_of ws es path tail = unfinished_bytes tail + (size_of_values (kept_of ws es) + begun_bytes ws path tail) + 16 * length path

@@ -5,7 +5,7 @@ ghost use Rattle.sequence.specs.Wanted.{rooms, is_wanted, room_of, value_of};
 ghost use Rattle.sequence.specs.Fields.{stored, absent, told_values};
 ghost use Rattle.sequence.specs.machine.Keeping.{counts, are_stored, is_latest, left_at};
 ghost use Rattle.sequence.specs.machine.Steps.{with_bytes};
-ghost use Rattle.sequence.specs.Wanted.{bytes_of};
+ghost use Rattle.sequence.specs.Wanted.{size_of_values};
 
 use crate::wanted::{Want, Wanted};
 use arrayvec::ArrayVec;
@@ -69,7 +69,7 @@ pub struct Keep<const V: usize> {
 
 impl<const V: usize> Keep<V> {
     ghost use Rattle.std.specs.Prelude.{◌≡◌, ◌≤◌, ◌<◌, ◌^◌, ◌+◌, ◌-◌, ◌++◌, ◌∷◌, [], IsTrue, IfSome, IsSome, ◌↔◌, length, if◌then◌else◌, is_some, option_map, true};
-    ghost use Rattle.sequence.specs.Wanted.{is_wanted, room_of, value_of, bytes_of};
+    ghost use Rattle.sequence.specs.Wanted.{is_wanted, room_of, value_of, size_of_values};
     ghost use Rattle.sequence.specs.Stored.{values_of, wants_of};
     ghost use Rattle.sequence.specs.machine.Stored.{left_of_keep};
 
@@ -139,7 +139,7 @@ impl<const V: usize> Keep<V> {
 
     /// How many bytes are kept.
     pub fn len(&self) -> usize
-        ensures value { result ≡ bytes_of (values_of self.now) }
+        ensures value { result ≡ size_of_values (values_of self.now) }
         ensures all { result ≡ array_vec_len self.now.bytes }
         ensures small { result ≤ 2 ^ 24 }
     {

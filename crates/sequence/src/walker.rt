@@ -109,8 +109,8 @@ impl<const V: usize, const D: usize> Walker<V, D> {
     ghost use Rattle.sequence.specs.Stored.{wanted_tags};
     ghost use Rattle.sequence.specs.declared.fault.Fault.{Fault};
     ghost use Rattle.sequence.specs.machine.State.{state_of, kept_values, top, below, IsSameWalk, has_room, fits_wanted};
-    ghost use Rattle.sequence.specs.Taken.{limits_of, syntax_of, fault_of, StandsAt};
-    ghost use Rattle.sequence.specs.Ending.{IsWhole, Fails};
+    ghost use Rattle.sequence.specs.Taken.{limits_of, walker_syntax, fault_of, StandsAt};
+    ghost use Rattle.sequence.specs.Ending.{IsWholeDataSet, Fails};
     ghost use Rattle.sequence.specs.Answering.{Answers};
     ghost use Rattle.sequence.specs.Pieces.{TakesMost};
     ghost use Rattle.sequence.specs.machine.Steps.{IsTaken};
@@ -305,7 +305,7 @@ impl<const V: usize, const D: usize> Walker<V, D> {
         requires limit { limit ≤ 2 ^ 48 }
         requires rooms { rooms (wanted_tags wanted) + 12 ≤ V }
         ensures stands { StandsAt result [] }
-        ensures syntax { syntax_of result ≡ syntax }
+        ensures syntax { walker_syntax result ≡ syntax }
         ensures limits { limits_of result ≡ record { wanted = wanted_tags wanted; depth = D; bytes = limit } }
     {
         Walker {
@@ -329,9 +329,9 @@ impl<const V: usize, const D: usize> Walker<V, D> {
         ensures taken { result.0 ≤ length piece.now }
         ensures some { fault_of self.old ≡ None → 0 < length piece.now → 0 < result.0 }
         ensures stands { (b : List ℕ) → StandsAt self.old b → StandsAt self.new (b ++ take result.0 piece.now) }
-        ensures answers { (b : List ℕ) → StandsAt self.old b → Answers (syntax_of self.old) (limits_of self.old) b piece.now (take result.0 piece.now) result.1 }
-        ensures longest { (b : List ℕ) → StandsAt self.old b → fault_of self.old ≡ None → TakesMost (syntax_of self.old) (limits_of self.old) b piece.now result.0 }
-        ensures syntax { syntax_of self.new ≡ syntax_of self.old }
+        ensures answers { (b : List ℕ) → StandsAt self.old b → Answers (walker_syntax self.old) (limits_of self.old) b piece.now (take result.0 piece.now) result.1 }
+        ensures longest { (b : List ℕ) → StandsAt self.old b → fault_of self.old ≡ None → TakesMost (walker_syntax self.old) (limits_of self.old) b piece.now result.0 }
+        ensures syntax { walker_syntax self.new ≡ walker_syntax self.old }
         ensures limits { limits_of self.new ≡ limits_of self.old }
         ensures refused { (fault : Fault) → fault_of self.old ≡ Some fault → (result ≡ (0, Step.Refused fault)) × (self.new ≡ self.old) }
     {
@@ -362,9 +362,9 @@ impl<const V: usize, const D: usize> Walker<V, D> {
 
     /// Whether the bytes so far are a whole data set within the limits; the refusal, if there is one, and else 20.
     pub fn finish(&self) -> Result<(), Fault>
-        ensures whole { IsOk result → (b : List ℕ) → StandsAt self.now b → IsWhole (syntax_of self.now) (limits_of self.now) b }
-        ensures exactly { (b : List ℕ) → StandsAt self.now b → IsWhole (syntax_of self.now) (limits_of self.now) b → IsOk result }
-        ensures fails { IfErr result (λ fault. (b : List ℕ) → StandsAt self.now b → Fails (syntax_of self.now) (limits_of self.now) b fault) }
+        ensures whole { IsOk result → (b : List ℕ) → StandsAt self.now b → IsWholeDataSet (walker_syntax self.now) (limits_of self.now) b }
+        ensures exactly { (b : List ℕ) → StandsAt self.now b → IsWholeDataSet (walker_syntax self.now) (limits_of self.now) b → IsOk result }
+        ensures fails { IfErr result (λ fault. (b : List ℕ) → StandsAt self.now b → Fails (walker_syntax self.now) (limits_of self.now) b fault) }
     {
         match self.stage {
             Stage::Stopped(fault) => Err(fault),

@@ -5,11 +5,10 @@ use Rattle.element.specs.declared.tag.Tag.{Tag}
 use Rattle.element.specs.declared.header.Header.{Header}
 use Rattle.sequence.specs.declared.level.Scope.{Scope}
 use Rattle.sequence.specs.declared.spot.Spot.{Spot}
-use Rattle.element.specs.Header.{number, is_marker, is_whole, header_at}
+use Rattle.element.specs.Header.{number, is_marker, is_whole, header_at, item_tag}
 use Rattle.sequence.specs.Shape.{is_undefined, shape}
 use Rattle.sequence.specs.declared.shape.Shape.{Shape}
 use Rattle.sequence.specs.declared.shape.Shape.TheVariants.{Value, Sequence, NotAllowed}
-use Rattle.sequence.specs.Tree.{item_tag}
 use Rattle.sequence.specs.Rules.{Limits, Broken, broken_due, broken, same_tag}
 
 abbrev pub set_scope : Syntax → Option ℕ → ℕ → Scope

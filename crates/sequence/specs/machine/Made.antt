@@ -1,13 +1,12 @@
 -- What a step reports.
 use Rattle.std.specs.Prelude.{◌≡◌, ℕ, List, Option, Some, None, not, if◌then◌else◌}
 use Rattle.element.specs.declared.header.Header.{Header}
-use Rattle.element.specs.Header.{is_marker}
+use Rattle.element.specs.Header.{is_marker, item_tag}
 use Rattle.sequence.specs.Rules.{same_tag}
 use Rattle.sequence.specs.declared.stage.Stage.{Stage}
 use Rattle.sequence.specs.declared.stage.Stage.TheVariants as stages
 use Rattle.sequence.specs.declared.step.Step.{Step}
 use Rattle.sequence.specs.declared.step.Step.TheVariants.{More, Element, Opened, Closed, Refused}
-use Rattle.sequence.specs.Tree.{item_tag}
 use Rattle.sequence.specs.Answering.{IsRun}
 
 abbrev pub made_told : Option Header → Step

@@ -11,7 +11,7 @@ use Rattle.sequence.specs.declared.wanted.Want.{Want}
 use Rattle.sequence.specs.declared.shape.Shape.TheVariants.{Value, Sequence}
 use Rattle.sequence.specs.Shape.{undefined_length, shape}
 use Rattle.sequence.specs.Tree.{Elements, Items, IsEven, IsElement, IsItem, DataSet, ItemList}
-use Rattle.sequence.specs.Open.{last_of, IsUnfinished, IsLeft}
+use Rattle.sequence.specs.Open.{last_of, IsUnfinishedHeader, IsLeft}
 use Rattle.sequence.specs.Wanted.{Values, room_of, kept_of}
 use Rattle.sequence.specs.Within.{FitRooms}
 use Rattle.sequence.specs.Rules.{Limits, broken}
@@ -71,7 +71,7 @@ pub record IsHeading (s : Syntax) (lim : Limits) (values : Values) (f : Scope) (
   pub due : IsDue s lim values f fs before
   pub place : begin ≡ length before
   pub text : b ≡ before ++ t
-  pub tail : IsUnfinished f.syntax t
+  pub tail : IsUnfinishedHeader f.syntax t
   pub unbroken : Unbroken lim (spot_of f fs begin) t
   pub bytes : IsBytes t
 
@@ -113,7 +113,7 @@ pub record IsStopped (s : Syntax) (lim : Limits) (values : Values) (f : Scope) (
   pub breaks : broken lim (spot_of f fs place) u ≡ Some (rule, t)
   pub unbroken : (w : List ℕ) (x : ℕ) (z : List ℕ) → u ≡ w ++ x ∷ z → broken lim (spot_of f fs place) w ≡ None
   -- and goes on no farther than one header
-  pub one_header : (w : List ℕ) (x : ℕ) (z : List ℕ) → u ≡ w ++ x ∷ z → IsUnfinished f.syntax w
+  pub one_header : (w : List ℕ) (x : ℕ) (z : List ℕ) → u ≡ w ++ x ∷ z → IsUnfinishedHeader f.syntax w
 
 abbrev pub StandsIn : Syntax → Limits → Values → Scope → List Scope → ℕ → Mode → List ℕ → Type 0
 StandsIn s lim values f fs p (Heading begin t) b = (p ≡ length b) × IsHeading s lim values f fs begin t b

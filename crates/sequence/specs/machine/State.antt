@@ -14,7 +14,7 @@ use Rattle.sequence.specs.Rules.{is_sequence, is_value, passes}
 use Rattle.sequence.specs.machine.Machine.{State, at, Mode, Heading, Reading, Stopped}
 use Rattle.sequence.specs.machine.Scopes.{top_of, below_of}
 use Rattle.sequence.specs.Stored.{wants_of, values_of}
-pub use Rattle.sequence.specs.Taken.{limits_of, syntax_of, fault_of, told_by}
+pub use Rattle.sequence.specs.Taken.{limits_of, walker_syntax, fault_of, told_by}
 pub use Rattle.sequence.specs.Fields.{fault_by}
 pub use Rattle.sequence.specs.machine.Holding.{HoldsFront}
 pub use Rattle.sequence.specs.Taken.{StandsAt}

@@ -5,7 +5,7 @@ use Rattle.element.specs.declared.header.Header.{Header}
 use Rattle.element.specs.Header.{is_whole, header_at}
 use Rattle.sequence.specs.declared.stage.Stage.{Stage}
 use Rattle.sequence.specs.declared.stage.Stage.TheVariants as stages
-use Rattle.sequence.specs.Open.{IsUnfinished}
+use Rattle.sequence.specs.Open.{IsUnfinishedHeader}
 use Rattle.sequence.specs.Wanted.{Values}
 use Rattle.sequence.specs.machine.Keeping.{with_byte}
 
@@ -19,7 +19,7 @@ pub record IsMade (s : Syntax) (t taken : List ℕ) (h : Header) : Type 0 where
   pub front : List ℕ
   pub byte : ℕ
   pub text : taken ≡ front ++ byte ∷ []
-  pub part : IsUnfinished s (t ++ front)
+  pub part : IsUnfinishedHeader s (t ++ front)
   pub whole : is_whole s (t ++ taken) ≡ true
   pub read : header_at s (t ++ taken) ≡ h
 
@@ -30,5 +30,5 @@ IsTaken s t piece place n (stages.Stopped fault) header (Some h) = IsMade s t (t
 IsTaken s t piece place n (stages.Stopped fault) header None = (fault.place + length t ≡ place) × (0 < n)
 IsTaken s t piece place n stages.Heading header (Some h) = IsMade s t (take n piece) h × (header ≡ [])
 IsTaken s t piece place n (stages.Value tag left kept) header (Some h) = IsMade s t (take n piece) h
-IsTaken s t piece place n stages.Heading header None = (n ≡ length piece) × (header ≡ t ++ piece) × IsUnfinished s (t ++ piece)
+IsTaken s t piece place n stages.Heading header None = (n ≡ length piece) × (header ≡ t ++ piece) × IsUnfinishedHeader s (t ++ piece)
 IsTaken s t piece place n (stages.Value tag left kept) header None = ⊥

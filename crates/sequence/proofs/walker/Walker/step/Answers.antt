@@ -1,6 +1,6 @@
 use Rattle.std.proofs.Common.{◌≡◌, ◌++◌, length, take, eqb-true, ap, sym, subst, ◌∙◌, refl, arith}
 use Rattle.sequence.specs.machine.Machine.{ArrivesAt}
-use Rattle.sequence.specs.machine.State.{syntax_of, limits_of, mode_of, fault_by, StandsAt}
+use Rattle.sequence.specs.machine.State.{walker_syntax, limits_of, mode_of, fault_by, StandsAt}
 use Rattle.sequence.specs.machine.Standing.{IsBytes}
 use Rattle.sequence.specs.Answering.{Answers, no_piece}
 use Rattle.sequence.proofs.Holding.{walks}
@@ -27,7 +27,7 @@ returns-in-Heading-clause-answers g c b h =
     let new = c.advance_heading-count.new.self in
     let bytes : IsBytes (take n c.args.piece.now) = some_bytes n c.args.piece.now (λ i. omega (arith, c.type_inv.piece i)) in
     let k = taken_stands old new b (take n c.args.piece.now) h m.state m.values m.same bytes in
-    subst (λ z. Answers (syntax_of c.args.self.now) (limits_of c.args.self.now) b c.args.piece.now (take c.advance_heading-count.result.0 c.args.piece.now) z) (sym c.header_step.ensures)
+    subst (λ z. Answers (walker_syntax c.args.self.now) (limits_of c.args.self.now) b c.args.piece.now (take c.advance_heading-count.result.0 c.args.piece.now) z) (sym c.header_step.ensures)
     (heading_answered old new b c.args.piece.now n (walks old b h) (walks new (b ++ take n c.args.piece.now) k) bytes m.same.syntax (same_limits old new m.same) h k m.place m.taken c.in-Heading.is c.advance_heading-count.result.1 m.told)
 
 pub returns-in-Heading-clause-longest : goal.returns-in-Heading-clause-longest
@@ -69,7 +69,7 @@ returns-else-is_empty-clause-answers g c b h =
     let size = front_size c.in-Value.left c.args.piece.now run c.front-run.ensures in
     let some = some_size c.args.piece.now c.in-Value.left c.args.self.now.stage c.in-Value.tag c.in-Value.kept c.is_empty.result c.is_empty.ensures c.if-is_empty.false c.in-Value.is c.args.self.now.due in
     let came = value_came old new b run h (ap fault_by c.in-Value.is) m.place in
-    subst (λ z. Answers (syntax_of c.args.self.now) (limits_of c.args.self.now) b c.args.piece.now z c.value_step.result) (sym same)
+    subst (λ z. Answers (walker_syntax c.args.self.now) (limits_of c.args.self.now) b c.args.piece.now z c.value_step.result) (sym same)
     (value_answered old new b c.args.piece.now run (walks old b h) (walks new (b ++ run) k) bytes m.same.syntax (same_limits old new m.same) k came c.in-Value.tag c.in-Value.left c.in-Value.kept c.value_step.result c.in-Value.is m.state m.place (omega (arith, size, some)) (omega (arith, size)) c.value_step.ensures)
 
 pub returns-else-is_empty-clause-longest : goal.returns-else-is_empty-clause-longest
