@@ -8,13 +8,13 @@ use Rattle.element.specs.Uid.{is_uid}
 use Rattle.dictionary.specs.Syntaxes.{syntax_uid}
 use Rattle.part10.specs.declared.meta_fault.MetaFault.TheVariants.{NotPart10}
 use Rattle.element.specs.Padding.{padded}
-use Rattle.part10.specs.File.{uid_element, length_element, instance_elements, implementation_elements, title_element}
+use Rattle.part10.specs.File.{uid_element, length_element, identity_elements, implementation_elements, title_element}
 use Rattle.part10.specs.MetaText.{Said, SpellsMeta, HasMeta, MetaElement, MetaElements, no_more, MetaFaultOf}
 use Rattle.part10.specs.Examples.{OneCtStore, NoHeaders, SyntaxIsSaid, least_group, least_header, least_said}
 use Rattle.part10.proofs.MetaLemmas.{uid_back, uid_then}
 
 pub one_ct_store : OneCtStore
-unfolding instance_elements implementation_elements title_element is_short
+unfolding identity_elements implementation_elements title_element is_short
 one_ct_store = (refl, refl, refl)
 
 -- a file header has 144 bytes at least

@@ -16,7 +16,7 @@ use Rattle.dictionary.specs.Implementation.{implementation_class_uid, implementa
 use Rattle.dictionary.specs.Syntaxes.{syntax_uid}
 use Rattle.part10.specs.declared.meta.Meta.{Meta}
 use Rattle.element.specs.Padding.{padded}
-use Rattle.part10.specs.File.{meta_element, uid_element, instance_elements, implementation_elements, title_element, meta_group, head}
+use Rattle.part10.specs.File.{meta_element, uid_element, identity_elements, implementation_elements, title_element, meta_group, head}
 use Rattle.part10.specs.MetaText.{MetaElement, MetaElements, no_more, element_then, SpellsMeta, said_of}
 use Rattle.part10.proofs.Bounds.{title_text_short}
 
@@ -154,8 +154,8 @@ regroup : (a b c d rest : List ℕ) → a ++ (b ++ (c ++ (d ++ rest))) ≡ (a ++
 regroup a b c d rest = simp append_assoc refl
 
 instance_read : (meta : Meta) (es : List MetaElement) (rest : List ℕ) → is_uid meta.class ≡ true → is_uid meta.instance ≡ true
-    → MetaElements 0x0010 es rest → MetaElements 0 (uid_elements meta es) (instance_elements meta ++ rest)
-unfolding uid_elements instance_elements
+    → MetaElements 0x0010 es rest → MetaElements 0 (uid_elements meta es) (identity_elements meta ++ rest)
+unfolding uid_elements identity_elements
 instance_read meta es rest class instance more =
     let syntax = uid_then 0x0003 0x0010 (syntax_uid meta.syntax) es rest (omega arith) (omega arith) (syntax_is_uid meta.syntax) more in
     let named = uid_then 0x0002 0x0003 meta.instance (record { number = 0x0010; value = padded 0 (syntax_uid meta.syntax) } ∷ es) (uid_element 0x0010 (syntax_uid meta.syntax) ++ rest) (omega arith) (omega arith) instance syntax in
@@ -181,7 +181,7 @@ head_is_read meta class instance sixteen few =
       preamble_size = refl;
       group_size = omega (arith, few);
       whole = refl;
-      spelled = subst P (sym (append_assoc (instance_elements meta) implementation_elements (title_element (title_text meta.calling.0)))) read;
+      spelled = subst P (sym (append_assoc (identity_elements meta) implementation_elements (title_element (title_text meta.calling.0)))) read;
       class = uid_back meta.class class;
       instance = uid_back meta.instance instance;
       syntax = uid_back (syntax_uid meta.syntax) (syntax_is_uid meta.syntax);

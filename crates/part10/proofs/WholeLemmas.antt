@@ -15,20 +15,20 @@ use Rattle.part10.specs.declared.meta_fault.MetaFault.{MetaFault}
 use Rattle.part10.specs.declared.meta_fault.MetaFault.TheVariants.{NotPart10, BadMeta, OtherSyntax, ReadFailed}
 use Rattle.part10.specs.declared.reading.Found.{Found}
 use Rattle.part10.specs.File.{length_element}
-use Rattle.part10.specs.MetaText.{Said, said_of, SpellsMeta, HasMeta, HasLetters, MetaFaultOf, MetaElement, MetaElements, uid_at, TakesMeta, NamesOther, Refuses}
+use Rattle.part10.specs.MetaText.{Said, said_of, SpellsMeta, HasMeta, HasLetters, MetaFaultOf, MetaElement, MetaElements, uid_at, TakesMeta, NamesOther, FailsToRead}
 use Rattle.part10.specs.machine.Reading.{Breaks, NoLetters, NoSize, NoGroup, IsFound, IsMeta}
 use Rattle.part10.proofs.FaultLemmas.{bad_after}
 use Rattle.part10.proofs.MetaLemmas.{text_kept}
 use Rattle.part10.proofs.OneHeader.{same_front, one_elements, parted, length_size, same_length}
 
-pub letters_refuse : (fault : MetaFault) (old : Option (List ℕ)) → NoLetters fault old → Refuses fault old
+pub letters_refuse : (fault : MetaFault) (old : Option (List ℕ)) → NoLetters fault old → FailsToRead fault old
 letters_refuse ReadFailed old none = tt
 letters_refuse NotPart10 None none = tt
 letters_refuse NotPart10 (Some file) none = none
 letters_refuse BadMeta old none = absurd none
 letters_refuse OtherSyntax old none = absurd none
 
-pub breaks_refuse : (fault : MetaFault) (old : Option (List ℕ)) → Breaks fault old (λ file. MetaFaultOf file BadMeta) → Refuses fault old
+pub breaks_refuse : (fault : MetaFault) (old : Option (List ℕ)) → Breaks fault old (λ file. MetaFaultOf file BadMeta) → FailsToRead fault old
 breaks_refuse ReadFailed old breaks = tt
 breaks_refuse NotPart10 old breaks = absurd breaks
 breaks_refuse BadMeta old breaks = breaks
@@ -158,7 +158,7 @@ takes_meta n found old new whole (Ok meta) is =
     let syntax : found.syntax ≡ Some (syntax_uid meta.syntax) = is.3 ∙ ap (λ z. Some z) (named_is is.0 meta.syntax named) in
     (((whole.preamble ++ codes "DICM") ++ length_element n) ++ whole.group, spells_whole n found old new whole (said_of meta) is.1 is.2 syntax, whole.taken)
 
-pub meta_refused : (n : ℕ) (found : Found) (old new : Option (List ℕ)) → Whole n found old new → (r : Result Meta MetaFault) → IsMeta found r → IfErr r (λ fault. Refuses fault old)
+pub meta_refused : (n : ℕ) (found : Found) (old new : Option (List ℕ)) → Whole n found old new → (r : Result Meta MetaFault) → IsMeta found r → IfErr r (λ fault. FailsToRead fault old)
 meta_refused n found old new whole (Ok meta) is = tt
 meta_refused n found old new whole (Err ReadFailed) is = tt
 meta_refused n found old new whole (Err NotPart10) is = absurd is

@@ -22,8 +22,8 @@ abbrev pub uid_element : ℕ → List ℕ → List ℕ
 uid_element number text = meta_element number (codes "UI") (even_uid text)
 
 -- the version of the header, the class, the instance and its transfer syntax
-unfoldable pub instance_elements : Meta → List ℕ
-instance_elements meta =
+unfoldable pub identity_elements : Meta → List ℕ
+identity_elements meta =
     meta_element 0x0001 (codes "OB") (0 ∷ 1 ∷ [])
     ++ uid_element 0x0002 meta.class
     ++ uid_element 0x0003 meta.instance
@@ -40,7 +40,7 @@ title_element text = if is_empty text then [] else meta_element 0x0016 (codes "A
 
 -- the elements of group 0002 after its length; of the calling title, what is left without spaces at both ends
 abbrev pub meta_group : Meta → List ℕ
-meta_group meta = instance_elements meta ++ implementation_elements ++ title_element (title_text meta.calling.0)
+meta_group meta = identity_elements meta ++ implementation_elements ++ title_element (title_text meta.calling.0)
 
 -- File Meta Information Group Length: the bytes of the group after it
 abbrev pub length_element : ℕ → List ℕ

@@ -101,11 +101,11 @@ abbrev pub NamesOther : Option (List ℕ) → Option (List ℕ) → Type 0
 NamesOther old new = (said : Said) × TakesMeta said old new × ((s : Syntax) → said.syntax ≢ syntax_uid s)
 
 -- reading fails with this fault: a read failed, or it is the fault of the bytes that were left, where they are known
-abbrev pub Refuses : MetaFault → Option (List ℕ) → Type 0
-Refuses ReadFailed old = ⊤
-Refuses NotPart10 old = IfSome old (λ file. MetaFaultOf file NotPart10)
-Refuses BadMeta old = IfSome old (λ file. MetaFaultOf file BadMeta)
-Refuses OtherSyntax old = IfSome old (λ file. MetaFaultOf file OtherSyntax)
+abbrev pub FailsToRead : MetaFault → Option (List ℕ) → Type 0
+FailsToRead ReadFailed old = ⊤
+FailsToRead NotPart10 old = IfSome old (λ file. MetaFaultOf file NotPart10)
+FailsToRead BadMeta old = IfSome old (λ file. MetaFaultOf file BadMeta)
+FailsToRead OtherSyntax old = IfSome old (λ file. MetaFaultOf file OtherSyntax)
 
 -- the file has a file header with a transfer syntax that is taken
 abbrev pub IsTaken : List ℕ → Type 0

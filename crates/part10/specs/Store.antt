@@ -38,12 +38,12 @@ abbrev pub failed : Store → Store
 failed store = record { told = told_after without_draft store.told; has_draft = false; failures = store.failures + 1 }
 
 -- what a call with this result leaves: `Ok`, the step is done, and there is a draft or not; `Err`, the call failed
-abbrev pub Leaves : {T E : Type 0} → (Shelf → Shelf) → Bool → Result T E → Store → Store → Type 0
-Leaves step drafting (Ok _) old new = new ≡ stepped step drafting old
-Leaves step drafting (Err _) old new = new ≡ failed old
+abbrev pub LeavesStore : {T E : Type 0} → (Shelf → Shelf) → Bool → Result T E → Store → Store → Type 0
+LeavesStore step drafting (Ok _) old new = new ≡ stepped step drafting old
+LeavesStore step drafting (Err _) old new = new ≡ failed old
 
 -- what contracts see of a filing over memory
-pub record Kept : Type 0 where
+pub record MemoryState : Type 0 where
   pub files : List (List ℕ)
   pub draft : Option (List ℕ)
   pub failures : ℕ
@@ -52,5 +52,5 @@ abbrev pub or_nothing : Option (List ℕ) → List ℕ
 or_nothing None = []
 or_nothing (Some bytes) = bytes
 
-abbrev pub store_of : Kept → Store
+abbrev pub store_of : MemoryState → Store
 store_of kept = record { told = Some (record { files = kept.files; draft = or_nothing kept.draft }); has_draft = is_some kept.draft; failures = kept.failures }

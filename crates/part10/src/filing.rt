@@ -1,6 +1,6 @@
 //! Where received files are kept.
 ghost use Rattle.std.specs.Prelude.{◌≡◌, true, false};
-ghost use Rattle.part10.specs.Store.{Store, Leaves, without_draft, appended, committed, stepped};
+ghost use Rattle.part10.specs.Store.{Store, LeavesStore, without_draft, appended, committed, stepped};
 
 /// The call failed: there is no draft, and the files are as they were (fault 52).
 #[derive(Clone, Copy, Debug, PartialEq, Eq)]
@@ -17,17 +17,17 @@ pub trait Filing {
 
     /// Sets an empty draft in place of any.
     fn begin(&mut self) -> Result<(), FilingFailed>
-        ensures leaves { Leaves without_draft true result (store self.old) (store self.new) };
+        ensures leaves { LeavesStore without_draft true result (store self.old) (store self.new) };
 
     /// Adds the bytes at the draft's end.
     fn append(&mut self, bytes: &[u8]) -> Result<(), FilingFailed>
         requires { (store self.old).has_draft ≡ true }
-        ensures leaves { Leaves (appended bytes.now) true result (store self.old) (store self.new) };
+        ensures leaves { LeavesStore (appended bytes.now) true result (store self.old) (store self.new) };
 
     /// Makes the draft the last file.
     fn commit(&mut self) -> Result<(), FilingFailed>
         requires { (store self.old).has_draft ≡ true }
-        ensures leaves { Leaves committed false result (store self.old) (store self.new) };
+        ensures leaves { LeavesStore committed false result (store self.old) (store self.new) };
 
     /// Drops the draft, if there is one. It never fails.
     fn discard(&mut self)

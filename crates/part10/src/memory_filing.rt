@@ -18,9 +18,9 @@ pub struct MemoryFiling<A: Allocator + Copy> {
 
 impl<A: Allocator + Copy> Model for MemoryFiling<A> {
     ghost use Rattle.std.specs.Prelude.{map, option_map};
-    ghost use Rattle.part10.specs.Store.{Kept};
+    ghost use Rattle.part10.specs.Store.{MemoryState};
 
-    ghost Value = { Kept };
+    ghost Value = { MemoryState };
 
     ghost view = { λ f. record { files = map (λ v. v.items) f.files.items; draft = option_map (λ v. v.items) f.draft; failures = f.failures.total } };
 }

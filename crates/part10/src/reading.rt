@@ -4,7 +4,7 @@ ghost use Rattle.std.specs.Io.KnownBytes.{Consumes, IsAtEnd};
 ghost use Rattle.std.specs.Str.{bytes_eq};
 ghost use Rattle.element.specs.Padding as padding;
 ghost use Rattle.element.specs.Numbers.{le};
-ghost use Rattle.part10.specs.MetaText.{said_of, TakesMeta, NamesOther, Refuses};
+ghost use Rattle.part10.specs.MetaText.{said_of, TakesMeta, NamesOther, FailsToRead};
 ghost use Rattle.part10.specs.File.{length_element};
 ghost use Rattle.part10.specs.declared.meta_fault.MetaFault.TheVariants.{ReadFailed, OtherSyntax};
 ghost use Rattle.part10.specs.machine.Reading as part;
@@ -301,7 +301,7 @@ fn read_group<R: Read>(input: &mut R, size: u32) -> Result<Found, MetaFault>
 pub fn read_meta<R: Read>(input: &mut R) -> Result<Meta, MetaFault>
     ensures header { IfOk result (λ meta. TakesMeta (said_of meta) (R.remaining input.old) (R.remaining input.new)) }
     ensures calling { IfOk result (λ meta. meta.calling.0 ≡ replicate 16 32) }
-    ensures fault { IfErr result (λ fault. Refuses fault (R.remaining input.old)) }
+    ensures fault { IfErr result (λ fault. FailsToRead fault (R.remaining input.old)) }
     ensures other_syntax { IfErr result (λ fault. fault ≡ OtherSyntax → NamesOther (R.remaining input.old) (R.remaining input.new)) }
 {
     read_letters(input)?;

@@ -52,9 +52,9 @@ fn put_uid(head: &mut Head, number: u16, text: &[u8])
 }
 
 /// Returns the elements with the version of the header, the class, the instance and the syntax.
-#[tactic(auto, using(crate::proofs::Bounds::syntax_uid_short), unfolding(element::specs::Vr::is_short, crate::specs::File::instance_elements))]
-fn instance_elements(meta: &Meta) -> Head
-    ensures items { result.items ≡ file.instance_elements meta.now }
+#[tactic(auto, using(crate::proofs::Bounds::syntax_uid_short), unfolding(element::specs::Vr::is_short, crate::specs::File::identity_elements))]
+fn identity_elements(meta: &Meta) -> Head
+    ensures items { result.items ≡ file.identity_elements meta.now }
     ensures class { is_uid meta.now.class ≡ true }
     ensures instance { is_uid meta.now.instance ≡ true }
     ensures bound { array_vec_len result ≤ 240 }
@@ -105,7 +105,7 @@ fn meta_group(meta: &Meta) -> Head
     ensures title { length meta.now.calling.0 ≡ 16 }
     ensures bound { array_vec_len result ≤ 360 }
 {
-    let mut group = instance_elements(meta);
+    let mut group = identity_elements(meta);
     put_implementation(&mut group);
     put_title(&mut group, meta.calling);
     group
