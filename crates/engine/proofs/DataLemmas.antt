@@ -4,7 +4,7 @@ use Rattle.std.proofs.lemmas.List.{append-nil}
 use Rattle.acceptor.specs.declared.state.State.TheVariants.{Sta6}
 use Rattle.element.specs.declared.syntax.Syntax.{Syntax}
 use Rattle.pdu.specs.Sent.{Line}
-use Rattle.pdu.specs.Items.{record_of}
+use Rattle.pdu.specs.Items.{request_record}
 use Rattle.negotiate.specs.Settings.{Settings}
 use Rattle.negotiate.specs.declared.proposals.Context.{Context}
 use Rattle.negotiate.specs.Contexts.{context_of}
@@ -14,7 +14,7 @@ use Rattle.dimse.specs.declared.fault.DimseFault.{DimseFault}
 use Rattle.dimse.specs.Command.{CommandRecord}
 use Rattle.dimse.specs.Reading.{command_in}
 use Rattle.dimse.specs.Messages.{Begun, InSet, Goes, brought}
-use Rattle.dimse.specs.Joining.{Joining, Shows, pdv_of, with_pdv}
+use Rattle.dimse.specs.Joining.{Joining, ShowsMessage, pdv_of, with_pdv}
 use Rattle.engine.specs.Timeline.{At, good}
 use Rattle.engine.specs.Devices.{Devices, devices, files_in, with_files, line_with}
 use Rattle.engine.specs.Drafts.{IsDraft, HasDraft, TellsDraft, draft_due, none_due}
@@ -27,10 +27,10 @@ use Rattle.engine.specs.Fair.{InStore}
 use Rattle.engine.specs.Held.{is_ended}
 use Rattle.engine.specs.machine.Pends.{Kept, Pends, counted_pdv}
 use Rattle.engine.specs.machine.Messages.{Proceeds}
-use Rattle.engine.specs.machine.Storing.{Stored, Nothing, Walking, Takes, walked, BeginsStore, drafting_in}
+use Rattle.engine.specs.machine.Storing.{Stored, Nothing, Walking, HasWalked, walked, BeginsStore, drafting_in}
 use Rattle.engine.specs.machine.Does.{Does}
 use Rattle.engine.proofs.StoreLemmas.{Carried, none_carried, meta_by, due_file}
-use Rattle.engine.proofs.TriesLemmas.{if_nothing, line_same, line_gained, filed_nothing}
+use Rattle.engine.proofs.DueLemmas.{if_nothing, line_same, line_gained, filed_nothing}
 use Rattle.engine.proofs.MessageLemmas.{entry_of, pdv_taken, pdv_comes, verdict_by, taken_state}
 use Rattle.engine.specs.Fair.{MayFail}
 use Rattle.std.specs.Io.KnownBytes.{append_known}
@@ -62,19 +62,19 @@ unread_store request id command f e s =
     let wrong : ◌≡◌ {A = Result CommandRecord DimseFault} (Ok s.asked) (Err f) = sym s.spelled ∙ ap command_in (sym same) ∙ e in
     cc
 
-pub unaccepted_store : (request : List ℕ) (id : ℕ) (command : List ℕ) → context_of (record_of request) id ≡ None → InStore request (InSet id command []) → ⊥
+pub unaccepted_store : (request : List ℕ) (id : ℕ) (command : List ℕ) → context_of (request_record request) id ≡ None → InStore request (InSet id command []) → ⊥
 unaccepted_store request id command e s =
     let same : id ≡ s.id = let x : InSet id command [] ≡ InSet s.id s.command s.set = s.begun in cc in
-    let wrong : Some s.context ≡ None = sym s.accepted ∙ ap (context_of (record_of request)) (sym same) ∙ e in
+    let wrong : Some s.context ≡ None = sym s.accepted ∙ ap (context_of (request_record request)) (sym same) ∙ e in
     cc
 
-pub other_store : (request : List ℕ) (id : ℕ) (command : List ℕ) (c : CommandRecord) (context : Context) → command_in command ≡ Ok c → context_of (record_of request) id ≡ Some context → (IsOfContext context c → ⊥)
+pub other_store : (request : List ℕ) (id : ℕ) (command : List ℕ) (c : CommandRecord) (context : Context) → command_in command ≡ Ok c → context_of (request_record request) id ≡ Some context → (IsOfContext context c → ⊥)
     → InStore request (InSet id command []) → ⊥
 other_store request id command c context e accepted none s =
     let begun : InSet id command [] ≡ InSet s.id s.command s.set = s.begun in
     let same : id ≡ s.id = cc in
     let text : command ≡ s.command = cc in
-    let contexts : Some s.context ≡ Some context = sym s.accepted ∙ ap (context_of (record_of request)) (sym same) ∙ accepted in
+    let contexts : Some s.context ≡ Some context = sym s.accepted ∙ ap (context_of (request_record request)) (sym same) ∙ accepted in
     let asked : ◌≡◌ {A = Result CommandRecord DimseFault} (Ok s.asked) (Ok c) = sym s.spelled ∙ ap command_in (sym text) ∙ e in
     let one : s.context ≡ context = cc in
     let two : s.asked ≡ c = cc in
@@ -100,7 +100,7 @@ begun_proceeds depth most request m s bytes (Walking walker true) old new none i
     record {
       failed = false;
       may = λ x. absurd cc;
-      walks = walked s (subst (λ (xs : List ℕ). Takes walker s.context.syntax (limits depth most) xs) (sym none) takes);
+      walks = walked s (subst (λ (xs : List ℕ). HasWalked walker s.context.syntax (limits depth most) xs) (sym none) takes);
       draft = draft_due (due_file request m false s refl)
           (subst (λ (x : Store). HasDraft x (File (meta_by request s.context s.asked) s.set)) (sym step) (record { there = refl; bytes = told_begun old.told bytes _ file }));
       files = ap files_in step ∙ told_files old.told bytes;
@@ -110,7 +110,7 @@ begun_proceeds depth most request m s bytes (Walking walker false) old new none 
     record {
       failed = true;
       may = λ x. (refl, s);
-      walks = walked s (subst (λ (xs : List ℕ). Takes walker s.context.syntax (limits depth most) xs) (sym none) takes);
+      walks = walked s (subst (λ (xs : List ℕ). HasWalked walker s.context.syntax (limits depth most) xs) (sym none) takes);
       draft = none_due (λ file due. let x : true ≡ false = due.unfailed in absurd cc);
       files = ap files_in step ∙ files_kept old.told;
       count = ap (λ (x : Store). x.failures) step;
@@ -121,7 +121,7 @@ either_failed true g e = inl refl
 either_failed false g e = inr e
 
 pub does_due : (rooms : Rooms) (s : Settings) (p : Progress) (begun : List ℕ) (room : ℕ) (k : Kept) (j : Joining) (z : Stored) (l : Line) (so sn : Store) (later : Begun) → Pends k so p [] begun → takes_pdvs p ≡ true
-    → brought p.message (pdv_of begun) ≡ Goes later → Shows k.room j later [] → IsDataDue room p.message (pdv_head_of begun) (drop 6 begun) later → Proceeds k.depth k.most p.request later false z so sn
+    → brought p.message (pdv_of begun) ≡ Goes later → ShowsMessage k.room j later [] → IsDataDue room p.message (pdv_head_of begun) (drop 6 begun) later → Proceeds k.depth k.most p.request later false z so sn
     → Does rooms s p (At (entry_of begun)) (record k { join = j; storing = z }) [] [] (devices l so) (devices l sn)
 does_due rooms s p begun room k j z l so sn later h taken goes shows due x =
     let q = absorb x.failed p in
@@ -138,7 +138,7 @@ does_due rooms s p begun room k j z l so sn later h taken goes shows due x =
       state_is = h.state_is;
       refused_is = h.refused_is;
       body_is = h.body_is;
-      join_is = subst (λ (xs : List ℕ). Shows k.room j later xs) (sym nil) shows;
+      join_is = subst (λ (xs : List ℕ). ShowsMessage k.room j later xs) (sym nil) shows;
       agreed = λ y. let a = h.agreed y in record { caller = a.caller; maximum = a.maximum; contexts = a.contexts; count = a.count };
       none_left = λ e. let wrong : is_established Sta6 ≡ false = sym (ap is_established six) ∙ e in absurd cc;
       walks = c.0;
@@ -186,7 +186,7 @@ appends_none rooms s p k begun d h = record {
 }
 
 pub does_append : (rooms : Rooms) (s : Settings) (p : Progress) (begun part : List ℕ) (k : Kept) (j : Joining) (z : Stored) (l : Line) (so sn : Store) → Pends k so p [] begun → takes_pdvs p ≡ true → 6 ≤ length begun
-    → Shows k.room j p.message (begun ++ part) → GoesOn part k.storing z so sn → Appends rooms s p (record k { join = j; storing = z }) [] (begun ++ part) (devices l so) (devices l sn)
+    → ShowsMessage k.room j p.message (begun ++ part) → GoesOn part k.storing z so sn → Appends rooms s p (record k { join = j; storing = z }) [] (begun ++ part) (devices l so) (devices l sn)
 does_append rooms s p begun part k j z l so sn h taken six shows g =
     let old = subst (λ (xs : List ℕ). Carried k.depth k.most k.storing so p.request (with_pdv xs p.message) p.filing_failed) (counted_taken p begun taken) (carried k so p [] begun h) in
     let x = goes_on_so k.depth k.most p.request (with_pdv begun p.message) p.filing_failed (get_or begun 4 0) part so sn k.storing z old g in
@@ -200,7 +200,7 @@ does_append rooms s p begun part k j z l so sn h taken six shows g =
     record {
       failed = x.failed;
       last = λ y. ((x.may y).0, inl (store y));
-      pends = pends_joined k sn (absorb x.failed p) j z (begun ++ part) (aside_absorbed k p x.failed (aside_of k so p begun h)) (subst (λ (xs : List ℕ). Shows k.room j p.message xs) (sym counts) shows) c
+      pends = pends_joined k sn (absorb x.failed p) j z (begun ++ part) (aside_absorbed k p x.failed (aside_of k so p begun h)) (subst (λ (xs : List ℕ). ShowsMessage k.room j p.message xs) (sym counts) shows) c
           (λ n e. by n store (either_failed x.failed p.filing_failed e));
       gains = record {
         line = ap (λ (y : Option (List ℕ)). record { sent = y; failures = l.failures }) (known_same l.sent) ∙ ap (λ (n : ℕ). record { sent = append_known l.sent []; failures = n }) (omega arith);

@@ -6,8 +6,8 @@ use Rattle.acceptor.specs.declared.state.State.TheVariants.{Sta6}
 use Rattle.sequence.specs.declared.walker.Walker.{Walker}
 use Rattle.pdu.specs.declared.wire.WireFailed.{WireFailed}
 use Rattle.pdu.specs.Sent.{Line, Sends}
-use Rattle.pdu.specs.Items.{record_of}
-use Rattle.pdu.specs.Record.{Record}
+use Rattle.pdu.specs.Items.{request_record}
+use Rattle.pdu.specs.Record.{RequestRecord}
 use Rattle.negotiate.specs.Settings.{Settings}
 use Rattle.negotiate.specs.declared.proposals.Context.{Context}
 use Rattle.negotiate.specs.Contexts.{context_of}
@@ -19,7 +19,7 @@ use Rattle.dimse.specs.Command.{CommandRecord, is_request}
 use Rattle.dimse.specs.Reading.{command_in}
 use Rattle.dimse.specs.Status.{success, class_not_supported}
 use Rattle.dimse.specs.Messages.{Message, Begun, NoMessage, InSet, Ends, brought}
-use Rattle.dimse.specs.Joining.{Joining, Shows, pdv_of, with_pdv}
+use Rattle.dimse.specs.Joining.{Joining, ShowsMessage, pdv_of, with_pdv}
 use Rattle.dimse.specs.Reply.{reply_bytes, reply_command, fragment_size, command_pdus, fragments, fragments_in}
 use Rattle.engine.specs.Timeline.{At, Finding, good}
 use Rattle.engine.specs.Devices.{Devices, devices, files_in, with_files, line_with, IsFront}
@@ -34,12 +34,12 @@ use Rattle.engine.specs.Fair.{InStore}
 use Rattle.engine.specs.machine.Pends.{Kept, Pends, counted_pdv}
 use Rattle.engine.specs.machine.Messages.{Aside, HasCome, Ended, Concludes}
 use Rattle.engine.specs.machine.Storing as storing
-use Rattle.engine.specs.machine.Storing.{Stored, Nothing, Walking, Takes, Walks, not_walked, walked, BeginsStore, Begins, Drops, EndsDraft, commit_failed, dropped, EndsStore, drafting_in}
-use Rattle.engine.specs.machine.Tries.{Settles, Unfiled, is_left}
+use Rattle.engine.specs.machine.Storing.{Stored, Nothing, Walking, HasWalked, Walks, not_walked, walked, BeginsStore, Begins, Drops, EndsDraft, commit_failed, dropped, EndsStore, drafting_in}
+use Rattle.engine.specs.machine.DoesDue.{ComesTo, Unfiled, is_left}
 use Rattle.engine.specs.machine.Does.{Does}
 use Rattle.engine.proofs.StoreLemmas.{none_carried, no_store, meta_by, file_due, undrafted, drafted, drops_unfiled}
 use Rattle.engine.proofs.PendsLemmas.{settled_failed}
-use Rattle.engine.proofs.TriesLemmas.{if_nothing, line_same, line_gained, files_cut, filed_nothing}
+use Rattle.engine.proofs.DueLemmas.{if_nothing, line_same, line_gained, files_cut, filed_nothing}
 use Rattle.engine.proofs.MessageLemmas.{entry_of, pdv_taken, pdv_comes, verdict_by}
 
 -- ---- replies
@@ -66,12 +66,12 @@ on_failure (Err f) n h = h
 
 -- what is sent is the reply to the command, in the words of the code
 pub replied_sent : (p : Progress) (f : Finding) (m : Message) (c : CommandRecord) (id maximum : ℕ) (accepted : Option Context) → command_in m.command ≡ Ok c
-    → accepted ≡ context_of (record_of p.request) m.context → id ≡ m.context → maximum ≡ (record_of p.request).maximum
+    → accepted ≡ context_of (request_record p.request) m.context → id ≡ m.context → maximum ≡ (request_record p.request).maximum
     → reply_bytes c (finding_on accepted c f).status (finding_on accepted c f).detail id maximum ≡ (replied p f m (command_in m.command)).sent
 replied_sent p f m c id maximum accepted e a i x =
     ap (λ (o : Option Context). reply_bytes c (finding_on o c f).status (finding_on o c f).detail id maximum) a
-    ∙ ap (λ (n : ℕ). reply_bytes c (finding_on (context_of (record_of p.request) m.context) c f).status (finding_on (context_of (record_of p.request) m.context) c f).detail n maximum) i
-    ∙ ap (λ (n : ℕ). reply_bytes c (finding_on (context_of (record_of p.request) m.context) c f).status (finding_on (context_of (record_of p.request) m.context) c f).detail m.context n) x
+    ∙ ap (λ (n : ℕ). reply_bytes c (finding_on (context_of (request_record p.request) m.context) c f).status (finding_on (context_of (request_record p.request) m.context) c f).detail n maximum) i
+    ∙ ap (λ (n : ℕ). reply_bytes c (finding_on (context_of (request_record p.request) m.context) c f).status (finding_on (context_of (request_record p.request) m.context) c f).detail m.context n) x
     ∙ ap (λ (r : Result CommandRecord DimseFault). (replied p f m r).sent) (sym e)
 
 replied_next : (p : Progress) (f : Finding) (m : Message) (r : Result CommandRecord DimseFault) → (replied p f m r).next ≡ ended_message p
@@ -99,10 +99,10 @@ module _ (rooms : Rooms) (s : Settings) (p : Progress) (m : Message) (come : Beg
 
   echo_files : (c : CommandRecord) → command_in m.command ≡ Ok c → c.field ≡ 0x0030 → (replied p good m (command_in m.command)).files ≡ []
   echo_files c e field = ap (λ (r : Result CommandRecord DimseFault). (replied p good m r).files) e
-      ∙ ap (λ (n : ℕ). if nat_eq n 0x0001 && true then file_in (record_of p.request) (context_of (record_of p.request) m.context) c m.set else []) field
+      ∙ ap (λ (n : ℕ). if nat_eq n 0x0001 && true then file_in (request_record p.request) (context_of (request_record p.request) m.context) c m.set else []) field
 
   pub echo_ended : (r : Result (Unit {0}) WireFailed) (lo ln : Line) (c : CommandRecord) (status id maximum : ℕ) (accepted : Option Context) → command_in m.command ≡ Ok c → c.field ≡ 0x0030
-      → status ≡ echo_status accepted c → accepted ≡ context_of (record_of p.request) m.context → id ≡ m.context → maximum ≡ (record_of p.request).maximum
+      → status ≡ echo_status accepted c → accepted ≡ context_of (request_record p.request) m.context → id ≡ m.context → maximum ≡ (request_record p.request).maximum
       → Sends (reply_bytes c status None id maximum) r lo ln → Ended rooms s p m come r lo ln store store
   echo_ended r lo ln c status id maximum accepted e field st a i x sends =
       let is : finding_on accepted c good ≡ record { status = echo_status accepted c; detail = None } = ap (λ (n : ℕ). if nat_eq n 0x0030 then record { status = echo_status accepted c; detail = None } else good) field in
@@ -141,12 +141,12 @@ and_false : (t : Bool) → (t && false) ≡ false
 and_false true = refl
 and_false false = refl
 
-not_put : (r : Record) (id : ℕ) (c : CommandRecord) (set : List ℕ) (f : Finding) → (f.status ≡ success → ⊥) → file_put r id c set f ≡ []
+not_put : (r : RequestRecord) (id : ℕ) (c : CommandRecord) (set : List ℕ) (f : Finding) → (f.status ≡ success → ⊥) → file_put r id c set f ≡ []
 not_put r id c set f h =
     ap (λ (t : Bool). if nat_eq c.field 0x0001 && t then file_in r (context_of r id) c set else []) (is_zero f.status (nat_eq f.status success) refl h)
     ∙ ap (λ (t : Bool). if t then file_in r (context_of r id) c set else []) (and_false (nat_eq c.field 0x0001))
 
-put : (r : Record) (id : ℕ) (c : CommandRecord) (set : List ℕ) (f : Finding) (context : Context) → c.field ≡ 0x0001 → f.status ≡ success → context_of r id ≡ Some context
+put : (r : RequestRecord) (id : ℕ) (c : CommandRecord) (set : List ℕ) (f : Finding) (context : Context) → c.field ≡ 0x0001 → f.status ≡ success → context_of r id ≡ Some context
     → file_put r id c set f ≡ file_in r (Some context) c set
 put r id c set f context field ok accepted =
     ap (λ (n : ℕ). if nat_eq n 0x0001 && nat_eq f.status success then file_in r (context_of r id) c set else []) field
@@ -164,13 +164,13 @@ told_kept (Some shelf) = refl
 pub record StoreEnds (depth most : ℕ) (request : List ℕ) (m : Message) (come : Begun) (c : CommandRecord) (before : Bool) (f : Finding) (old new : Store) : Type 0 where
   pub failed_then : Bool
   pub may : failed_then ≡ true → (before ≡ false) × InStore request come
-  pub verdict : (context : Context) → context_of (record_of request) m.context ≡ Some context → Verdict depth most context c m.set (failed_then || before) f
-  pub files : files_in new ≡ with_files (file_put (record_of request) m.context c m.set f) (files_in old)
+  pub verdict : (context : Context) → context_of (request_record request) m.context ≡ Some context → Verdict depth most context c m.set (failed_then || before) f
+  pub files : files_in new ≡ with_files (file_put (request_record request) m.context c m.set f) (files_in old)
   pub count : new.failures ≡ old.failures + counted failed_then
 
 module _ (depth most : ℕ) (request : List ℕ) (m : Message) (come : Begun) (c : CommandRecord) (before : Bool) (f : Finding) (old new : Store) where
-  kept_files : (f.status ≡ success → ⊥) → files_in new ≡ files_in old → files_in new ≡ with_files (file_put (record_of request) m.context c m.set f) (files_in old)
-  kept_files h e = e ∙ filed_nothing (files_in old) ∙ ap (λ (fs : List (List ℕ)). with_files fs (files_in old)) (sym (not_put (record_of request) m.context c m.set f h))
+  kept_files : (f.status ≡ success → ⊥) → files_in new ≡ files_in old → files_in new ≡ with_files (file_put (request_record request) m.context c m.set f) (files_in old)
+  kept_files h e = e ∙ filed_nothing (files_in old) ∙ ap (λ (fs : List (List ℕ)). with_files fs (files_in old)) (sym (not_put (request_record request) m.context c m.set f h))
 
   -- nothing was walked
   pub unwalked_ends : come ≡ InSet m.context m.command m.set → command_in m.command ≡ Ok c → (InStore request come → ⊥) → f ≡ record { status = class_not_supported; detail = None } → new ≡ old
@@ -204,20 +204,20 @@ module _ (depth most : ℕ) (request : List ℕ) (m : Message) (come : Begun) (c
     of_context : IsOfContext store.context c
     of_context = subst (λ (a : CommandRecord). IsOfContext store.context a) same_asked store.of_context
 
-    accepted_here : context_of (record_of request) m.context ≡ Some store.context
-    accepted_here = ap (context_of (record_of request)) (sym same_id) ∙ store.accepted
+    accepted_here : context_of (request_record request) m.context ≡ Some store.context
+    accepted_here = ap (context_of (request_record request)) (sym same_id) ∙ store.accepted
 
     judged : Verdict depth most store.context c m.set (ends.failed_then || before) f
     judged = subst (λ (b : Bool). Verdict depth most store.context c m.set (ends.failed_then || b) f) (undrafted request come before old drafting h store)
         (subst (λ (xs : List ℕ). Verdict depth most store.context c xs (ends.failed_then || not drafting) f) same_set (ends.verdict of_context))
 
     by : (b : Bool) → b ≡ ends.failed_then → EndsDraft drafting f old new b
-        → (b ≡ true → (before ≡ false) × InStore request come) × (files_in new ≡ with_files (file_put (record_of request) m.context c m.set f) (files_in old)) × (new.failures ≡ old.failures + counted b)
+        → (b ≡ true → (before ≡ false) × InStore request come) × (files_in new ≡ with_files (file_put (request_record request) m.context c m.set f) (files_in old)) × (new.failures ≡ old.failures + counted b)
     by _ eq (storing.filed d ok step) =
         let due = drafted request come before old drafting h d in
         let file : due.0 ≡ File (meta_by request store.context c) m.set =
         file_due request come before due.0 due.1 store ∙ ap (λ (a : CommandRecord). File (meta_by request store.context a) store.set) same_asked ∙ ap (λ (xs : List ℕ). File (meta_by request store.context c) xs) same_set in
-        let one : file_put (record_of request) m.context c m.set f ≡ due.0 ∷ [] = put (record_of request) m.context c m.set f store.context field ok accepted_here ∙ ap (λ (xs : List ℕ). xs ∷ []) (sym file) in
+        let one : file_put (request_record request) m.context c m.set f ≡ due.0 ∷ [] = put (request_record request) m.context c m.set f store.context field ok accepted_here ∙ ap (λ (xs : List ℕ). xs ∷ []) (sym file) in
         (λ x. absurd cc, ap files_in step ∙ told_put old.told due.0 due.2.bytes ∙ ap (λ (fs : List (List ℕ)). with_files fs (files_in old)) (sym one), ap (λ (x : Store). x.failures) step ∙ omega arith)
     by _ eq (commit_failed d step) =
         let due = drafted request come before old drafting h d in
@@ -241,14 +241,14 @@ module _ (depth most : ℕ) (request : List ℕ) (m : Message) (come : Begun) (c
 
 -- the store is answered
 pub store_ended : (rooms : Rooms) (s : Settings) (p : Progress) (m : Message) (come : Begun) (c : CommandRecord) (f : Finding) (old new : Store) (r : Result (Unit {0}) WireFailed) (lo ln : Line) (id maximum : ℕ)
-    → command_in m.command ≡ Ok c → c.field ≡ 0x0001 → id ≡ m.context → maximum ≡ (record_of p.request).maximum → StoreEnds rooms.depth s.max_data p.request m come c p.filing_failed f old new
+    → command_in m.command ≡ Ok c → c.field ≡ 0x0001 → id ≡ m.context → maximum ≡ (request_record p.request).maximum → StoreEnds rooms.depth s.max_data p.request m come c p.filing_failed f old new
     → Sends (reply_bytes c f.status f.detail id maximum) r lo ln → Ended rooms s p m come r lo ln old new
 store_ended rooms s p m come c f old new r lo ln id maximum e field i x ends sends =
-    let accepted = context_of (record_of p.request) m.context in
+    let accepted = context_of (request_record p.request) m.context in
     let is : finding_on accepted c f ≡ f = ap (λ (n : ℕ). if nat_eq n 0x0030 then record { status = echo_status accepted c; detail = None } else f) field in
     let text : reply_bytes c f.status f.detail id maximum ≡ (replied p f m (command_in m.command)).sent =
     ap (λ (g : Finding). reply_bytes c g.status g.detail id maximum) (sym is) ∙ replied_sent p f m c id maximum accepted e refl i x in
-    let files : (replied p f m (command_in m.command)).files ≡ file_put (record_of p.request) m.context c m.set f = ap (λ (q : Result CommandRecord DimseFault). (replied p f m q).files) e in
+    let files : (replied p f m (command_in m.command)).files ≡ file_put (request_record p.request) m.context c m.set f = ap (λ (q : Result CommandRecord DimseFault). (replied p f m q).files) e in
     record {
       finding = f;
       failed = ends.failed_then;
@@ -264,7 +264,7 @@ store_ended rooms s p m come c f old new r lo ln id maximum e field i x ends sen
 pub judged_store : (depth most : ℕ) (request : List ℕ) (m : Message) (come : Begun) (c : CommandRecord) (before : Bool) (f : Finding) (old new : Store) (stored : Stored) → Walks depth most request come stored
     → IsDraft request come before old (drafting_in stored) → HasCome m come → command_in m.command ≡ Ok c → (c.field ≡ 0x0001) × (c.with_data ≡ true)
     → (stored ≡ Nothing → (f ≡ record { status = class_not_supported; detail = None }) × (new ≡ old))
-    → ((W E : ℕ) (walker : Walker W E) (drafting : Bool) (context : Context) (levels bytes : ℕ) (set : List ℕ) → stored ≡ Walking walker drafting → Takes walker context.syntax (limits levels bytes) set
+    → ((W E : ℕ) (walker : Walker W E) (drafting : Bool) (context : Context) (levels bytes : ℕ) (set : List ℕ) → stored ≡ Walking walker drafting → HasWalked walker context.syntax (limits levels bytes) set
     → EndsStore levels bytes context c set drafting f old new)
     → StoreEnds depth most request m come c before f old new
 judged_store depth most request m come c before f old new stored w h (inr (is, alone)) e (field, with_set) none ends = let wrong : true ≡ false = sym with_set ∙ alone c e in absurd cc
@@ -293,7 +293,7 @@ is_maximum n h = by (nat_lt n 8) refl where
 
 -- ---- the message is left
 
-ended_pends : (p : Progress) (old : Kept) (j : Joining) (z : Stored) (store : Store) → Aside old p → old.state ≡ Sta6 → Shows old.room j NoMessage [] → z ≡ Nothing
+ended_pends : (p : Progress) (old : Kept) (j : Joining) (z : Stored) (store : Store) → Aside old p → old.state ≡ Sta6 → ShowsMessage old.room j NoMessage [] → z ≡ Nothing
     → Pends (record old { join = j; storing = z; state = Sta6 }) store (ended_message p) [] []
 ended_pends p old j z store h six quiet none =
     let nil : counted_pdv (ended_message p) [] ≡ [] = if_nothing (takes_pdvs p) in
@@ -303,7 +303,7 @@ ended_pends p old j z store h six quiet none =
       state_is = sym six ∙ h.state_is;
       refused_is = h.refused_is;
       body_is = h.body_is;
-      join_is = subst (λ (xs : List ℕ). Shows old.room j NoMessage xs) (sym nil) quiet;
+      join_is = subst (λ (xs : List ℕ). ShowsMessage old.room j NoMessage xs) (sym nil) quiet;
       agreed = λ x. let a = h.agreed x in record { caller = a.caller; maximum = a.maximum; contexts = a.contexts; count = a.count };
       none_left = λ e. refl;
       walks = c.0;
@@ -312,8 +312,8 @@ ended_pends p old j z store h six quiet none =
     }
 
 pub concludes : (rooms : Rooms) (s : Settings) (p : Progress) (m : Message) (come : Begun) (r : Result (Unit {0}) WireFailed) (old new : Kept) (j : Joining) (z : Stored) (lo ln : Line) (so sm sl sn : Store)
-    → Aside old p → old.state ≡ Sta6 → Shows old.room j NoMessage [] → z ≡ Nothing → Ended rooms s p m come r lo ln so sm → Unfiled sm sl
-    → Settles Sta6 r (record old { join = j; storing = z }) new sl sn → Concludes rooms s p m come new (devices lo so) (devices ln sn)
+    → Aside old p → old.state ≡ Sta6 → ShowsMessage old.room j NoMessage [] → z ≡ Nothing → Ended rooms s p m come r lo ln so sm → Unfiled sm sl
+    → ComesTo Sta6 r (record old { join = j; storing = z }) new sl sn → Concludes rooms s p m come new (devices lo so) (devices ln sn)
 concludes rooms s p m come (Ok u) old new j z lo ln so sm sl sn h six quiet none e left settles = record {
   finding = e.finding;
   failed = e.failed;

@@ -11,8 +11,8 @@ use Rattle.negotiate.specs.Settings.{Settings}
 use Rattle.engine.specs.Timeline.{At, good}
 use Rattle.engine.specs.Run.{Rooms, at_entry}
 use Rattle.engine.specs.Progress.{Progress, nothing, done, refusing, is_due, is_established}
-use Rattle.engine.specs.Heads.{HeadEvent, NoEvent, AtOnce, TooLong, event_of, is_known, is_short, is_abort, out_of_place, request_length, data_length, head_event}
-use Rattle.engine.specs.machine.Tries.{is_left, Stays}
+use Rattle.engine.specs.Heads.{HeadEvent, NoEvent, AtOnce, TooLong, event_of, is_known, has_four_bytes, is_abort, out_of_place, request_length, data_length, head_event}
+use Rattle.engine.specs.machine.DoesDue.{is_left, Stays}
 
 -- an action that answers by an abort leaves the association
 pub abort_leaves : (st : State) (e : Event) → is_abort (table st e).0 ≡ true → is_left (table st e).1 ≡ true
@@ -144,7 +144,7 @@ head_stays room most st kind n e r =
     let short = either (nat_lt n 68) (AtOnce Invalid 6) NoEvent (AtOnce e r) (Stays st e) (λ t h. invalid_stays st e 6 r h) (λ t h. absurd cc) in
     let request = either (nat_lt room n) TooLong (if nat_lt n 68 then AtOnce Invalid 6 else NoEvent) (AtOnce e r) (Stays st e) (λ t h. absurd cc) (λ t h. short h) in
     either (not (is_known kind)) (AtOnce Invalid 1) _ (AtOnce e r) (Stays st e) (λ t h. invalid_stays st e 1 r h)
-    (λ t. either (is_short kind && not (nat_eq n 4)) (AtOnce Invalid 6) _ (AtOnce e r) (Stays st e) (λ u h. invalid_stays st e 6 r h)
+    (λ t. either (has_four_bytes kind && not (nat_eq n 4)) (AtOnce Invalid 6) _ (AtOnce e r) (Stays st e) (λ u h. invalid_stays st e 6 r h)
     (λ u. either (is_due st && nat_eq kind 1) (request_length room n) _ (AtOnce e r) (Stays st e) (λ v h. request h)
     (λ v. either (is_established st && nat_eq kind 4) (data_length most n) (out_of_place st kind) (AtOnce e r) (Stays st e) (λ w h. of_data h) (λ w h. out h))))
 
@@ -162,7 +162,7 @@ head_too_long room most st kind n =
     let out = either (is_abort (table st (event_of kind)).0) (AtOnce (event_of kind) 2) NoEvent TooLong P (λ t h. absurd cc) (λ t h. absurd cc) in
     let of_data = either (nat_lt most n || nat_lt n 6) (AtOnce Invalid 6) NoEvent TooLong P (λ t h. absurd cc) (λ t h. absurd cc) in
     either (not (is_known kind)) (AtOnce Invalid 1) _ TooLong P (λ t h. absurd cc)
-    (λ t. either (is_short kind && not (nat_eq n 4)) (AtOnce Invalid 6) _ TooLong P (λ u h. absurd cc)
+    (λ t. either (has_four_bytes kind && not (nat_eq n 4)) (AtOnce Invalid 6) _ TooLong P (λ u h. absurd cc)
     (λ u. either (is_due st && nat_eq kind 1) (request_length room n) _ TooLong P (λ v h. due_is st (nat_eq kind 1) v)
     (λ v. either (is_established st && nat_eq kind 4) (data_length most n) (out_of_place st kind) TooLong P (λ w h. of_data h) (λ w h. out h))))
 

@@ -9,7 +9,7 @@ use Rattle.part10.specs.Store.{Store}
 use Rattle.element.specs.declared.syntax.Syntax.{Syntax}
 use Rattle.sequence.specs.Rules.{Limits}
 use Rattle.sequence.specs.Walk.{Told, Tells, going, refused}
-use Rattle.sequence.specs.Taken.{syntax_of, limits_of, told_by}
+use Rattle.sequence.specs.Taken.{walker_syntax, limits_of, told_by}
 use Rattle.engine.specs.Stores.{limits}
 use Rattle.engine.specs.declared.framing.Framing.TheVariants as framing
 use Rattle.engine.specs.Run.{Rooms}
@@ -100,7 +100,7 @@ held_walked : {depth most : ℕ} {request : List ℕ} {m : Begun} {stored : Stor
     → Walks depth most request m stored → IsHeldOfMessage rooms s request m (held_in stored)
 held_walked rooms s d l (not_walked none) = holding.not_walked none
 held_walked rooms s d l (walked {walker = w} store takes) =
-    let told : IsHeldOfSet (syntax_of w) (limits_of w) store.set (told_by w).held = held_told takes.stands.tells in
+    let told : IsHeldOfSet (walker_syntax w) (limits_of w) store.set (told_by w).held = held_told takes.stands.tells in
     let same : limits_of w ≡ limits rooms.depth s.max_data = takes.limits_are ∙ rw (d, l) refl in
     holding.walked store (rw (takes.syntax_is, same) at told)
 

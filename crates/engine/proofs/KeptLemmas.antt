@@ -4,7 +4,7 @@ use Rattle.std.proofs.lemmas.List.{length-drop}
 use Rattle.acceptor.specs.declared.state.State.{State}
 use Rattle.acceptor.specs.declared.state.State.TheVariants.{Sta1, Sta2, Sta3, Sta6, Sta8, Sta13}
 use Rattle.pdu.specs.Marks.{frame_kind}
-use Rattle.pdu.specs.Items.{record_of}
+use Rattle.pdu.specs.Items.{request_record}
 use Rattle.pdu.specs.Spot.{spot}
 use Rattle.dimse.specs.Messages.{Begun, NoMessage, InCommand, InSet}
 use Rattle.dimse.specs.Joining as joining
@@ -58,7 +58,7 @@ nothing_kept Sta8 r table xs e = absurd cc
 nothing_kept Sta13 r table xs e = absurd cc
 
 module _ (k : Kept) (store : Store) (p : Progress) (rest : List ℕ) (h : Pends k store p (body_in (frame_kind rest) (drop 6 rest)) (begun_in (spot rest))) where
-  accepted_size : (st : State) → p.state ≡ st → (if is_established st then 20 + 4 * length k.table else 0) ≡ (if is_established st then of_accepted (record_of p.request) else 0)
+  accepted_size : (st : State) → p.state ≡ st → (if is_established st then 20 + 4 * length k.table else 0) ≡ (if is_established st then of_accepted (request_record p.request) else 0)
   accepted_size Sta1 e = refl
   accepted_size Sta2 e = refl
   accepted_size Sta3 e = refl

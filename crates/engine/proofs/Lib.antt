@@ -3,7 +3,7 @@ pub mod TimelineLemmas
 pub mod SizeLemmas
 pub mod StoreLemmas
 pub mod PendsLemmas
-pub mod TriesLemmas
+pub mod DueLemmas
 pub mod HeadLemmas
 pub mod RequestLemmas
 pub mod WholeLemmas
@@ -15,7 +15,7 @@ pub mod DoesLemmas
 pub mod FoundLemmas
 pub mod ValueLemmas
 pub mod StillLemmas
-pub mod TookLemmas
+pub mod PartLemmas
 pub mod MovedLemmas
 pub mod HeldLemmas
 pub mod RanLemmas
@@ -30,9 +30,9 @@ pub mod VerdictExamples
 pub mod StoreVerdicts
 pub mod CutLemmas
 pub mod RowsLemmas
-pub mod JudgedLemmas
+pub mod WalkVerdictLemmas
 pub mod ShownLemmas
-pub mod TakesLemmas
+pub mod WalkedLemmas
 pub mod BodyLemmas
 pub mod CountLemmas
 pub mod AskedLemmas

@@ -8,7 +8,7 @@ use Rattle.pdu.specs.declared.head.PdvHead.{PdvHead}
 use Rattle.pdu.specs.Heads.{pdv_head_of, is_command, is_last}
 use Rattle.pdu.specs.Marks as mark
 use Rattle.pdu.specs.Marks.{Pdv}
-use Rattle.pdu.specs.Items.{record_of}
+use Rattle.pdu.specs.Items.{request_record}
 use Rattle.negotiate.specs.Settings.{Settings}
 use Rattle.negotiate.specs.declared.proposals.Context.{Context}
 use Rattle.negotiate.specs.Contexts.{context_of}
@@ -21,11 +21,11 @@ use Rattle.dimse.specs.declared.joined.Joined.TheVariants as joined
 use Rattle.dimse.specs.Command.{CommandRecord}
 use Rattle.dimse.specs.Reading.{command_in}
 use Rattle.dimse.specs.Messages.{Message, message_by, Begun, NoMessage, InCommand, InSet, Brought, Goes, Ends, Refuses, brought, refusal, head_refusal, with_command, message_row}
-use Rattle.dimse.specs.Joining.{Joining, Shows, Joins, ok_unless, without_set, pdv_of, goes_on, lending, with_fragment, with_pdv}
+use Rattle.dimse.specs.Joining.{Joining, ShowsMessage, Joins, ok_unless, without_set, pdv_of, goes_on, lending, with_fragment, with_pdv}
 use Rattle.engine.specs.Timeline.{At, Finding, good}
 use Rattle.engine.specs.Progress.{Progress, Advance, nothing, done, absorb, is_established}
 use Rattle.engine.specs.Reached.{takes_pdvs}
-use Rattle.engine.specs.Replies.{invalid, user_aborts, unless_refused, at_pdv_head, at_pdv, replied, going_on}
+use Rattle.engine.specs.Replies.{invalid, user_aborts, aborted_if_refused, at_pdv_head, at_pdv, replied, going_on}
 use Rattle.engine.specs.Run.{Rooms, at_entry}
 use Rattle.engine.specs.Fair.{InStore, IsVerdict, message_at}
 use Rattle.engine.specs.Held.{is_ended}
@@ -34,9 +34,9 @@ use Rattle.engine.specs.machine.Messages.{with_join, Aside, HasCome}
 use Rattle.engine.specs.machine.Storing.{Stored}
 use Rattle.engine.proofs.StoreLemmas.{Carried, so_far, carried, no_store, no_store_yet, long_pdv, store_fragment, head_carried}
 use Rattle.engine.specs.Devices.{Devices}
-use Rattle.engine.specs.machine.Tries.{Tries}
+use Rattle.engine.specs.machine.DoesDue.{DoesDue}
 use Rattle.engine.proofs.PendsLemmas.{tries_from}
-use Rattle.engine.proofs.TriesLemmas.{taken_when, if_nothing, none_counted_pdv, tries_nothing}
+use Rattle.engine.proofs.DueLemmas.{taken_when, if_nothing, none_counted_pdv, tries_nothing}
 
 -- ---- where PDVs count
 
@@ -62,7 +62,7 @@ pends_dropped k store p body b c t h =
       state_is = h.state_is;
       refused_is = h.refused_is;
       body_is = h.body_is;
-      join_is = subst (λ (xs : List ℕ). Shows k.room k.join p.message xs) same h.join_is;
+      join_is = subst (λ (xs : List ℕ). ShowsMessage k.room k.join p.message xs) same h.join_is;
       agreed = h.agreed;
       none_left = h.none_left;
       walks = d.0;
@@ -88,7 +88,7 @@ aside_joined k p j h = record {
 pub aside_absorbed : (k : Kept) (p : Progress) (failed : Bool) → Aside k p → Aside k (absorb failed p)
 aside_absorbed k p failed h = record { state_is = h.state_is; refused_is = h.refused_is; body_is = h.body_is; agreed = h.agreed; none_left = h.none_left }
 
-pub pends_joined : (k : Kept) (store : Store) (p : Progress) (j : Joining) (stored : Stored) (begun : List ℕ) → Aside k p → Shows k.room j p.message (counted_pdv p begun)
+pub pends_joined : (k : Kept) (store : Store) (p : Progress) (j : Joining) (stored : Stored) (begun : List ℕ) → Aside k p → ShowsMessage k.room j p.message (counted_pdv p begun)
     → Carried k.depth k.most stored store p.request (so_far p begun) p.filing_failed → (is_ended p.state ≡ false → p.filing_failed ≡ true → InStore p.request p.message)
     → Pends (record k { join = j; storing = stored }) store p [] begun
 pends_joined k store p j stored begun h shows c failed = record {
@@ -104,13 +104,13 @@ pends_joined k store p j stored begun h shows c failed = record {
 }
 
 -- the head of a PDV came
-pub pends_headed : (k : Kept) (store : Store) (p : Progress) (j : Joining) (begun : List ℕ) → length begun ≡ 6 → takes_pdvs p ≡ true → Pends k store p [] [] → Shows k.room j p.message begun → Pends (with_join j k) store p [] begun
+pub pends_headed : (k : Kept) (store : Store) (p : Progress) (j : Joining) (begun : List ℕ) → length begun ≡ 6 → takes_pdvs p ≡ true → Pends k store p [] [] → ShowsMessage k.room j p.message begun → Pends (with_join j k) store p [] begun
 pends_headed k store p j begun six t h shows =
     let counts = counted_taken p begun t in
     let base = subst (λ (xs : List ℕ). Carried k.depth k.most k.storing store p.request (with_pdv xs p.message) p.filing_failed) (none_counted_pdv p) (carried k store p [] [] h) in
     let c = subst (λ (xs : List ℕ). Carried k.depth k.most k.storing store p.request (with_pdv xs p.message) p.filing_failed) (sym counts)
     (head_carried k.depth k.most k.storing store p.request begun p.message p.filing_failed six base) in
-    pends_joined k store p j k.storing begun (aside_of k store p [] h) (subst (λ (xs : List ℕ). Shows k.room j p.message xs) (sym counts) shows) c h.failed_in
+    pends_joined k store p j k.storing begun (aside_of k store p [] h) (subst (λ (xs : List ℕ). ShowsMessage k.room j p.message xs) (sym counts) shows) c h.failed_in
 
 -- ---- the head of a PDV
 
@@ -122,13 +122,13 @@ pub head_dropped : (rooms : Rooms) (s : Settings) (p : Progress) (n c x : ℕ) �
 head_dropped rooms s p n c x t =
     taken_when (is_established p.state) p.refused (at_pdv_head rooms.command p n c x) (nothing p) ∙ ap (λ (y : Bool). if y then at_pdv_head rooms.command p n c x else nothing p) t
 
-pub head_unaccepted : (room : ℕ) (p : Progress) (n c x : ℕ) → context_of (record_of p.request) c ≡ None → at_pdv_head room p n c x ≡ invalid p
-head_unaccepted room p n c x e = ap (λ (o : Option Context). elim o [ None ↦ invalid p | Some accepted ↦ unless_refused (refusal room p.message n c x) p ]) e
+pub head_unaccepted : (room : ℕ) (p : Progress) (n c x : ℕ) → context_of (request_record p.request) c ≡ None → at_pdv_head room p n c x ≡ invalid p
+head_unaccepted room p n c x e = ap (λ (o : Option Context). elim o [ None ↦ invalid p | Some accepted ↦ aborted_if_refused (refusal room p.message n c x) p ]) e
 
-pub head_accepted : (room : ℕ) (p : Progress) (n c x : ℕ) (a : Context) (o : Option DimseFault) → context_of (record_of p.request) c ≡ Some a → refusal room p.message n c x ≡ o
-    → at_pdv_head room p n c x ≡ unless_refused o p
+pub head_accepted : (room : ℕ) (p : Progress) (n c x : ℕ) (a : Context) (o : Option DimseFault) → context_of (request_record p.request) c ≡ Some a → refusal room p.message n c x ≡ o
+    → at_pdv_head room p n c x ≡ aborted_if_refused o p
 head_accepted room p n c x a o e f =
-    ap (λ (y : Option Context). elim y [ None ↦ invalid p | Some accepted ↦ unless_refused (refusal room p.message n c x) p ]) e ∙ ap (λ (y : Option DimseFault). unless_refused y p) f
+    ap (λ (y : Option Context). elim y [ None ↦ invalid p | Some accepted ↦ aborted_if_refused (refusal room p.message n c x) p ]) e ∙ ap (λ (y : Option DimseFault). aborted_if_refused y p) f
 
 pub judged_none : (o : Option DimseFault) (u : Unit {0}) → ok_unless o ≡ Ok u → o ≡ None
 judged_none None u e = refl
@@ -141,10 +141,10 @@ judged_some (Some fault) f e = ap (λ (x : DimseFault). Some x) (let h : ◌≡�
 -- between two PDVs the join shows the message
 pub join_between : (k : Kept) (store : Store) (p : Progress) (body : List ℕ) → Pends k store p body [] → k.join.message ≡ without_set p.message
 join_between k store p body h =
-    let shows : Shows k.room k.join p.message [] = subst (λ (xs : List ℕ). Shows k.room k.join p.message xs) (if_nothing (takes_pdvs p)) h.join_is in
+    let shows : ShowsMessage k.room k.join p.message [] = subst (λ (xs : List ℕ). ShowsMessage k.room k.join p.message xs) (if_nothing (takes_pdvs p)) h.join_is in
     ap (λ (j : Joining). j.message) shows.shows
 
-pub context_shown : (k : Kept) (store : Store) (p : Progress) (body begun : List ℕ) (id : ℕ) → Pends k store p body begun → takes_pdvs p ≡ true → context_in k.table id ≡ context_of (record_of p.request) id
+pub context_shown : (k : Kept) (store : Store) (p : Progress) (body begun : List ℕ) (id : ℕ) → Pends k store p body begun → takes_pdvs p ≡ true → context_in k.table id ≡ context_of (request_record p.request) id
 context_shown k store p body begun id h t = (h.agreed (taken_state p t)).contexts id
 
 -- ---- a whole PDV
@@ -280,9 +280,9 @@ ends_row room (InSet first command set) h false true bytes m r e =
     (inl (ap (λ (x : Message). InSet x.context x.command x.set) same), sym (ap (λ (x : Message). x.context) same) ∙ same_context h.context first (nat_eq h.context first) _ refl r)
 
 module _ (room : ℕ) (before : Begun) (begun : List ℕ) (six : 6 ≤ length begun) (fine : head_refusal room before (pdv_head_of begun) ≡ None) (old new : Joining) where
-  pub goes_of : Joins room before (brought before (pdv_of begun)) old new (Ok joined.More) → (later : Begun) × (brought before (pdv_of begun) ≡ Goes later) × Shows room new later [] × (later ≡ with_pdv begun before)
+  pub goes_of : Joins room before (brought before (pdv_of begun)) old new (Ok joined.More) → (later : Begun) × (brought before (pdv_of begun) ≡ Goes later) × ShowsMessage room new later [] × (later ≡ with_pdv begun before)
   goes_of j = by (brought before (pdv_of begun)) refl j where
-    by : (b : Brought) → brought before (pdv_of begun) ≡ b → Joins room before b old new (Ok joined.More) → (later : Begun) × (brought before (pdv_of begun) ≡ Goes later) × Shows room new later [] × (later ≡ with_pdv begun before)
+    by : (b : Brought) → brought before (pdv_of begun) ≡ b → Joins room before b old new (Ok joined.More) → (later : Begun) × (brought before (pdv_of begun) ≡ Goes later) × ShowsMessage room new later [] × (later ≡ with_pdv begun before)
     by (Goes later) is (e, h) =
         let more : joined.More ≡ goes_on before later = let x : ◌≡◌ {A = Result Joined DimseFault} (Ok joined.More) (Ok (goes_on before later)) = e in cc in
         (later, is, h, more_row before (is_command (get_or begun 5 0)) (is_last (get_or begun 5 0)) (get_or begun 4 0) (drop 6 begun) later is more ∙ sym (long_pdv begun before six))
@@ -290,10 +290,10 @@ module _ (room : ℕ) (before : Begun) (begun : List ℕ) (six : 6 ≤ length be
     by (Refuses f) is (e, h) = let x : ◌≡◌ {A = Result Joined DimseFault} (Ok joined.More) (Err f) = e in absurd cc
 
   pub due_of : Joins room before (brought before (pdv_of begun)) old new (Ok joined.DataDue)
-      → (later : Begun) × (brought before (pdv_of begun) ≡ Goes later) × Shows room new later [] × IsDataDue room before (pdv_head_of begun) (drop 6 begun) later
+      → (later : Begun) × (brought before (pdv_of begun) ≡ Goes later) × ShowsMessage room new later [] × IsDataDue room before (pdv_head_of begun) (drop 6 begun) later
   due_of j = by (brought before (pdv_of begun)) refl j where
     by : (b : Brought) → brought before (pdv_of begun) ≡ b → Joins room before b old new (Ok joined.DataDue)
-        → (later : Begun) × (brought before (pdv_of begun) ≡ Goes later) × Shows room new later [] × IsDataDue room before (pdv_head_of begun) (drop 6 begun) later
+        → (later : Begun) × (brought before (pdv_of begun) ≡ Goes later) × ShowsMessage room new later [] × IsDataDue room before (pdv_head_of begun) (drop 6 begun) later
     by (Goes later) is (e, h) =
         let due : joined.DataDue ≡ goes_on before later = let x : ◌≡◌ {A = Result Joined DimseFault} (Ok joined.DataDue) (Ok (goes_on before later)) = e in cc in
         (later, is, h, due_row room before (pdv_head_of begun) (is_command (get_or begun 5 0)) (is_last (get_or begun 5 0)) (drop 6 begun) later fine is due)
@@ -330,7 +330,7 @@ module _ (room : ℕ) (before : Begun) (begun : List ℕ) (six : 6 ≤ length be
     by (Refuses g) is (e, h) = (is ∙ ap (λ (x : DimseFault). Refuses x) (let x : ◌≡◌ {A = Result Joined DimseFault} (Err f) (Err g) = e in cc), h)
 
 -- the message goes on
-pub pends_going_on : (k : Kept) (store : Store) (p : Progress) (j : Joining) (later : Begun) (begun : List ℕ) → Pends k store p [] begun → takes_pdvs p ≡ true → Shows k.room j later []
+pub pends_going_on : (k : Kept) (store : Store) (p : Progress) (j : Joining) (later : Begun) (begun : List ℕ) → Pends k store p [] begun → takes_pdvs p ≡ true → ShowsMessage k.room j later []
     → later ≡ with_pdv begun p.message → 6 ≤ length begun → Pends (with_join j k) store (going_on later p) [] []
 pends_going_on k store p j later begun h t shows is six =
     let none : counted_pdv (going_on later p) [] ≡ [] = none_counted_pdv (going_on later p) in
@@ -340,7 +340,7 @@ pends_going_on k store p j later begun h t shows is six =
       state_is = h.state_is;
       refused_is = h.refused_is;
       body_is = h.body_is;
-      join_is = subst (λ (xs : List ℕ). Shows k.room j later xs) (sym none) shows;
+      join_is = subst (λ (xs : List ℕ). ShowsMessage k.room j later xs) (sym none) shows;
       agreed = λ six. let a = h.agreed six in record { caller = a.caller; maximum = a.maximum; contexts = a.contexts; count = a.count };
       none_left = λ e. let x : is_established Sta6 ≡ false = sym (ap is_established (taken_state p t)) ∙ e in absurd cc;
       walks = c.0;
@@ -355,5 +355,5 @@ aborted_pdv p begun t = ap (λ (st : State). counted_pdv (done [] 0 (record p { 
 pub aborted_body : (p : Progress) → takes_pdvs p ≡ true → counted_body (done [] 0 p event.UserAborts).next [] ≡ []
 aborted_body p t = ap (λ (st : State). counted_body (done [] 0 (record p { state = st }) event.UserAborts).next []) (taken_state p t)
 
-pub tries_still : (p q : Progress) (k : Kept) (body begun : List ℕ) (d : Devices) → Pends k d.store q body begun → Tries p (nothing q) k body begun d d
+pub tries_still : (p q : Progress) (k : Kept) (body begun : List ℕ) (d : Devices) → Pends k d.store q body begun → DoesDue p (nothing q) k body begun d d
 tries_still p q k body begun d h = tries_from p q (nothing q) k body begun d d (tries_nothing q k body begun d h)

@@ -12,7 +12,7 @@ use Rattle.engine.specs.declared.framing.Framing.{Framing}
 use Rattle.engine.specs.declared.framing.Framing.TheVariants as framing
 use Rattle.engine.specs.Inputs.{Received, Bytes, Close, Expiry, UserAbort, stream_of}
 use Rattle.engine.specs.Timeline.{Entry, At, Happened, entries, entries_of}
-use Rattle.engine.specs.Progress.{Progress, absorb, start}
+use Rattle.engine.specs.Progress.{Progress, absorb, at_start}
 use Rattle.engine.specs.Devices.{Devices, files_in}
 use Rattle.engine.specs.Run.{Rooms, gives, progress_of}
 use Rattle.engine.specs.Fair.{MayFail, IsStory}
@@ -24,12 +24,12 @@ use Rattle.engine.specs.Moves.{Moved}
 use Rattle.engine.specs.machine.Pends.{Kept, Pends}
 use Rattle.engine.specs.machine.Storing.{drafting_in}
 use Rattle.engine.specs.machine.Does.{Does, DoesAll, push, still_failed}
-use Rattle.engine.specs.machine.Shows.{Fields, ShowsFrame, Framed, Took, body_of}
+use Rattle.engine.specs.machine.Shows.{Fields, ShowsFrame, Framed, DoesPart, body_of}
 use Rattle.engine.proofs.TimelineLemmas.{entries_append}
 use Rattle.engine.proofs.StoryLemmas.{progress_then, fair_then, line_nothing, no_files}
 use Rattle.engine.proofs.DoesLemmas.{push_entries, push_wire, push_sent, push_files, push_fair, push_last, push_filing, push_progress, does_one}
 use Rattle.engine.proofs.ShownLemmas.{pends_ended}
-use Rattle.engine.proofs.TookLemmas.{empty_rest, spot_none, took_dropped}
+use Rattle.engine.proofs.PartLemmas.{empty_rest, spot_none, took_dropped}
 use Rattle.engine.proofs.StillLemmas.{calm, ended_is, stays}
 
 -- ---- the stream
@@ -44,25 +44,25 @@ stream_then (UserAbort ∷ xs) ys = stream_then xs ys
 module _ (rooms : Rooms) (s : Settings) where
   -- what the entries of the new input did
   pub moved_by : (inputs : List Received) (story : List Happened) (failed : Bool) (x : Received) (old_f f : Fields) (b g : List ℕ) (d e : Devices) → IsStory rooms s inputs story failed
-      → (a : DoesAll rooms s (absorb failed (progress_of rooms s start story)) (entries (stream_of inputs) (x ∷ [])) f.kept b g d e)
-      → Shows f e.store (record { progress = absorb a.failed (progress_of rooms s (absorb failed (progress_of rooms s start story)) a.story); rest = rest_of (stream_of (inputs ++ x ∷ [])) })
+      → (a : DoesAll rooms s (absorb failed (progress_of rooms s at_start story)) (entries (stream_of inputs) (x ∷ [])) f.kept b g d e)
+      → Shows f e.store (record { progress = absorb a.failed (progress_of rooms s (absorb failed (progress_of rooms s at_start story)) a.story); rest = rest_of (stream_of (inputs ++ x ∷ [])) })
       → Drafts (drafting old_f) d.store (drafting f) e.store → Moved rooms s inputs story failed x old_f f d e
   moved_by inputs story failed x old_f f b g d e h a shows same =
-      let p = progress_of rooms s start story in
+      let p = progress_of rooms s at_start story in
       let more = push failed a.story in
       let last = still_failed failed a.story a.failed in
       let rest = rest_of (stream_of (inputs ++ x ∷ [])) in
-      let there : absorb last (progress_of rooms s start (story ++ more)) ≡ absorb a.failed (progress_of rooms s (absorb failed p) a.story) =
-      ap (absorb last) (progress_then rooms s start story more) ∙ push_progress rooms s failed a.failed p a.story in
-      let shown : Shows f e.store (record { progress = absorb last (progress_of rooms s start (story ++ more)); rest = rest }) = subst (λ (q : Progress). Shows f e.store (record { progress = q; rest = rest })) (sym there) shows in
+      let there : absorb last (progress_of rooms s at_start (story ++ more)) ≡ absorb a.failed (progress_of rooms s (absorb failed p) a.story) =
+      ap (absorb last) (progress_then rooms s at_start story more) ∙ push_progress rooms s failed a.failed p a.story in
+      let shown : Shows f e.store (record { progress = absorb last (progress_of rooms s at_start (story ++ more)); rest = rest }) = subst (λ (q : Progress). Shows f e.store (record { progress = q; rest = rest })) (sym there) shows in
       record {
         more = more;
         failed_then = last;
         stands = record {
           story_is = record {
             told = map-append (λ (y : Happened). y.0) story more ∙ ap (λ (es : List Entry). entries_of story ++ es) (push_entries failed a.story ∙ a.told) ∙ ap (λ (es : List Entry). es ++ entries (stream_of inputs) (x ∷ [])) h.told ∙ sym (entries_append inputs (x ∷ []));
-            fair = fair_then rooms s start story more h.fair (push_fair rooms s failed p a.story h.last a.fair);
-            last = λ t. subst (λ (q : Progress). MayFail q q) (sym (progress_then rooms s start story more)) (push_last rooms s failed a.failed p a.story h.last a.last t);
+            fair = fair_then rooms s at_start story more h.fair (push_fair rooms s failed p a.story h.last a.fair);
+            last = λ t. subst (λ (q : Progress). MayFail q q) (sym (progress_then rooms s at_start story more)) (push_last rooms s failed a.failed p a.story h.last a.last t);
           };
           shows = shown;
           draft = shown.frame.pends.draft;
@@ -77,11 +77,11 @@ module _ (rooms : Rooms) (s : Settings) where
 
   -- bytes came
   pub moved_bytes : (inputs : List Received) (story : List Happened) (failed : Bool) (piece : List ℕ) (old_f f : Fields) (d e : Devices) → IsStory rooms s inputs story failed
-      → (t : Took rooms s f (absorb failed (progress_of rooms s start story)) (rest_of (stream_of inputs)) piece d e)
+      → (t : DoesPart rooms s f (absorb failed (progress_of rooms s at_start story)) (rest_of (stream_of inputs)) piece d e)
       → (is_ended f.kept.state ≡ true → (f.framing ≡ framing.Head) × (f.head ≡ [])) → Drafts (drafting old_f) d.store (drafting f) e.store → Moved rooms s inputs story failed (Bytes piece) old_f f d e
   moved_bytes inputs story failed piece old_f f d e h t headless same =
       let stream = stream_of inputs in
-      let p = absorb failed (progress_of rooms s start story) in
+      let p = absorb failed (progress_of rooms s at_start story) in
       let q = absorb t.failed (progress_of rooms s p t.story) in
       let now : entries stream (Bytes piece ∷ []) ≡ map At (new_marks (rest_of stream) piece) = append-nil (map At (new_marks stream piece)) ∙ ap (λ (ms : List Mark). map At ms) (new_rest stream piece) in
       let whole : rest_of (stream_of (inputs ++ Bytes piece ∷ [])) ≡ rest_of (rest_of stream ++ piece) =
@@ -93,11 +93,11 @@ module _ (rooms : Rooms) (s : Settings) where
   -- another input came, which brings this one entry
   pub moved_other : (inputs : List Received) (story : List Happened) (failed : Bool) (x : Received) (entry : Entry) (old_f f : Fields) (d e : Devices) → IsStory rooms s inputs story failed
       → entries (stream_of inputs) (x ∷ []) ≡ entry ∷ [] → stream_of (x ∷ []) ≡ []
-      → Does rooms s (absorb failed (progress_of rooms s start story)) entry f.kept (body_of (rest_of (stream_of inputs))) (begun_in (spot (rest_of (stream_of inputs)))) d e
+      → Does rooms s (absorb failed (progress_of rooms s at_start story)) entry f.kept (body_of (rest_of (stream_of inputs))) (begun_in (spot (rest_of (stream_of inputs)))) d e
       → (is_ended f.kept.state ≡ false → Framed f.framing f.head f.pdv (rest_of (stream_of inputs)) (spot (rest_of (stream_of inputs))))
       → (is_ended f.kept.state ≡ true → (f.framing ≡ framing.Head) × (f.head ≡ [])) → Drafts (drafting old_f) d.store (drafting f) e.store → Moved rooms s inputs story failed x old_f f d e
   moved_other inputs story failed x entry old_f f d e h one none did framed headless same =
-      let p = absorb failed (progress_of rooms s start story) in
+      let p = absorb failed (progress_of rooms s at_start story) in
       let rest = rest_of (stream_of inputs) in
       let q = (gives rooms s p (entry, did.outcome)).next in
       let whole : rest_of (stream_of (inputs ++ x ∷ [])) ≡ rest = ap rest_of (stream_then inputs (x ∷ []) ∙ ap (λ (c : List ℕ). stream_of inputs ++ c) none ∙ append-nil (stream_of inputs)) in
@@ -112,7 +112,7 @@ module _ (rooms : Rooms) (s : Settings) where
   -- after the end
   pub moved_still : (inputs : List Received) (story : List Happened) (failed : Bool) (x : Received) (f : Fields) (d : Devices) → Stands rooms s inputs story failed f d.store → is_ended f.kept.state ≡ true → IsThere (drafting f) d.store → Moved rooms s inputs story failed x f f d d
   moved_still inputs story failed x f d h ended there =
-      let p = absorb failed (progress_of rooms s start story) in
+      let p = absorb failed (progress_of rooms s at_start story) in
       let es = entries (stream_of inputs) (x ∷ []) in
       let over : is_ended p.state ≡ true = sym (ap is_ended h.shows.frame.pends.state_is) ∙ ended in
       let is : p.state ≡ Sta1 = ended_is p.state over in
@@ -139,16 +139,16 @@ module _ (rooms : Rooms) (s : Settings) where
       }) (record { there = there; own = λ mine. mine })
 
   -- nothing has come
-  pub stands_start : (hd pv : List ℕ) (k : Kept) (store : Store) → hd ≡ [] → pv ≡ [] → Pends k store start [] [] → Stands rooms s [] [] false (record { framing = framing.Head; head = hd; pdv = pv; kept = k }) store
+  pub stands_start : (hd pv : List ℕ) (k : Kept) (store : Store) → hd ≡ [] → pv ≡ [] → Pends k store at_start [] [] → Stands rooms s [] [] false (record { framing = framing.Head; head = hd; pdv = pv; kept = k }) store
   stands_start hd pv k store e f h =
       let fields : Fields = record { framing = framing.Head; head = hd; pdv = pv; kept = k } in
       let none : rest_of [] ≡ [] = rest_alone [] empty_rest in
-      let pends : Pends k store start (body_of []) (begun_in (spot [])) = rw spot_none h in
-      let shown : Shows fields store (record { progress = start; rest = [] }) = record {
+      let pends : Pends k store at_start (body_of []) (begun_in (spot [])) = rw spot_none h in
+      let shown : Shows fields store (record { progress = at_start; rest = [] }) = record {
         frame = record { framed = λ _. record { short = omega arith; head_is = e; pdv_is = f }; pends = pends };
         headless = λ ended. absurd cc;
       } in
-      let now : Shows fields store (reached rooms s [] [] false) = subst (λ (r : List ℕ). Shows fields store (record { progress = start; rest = r })) (sym none) shown in
+      let now : Shows fields store (reached rooms s [] [] false) = subst (λ (r : List ℕ). Shows fields store (record { progress = at_start; rest = r })) (sym none) shown in
       record {
         story_is = record { told = refl; fair = tt; last = λ wrong. absurd cc };
         shows = now;
@@ -171,11 +171,11 @@ module _ (rooms : Rooms) (s : Settings) where
 
   -- a call that takes bytes
   pub moved_feed : (inputs : List Received) (story : List Happened) (failed : Bool) (piece : List ℕ) (old_f f g : Fields) (d e : Devices) → Stands rooms s inputs story failed old_f d.store
-      → ((p : Progress) (r : List ℕ) → IsRest r → ShowsFrame old_f d.store p r → Took rooms s f p r piece d e)
+      → ((p : Progress) (r : List ℕ) → IsRest r → ShowsFrame old_f d.store p r → DoesPart rooms s f p r piece d e)
       → Dropped f g → Drafts (drafting old_f) d.store (drafting f) e.store → Moved rooms s inputs story failed (Bytes piece) old_f g d e
   moved_feed inputs story failed piece old_f f g d e h takes dropped same =
       let stream = stream_of inputs in
-      let p = absorb failed (progress_of rooms s start story) in
+      let p = absorb failed (progress_of rooms s at_start story) in
       let took = takes p (rest_of stream) (rest_is_rest stream) h.shows.frame in
       moved_bytes inputs story failed piece old_f g d e h.story_is (took_dropped rooms s f g p (rest_of stream) piece d e dropped.kept dropped.same took) (headless_then f g dropped)
       (drafts_kept old_f f g d.store e.store dropped.kept same)
@@ -188,7 +188,7 @@ module _ (rooms : Rooms) (s : Settings) where
       → Dropped (record { framing = fr; head = hd; pdv = pv; kept = n }) g → Drafts (drafting_in k.storing) d.store (drafting_in n.storing) e.store
       → Moved rooms s inputs story failed x (record { framing = fr; head = hd; pdv = pv; kept = k }) g d e
   moved_call inputs story failed x entry fr hd pv k n g d e h there one none does dropped same =
-      let p = absorb failed (progress_of rooms s start story) in
+      let p = absorb failed (progress_of rooms s at_start story) in
       let rest = rest_of (stream_of inputs) in
       let framed : Framed fr hd pv rest (spot rest) = h.shows.frame.framed (sym (ap is_ended h.shows.frame.pends.state_is) ∙ there) in
       let did : Does rooms s p entry g.kept (body_of rest) (begun_in (spot rest)) d e = subst (λ (y : Kept). Does rooms s p entry y (body_of rest) (begun_in (spot rest)) d e) (sym dropped.kept) (does p (body_of rest) (begun_in (spot rest)) h.shows.frame.pends) in

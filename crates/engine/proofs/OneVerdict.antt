@@ -4,7 +4,7 @@ use Rattle.element.specs.declared.syntax.Syntax.{Syntax}
 use Rattle.element.specs.declared.tag.Tag.{Tag}
 use Rattle.sequence.specs.Open.{in_header, last_of}
 use Rattle.sequence.specs.Rules.{Limits}
-use Rattle.sequence.specs.Wanted.{Values, Kept, kept_of}
+use Rattle.sequence.specs.Wanted.{Values, KeepsWanted, kept_of}
 use Rattle.sequence.specs.FirstFault.{IsUnbroken, FirstFault, EndFault, tag_of_tail}
 use Rattle.sequence.proofs.Public.{one_path}
 use Rattle.sequence.proofs.Public.{one_fault}
@@ -13,9 +13,9 @@ use Rattle.dimse.specs.Status.{class_not_supported, data_set_mismatch, cannot_un
 use Rattle.negotiate.specs.declared.proposals.Context.{Context}
 use Rattle.engine.specs.Timeline.{Finding, good}
 use Rattle.dimse.specs.Detail.{class_mismatch, instance_mismatch}
-use Rattle.engine.specs.Stores.{IsOfContext, Names, NamesInstance, Verdict, other_class, no_room, faulty, cut, names_class, names_instance, unfiled, filed, wanted, limits, class_tag, instance_tag, cause}
+use Rattle.engine.specs.Stores.{IsOfContext, NamesUid, NamesInstance, Verdict, other_class, no_room, faulty, cut, names_class, names_instance, unfiled, filed, wanted, limits, class_tag, instance_tag, cause}
 use Rattle.engine.specs.StoreLaws.{AVerdictIsOne}
-use Rattle.engine.specs.machine.Judged.{no_resources, of_fault}
+use Rattle.engine.specs.machine.Verdicts.{no_resources, of_fault}
 use Rattle.engine.proofs.VerdictLemmas.{IsFine, Ends, ends_broken, ends_short, ends_fine, whole_front, every_end, of_context_or_not, names_or_not, instance_or_not, finding_on_names, found_on}
 
 -- ---- the kinds of ends exclude one another
@@ -43,24 +43,24 @@ same_fault s lim b p p2 u u2 rule rule2 tag tag2 f g = let k = one_fault s lim b
 
 -- ---- what a data set names
 
-same_values : (s : Syntax) (lim : Limits) (b : List ℕ) (values : Values) (w : IsFine s lim b) → Kept s wanted b values → values ≡ kept_of wanted w.elements
+same_values : (s : Syntax) (lim : Limits) (b : List ℕ) (values : Values) (w : IsFine s lim b) → KeepsWanted s wanted b values → values ≡ kept_of wanted w.elements
 same_values s lim b values w k =
     let same = one_path s b k.elements w.elements k.path [] k.last (last_of 0 w.elements) k.tail (in_header []) k.front (whole_front s w.elements b w.whole) in
     k.kept ∙ ap (kept_of wanted) same.0
 
 module _ (values : Values) (command : CommandRecord) where
-  class_differs : (failed : Bool) → (Names values class_tag command.class → ⊥) → (c : Names values class_tag command.class ⊎ (Names values class_tag command.class → ⊥)) (i : NamesInstance values command ⊎ (NamesInstance values command → ⊥))
+  class_differs : (failed : Bool) → (NamesUid values class_tag command.class → ⊥) → (c : NamesUid values class_tag command.class ⊎ (NamesUid values class_tag command.class → ⊥)) (i : NamesInstance values command ⊎ (NamesInstance values command → ⊥))
       → cause data_set_mismatch class_mismatch class_tag ≡ finding_on_names values command failed c i
   class_differs failed other (inr n) i = refl
   class_differs failed other (inl class) i = absurd (other class)
 
-  instance_differs : (failed : Bool) → Names values class_tag command.class → (NamesInstance values command → ⊥) → (c : Names values class_tag command.class ⊎ (Names values class_tag command.class → ⊥)) (i : NamesInstance values command ⊎ (NamesInstance values command → ⊥))
+  instance_differs : (failed : Bool) → NamesUid values class_tag command.class → (NamesInstance values command → ⊥) → (c : NamesUid values class_tag command.class ⊎ (NamesUid values class_tag command.class → ⊥)) (i : NamesInstance values command ⊎ (NamesInstance values command → ⊥))
       → cause data_set_mismatch instance_mismatch instance_tag ≡ finding_on_names values command failed c i
   instance_differs failed class other (inr n) i = absurd (n class)
   instance_differs failed class other (inl k) (inr n) = refl
   instance_differs failed class other (inl k) (inl instance) = absurd (other instance)
 
-  all_named : (failed : Bool) → Names values class_tag command.class → NamesInstance values command → (c : Names values class_tag command.class ⊎ (Names values class_tag command.class → ⊥)) (i : NamesInstance values command ⊎ (NamesInstance values command → ⊥))
+  all_named : (failed : Bool) → NamesUid values class_tag command.class → NamesInstance values command → (c : NamesUid values class_tag command.class ⊎ (NamesUid values class_tag command.class → ⊥)) (i : NamesInstance values command ⊎ (NamesInstance values command → ⊥))
       → (if failed then no_resources else good) ≡ finding_on_names values command failed c i
   all_named failed class instance (inr n) i = absurd (n class)
   all_named failed class instance (inl k) (inr n) = absurd (n instance)
@@ -110,18 +110,18 @@ module _ (depth most : ℕ) (context : Context) (command : CommandRecord) (set :
   fine_is finding w (cut o end) = absurd (end.unfinished w.elements w.whole)
   fine_is finding w (names_class {values = values} o whole kept differs) =
       let same = same_values context.syntax (limits depth most) set values w kept in
-      class_differs (kept_of wanted w.elements) command failed (λ n. differs (subst (λ z. Names z class_tag command.class) (sym same) n)) (names_or_not (kept_of wanted w.elements) class_tag command.class) (instance_or_not (kept_of wanted w.elements) command)
+      class_differs (kept_of wanted w.elements) command failed (λ n. differs (subst (λ z. NamesUid z class_tag command.class) (sym same) n)) (names_or_not (kept_of wanted w.elements) class_tag command.class) (instance_or_not (kept_of wanted w.elements) command)
   fine_is finding w (names_instance {values = values} o whole kept class differs) =
       let same = same_values context.syntax (limits depth most) set values w kept in
-      instance_differs (kept_of wanted w.elements) command failed (subst (λ z. Names z class_tag command.class) same class) (λ n. differs (subst (λ z. NamesInstance z command) (sym same) n)) (names_or_not (kept_of wanted w.elements) class_tag command.class) (instance_or_not (kept_of wanted w.elements) command)
+      instance_differs (kept_of wanted w.elements) command failed (subst (λ z. NamesUid z class_tag command.class) same class) (λ n. differs (subst (λ z. NamesInstance z command) (sym same) n)) (names_or_not (kept_of wanted w.elements) class_tag command.class) (instance_or_not (kept_of wanted w.elements) command)
   fine_is finding w (unfiled {values = values} o whole kept class instance e) =
       let same = same_values context.syntax (limits depth most) set values w kept in
       sym (ap (λ z. if z then no_resources else good) e)
-      ∙ all_named (kept_of wanted w.elements) command failed (subst (λ z. Names z class_tag command.class) same class) (subst (λ z. NamesInstance z command) same instance) (names_or_not (kept_of wanted w.elements) class_tag command.class) (instance_or_not (kept_of wanted w.elements) command)
+      ∙ all_named (kept_of wanted w.elements) command failed (subst (λ z. NamesUid z class_tag command.class) same class) (subst (λ z. NamesInstance z command) same instance) (names_or_not (kept_of wanted w.elements) class_tag command.class) (instance_or_not (kept_of wanted w.elements) command)
   fine_is finding w (filed {values = values} o whole kept class instance e) =
       let same = same_values context.syntax (limits depth most) set values w kept in
       sym (ap (λ z. if z then no_resources else good) e)
-      ∙ all_named (kept_of wanted w.elements) command failed (subst (λ z. Names z class_tag command.class) same class) (subst (λ z. NamesInstance z command) same instance) (names_or_not (kept_of wanted w.elements) class_tag command.class) (instance_or_not (kept_of wanted w.elements) command)
+      ∙ all_named (kept_of wanted w.elements) command failed (subst (λ z. NamesUid z class_tag command.class) same class) (subst (λ z. NamesInstance z command) same instance) (names_or_not (kept_of wanted w.elements) class_tag command.class) (instance_or_not (kept_of wanted w.elements) command)
 
   found_is : (finding : Finding) (e : Ends context.syntax (limits depth most) set) → Verdict depth most context command set failed finding → finding ≡ found_on context.syntax (limits depth most) set command failed e
   found_is finding (ends_broken p u rule tag f) v = broken_is finding p u rule tag f v

@@ -10,15 +10,15 @@ use Rattle.pdu.specs.declared.wire.WireFailed.{WireFailed}
 use Rattle.pdu.specs.Sent.{Line, Sends}
 use Rattle.part10.specs.Store.{Store}
 use Rattle.dimse.specs.Messages.{NoMessage}
-use Rattle.dimse.specs.Joining.{Shows, with_pdv}
+use Rattle.dimse.specs.Joining.{ShowsMessage, with_pdv}
 use Rattle.engine.specs.Reached.{takes_pdvs}
-use Rattle.engine.specs.Progress.{Progress, Advance, start, left, moved, done, is_due, is_established}
+use Rattle.engine.specs.Progress.{Progress, Advance, at_start, left, moved, done, is_due, is_established}
 use Rattle.engine.specs.Run.{cut}
 use Rattle.engine.specs.Devices.{Devices, devices, line_after, IsFront}
 use Rattle.engine.specs.Drafts.{IsDraft}
 use Rattle.engine.specs.machine.Storing.{Nothing, Walks, drafting_in}
 use Rattle.engine.specs.machine.Pends.{Kept, Pends, counted_body, counted_pdv, BodyFits, FragmentFits}
-use Rattle.engine.specs.machine.Tries.{Tries, step_text, is_left, IsLeft, with_state, Settles, Stays}
+use Rattle.engine.specs.machine.DoesDue.{DoesDue, step_text, is_left, IsLeft, with_state, ComesTo, Stays}
 use Rattle.engine.proofs.StoreLemmas.{Carried, so_far, no_store, none_carried}
 
 -- ---- the association is left
@@ -66,7 +66,7 @@ counted_left Sta3 p k body l h = absurd cc
 counted_left Sta6 p k body l h = absurd cc
 counted_left Sta8 p k body l h = absurd cc
 
-joined_left : (st : State) (p : Progress) (k : Kept) (begun : List ℕ) → is_left st ≡ true → IsLeft k → Shows k.room k.join NoMessage (counted_pdv (left st p) begun)
+joined_left : (st : State) (p : Progress) (k : Kept) (begun : List ℕ) → is_left st ≡ true → IsLeft k → ShowsMessage k.room k.join NoMessage (counted_pdv (left st p) begun)
 joined_left Sta1 p k begun l h = h.join
 joined_left Sta13 p k begun l h = h.join
 joined_left Sta2 p k begun l h = absurd cc
@@ -83,7 +83,7 @@ quiet_left Sta6 p begun l = absurd cc
 quiet_left Sta8 p begun l = absurd cc
 
 -- the wire failed
-pub settled_failed : (p : Progress) (st : State) (f : WireFailed) (old new : Kept) (so sn : Store) (body begun : List ℕ) → Settles st (Err f) old new so sn → Pends new sn (left Sta1 p) body begun
+pub settled_failed : (p : Progress) (st : State) (f : WireFailed) (old new : Kept) (so sn : Store) (body begun : List ℕ) → ComesTo st (Err f) old new so sn → Pends new sn (left Sta1 p) body begun
 settled_failed p st f old new so sn body begun h =
     let l = h.left (ap is_left h.state_is) in
     let c = left_carried new sn l in
@@ -91,7 +91,7 @@ settled_failed p st f old new so sn body begun h =
 
 -- the event leaves the association
 pub settled_left : (p : Progress) (st : State) (old new : Kept) (so sn : Store) (body begun : List ℕ) → Pends old so p body begun → is_left st ≡ true
-    → (is_ended st ≡ false → is_ended p.state ≡ false) → Settles st (Ok tt) old new so sn → Pends new sn (left st p) body begun
+    → (is_ended st ≡ false → is_ended p.state ≡ false) → ComesTo st (Ok tt) old new so sn → Pends new sn (left st p) body begun
 settled_left p st old new so sn body begun h l n s =
     let gone = s.left (ap is_left s.state_is ∙ l) in
     let c = none_carried new.depth new.most new.storing sn [] (so_far (left st p) begun) false gone.storing (no_store [] (so_far (left st p) begun) (quiet_left st p begun l)) in
@@ -99,14 +99,14 @@ settled_left p st old new so sn body begun h l n s =
 
 -- or keeps the state
 pub settled_stays : (p : Progress) (st : State) (old new : Kept) (so sn : Store) (body begun : List ℕ) → Pends old so p body begun → is_left st ≡ false → st ≡ p.state
-    → Settles st (Ok tt) old new so sn → Pends new sn p body begun
+    → ComesTo st (Ok tt) old new so sn → Pends new sn p body begun
 settled_stays p st old new so sn body begun h l e s =
     let same : new ≡ with_state st old = s.same (ap is_left s.state_is ∙ l) ∙ ap (λ (x : State). with_state x old) s.state_is in
     let back : with_state st old ≡ old = ap (λ (x : State). with_state x old) (e ∙ sym h.state_is) in
     subst (λ (x : Store). Pends new x p body begun) (sym (s.store_same (ap is_left s.state_is ∙ l))) (subst (λ (k : Kept). Pends k so p body begun) (sym (same ∙ back)) h)
 
 -- a connection is open, and nothing has come
-pub opened : (k : Kept) (store : Store) → k.state ≡ Sta2 → k.refused ≡ false → k.body ≡ [] → Shows k.room k.join NoMessage [] → k.storing ≡ Nothing → Pends k store start [] []
+pub opened : (k : Kept) (store : Store) → k.state ≡ Sta2 → k.refused ≡ false → k.body ≡ [] → ShowsMessage k.room k.join NoMessage [] → k.storing ≡ Nothing → Pends k store at_start [] []
 opened k store state refused body join none =
     let c = none_carried k.depth k.most k.storing store [] NoMessage false none (no_store [] NoMessage refl) in
     record { state_is = state; refused_is = λ n. refused; body_is = body; join_is = join; agreed = λ six. absurd cc; none_left = λ e. refl; walks = c.0; draft = c.1; failed_in = λ n e. absurd cc }
@@ -143,14 +143,14 @@ same_state : (p : Progress) (st : State) → st ≡ p.state → record p { state
 same_state p st e = ap (λ (x : State). record p { state = x }) e
 
 settled : (p : Progress) (st : State) (old new : Kept) (so sn : Store) (body begun : List ℕ) (l : Bool) → is_left st ≡ l → Pends old so p body begun
-    → (is_left st ≡ false → st ≡ p.state) → (is_ended st ≡ false → is_ended p.state ≡ false) → Settles st (Ok tt) old new so sn → Pends new sn (moved st p) body begun
+    → (is_left st ≡ false → st ≡ p.state) → (is_ended st ≡ false → is_ended p.state ≡ false) → ComesTo st (Ok tt) old new so sn → Pends new sn (moved st p) body begun
 settled p st old new so sn body begun true l h e n s = subst (λ (q : Progress). Pends new sn q body begun) (sym (moved_left st p l)) (settled_left p st old new so sn body begun h l n s)
 settled p st old new so sn body begun false l h e n s =
     subst (λ (q : Progress). Pends new sn q body begun) (sym (moved_stays st p l ∙ same_state p st (e l))) (settled_stays p st old new so sn body begun h l (e l) s)
 
 happened_at : (p : Progress) (e : Event) (reason : ℕ) (answer : List ℕ) (r : Result (Unit {0}) WireFailed) (old new : Kept) (body begun : List ℕ) (lo ln : Line) (so sn : Store)
-    → Pends old so p body begun → Stays p.state e → Settles (table p.state e).1 r old new so sn → Sends (step_text p.state e reason answer) r lo ln
-    → OnErr r (0 < length (step_text p.state e reason answer)) → Tries p (done answer reason p e) new body begun (devices lo so) (devices ln sn)
+    → Pends old so p body begun → Stays p.state e → ComesTo (table p.state e).1 r old new so sn → Sends (step_text p.state e reason answer) r lo ln
+    → OnErr r (0 < length (step_text p.state e reason answer)) → DoesDue p (done answer reason p e) new body begun (devices lo so) (devices ln sn)
 happened_at p e reason answer (Ok u) old new body begun lo ln so sn h stays s sends due = record {
   wire = None;
   fair = tt;
@@ -167,36 +167,36 @@ happened_at p e reason answer (Err f) old new body begun lo ln so sn h stays s s
 }
 
 pub happened : (p : Progress) (e : Event) (reason : ℕ) (answer : List ℕ) (r : Result (Unit {0}) WireFailed) (old new : Kept) (body begun : List ℕ) (lo ln : Line) (so sn : Store)
-    → Pends old so p body begun → Stays p.state e → Settles (table old.state e).1 r old new so sn → Sends (step_text old.state e reason answer) r lo ln
-    → OnErr r (0 < length (step_text old.state e reason answer)) → Tries p (done answer reason p e) new body begun (devices lo so) (devices ln sn)
+    → Pends old so p body begun → Stays p.state e → ComesTo (table old.state e).1 r old new so sn → Sends (step_text old.state e reason answer) r lo ln
+    → OnErr r (0 < length (step_text old.state e reason answer)) → DoesDue p (done answer reason p e) new body begun (devices lo so) (devices ln sn)
 happened p e reason answer r old new body begun lo ln so sn h stays s sends due =
     let is = h.state_is in
     happened_at p e reason answer r old new body begun lo ln so sn h stays
-    (subst (λ (x : State). Settles (table x e).1 r old new so sn) is s)
+    (subst (λ (x : State). ComesTo (table x e).1 r old new so sn) is s)
     (subst (λ (x : State). Sends (step_text x e reason answer) r lo ln) is sends)
     (subst (λ (x : State). OnErr r (0 < length (step_text x e reason answer))) is due)
 
 -- ---- rooms after an event
 
-pub settles_body : (n : State) (r : Result (Unit {0}) WireFailed) (old new : Kept) (so sn : Store) → Settles n r old new so sn → old.body ≡ [] → new.body ≡ []
+pub settles_body : (n : State) (r : Result (Unit {0}) WireFailed) (old new : Kept) (so sn : Store) → ComesTo n r old new so sn → old.body ≡ [] → new.body ≡ []
 settles_body n r old new so sn s e = by (is_left new.state) refl where
   by : (t : Bool) → is_left new.state ≡ t → new.body ≡ []
   by true l = (s.left l).body
   by false l = ap (λ (k : Kept). k.body) (s.same l) ∙ e
 
-not_left : (n : State) (r : Result (Unit {0}) WireFailed) (old new : Kept) (so sn : Store) → Settles n r old new so sn → (is_left n ≡ false → n ≡ old.state) → is_left new.state ≡ false → new ≡ old
+not_left : (n : State) (r : Result (Unit {0}) WireFailed) (old new : Kept) (so sn : Store) → ComesTo n r old new so sn → (is_left n ≡ false → n ≡ old.state) → is_left new.state ≡ false → new ≡ old
 not_left n (Ok u) old new so sn s stays l =
     let same = stays (sym (ap is_left s.state_is) ∙ l) in
     s.same l ∙ ap (λ (x : State). with_state x old) (s.state_is ∙ same)
 not_left n (Err f) old new so sn s stays l = let x : is_left Sta1 ≡ false = sym (ap is_left s.state_is) ∙ l in absurd cc
 
-pub settles_body_fits : (room : ℕ) (n : State) (r : Result (Unit {0}) WireFailed) (old new : Kept) (so sn : Store) (kind m : ℕ) → Settles n r old new so sn → (is_left n ≡ false → n ≡ old.state)
+pub settles_body_fits : (room : ℕ) (n : State) (r : Result (Unit {0}) WireFailed) (old new : Kept) (so sn : Store) (kind m : ℕ) → ComesTo n r old new so sn → (is_left n ≡ false → n ≡ old.state)
     → BodyFits room old kind m → BodyFits room new kind m
 settles_body_fits room n r old new so sn kind m s stays h =
     λ due. subst (λ (k : Kept). k.refused ≡ false → kind ≡ 1 → length k.body + m ≤ room) (sym (not_left n r old new so sn s stays (ap is_left due)))
     (h (sym (ap (λ (k : Kept). k.state) (not_left n r old new so sn s stays (ap is_left due))) ∙ due))
 
-pub settles_fragment_fits : (n : State) (r : Result (Unit {0}) WireFailed) (old new : Kept) (so sn : Store) (m : ℕ) → Settles n r old new so sn → (is_left n ≡ false → n ≡ old.state)
+pub settles_fragment_fits : (n : State) (r : Result (Unit {0}) WireFailed) (old new : Kept) (so sn : Store) (m : ℕ) → ComesTo n r old new so sn → (is_left n ≡ false → n ≡ old.state)
     → FragmentFits old m → FragmentFits new m
 settles_fragment_fits n r old new so sn m s stays h =
     λ six. subst (λ (k : Kept). k.refused ≡ false → m ≤ k.join.left) (sym (not_left n r old new so sn s stays (ap is_left six)))
@@ -215,7 +215,7 @@ pends_begins k store p h =
       state_is = h.state_is;
       refused_is = λ n. refl;
       body_is = if_nothing (is_due p.state && true);
-      join_is = subst (λ (xs : List ℕ). Shows k.room k.join p.message xs) same h.join_is;
+      join_is = subst (λ (xs : List ℕ). ShowsMessage k.room k.join p.message xs) same h.join_is;
       agreed = λ six. let a = h.agreed six in record { caller = a.caller; maximum = a.maximum; contexts = a.contexts; count = a.count };
       none_left = h.none_left;
       walks = subst (λ (xs : List ℕ). Walks k.depth k.most p.request (with_pdv xs p.message) k.storing) same h.walks;
@@ -228,9 +228,9 @@ ended_from : (k : Kept) (store : Store) (p q : Progress) (body begun : List ℕ)
 ended_from k store p q body begun h =
     record { state_is = h.state_is; refused_is = λ n. absurd cc; body_is = h.body_is; join_is = h.join_is; agreed = λ six. absurd cc; none_left = λ e. refl; walks = h.walks; draft = h.draft; failed_in = λ n. absurd cc }
 
-pub tries_from : (p q : Progress) (g : Advance) (k : Kept) (body begun : List ℕ) (old new : Devices) → Tries q g k body begun old new → Tries p g k body begun old new
+pub tries_from : (p q : Progress) (g : Advance) (k : Kept) (body begun : List ℕ) (old new : Devices) → DoesDue q g k body begun old new → DoesDue p g k body begun old new
 tries_from p q g k body begun old new t = by t.wire refl where
-  by : (w : Option ℕ) → w ≡ t.wire → Tries p g k body begun old new
+  by : (w : Option ℕ) → w ≡ t.wire → DoesDue p g k body begun old new
   by None e = record {
     wire = None;
     fair = tt;

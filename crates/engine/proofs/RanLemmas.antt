@@ -11,8 +11,8 @@ use Rattle.engine.specs.Devices.{Devices, with_files, filed}
 use Rattle.engine.specs.Held.{Held}
 use Rattle.engine.specs.Inputs.{Received, first_of, others_of, first_inputs, input_of, stream_of, Gives}
 use Rattle.engine.specs.Moves.{Moved}
-use Rattle.engine.specs.Progress.{start}
-use Rattle.engine.specs.Ran.{inputs_after, story_after, EndsLast, Leaves, standing_of, Answered}
+use Rattle.engine.specs.Progress.{at_start}
+use Rattle.engine.specs.Ran.{inputs_after, story_after, EndsLast, LeavesOthers, standing_of, Answered}
 use Rattle.engine.specs.Reached.{reached}
 use Rattle.engine.specs.Run.{Rooms, progress_of, sent_of, files_of}
 use Rattle.engine.specs.Stands.{Stands}
@@ -45,7 +45,7 @@ follows_start : (source : Option (List Received)) → Follows source source []
 follows_start None = refl
 follows_start (Some all) = (refl, refl)
 
-pub follows_all : (old now : Option (List Received)) (taken all : List Received) → Follows old now taken → old ≡ Some all → Leaves taken all now
+pub follows_all : (old now : Option (List Received)) (taken all : List Received) → Follows old now taken → old ≡ Some all → LeavesOthers taken all now
 follows_all old now taken all f e = let g : Follows (Some all) now taken = subst (λ (x : Option (List Received)). Follows x now taken) e f in record { first = g.0; others = g.1 }
 
 -- ---- the story of a front of the inputs
@@ -82,15 +82,15 @@ module _ (rooms : Rooms) (s : Settings) where
   ends_last_start n h = absurd (omega (arith, h))
 
   -- the inputs so far did not end the association
-  ends_last_more : (taken : List Received) (x : Received) (story more : List Happened) → entries_of story ≡ entries [] taken → (progress_of rooms s start story).state ≢ Sta1 → EndsLast rooms s taken story
+  ends_last_more : (taken : List Received) (x : Received) (story more : List Happened) → entries_of story ≡ entries [] taken → (progress_of rooms s at_start story).state ≢ Sta1 → EndsLast rooms s taken story
       → EndsLast rooms s (taken ++ x ∷ []) (story ++ more)
   ends_last_more taken x story more told open_still last n h e =
       let within : n ≤ length taken = omega (arith, h, length-append taken (x ∷ [])) in
-      let state : (progress_of rooms s start (story_after n taken story)).state ≡ Sta1 =
-      ap (λ (t : List Happened). (progress_of rooms s start t).state) (sym (story_before n taken x story more told within)) ∙ e in
+      let state : (progress_of rooms s at_start (story_after n taken story)).state ≡ Sta1 =
+      ap (λ (t : List Happened). (progress_of rooms s at_start t).state) (sym (story_before n taken x story more told within)) ∙ e in
       elim (cases_lt n (length taken)) [
         | inl lt ↦ last n lt state
-        | inr le ↦ open_still (ap (λ (t : List Happened). (progress_of rooms s start t).state)
+        | inr le ↦ open_still (ap (λ (t : List Happened). (progress_of rooms s at_start t).state)
             (sym (ap (λ (k : ℕ). story_after k taken story) (omega (arith, le, within)) ∙ story_whole taken story told)) ∙ state)
       ]
 
@@ -101,7 +101,7 @@ module _ (rooms : Rooms) (s : Settings) where
     taken = [];
     number = refl;
     follows = follows_start source;
-    stood = record { story = []; failed = false; stands = h; last = ends_last_start; gains = gains_nothing rooms s start d };
+    stood = record { story = []; failed = false; stands = h; last = ends_last_start; gains = gains_nothing rooms s at_start d };
   }
 
   -- what an association that is set so does with an input
@@ -124,7 +124,7 @@ module _ (rooms : Rooms) (s : Settings) where
           stands = m.stands;
           last = ends_last_more r.taken (input_of kind bytes) before.story m.more before.stands.story_is.told
               (λ e. open_still (before.stands.shows.frame.pends.state_is ∙ e)) before.last;
-          gains = gains_then rooms s start before.story m.more false before.failed m.failed_then old mid new before.gains m.gains;
+          gains = gains_then rooms s at_start before.story m.more false before.failed m.failed_then old mid new before.gains m.gains;
         };
   }
 
@@ -146,14 +146,14 @@ module _ (rooms : Rooms) (s : Settings) where
   answered_by taken report seen old now new h e held line store = record {
     story = h.story;
     failed = h.failed;
-    sent = sent_of rooms s start h.story;
-    files = files_of rooms s start h.story;
+    sent = sent_of rooms s at_start h.story;
+    files = files_of rooms s at_start h.story;
     state = seen.kept.state;
     run = record { story_is = h.stands.story_is; sent_is = refl; files_are = refl; state_is = h.stands.shows.frame.pends.state_is };
     last = h.last;
     standing = e;
     held = held h.story h.failed h.stands;
     line = line ∙ h.gains.line;
-    told = ap (λ (x : Store). x.told) store ∙ told_filed old.store.told now.store.told (files_of rooms s start h.story) h.gains.files;
+    told = ap (λ (x : Store). x.told) store ∙ told_filed old.store.told now.store.told (files_of rooms s at_start h.story) h.gains.files;
     count = omega (arith, ap (λ (x : Store). x.failures) store, h.gains.count);
   }

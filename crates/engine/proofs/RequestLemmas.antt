@@ -10,10 +10,10 @@ use Rattle.pdu.specs.declared.fault.PduFault.{PduFault}
 use Rattle.pdu.specs.Sent.{Line, Sends, sent_all, cut_after}
 use Rattle.negotiate.specs.declared.table.ContextRow.{ContextRow}
 use Rattle.part10.specs.Store.{Store}
-use Rattle.dimse.specs.Joining.{Shows, with_pdv}
+use Rattle.dimse.specs.Joining.{ShowsMessage, with_pdv}
 use Rattle.pdu.specs.Texts.{release_text}
-use Rattle.pdu.specs.Record.{Record}
-use Rattle.pdu.specs.Items.{record_of}
+use Rattle.pdu.specs.Record.{RequestRecord}
+use Rattle.pdu.specs.Items.{request_record}
 use Rattle.pdu.specs.Refusal.{request_fault}
 use Rattle.pdu.specs.Texts.{reject_text}
 use Rattle.negotiate.specs.declared.answer.Answer.{Answer}
@@ -22,62 +22,62 @@ use Rattle.negotiate.specs.Settings.{Settings}
 use Rattle.negotiate.specs.Answer.{judged}
 use Rattle.negotiate.specs.Accept.{accept_text, answer_bytes, text_by}
 use Rattle.dimse.specs.Messages.{NoMessage}
-use Rattle.engine.specs.Progress.{Progress, Advance, start, left, done, is_due, is_established}
+use Rattle.engine.specs.Progress.{Progress, Advance, at_start, left, done, is_due, is_established}
 use Rattle.engine.specs.Held.{is_ended}
-use Rattle.engine.specs.Requests.{keeping, accepted, declined, answered, at_request}
+use Rattle.engine.specs.Requests.{keeping, accepting, declined, answered, at_request}
 use Rattle.engine.specs.Devices.{devices}
 use Rattle.engine.specs.Run.{released}
 use Rattle.engine.specs.machine.Pends.{Kept, Pends, Agreed}
-use Rattle.engine.specs.machine.Tries.{Tries, Settles, step_text, is_left, rejected_state, rejected_text}
+use Rattle.engine.specs.machine.DoesDue.{DoesDue, ComesTo, step_text, is_left, rejected_state, rejected_text}
 use Rattle.engine.proofs.StoreLemmas.{so_far, carried, no_store, idle_carried}
 use Rattle.engine.proofs.PendsLemmas.{pends_left, settled_failed}
-use Rattle.engine.proofs.TriesLemmas.{none_counted_pdv, if_nothing}
+use Rattle.engine.proofs.DueLemmas.{none_counted_pdv, if_nothing}
 
 -- ---- which of them it is
 
 -- what a request comes to, by its fault and its answer
 abbrev by_fault : Settings → List ℕ → Progress → Option PduFault → Answer → Advance
 by_fault s body p (Some fault) a = done [] 6 p event.Invalid
-by_fault s body p None a = answered s (record_of body) (keeping body p) a
+by_fault s body p None a = answered s (request_record body) (keeping body p) a
 
 elim_is : (s : Settings) (p : Progress) (body : List ℕ) (o : Option PduFault) →
-    ◌≡◌ {A = Advance} (elim o [ Some fault ↦ done [] 6 p event.Invalid | None ↦ answered s (record_of body) (keeping body p) (judged s (record_of body)) ])
-    (by_fault s body p o (judged s (record_of body)))
+    ◌≡◌ {A = Advance} (elim o [ Some fault ↦ done [] 6 p event.Invalid | None ↦ answered s (request_record body) (keeping body p) (judged s (request_record body)) ])
+    (by_fault s body p o (judged s (request_record body)))
 elim_is s p body None = refl
 elim_is s p body (Some f) = refl
 
-request_is : (s : Settings) (p : Progress) (body : List ℕ) → at_request s p body ≡ by_fault s body p (request_fault body) (judged s (record_of body))
+request_is : (s : Settings) (p : Progress) (body : List ℕ) → at_request s p body ≡ by_fault s body p (request_fault body) (judged s (request_record body))
 request_is s p body = elim_is s p body (request_fault body)
 
 module _ (s : Settings) (body : List ℕ) (none : request_fault body ≡ None) where
-  good_request : (p : Progress) → at_request s p body ≡ answered s (record_of body) (keeping body p) (judged s (record_of body))
-  good_request p = request_is s p body ∙ ap (λ (o : Option PduFault). by_fault s body p o (judged s (record_of body))) none
+  good_request : (p : Progress) → at_request s p body ≡ answered s (request_record body) (keeping body p) (judged s (request_record body))
+  good_request p = request_is s p body ∙ ap (λ (o : Option PduFault). by_fault s body p o (judged s (request_record body))) none
 
-  pub accepted_request : (p : Progress) → judged s (record_of body) ≡ Accept → at_request s p body ≡ accepted (keeping body p) (accept_text s (record_of body))
-  accepted_request p e = good_request p ∙ ap (λ (a : Answer). answered s (record_of body) (keeping body p) a) e
+  pub accepted_request : (p : Progress) → judged s (request_record body) ≡ Accept → at_request s p body ≡ accepting (keeping body p) (accept_text s (request_record body))
+  accepted_request p e = good_request p ∙ ap (λ (a : Answer). answered s (request_record body) (keeping body p) a) e
 
-  pub rejected_request : (p : Progress) (x b c : ℕ) → judged s (record_of body) ≡ Reject x b c
+  pub rejected_request : (p : Progress) (x b c : ℕ) → judged s (request_record body) ≡ Reject x b c
       → at_request s p body ≡ (if nat_eq b 2 then done (reject_text x b c) 0 (keeping body p) (event.Request false) else declined (keeping body p) (reject_text x b c))
-  rejected_request p x b c e = good_request p ∙ ap (λ (a : Answer). answered s (record_of body) (keeping body p) a) e
+  rejected_request p x b c e = good_request p ∙ ap (λ (a : Answer). answered s (request_record body) (keeping body p) a) e
 
 pub bad_request : (s : Settings) (body : List ℕ) (p : Progress) (f : PduFault) → request_fault body ≡ Some f → at_request s p body ≡ done [] 6 p event.Invalid
-bad_request s body p f e = request_is s p body ∙ ap (λ (o : Option PduFault). by_fault s body p o (judged s (record_of body))) e
+bad_request s body p f e = request_is s p body ∙ ap (λ (o : Option PduFault). by_fault s body p o (judged s (request_record body))) e
 
 -- ---- the code's steps from Sta2
 
 module _ (s : Settings) (body : List ℕ) (st : State) (due : st ≡ Sta2) (none : request_fault body ≡ None) where
-  pub accepted_state : (x : Action × State) (n : State) → x ≡ table st (event.Request true) → n ≡ (table x.1 event.UserAccepts).1 → judged s (record_of body) ≡ Accept
-      → n ≡ (at_request s start body).next.state
+  pub accepted_state : (x : Action × State) (n : State) → x ≡ table st (event.Request true) → n ≡ (table x.1 event.UserAccepts).1 → judged s (request_record body) ≡ Accept
+      → n ≡ (at_request s at_start body).next.state
   accepted_state x n e f accept =
       f ∙ ap (λ (y : Action × State). (table y.1 event.UserAccepts).1) e ∙ ap (λ (y : State). (table (table y (event.Request true)).1 event.UserAccepts).1) due
-      ∙ ap (λ (g : Advance). g.next.state) (sym (accepted_request s body none start accept))
+      ∙ ap (λ (g : Advance). g.next.state) (sym (accepted_request s body none at_start accept))
 
-  pub accepted_sent : (x : Action × State) (q : Record) → x ≡ table st (event.Request true) → q ≡ record_of body → judged s (record_of body) ≡ Accept
-      → step_text x.1 event.UserAccepts 0 (answer_bytes s q) ≡ (at_request s start body).sent
+  pub accepted_sent : (x : Action × State) (q : RequestRecord) → x ≡ table st (event.Request true) → q ≡ request_record body → judged s (request_record body) ≡ Accept
+      → step_text x.1 event.UserAccepts 0 (answer_bytes s q) ≡ (at_request s at_start body).sent
   accepted_sent x q e f accept =
       ap (λ (y : Action × State). step_text y.1 event.UserAccepts 0 (answer_bytes s q)) e ∙ ap (λ (y : State). step_text (table y (event.Request true)).1 event.UserAccepts 0 (answer_bytes s q)) due
-      ∙ ap (λ (r : Record). answer_bytes s r) f ∙ ap (λ (a : Answer). text_by a s (record_of body)) accept
-      ∙ ap (λ (g : Advance). g.sent) (sym (accepted_request s body none start accept))
+      ∙ ap (λ (r : RequestRecord). answer_bytes s r) f ∙ ap (λ (a : Answer). text_by a s (request_record body)) accept
+      ∙ ap (λ (g : Advance). g.sent) (sym (accepted_request s body none at_start accept))
 
   if_state : (t : Bool) (text : List ℕ) (q : Progress) → q.state ≡ Sta2
       → (if t then (table st (event.Request false)).1 else (table (table st (event.Request true)).1 event.UserRefuses).1) ≡ (if t then done text 0 q (event.Request false) else declined q text).next.state
@@ -89,19 +89,19 @@ module _ (s : Settings) (body : List ℕ) (st : State) (due : st ≡ Sta2) (none
   if_sent true text q e = ap (λ (y : State). step_text y (event.Request false) 0 text) due ∙ sym (ap (λ (y : State). (done text 0 (record q { state = y }) (event.Request false)).sent) e)
   if_sent false text q e = ap (λ (y : State). step_text (table y (event.Request true)).1 event.UserRefuses 0 text) due ∙ sym (ap (λ (y : State). (declined (record q { state = y }) text).sent) e)
 
-  pub rejection_state : (x b c : ℕ) → judged s (record_of body) ≡ Reject x b c → rejected_state st b ≡ (at_request s start body).next.state
-  rejection_state x b c e = if_state (nat_eq b 2) (reject_text x b c) (keeping body start) refl ∙ ap (λ (g : Advance). g.next.state) (sym (rejected_request s body none start x b c e))
+  pub rejection_state : (x b c : ℕ) → judged s (request_record body) ≡ Reject x b c → rejected_state st b ≡ (at_request s at_start body).next.state
+  rejection_state x b c e = if_state (nat_eq b 2) (reject_text x b c) (keeping body at_start) refl ∙ ap (λ (g : Advance). g.next.state) (sym (rejected_request s body none at_start x b c e))
 
-  pub rejection_sent : (x b c : ℕ) (q : Record) → q ≡ record_of body → judged s (record_of body) ≡ Reject x b c → rejected_text st b (answer_bytes s q) ≡ (at_request s start body).sent
+  pub rejection_sent : (x b c : ℕ) (q : RequestRecord) → q ≡ request_record body → judged s (request_record body) ≡ Reject x b c → rejected_text st b (answer_bytes s q) ≡ (at_request s at_start body).sent
   rejection_sent x b c q f e =
-      ap (λ (r : Record). rejected_text st b (answer_bytes s r)) f ∙ ap (λ (a : Answer). rejected_text st b (text_by a s (record_of body))) e
-      ∙ if_sent (nat_eq b 2) (reject_text x b c) (keeping body start) refl ∙ ap (λ (g : Advance). g.sent) (sym (rejected_request s body none start x b c e))
+      ap (λ (r : RequestRecord). rejected_text st b (answer_bytes s r)) f ∙ ap (λ (a : Answer). rejected_text st b (text_by a s (request_record body))) e
+      ∙ if_sent (nat_eq b 2) (reject_text x b c) (keeping body at_start) refl ∙ ap (λ (g : Advance). g.sent) (sym (rejected_request s body none at_start x b c e))
 
-pub bad_state : (s : Settings) (body : List ℕ) (st n : State) (f : PduFault) → st ≡ Sta2 → n ≡ (table st event.Invalid).1 → request_fault body ≡ Some f → n ≡ (at_request s start body).next.state
-bad_state s body st n f due e h = e ∙ ap (λ (y : State). (table y event.Invalid).1) due ∙ ap (λ (g : Advance). g.next.state) (sym (bad_request s body start f h))
+pub bad_state : (s : Settings) (body : List ℕ) (st n : State) (f : PduFault) → st ≡ Sta2 → n ≡ (table st event.Invalid).1 → request_fault body ≡ Some f → n ≡ (at_request s at_start body).next.state
+bad_state s body st n f due e h = e ∙ ap (λ (y : State). (table y event.Invalid).1) due ∙ ap (λ (g : Advance). g.next.state) (sym (bad_request s body at_start f h))
 
-pub bad_sent : (s : Settings) (body : List ℕ) (st : State) (f : PduFault) → st ≡ Sta2 → request_fault body ≡ Some f → step_text st event.Invalid 6 [] ≡ (at_request s start body).sent
-bad_sent s body st f due h = ap (λ (y : State). step_text y event.Invalid 6 []) due ∙ ap (λ (g : Advance). g.sent) (sym (bad_request s body start f h))
+pub bad_sent : (s : Settings) (body : List ℕ) (st : State) (f : PduFault) → st ≡ Sta2 → request_fault body ≡ Some f → step_text st event.Invalid 6 [] ≡ (at_request s at_start body).sent
+bad_sent s body st f due h = ap (λ (y : State). step_text y event.Invalid 6 []) due ∙ ap (λ (g : Advance). g.sent) (sym (bad_request s body at_start f h))
 
 -- ---- in any progress that awaits a request
 
@@ -111,20 +111,20 @@ LeavesOrStands body p g first =
     (g.sent ≡ first.sent) × (g.files ≡ []) × (((first.next.state ≡ Sta13) × (g.next ≡ left Sta13 p)) ⊎ ((first.next.state ≡ Sta6) × (g.next ≡ record p { state = Sta6; request = body })))
 
 rejects : (body : List ℕ) (p : Progress) (t : Bool) (text : List ℕ) → p.state ≡ Sta2
-    → LeavesOrStands body p (if t then done text 0 (keeping body p) (event.Request false) else declined (keeping body p) text) (if t then done text 0 (keeping body start) (event.Request false) else declined (keeping body start) text)
-rejects body p true text e = subst (λ (y : State). LeavesOrStands body (record p { state = y }) (done text 0 (keeping body (record p { state = y })) (event.Request false)) (done text 0 (keeping body start) (event.Request false))) (sym e) (refl, refl, inl (refl, refl))
-rejects body p false text e = subst (λ (y : State). LeavesOrStands body (record p { state = y }) (declined (keeping body (record p { state = y })) text) (declined (keeping body start) text)) (sym e) (refl, refl, inl (refl, refl))
+    → LeavesOrStands body p (if t then done text 0 (keeping body p) (event.Request false) else declined (keeping body p) text) (if t then done text 0 (keeping body at_start) (event.Request false) else declined (keeping body at_start) text)
+rejects body p true text e = subst (λ (y : State). LeavesOrStands body (record p { state = y }) (done text 0 (keeping body (record p { state = y })) (event.Request false)) (done text 0 (keeping body at_start) (event.Request false))) (sym e) (refl, refl, inl (refl, refl))
+rejects body p false text e = subst (λ (y : State). LeavesOrStands body (record p { state = y }) (declined (keeping body (record p { state = y })) text) (declined (keeping body at_start) text)) (sym e) (refl, refl, inl (refl, refl))
 
-comes_to : (s : Settings) (body : List ℕ) (p : Progress) (o : Option PduFault) (a : Answer) → p.state ≡ Sta2 → LeavesOrStands body p (by_fault s body p o a) (by_fault s body start o a)
-comes_to s body p (Some f) a e = subst (λ (y : State). LeavesOrStands body (record p { state = y }) (by_fault s body (record p { state = y }) (Some f) a) (by_fault s body start (Some f) a)) (sym e) (refl, refl, inl (refl, refl))
-comes_to s body p None Accept e = subst (λ (y : State). LeavesOrStands body (record p { state = y }) (by_fault s body (record p { state = y }) None Accept) (by_fault s body start None Accept)) (sym e) (refl, refl, inr (refl, refl))
+comes_to : (s : Settings) (body : List ℕ) (p : Progress) (o : Option PduFault) (a : Answer) → p.state ≡ Sta2 → LeavesOrStands body p (by_fault s body p o a) (by_fault s body at_start o a)
+comes_to s body p (Some f) a e = subst (λ (y : State). LeavesOrStands body (record p { state = y }) (by_fault s body (record p { state = y }) (Some f) a) (by_fault s body at_start (Some f) a)) (sym e) (refl, refl, inl (refl, refl))
+comes_to s body p None Accept e = subst (λ (y : State). LeavesOrStands body (record p { state = y }) (by_fault s body (record p { state = y }) None Accept) (by_fault s body at_start None Accept)) (sym e) (refl, refl, inr (refl, refl))
 comes_to s body p None (Reject x b c) e = rejects body p (nat_eq b 2) (reject_text x b c) e
 
-pub request_comes : (s : Settings) (body : List ℕ) (p : Progress) → p.state ≡ Sta2 → LeavesOrStands body p (at_request s p body) (at_request s start body)
+pub request_comes : (s : Settings) (body : List ℕ) (p : Progress) → p.state ≡ Sta2 → LeavesOrStands body p (at_request s p body) (at_request s at_start body)
 request_comes s body p e =
-    subst (λ (g : Advance). LeavesOrStands body p g (at_request s start body)) (sym (request_is s p body))
-    (subst (λ (g : Advance). LeavesOrStands body p (by_fault s body p (request_fault body) (judged s (record_of body))) g) (sym (request_is s start body))
-    (comes_to s body p (request_fault body) (judged s (record_of body)) e))
+    subst (λ (g : Advance). LeavesOrStands body p g (at_request s at_start body)) (sym (request_is s p body))
+    (subst (λ (g : Advance). LeavesOrStands body p (by_fault s body p (request_fault body) (judged s (request_record body))) g) (sym (request_is s at_start body))
+    (comes_to s body p (request_fault body) (judged s (request_record body)) e))
 
 -- the request is given up, and these are kept of it
 abbrev pub given_up : List ℕ → ℕ → List ContextRow → Kept → Kept
@@ -142,7 +142,7 @@ quiet_between : (p : Progress) → p.message ≡ NoMessage → so_far p [] ≡ N
 quiet_between p none = ap (λ (xs : List ℕ). with_pdv xs p.message) (none_counted_pdv p) ∙ none
 
 stood : (p : Progress) (body : List ℕ) (old new : Kept) (store : Store) (caller : List ℕ) (maximum : ℕ) (rows : List ContextRow) → Pends old store p body [] → old.state ≡ Sta2
-    → new ≡ record (given_up caller maximum rows old) { state = Sta6 } → (Agreed (record (given_up caller maximum rows old) { state = Sta6 }) (record_of body))
+    → new ≡ record (given_up caller maximum rows old) { state = Sta6 } → (Agreed (record (given_up caller maximum rows old) { state = Sta6 }) (request_record body))
     → Pends new store (record p { state = Sta6; request = body }) body []
 stood p body old new store caller maximum rows h due is agreed =
     let q = record p { state = Sta6; request = body } in
@@ -155,7 +155,7 @@ stood p body old new store caller maximum rows h due is agreed =
       state_is = refl;
       refused_is = λ n. h.refused_is (ap is_ended two);
       body_is = refl;
-      join_is = subst (λ (xs : List ℕ). Shows old.room old.join p.message xs) (not_taken p.state p.refused ∙ sym (not_taken Sta6 p.refused)) h.join_is;
+      join_is = subst (λ (xs : List ℕ). ShowsMessage old.room old.join p.message xs) (not_taken p.state p.refused ∙ sym (not_taken Sta6 p.refused)) h.join_is;
       agreed = λ six. agreed;
       none_left = λ e. none;
       walks = c.0;
@@ -165,8 +165,8 @@ stood p body old new store caller maximum rows h due is agreed =
 
 -- the request that is whole was answered, or the wire failed
 module _ (p : Progress) (g first : Advance) (body : List ℕ) (n : State) (old new : Kept) (caller : List ℕ) (maximum : ℕ) (rows : List ContextRow) (lo ln : Line) (so sn : Store) where
-  pends_answered : Pends old so p body [] → old.state ≡ Sta2 → LeavesOrStands body p g first → n ≡ first.next.state → Settles n (Ok tt) (given_up caller maximum rows old) new so sn
-      → (n ≡ Sta6 → Agreed (record (given_up caller maximum rows old) { state = Sta6 }) (record_of body)) → Pends new sn g.next body []
+  pends_answered : Pends old so p body [] → old.state ≡ Sta2 → LeavesOrStands body p g first → n ≡ first.next.state → ComesTo n (Ok tt) (given_up caller maximum rows old) new so sn
+      → (n ≡ Sta6 → Agreed (record (given_up caller maximum rows old) { state = Sta6 }) (request_record body)) → Pends new sn g.next body []
   pends_answered h due (sent, files, inl (st, is)) e settles agreed =
       let gone : is_left new.state ≡ true = ap is_left (settles.state_is ∙ e ∙ st) in
       subst (λ (q : Progress). Pends new sn q body []) (sym is)
@@ -177,9 +177,9 @@ module _ (p : Progress) (g first : Advance) (body : List ℕ) (n : State) (old n
       (subst (λ (q : Progress). Pends new so q body []) (sym is)
       (stood p body old new so caller maximum rows h due (settles.same (ap is_left six) ∙ ap (λ (y : State). record (given_up caller maximum rows old) { state = y }) six) (agreed (e ∙ st))))
 
-  tries_answered : (r : Result (Unit {0}) WireFailed) → Pends old so p body [] → old.state ≡ Sta2 → LeavesOrStands body p g first → n ≡ first.next.state → Settles n r (given_up caller maximum rows old) new so sn
-      → (n ≡ Sta6 → Agreed (record (given_up caller maximum rows old) { state = Sta6 }) (record_of body))
-      → Sends first.sent r lo ln → OnErr r (0 < length first.sent) → Tries p g new body [] (devices lo so) (devices ln sn)
+  tries_answered : (r : Result (Unit {0}) WireFailed) → Pends old so p body [] → old.state ≡ Sta2 → LeavesOrStands body p g first → n ≡ first.next.state → ComesTo n r (given_up caller maximum rows old) new so sn
+      → (n ≡ Sta6 → Agreed (record (given_up caller maximum rows old) { state = Sta6 }) (request_record body))
+      → Sends first.sent r lo ln → OnErr r (0 < length first.sent) → DoesDue p g new body [] (devices lo so) (devices ln sn)
   tries_answered (Ok u) h due c e settles agreed sends some =
       record { wire = None; fair = tt; pends = pends_answered h due c e settles agreed; line = sends ∙ ap (λ (t : List ℕ). sent_all t lo) (sym c.0); unfiled = settles.unfiled }
   tries_answered (Err f) h due c e settles agreed sends some =
@@ -192,22 +192,22 @@ module _ (p : Progress) (g first : Advance) (body : List ℕ) (n : State) (old n
       }
 
 pub request_tries : (s : Settings) (p : Progress) (body : List ℕ) (n : State) (r : Result (Unit {0}) WireFailed) (old new : Kept) (caller : List ℕ) (maximum : ℕ) (rows : List ContextRow) (lo ln : Line) (so sn : Store)
-    → Pends old so p body [] → old.state ≡ Sta2 → p.refused ≡ false → n ≡ (at_request s start old.body).next.state → Settles n r (given_up caller maximum rows old) new so sn
-    → (n ≡ Sta6 → Agreed (record (given_up caller maximum rows old) { state = Sta6 }) (record_of old.body))
-    → Sends (at_request s start old.body).sent r lo ln → OnErr r (0 < length (at_request s start old.body).sent)
-    → Tries p (at_request s p body) new body [] (devices lo so) (devices ln sn)
+    → Pends old so p body [] → old.state ≡ Sta2 → p.refused ≡ false → n ≡ (at_request s at_start old.body).next.state → ComesTo n r (given_up caller maximum rows old) new so sn
+    → (n ≡ Sta6 → Agreed (record (given_up caller maximum rows old) { state = Sta6 }) (request_record old.body))
+    → Sends (at_request s at_start old.body).sent r lo ln → OnErr r (0 < length (at_request s at_start old.body).sent)
+    → DoesDue p (at_request s p body) new body [] (devices lo so) (devices ln sn)
 request_tries s p body n r old new caller maximum rows lo ln so sn h due unrefused state settles agreed sends some =
     let same = pends_due p old so body h due unrefused in
-    tries_answered p (at_request s p body) (at_request s start body) body n old new caller maximum rows lo ln so sn r h due (request_comes s body p (sym h.state_is ∙ due))
-    (state ∙ ap (λ (b : List ℕ). (at_request s start b).next.state) same) settles
-    (λ six. subst (λ (b : List ℕ). Agreed (record (given_up caller maximum rows old) { state = Sta6 }) (record_of b)) same (agreed six))
-    (subst (λ (b : List ℕ). Sends (at_request s start b).sent r lo ln) same sends)
-    (subst (λ (b : List ℕ). OnErr r (0 < length (at_request s start b).sent)) same some)
+    tries_answered p (at_request s p body) (at_request s at_start body) body n old new caller maximum rows lo ln so sn r h due (request_comes s body p (sym h.state_is ∙ due))
+    (state ∙ ap (λ (b : List ℕ). (at_request s at_start b).next.state) same) settles
+    (λ six. subst (λ (b : List ℕ). Agreed (record (given_up caller maximum rows old) { state = Sta6 }) (request_record b)) same (agreed six))
+    (subst (λ (b : List ℕ). Sends (at_request s at_start b).sent r lo ln) same sends)
+    (subst (λ (b : List ℕ). OnErr r (0 < length (at_request s at_start b).sent)) same some)
 
 -- ---- a release
 
 tries_left : (p : Progress) (g : Advance) (n : State) (r : Result (Unit {0}) WireFailed) (old new : Kept) (body begun : List ℕ) (lo ln : Line) (so sn : Store) → Pends old so p body begun → p.state ≡ Sta6
-    → n ≡ Sta13 → g.next ≡ left Sta13 p → Settles n r old new so sn → Sends g.sent r lo ln → OnErr r (0 < length g.sent) → Tries p g new body begun (devices lo so) (devices ln sn)
+    → n ≡ Sta13 → g.next ≡ left Sta13 p → ComesTo n r old new so sn → Sends g.sent r lo ln → OnErr r (0 < length g.sent) → DoesDue p g new body begun (devices lo so) (devices ln sn)
 tries_left p g n (Ok u) old new body begun lo ln so sn h six e next settles sends some =
     let gone : is_left new.state ≡ true = ap is_left (settles.state_is ∙ e) in
     record {
@@ -225,8 +225,8 @@ release_comes : (p : Progress) → p.state ≡ Sta6 → ((released p).next ≡ l
 release_comes p e = subst (λ (y : State). ((released (record p { state = y })).next ≡ left Sta13 (record p { state = y })) × ((released (record p { state = y })).sent ≡ release_text)) (sym e) (refl, refl)
 
 pub release_tries : (p : Progress) (x : Action × State) (n : State) (r : Result (Unit {0}) WireFailed) (old new : Kept) (body begun : List ℕ) (lo ln : Line) (so sn : Store) → Pends old so p body begun → old.state ≡ Sta6
-    → x ≡ table old.state event.ReleaseRq → n ≡ (table x.1 event.UserReleases).1 → Settles n r old new so sn → Sends (step_text x.1 event.UserReleases 0 []) r lo ln
-    → OnErr r (0 < length (step_text x.1 event.UserReleases 0 [])) → Tries p (released p) new body begun (devices lo so) (devices ln sn)
+    → x ≡ table old.state event.ReleaseRq → n ≡ (table x.1 event.UserReleases).1 → ComesTo n r old new so sn → Sends (step_text x.1 event.UserReleases 0 []) r lo ln
+    → OnErr r (0 < length (step_text x.1 event.UserReleases 0 [])) → DoesDue p (released p) new body begun (devices lo so) (devices ln sn)
 release_tries p x n r old new body begun lo ln so sn h six e f settles sends some =
     let c = release_comes p (sym h.state_is ∙ six) in
     let asked : x.1 ≡ Sta8 = ap (λ (y : Action × State). y.1) e ∙ ap (λ (y : State). (table y event.ReleaseRq).1) six in

@@ -4,8 +4,8 @@ use Rattle.std.proofs.lemmas.List.{length-append}
 use Rattle.std.proofs.lemmas.List.Sums.{length-filter, count_by-le-length}
 use Rattle.std.specs.List.{AllByRecursion}
 use Rattle.pdu.specs.Types.{proposed_context_item}
-use Rattle.pdu.specs.Record.{Record, Proposal}
-use Rattle.pdu.specs.Pieces.{IsWhole, joined}
+use Rattle.pdu.specs.Record.{RequestRecord, Proposal}
+use Rattle.pdu.specs.Pieces.{IsWholePiece, joined}
 use Rattle.pdu.specs.Items.{item, is_kind, of_kind}
 use Rattle.pdu.specs.Request.{ContextTexts, RequestText}
 use Rattle.negotiate.specs.ContextRows.{accepted_count}
@@ -13,7 +13,7 @@ use Rattle.negotiate.specs.Contexts.{result_of}
 use Rattle.std.proofs.Common.{nat_eq}
 
 -- an item has four bytes at least
-items_size : (items : List (List ℕ)) → AllByRecursion (IsWhole item) items → 4 * length items ≤ length (joined items)
+items_size : (items : List (List ℕ)) → AllByRecursion (IsWholePiece item) items → 4 * length items ≤ length (joined items)
 items_size [] all = omega arith
 items_size (i ∷ is) all = omega (arith, all.0.headed, items_size is all.1, length-append i (joined is))
 
@@ -24,7 +24,7 @@ contexts_items [] (i ∷ is) h = absurd h
 contexts_items (p ∷ ps) [] h = absurd h
 contexts_items (p ∷ ps) (i ∷ is) h = omega (arith, contexts_items ps is h.1)
 
-pub few_rows : (r : Record) (b : List ℕ) → RequestText r b → 68 + 4 * accepted_count r ≤ length b
+pub few_rows : (r : RequestRecord) (b : List ℕ) → RequestText r b → 68 + 4 * accepted_count r ≤ length b
 few_rows r b h =
     let rest = joined h.items in
     let size = ap length h.whole in

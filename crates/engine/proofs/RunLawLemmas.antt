@@ -1,21 +1,21 @@
 -- Stores in a whole run, and runs without failures.
 use Rattle.std.proofs.Common.{◌≡◌, ◌⊎◌, inl, inr, ℕ, Bool, true, false, not, ◌&&◌, List, [], ◌∷◌, ◌++◌, Option, Some, None, Result, Ok, Err, refl, sym, ap, subst, ◌∙◌, arith, nat_eq, if◌then◌else◌}
 use Rattle.element.specs.Uid.{uid_of}
-use Rattle.pdu.specs.Items.{record_of}
+use Rattle.pdu.specs.Items.{request_record}
 use Rattle.pdu.specs.Marks.{Head, PdvHead, Pdv, BadPdv, Leftover, End}
 use Rattle.negotiate.specs.declared.proposals.Context.{Context}
 use Rattle.negotiate.specs.Contexts.{context_of}
 use Rattle.negotiate.specs.Settings.{Settings}
 use Rattle.dimse.specs.declared.fault.DimseFault.{DimseFault}
 use Rattle.dimse.specs.declared.fault.DimseFault.TheVariants.{UnknownField, WrongKind}
-use Rattle.dimse.specs.Command.{CommandElement, CommandRecord, c_echo, c_store, no_data_set, needed, two_bytes, value_of, stored, request_of, command_of, ◌>>=◌}
+use Rattle.dimse.specs.Command.{CommandElement, CommandRecord, c_echo, c_store, no_data_set, needed, two_bytes, command_value, store_command, request_of, command_of, ◌>>=◌}
 use Rattle.dimse.specs.Reading.{command_in, command_in_set, set_of}
 use Rattle.dimse.specs.Messages as messages
 use Rattle.dimse.specs.Messages.{Message, Brought, Goes, Ends, Refuses, message_by, brought, ended}
 use Rattle.dimse.specs.Reply.{reply_bytes}
 use Rattle.dimse.specs.Status.{success}
 use Rattle.engine.specs.Timeline.{Entry, At, Shut, TimedOut, Aborted, Finding, Happened, entries_of}
-use Rattle.engine.specs.Progress.{Progress, Advance, start, absorb, is_established, nothing}
+use Rattle.engine.specs.Progress.{Progress, Advance, at_start, absorb, is_established, nothing}
 use Rattle.engine.specs.Replies.{at_pdv, replied, finding_on, file_put, file_in, echo_status, ended_message}
 use Rattle.engine.specs.Run.{Rooms, at_entry, cut, gives, progress_of, sent_of, files_of, fails, counted, wire_failures, filing_failures}
 use Rattle.engine.specs.Fair.{IsFair, AreFair, IsVerdict, message_at}
@@ -32,11 +32,11 @@ fair_at rooms s p (x ∷ before) h after fair = fair_at rooms s (gives rooms s p
 
 pub every_good_image_is_filed : EveryGoodImageIsFiled
 every_good_image_is_filed rooms s inputs before after h failed sent files state m command context run ends image calm =
-    let p = progress_of rooms s start before in
-    let there = no_good_image_is_refused rooms s p h m command context ends image calm (fair_at rooms s start before h after run.story_is.fair) in
+    let p = progress_of rooms s at_start before in
+    let there = no_good_image_is_refused rooms s p h m command context ends image calm (fair_at rooms s at_start before h after run.story_is.fair) in
     record {
-      files_are = run.files_are ∙ files_then rooms s start before (h ∷ after) ∙ ap (λ (fs : List (List ℕ)). files_of rooms s start before ++ (fs ++ files_of rooms s (gives rooms s p h).next after)) there.1;
-      sent_is = run.sent_is ∙ sent_then rooms s start before (h ∷ after) ∙ ap (λ (text : List ℕ). sent_of rooms s start before ++ (text ++ sent_of rooms s (gives rooms s p h).next after)) there.2;
+      files_are = run.files_are ∙ files_then rooms s at_start before (h ∷ after) ∙ ap (λ (fs : List (List ℕ)). files_of rooms s at_start before ++ (fs ++ files_of rooms s (gives rooms s p h).next after)) there.1;
+      sent_is = run.sent_is ∙ sent_then rooms s at_start before (h ∷ after) ∙ ap (λ (text : List ℕ). sent_of rooms s at_start before ++ (text ++ sent_of rooms s (gives rooms s p h).next after)) there.2;
     }
 
 -- ---- a command is an echo or a store
@@ -49,16 +49,16 @@ bound : {A : Type 0} (r : Result A DimseFault) (f : A → Result CommandRecord D
 bound (Ok x) f k = k x
 bound (Err e) f k = tt
 
-stored_is : (class : List ℕ) (message : ℕ) (es : List CommandElement) → IsService (stored class message es)
-unfolding stored
-stored_is class message es = bound (needed uid_of (value_of 0x1000 es)) (λ instance. Ok (record { class = class; field = c_store; message = message; with_data = true; instance = Some instance })) (λ instance. inr refl)
+stored_is : (class : List ℕ) (message : ℕ) (es : List CommandElement) → IsService (store_command class message es)
+unfolding store_command
+stored_is class message es = bound (needed uid_of (command_value 0x1000 es)) (λ instance. Ok (record { class = class; field = c_store; message = message; with_data = true; instance = Some instance })) (λ instance. inr refl)
 
 request_is : (class : List ℕ) (field message kind : ℕ) (es : List CommandElement) → IsService (request_of class field message kind es)
 request_is class field message kind es = by (nat_eq field c_echo) (nat_eq field c_store) (nat_eq kind no_data_set)
   where
     by : (echo store none : Bool) → IsService (if echo then
         (if none then Ok (record { class = class; field = c_echo; message = message; with_data = false; instance = None }) else Err WrongKind)
-        else (if store then (if none then Err WrongKind else stored class message es) else Err UnknownField))
+        else (if store then (if none then Err WrongKind else store_command class message es) else Err UnknownField))
     by true store true = inl refl
     by true store false = tt
     by false true true = tt
@@ -68,10 +68,10 @@ request_is class field message kind es = by (nat_eq field c_echo) (nat_eq field 
 of_elements : (es : List CommandElement) → IsService (command_of es)
 unfolding command_of
 of_elements es =
-    bound (needed uid_of (value_of 0x0002 es)) _ (λ class.
-    bound (needed two_bytes (value_of 0x0100 es)) _ (λ field.
-    bound (needed two_bytes (value_of 0x0110 es)) _ (λ message.
-    bound (needed two_bytes (value_of 0x0800 es)) _ (λ kind. request_is class field message kind es))))
+    bound (needed uid_of (command_value 0x0002 es)) _ (λ class.
+    bound (needed two_bytes (command_value 0x0100 es)) _ (λ field.
+    bound (needed two_bytes (command_value 0x0110 es)) _ (λ message.
+    bound (needed two_bytes (command_value 0x0800 es)) _ (λ kind. request_is class field message kind es))))
 
 of_set : (set : Option (List CommandElement)) → IsService (command_in_set set)
 of_set None = tt
@@ -87,7 +87,7 @@ replied_same : (p : Progress) (f g : Finding) (m : Message) (r : Result CommandR
 replied_same p f g m (Err fault) k same = refl
 replied_same p f g m (Ok command) (inr store) same = ap (λ (z : Finding). replied p z m (Ok command)) (same command refl store)
 replied_same p f g m (Ok command) (inl echo) same =
-    let r = record_of p.request in
+    let r = request_record p.request in
     let answered : Finding = record { status = echo_status (context_of r m.context) command; detail = None } in
     let findings : finding_on (context_of r m.context) command f ≡ finding_on (context_of r m.context) command g =
     ap (λ (n : ℕ). if nat_eq n 0x0030 then answered else f) echo ∙ sym (ap (λ (n : ℕ). if nat_eq n 0x0030 then answered else g) echo) in
@@ -118,7 +118,7 @@ module _ (rooms : Rooms) (s : Settings) where
       (λ e. brought_is p f (brought p.message pdv) ∙ brought_same p f g (brought p.message pdv) e ∙ sym (brought_is p g (brought p.message pdv)))
 
   ended_same : (p : Progress) (f g : Finding) (e : Entry) (m : Message) → message_at p e ≡ Some m → IsVerdict rooms s p f (Some m) → IsVerdict rooms s p g (Some m)
-      → ((command : CommandRecord) → command_in m.command ≡ Ok command → command.field ≡ c_store → (context : Context) × (context_of (record_of p.request) m.context ≡ Some context))
+      → ((command : CommandRecord) → command_in m.command ≡ Ok command → command.field ≡ c_store → (context : Context) × (context_of (request_record p.request) m.context ≡ Some context))
       → at_entry rooms s p f e ≡ at_entry rooms s p g e
   ended_same p f g e m is v w accepted =
       entry_at rooms s p f e m is
@@ -128,7 +128,7 @@ module _ (rooms : Rooms) (s : Settings) where
       ∙ sym (entry_at rooms s p g e m is)
 
   entry_same : (p : Progress) (f g : Finding) (e : Entry) → IsVerdict rooms s p f (message_at p e) → IsVerdict rooms s p g (message_at p e)
-      → ((m : Message) (command : CommandRecord) → message_at p e ≡ Some m → command_in m.command ≡ Ok command → command.field ≡ c_store → (context : Context) × (context_of (record_of p.request) m.context ≡ Some context))
+      → ((m : Message) (command : CommandRecord) → message_at p e ≡ Some m → command_in m.command ≡ Ok command → command.field ≡ c_store → (context : Context) × (context_of (request_record p.request) m.context ≡ Some context))
       → at_entry rooms s p f e ≡ at_entry rooms s p g e
   entry_same p f g (At (Pdv context control fragment)) v w accepted = by (message_at p (At (Pdv context control fragment))) refl
     where
@@ -194,7 +194,7 @@ same_way rooms s p (x ∷ xs) (y ∷ ys) last last2 e fair fair2 w w2 k k2 accep
 pub one_run : OneRun
 one_run rooms s a b story story2 failed failed2 sent sent2 files files2 state ended cuts run run2 calm calm2 accepted =
     let told = run.story_is.told ∙ (cuts_do_not_show rooms s a b cuts).0 ∙ sym run2.story_is.told in
-    let way = same_way rooms s start story story2 failed failed2 told run.story_is.fair run2.story_is.fair calm.wire calm2.wire calm.filing calm2.filing accepted in (
+    let way = same_way rooms s at_start story story2 failed failed2 told run.story_is.fair run2.story_is.fair calm.wire calm2.wire calm.filing calm2.filing accepted in (
       run.sent_is ∙ way.sent ∙ sym run2.sent_is,
       run.files_are ∙ way.files ∙ sym run2.files_are,
       run.state_is ∙ ap (λ (p : Progress). p.state) way.progress ∙ sym run2.state_is,

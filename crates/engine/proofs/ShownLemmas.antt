@@ -5,7 +5,7 @@ use Rattle.acceptor.specs.declared.state.State.{State}
 use Rattle.acceptor.specs.declared.state.State.TheVariants.{Sta1, Sta2, Sta3, Sta6, Sta8, Sta13}
 use Rattle.part10.specs.Store.{Store}
 use Rattle.dimse.specs.Messages.{Begun, NoMessage, InSet}
-use Rattle.dimse.specs.Joining.{Joining, Shows, shown, with_pdv}
+use Rattle.dimse.specs.Joining.{Joining, ShowsMessage, shown, with_pdv}
 use Rattle.engine.specs.Drafts.{IsDraft, none_due}
 use Rattle.engine.specs.Fair.{InStore}
 use Rattle.engine.specs.Held.{is_ended}
@@ -77,8 +77,8 @@ pends_ended k store other p q body begun body2 begun2 e same m h =
       state_is = h.state_is ∙ sym same;
       refused_is = λ n. let x : true ≡ false = sym end ∙ n in absurd cc;
       body_is = h.body_is ∙ ended_body p.state p.refused body e ∙ sym (ended_body q.state q.refused body2 end);
-      join_is = subst (λ (m : Begun). Shows k.room k.join m (counted_pdv q begun2)) (h.none_left (ended_unestablished p.state e) ∙ sym none)
-          (subst (λ (xs : List ℕ). Shows k.room k.join p.message xs) (ended_pdv p.state p.refused begun e ∙ sym (ended_pdv q.state q.refused begun2 end)) h.join_is);
+      join_is = subst (λ (m : Begun). ShowsMessage k.room k.join m (counted_pdv q begun2)) (h.none_left (ended_unestablished p.state e) ∙ sym none)
+          (subst (λ (xs : List ℕ). ShowsMessage k.room k.join p.message xs) (ended_pdv p.state p.refused begun e ∙ sym (ended_pdv q.state q.refused begun2 end)) h.join_is);
       agreed = λ six. let x : is_ended Sta6 ≡ true = sym (ap is_ended six) ∙ end in absurd cc;
       none_left = λ u. none;
       failed_in = λ n. let x : true ≡ false = sym end ∙ n in absurd cc;
@@ -104,7 +104,7 @@ with_short m b l = rw (is_short (length b) l) refl
 shown_short : (m : Begun) (b : List ℕ) → length b < 6 → shown (with_pdv b m) b ≡ shown m []
 shown_short m b l = rw (is_short (length b) l) refl
 
-shows_short : (room : ℕ) (join : Joining) (m : Begun) (b c : List ℕ) → length b < 6 → length c < 6 → Shows room join m b → Shows room join m c
+shows_short : (room : ℕ) (join : Joining) (m : Begun) (b c : List ℕ) → length b < 6 → length c < 6 → ShowsMessage room join m b → ShowsMessage room join m c
 shows_short room join m b c l n h = record { shows = h.shows ∙ shown_short m b l ∙ sym (shown_short m c n); accepted = λ six. absurd (omega (arith, six, n)) }
 
 pub pends_short : (k : Kept) (store : Store) (p : Progress) (body b c : List ℕ) → length b < 6 → length c < 6 → Pends k store p body b → Pends k store p body c

@@ -13,7 +13,7 @@ use Rattle.negotiate.specs.Settings.{Settings}
 use Rattle.dimse.specs.Messages.{Begun, NoMessage}
 use Rattle.engine.specs.Timeline.{Entry, At, Shut, TimedOut, Aborted, Happened, entries_of, Finding, good, Outcome}
 use Rattle.engine.specs.Progress.{Progress, Advance, nothing, done, refusing}
-use Rattle.engine.specs.Heads.{HeadEvent, NoEvent, AtOnce, TooLong, event_of, is_known, is_short, is_abort, request_length, data_length}
+use Rattle.engine.specs.Heads.{HeadEvent, NoEvent, AtOnce, TooLong, event_of, is_known, has_four_bytes, is_abort, request_length, data_length}
 use Rattle.engine.specs.Held.{is_ended}
 use Rattle.engine.specs.Requests.{at_request}
 use Rattle.engine.specs.Run.{Rooms, released, at_entry, gives, progress_of, sent_of, files_of, wire_failures, filing_failures}
@@ -81,7 +81,7 @@ module _ (rq : List ℕ) (m : Begun) (f : Bool) where
 
   mark_still : (rooms : Rooms) (s : Settings) (v : Finding) (b : Bool) (x : Mark) → IsStill (at_end_with rq m f b) (at_entry rooms s (at_end_with rq m f b) v (At x))
   mark_still rooms s v b (Head kind n) =
-      head_still b (idle_head (not (is_known kind)) (is_short kind && not (nat_eq n 4)) (nat_eq kind 1) (nat_eq kind 4) (request_length (rooms.request - 12) n) (data_length s.max_pdu n) _
+      head_still b (idle_head (not (is_known kind)) (has_four_bytes kind && not (nat_eq n 4)) (nat_eq kind 1) (nat_eq kind 4) (request_length (rooms.request - 12) n) (data_length s.max_pdu n) _
       (idle_place _ (event_of kind) (ap (λ (step : Action × State). step.0) (idle_event (nat_eq kind 1) (nat_eq kind 2) (nat_eq kind 3) (nat_eq kind 4) (nat_eq kind 5) (nat_eq kind 6) (nat_eq kind 7)))))
   mark_still rooms s v true (PdvHead n context control) = kept_still true
   mark_still rooms s v true (Pdv context control fragment) = kept_still true

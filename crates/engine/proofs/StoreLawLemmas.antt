@@ -1,8 +1,8 @@
 -- What comes of a store at the entry where it ends.
 use Rattle.std.proofs.Common.{◌≡◌, ℕ, Bool, true, false, not, ◌&&◌, ◌||◌, List, [], ◌∷◌, Option, Some, None, Result, Ok, refl, sym, ap, subst, ◌∙◌, nat_eq, if◌then◌else◌}
 use Rattle.pdu.specs.Marks.{Head, PdvHead, Pdv, BadPdv, Leftover, End}
-use Rattle.pdu.specs.Items.{record_of}
-use Rattle.pdu.specs.Record.{Record}
+use Rattle.pdu.specs.Items.{request_record}
+use Rattle.pdu.specs.Record.{RequestRecord}
 use Rattle.negotiate.specs.declared.proposals.Context.{Context}
 use Rattle.negotiate.specs.Contexts.{context_of}
 use Rattle.negotiate.specs.Settings.{Settings}
@@ -103,7 +103,7 @@ cut_files : (wire : Option ℕ) (p : Progress) (g : Advance) → (cut wire p g).
 cut_files None p g = refl
 cut_files (Some k) p g = refl
 
-success_files : (r : Record) (id : ℕ) (command : CommandRecord) (set : List ℕ) (finding : Finding) (context : Context) → command.field ≡ 1 → finding.status ≡ success → context_of r id ≡ Some context
+success_files : (r : RequestRecord) (id : ℕ) (command : CommandRecord) (set : List ℕ) (finding : Finding) (context : Context) → command.field ≡ 1 → finding.status ≡ success → context_of r id ≡ Some context
     → file_put r id command set finding ≡ file_of command context.syntax r.calling set ∷ []
 success_files r id command set finding context store good_status accepted =
     let both : (nat_eq command.field 1 && nat_eq finding.status success) ≡ true = (λ i. nat_eq (store i) 1 && nat_eq (good_status i) success) in
@@ -111,11 +111,11 @@ success_files r id command set finding context store good_status accepted =
 
 -- where it succeeds, its file
 filed_at : (rooms : Rooms) (s : Settings) (p : Progress) (h : Happened) (m : Message) (command : CommandRecord) (context : Context) → EndsAt p h m command context → h.1.finding.status ≡ success
-    → (gives rooms s p h).files ≡ file_of command context.syntax (record_of p.request).calling m.set ∷ []
+    → (gives rooms s p h).files ≡ file_of command context.syntax (request_record p.request).calling m.set ∷ []
 filed_at rooms s p h m command context ends good_status =
     cut_files h.1.wire p (at_entry rooms s (absorb h.1.filing p) h.1.finding h.0)
     ∙ ap (λ (g : Advance). g.files) (stored_at rooms s p h m command context ends)
-    ∙ success_files (record_of p.request) m.context command m.set h.1.finding context ends.store good_status ends.accepted
+    ∙ success_files (request_record p.request) m.context command m.set h.1.finding context ends.store good_status ends.accepted
 
 pub filed_by_itself : FiledByItself
 filed_by_itself rooms rooms2 s s2 p p2 h h2 m m2 command command2 context context2 ends ends2 same_command same_set same_syntax same_title good_status good_status2 =
@@ -138,11 +138,11 @@ good_finding depth most context command set failed finding e g v = let w = g.who
     (ends_fine (record { elements = w.elements; whole = w.text; unbroken = whole_breaks_no_rule context.syntax (limits depth most) set w }))
     (subst (λ z. Verdict depth most context command set z finding) e v) (good_verdict depth most context command set g)
 
-good_sent : (p : Progress) (finding : Finding) (m : Message) (command : CommandRecord) → command.field ≡ 1 → finding ≡ good → (replied p finding m (Ok command)).sent ≡ reply_bytes command success None m.context (record_of p.request).maximum
+good_sent : (p : Progress) (finding : Finding) (m : Message) (command : CommandRecord) → command.field ≡ 1 → finding ≡ good → (replied p finding m (Ok command)).sent ≡ reply_bytes command success None m.context (request_record p.request).maximum
 good_sent p finding m command store is =
-    let on : finding_on (context_of (record_of p.request) m.context) command finding ≡ good =
-    ap (λ (n : ℕ). if nat_eq n 0x0030 then record { status = echo_status (context_of (record_of p.request) m.context) command; detail = None } else finding) store ∙ is in
-    ap (λ (f : Finding). reply_bytes command f.status f.detail m.context (record_of p.request).maximum) on
+    let on : finding_on (context_of (request_record p.request) m.context) command finding ≡ good =
+    ap (λ (n : ℕ). if nat_eq n 0x0030 then record { status = echo_status (context_of (request_record p.request) m.context) command; detail = None } else finding) store ∙ is in
+    ap (λ (f : Finding). reply_bytes command f.status f.detail m.context (request_record p.request).maximum) on
 
 none_cut : (wire : Option ℕ) (p : Progress) (g : Advance) → wire ≡ None → (cut wire p g).sent ≡ g.sent
 none_cut wire p g e = ap (λ (w : Option ℕ). (cut w p g).sent) e

@@ -2,7 +2,7 @@
 use Rattle.std.proofs.Common.{◌≡◌, ℕ, ◌+◌, ◌≤◌, nat_lt, Bool, true, false, not, ◌||◌, List, [], ◌∷◌, ◌++◌, length, drop, get_or, Option, Some, None, option_map, Result, Ok, refl, ap, sym, subst, ◌∙◌, append_assoc, arith, if◌then◌else◌}
 use Rattle.std.proofs.lemmas.Bool.Decides.{nat_tests}
 use Rattle.std.proofs.lemmas.List.{append-nil, length-append, drop_all, drop-append-le, get_or_append_left}
-use Rattle.pdu.specs.Items.{record_of}
+use Rattle.pdu.specs.Items.{request_record}
 use Rattle.negotiate.specs.declared.proposals.Context.{Context}
 use Rattle.negotiate.specs.Contexts.{context_of}
 use Rattle.part10.specs.declared.meta.Meta.{Meta}
@@ -22,10 +22,10 @@ use Rattle.engine.specs.Progress.{Progress}
 use Rattle.engine.specs.Run.{counted}
 use Rattle.engine.specs.machine.Pends.{Kept, Pends, counted_pdv}
 use Rattle.engine.specs.Timeline.{Finding}
-use Rattle.engine.specs.machine.Judged.{Commits, done, undone}
+use Rattle.engine.specs.machine.Verdicts.{Commits, done, undone}
 use Rattle.engine.specs.machine.Messages.{Proceeds}
 use Rattle.engine.specs.machine.Storing.{Stored, Nothing, Walking, Walks, not_walked, walked, Drops, Grows, GoesOn, drafting_in}
-use Rattle.engine.specs.machine.Tries.{Unfiled}
+use Rattle.engine.specs.machine.DoesDue.{Unfiled}
 
 -- ---- what is walked and the draft, together
 
@@ -131,7 +131,7 @@ fragment_store request context part (InCommand first command) s = absurd (no_sto
 fragment_store request context part (InSet first command set) s =
     let one : first ≡ s.id = let e = s.begun in cc in
     let two : command ≡ s.command = let e = s.begun in cc in
-    record { id = first; command = command; set = set; asked = s.asked; context = s.context; begun = refl; spelled = ap command_in two ∙ s.spelled; accepted = ap (context_of (record_of request)) one ∙ s.accepted; of_context = s.of_context }
+    record { id = first; command = command; set = set; asked = s.asked; context = s.context; begun = refl; spelled = ap command_in two ∙ s.spelled; accepted = ap (context_of (request_record request)) one ∙ s.accepted; of_context = s.of_context }
 
 abbrev pub store_fragment : (request : List ℕ) (context : ℕ) (part : List ℕ) (m : Begun) → (s : InStore request m) → InStore request (with_fragment context part m)
 store_fragment request context part m s = record {
@@ -171,13 +171,13 @@ same_file request m a b =
     let id : a.id ≡ b.id = cc in
     let command : a.command ≡ b.command = cc in
     let set : a.set ≡ b.set = cc in
-    let contexts : Some a.context ≡ Some b.context = sym a.accepted ∙ ap (context_of (record_of request)) id ∙ b.accepted in
+    let contexts : Some a.context ≡ Some b.context = sym a.accepted ∙ ap (context_of (request_record request)) id ∙ b.accepted in
     let asked : ◌≡◌ {A = Result CommandRecord DimseFault} (Ok a.asked) (Ok b.asked) = sym a.spelled ∙ ap command_in command ∙ b.spelled in
     (cc, cc, set)
 
 abbrev pub meta_by : List ℕ → Context → CommandRecord → Meta
 meta_by request context asked =
-    record { class = asked.class; instance = some_or_nothing asked.instance; syntax = context.syntax; calling = record { 0 = (record_of request).calling } }
+    record { class = asked.class; instance = some_or_nothing asked.instance; syntax = context.syntax; calling = record { 0 = (request_record request).calling } }
 
 -- a draft is due of these bytes
 pub due_file : (request : List ℕ) (m : Begun) (failed : Bool) (s : InStore request m) → failed ≡ false → IsDue request m failed (File (meta_by request s.context s.asked) s.set)

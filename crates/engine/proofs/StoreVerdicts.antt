@@ -11,10 +11,10 @@ use Rattle.element.specs.Vr.{is_short}
 use Rattle.dictionary.specs.Tags.{row_of}
 use Rattle.dictionary.specs.Classes.{class_named}
 use Rattle.dictionary.specs.Syntaxes.{syntax_named}
-use Rattle.dimse.specs.Command.{command_element_bytes, stored, command_of}
+use Rattle.dimse.specs.Command.{command_element_bytes, store_command, command_of}
 use Rattle.dimse.specs.Reading.{element_at, elements_in, elements_of, set_of, command_in}
 use Rattle.dimse.specs.Reply.{reply_command, fragments, reply_bytes}
-use Rattle.part10.specs.File.{instance_elements, implementation_elements, title_element}
+use Rattle.part10.specs.File.{identity_elements, implementation_elements, title_element}
 use Rattle.pdu.specs.Items.{items_of, left_over}
 use Rattle.pdu.specs.Pieces.{pieces_of}
 use Rattle.pdu.specs.Refusal.{item_fault, items_fault}
@@ -22,12 +22,12 @@ use Rattle.sequence.specs.Tree.{Elements, no_elements, value, IsElement, DataSet
 use Rattle.sequence.specs.Open.{Open, in_header, at_elements, header_tail}
 use Rattle.sequence.specs.Rules.{Limits, broken_tag, broken_header, broken}
 use Rattle.sequence.specs.FirstFault.{IsUnbroken}
-use Rattle.sequence.specs.Wanted.{Values, Kept}
+use Rattle.sequence.specs.Wanted.{Values, KeepsWanted}
 use Rattle.sequence.specs.Walk.{Told, Tells, going, refused}
 use Rattle.sequence.specs.machine.Machine.{due, arrive, begin_value, begin_level, leave, take_header, headed, read, run}
 use Rattle.sequence.specs.machine.Keeping.{keep_header, keeps}
 use Rattle.sequence.proofs.Public.{report_computed, bytes_tried}
-use Rattle.engine.specs.Stores.{IsOfContext, HasNoFault, Names, NamesInstance, names_instance, unfiled, filed, wanted, limits, class_tag, instance_tag}
+use Rattle.engine.specs.Stores.{IsOfContext, HasNoFault, NamesUid, NamesInstance, names_instance, unfiled, filed, wanted, limits, class_tag, instance_tag}
 use Rattle.engine.specs.StoreExamples.{data_set}
 use Rattle.engine.specs.StoreVerdicts.{store_of, VerdictsOnOneImage, TheFileOfAStore}
 use Rattle.engine.specs.VerdictExamples.{ct_in}
@@ -94,14 +94,14 @@ is_front = record {
   innermost = tt;
 }
 
-are_kept : Kept Explicit wanted data_set values
+are_kept : KeepsWanted Explicit wanted data_set values
 are_kept = record { elements = both; path = []; last = number instance_tag; tail = in_header []; front = is_front; kept = refl }
 
 of_ct : (instance : List ℕ) → IsOfContext (ct_in Explicit) (store_of instance)
 unfolding class_named
 of_ct instance = record { named = refl; storage = refl }
 
-named_class : Names values class_tag (codes "1.2.840.10008.5.1.4.1.1.2")
+named_class : NamesUid values class_tag (codes "1.2.840.10008.5.1.4.1.1.2")
 named_class = (class_value, refl, refl)
 
 named_instance : NamesInstance values (store_of (codes "1.2.3"))
@@ -125,5 +125,5 @@ verdicts_on_one_image = (
 )
 
 pub the_file_of_a_store : TheFileOfAStore
-unfolding pieces_of items_of left_over item_fault items_fault class_named syntax_named is_short command_element_bytes stored command_of element_at elements_in elements_of set_of command_in reply_command fragments reply_bytes instance_elements implementation_elements title_element
+unfolding pieces_of items_of left_over item_fault items_fault class_named syntax_named is_short command_element_bytes store_command command_of element_at elements_in elements_of set_of command_in reply_command fragments reply_bytes identity_elements implementation_elements title_element
 the_file_of_a_store = refl

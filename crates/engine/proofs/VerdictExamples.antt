@@ -17,8 +17,8 @@ use Rattle.sequence.specs.machine.Keeping.{keep_header, keeps}
 use Rattle.sequence.proofs.Public.{report_computed, bytes_tried}
 use Rattle.engine.specs.Stores.{IsOfContext, Verdict, limits}
 use Rattle.engine.specs.VerdictExamples.{ct_in, ct_store, VerdictsOnFaults}
-use Rattle.engine.specs.machine.Judged.{of_fault}
-use Rattle.engine.proofs.JudgedLemmas.{rule_found}
+use Rattle.engine.specs.machine.Verdicts.{of_fault}
+use Rattle.engine.proofs.WalkVerdictLemmas.{rule_found}
 
 -- the verdict on a data set of which a refusal is reported
 pub fault_told : (depth most : ℕ) (context : Context) (command : CommandRecord) (set : List ℕ) (failed : Bool) (told : Told) (fault : Fault) → IsOfContext context command → Tells context.syntax (limits depth most) set told → told.fault ≡ Some fault

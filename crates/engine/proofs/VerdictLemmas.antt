@@ -12,7 +12,7 @@ use Rattle.dictionary.proofs.Public.{class_back}
 use Rattle.sequence.specs.Tree.{Elements, DataSet}
 use Rattle.sequence.specs.Open.{PathEntry, Tail, in_header, in_value, last_of, Nested, at_elements, in_sequence_of, in_item_of, IsTail, header_tail, value_tail, Open}
 use Rattle.sequence.specs.Rules.{Limits}
-use Rattle.sequence.specs.Wanted.{Values, Kept, kept_of, value_of}
+use Rattle.sequence.specs.Wanted.{Values, KeepsWanted, kept_of, value_of}
 use Rattle.sequence.specs.FirstFault.{IsUnbroken, FirstFault, EndFault, tag_of_tail}
 use Rattle.sequence.specs.Walk.{Told, Tells, going, refused}
 use Rattle.sequence.proofs.Public.{no_header}
@@ -23,10 +23,10 @@ use Rattle.dimse.specs.Status.{class_not_supported, data_set_mismatch, cannot_un
 use Rattle.negotiate.specs.declared.proposals.Context.{Context}
 use Rattle.engine.specs.Timeline.{Finding, good}
 use Rattle.dimse.specs.Detail.{class_mismatch, instance_mismatch}
-use Rattle.engine.specs.Stores.{IsOfContext, HasNoFault, Names, NamesInstance, Verdict, other_class, no_room, faulty, cut, names_class, names_instance, unfiled, filed, wanted, limits, class_tag, instance_tag, cause}
+use Rattle.engine.specs.Stores.{IsOfContext, HasNoFault, NamesUid, NamesInstance, Verdict, other_class, no_room, faulty, cut, names_class, names_instance, unfiled, filed, wanted, limits, class_tag, instance_tag, cause}
 use Rattle.engine.specs.StoreLaws.{AVerdictIsThere, AVerdictIsOne}
-use Rattle.engine.specs.machine.Judged.{no_resources, of_fault}
-use Rattle.engine.proofs.JudgedLemmas.{rule_found}
+use Rattle.engine.specs.machine.Verdicts.{no_resources, of_fault}
+use Rattle.engine.proofs.WalkVerdictLemmas.{rule_found}
 
 -- ---- what is decided
 
@@ -41,27 +41,27 @@ same_or_not (x ∷ a) (y ∷ b) = by (eqb_tells x y) (same_or_not a b)
     by (inl h) (inr t) = inr (λ e. t (let k : a ≡ b = cc in k))
     by (inr h) t = inr (λ e. h.1 (let k : x ≡ y = cc in k))
 
-pub names_or_not : (values : Values) (tag : Tag) (uid : List ℕ) → Names values tag uid ⊎ (Names values tag uid → ⊥)
+pub names_or_not : (values : Values) (tag : Tag) (uid : List ℕ) → NamesUid values tag uid ⊎ (NamesUid values tag uid → ⊥)
 names_or_not values tag uid = by (value_of values (number tag)) refl
   where
-    named : (value : List ℕ) → value_of values (number tag) ≡ Some value → (o : Option (List ℕ)) → uid_of value ≡ o → Names values tag uid ⊎ (Names values tag uid → ⊥)
+    named : (value : List ℕ) → value_of values (number tag) ≡ Some value → (o : Option (List ℕ)) → uid_of value ≡ o → NamesUid values tag uid ⊎ (NamesUid values tag uid → ⊥)
     named value e None k = inr (λ n. let same : value ≡ n.0 = (let z : Some value ≡ Some n.0 = sym e ∙ n.1 in cc) in let z : ◌≡◌ {A = Option (List ℕ)} None (Some uid) = sym k ∙ ap uid_of same ∙ n.2 in cc)
     named value e (Some text) k = compared (same_or_not text uid)
       where
-        compared : (text ≡ uid) ⊎ (text ≢ uid) → Names values tag uid ⊎ (Names values tag uid → ⊥)
+        compared : (text ≡ uid) ⊎ (text ≢ uid) → NamesUid values tag uid ⊎ (NamesUid values tag uid → ⊥)
         compared (inl same) = inl (value, e, k ∙ ap Some same)
         compared (inr other) = inr (λ n. other (let same : value ≡ n.0 = (let z : Some value ≡ Some n.0 = sym e ∙ n.1 in cc) in let z : Some text ≡ Some uid = sym k ∙ ap uid_of same ∙ n.2 in cc))
 
-    by : (o : Option (List ℕ)) → value_of values (number tag) ≡ o → Names values tag uid ⊎ (Names values tag uid → ⊥)
+    by : (o : Option (List ℕ)) → value_of values (number tag) ≡ o → NamesUid values tag uid ⊎ (NamesUid values tag uid → ⊥)
     by None e = inr (λ n. let z : ◌≡◌ {A = Option (List ℕ)} None (Some n.0) = sym e ∙ n.1 in cc)
     by (Some value) e = named value e (uid_of value) refl
 
 pub instance_or_not : (values : Values) (command : CommandRecord) → NamesInstance values command ⊎ (NamesInstance values command → ⊥)
 instance_or_not values command = by command.instance refl
   where
-    named : (uid : List ℕ) → command.instance ≡ Some uid → Names values instance_tag uid ⊎ (Names values instance_tag uid → ⊥) → NamesInstance values command ⊎ (NamesInstance values command → ⊥)
+    named : (uid : List ℕ) → command.instance ≡ Some uid → NamesUid values instance_tag uid ⊎ (NamesUid values instance_tag uid → ⊥) → NamesInstance values command ⊎ (NamesInstance values command → ⊥)
     named uid e (inl n) = inl (uid, e, n)
-    named uid e (inr other) = inr (λ n. other (subst (Names values instance_tag) (let z : Some n.0 ≡ Some uid = sym n.1 ∙ e in (let k : n.0 ≡ uid = cc in k)) n.2))
+    named uid e (inr other) = inr (λ n. other (subst (NamesUid values instance_tag) (let z : Some n.0 ≡ Some uid = sym n.1 ∙ e in (let k : n.0 ≡ uid = cc in k)) n.2))
 
     by : (o : Option (List ℕ)) → command.instance ≡ o → NamesInstance values command ⊎ (NamesInstance values command → ⊥)
     by None e = inr (λ n. let z : ◌≡◌ {A = Option (List ℕ)} None (Some n.0) = sym e ∙ n.1 in cc)
@@ -147,7 +147,7 @@ every_end s lim b bytes = let k = some_telling s lim b bytes in ends_told s lim 
 
 -- ---- the finding on each
 
-abbrev pub finding_on_names : (values : Values) (command : CommandRecord) (failed : Bool) → Names values class_tag command.class ⊎ (Names values class_tag command.class → ⊥) → NamesInstance values command ⊎ (NamesInstance values command → ⊥) → Finding
+abbrev pub finding_on_names : (values : Values) (command : CommandRecord) (failed : Bool) → NamesUid values class_tag command.class ⊎ (NamesUid values class_tag command.class → ⊥) → NamesInstance values command ⊎ (NamesInstance values command → ⊥) → Finding
 finding_on_names values command failed (inr other) i = cause data_set_mismatch class_mismatch class_tag
 finding_on_names values command failed (inl class) (inr other) = cause data_set_mismatch instance_mismatch instance_tag
 finding_on_names values command true (inl class) (inl instance) = no_resources
@@ -160,13 +160,13 @@ found_on s lim b command failed (ends_fine w) =
     let values = kept_of wanted w.elements in finding_on_names values command failed (names_or_not values class_tag command.class) (instance_or_not values command)
 
 -- the same, where the data set is fine
-fine_kept : (s : Syntax) (lim : Limits) (b : List ℕ) (w : IsFine s lim b) → Kept s wanted b (kept_of wanted w.elements)
+fine_kept : (s : Syntax) (lim : Limits) (b : List ℕ) (w : IsFine s lim b) → KeepsWanted s wanted b (kept_of wanted w.elements)
 fine_kept s lim b w = record { elements = w.elements; path = []; last = last_of 0 w.elements; tail = in_header []; front = whole_front s w.elements b w.whole; kept = refl }
 
 -- ---- it is a verdict
 
 module _ (depth most : ℕ) (context : Context) (command : CommandRecord) (set : List ℕ) (failed : Bool) (of : IsOfContext context command) where
-  named_verdict : (w : IsFine context.syntax (limits depth most) set) (c : Names (kept_of wanted w.elements) class_tag command.class ⊎ (Names (kept_of wanted w.elements) class_tag command.class → ⊥)) (i : NamesInstance (kept_of wanted w.elements) command ⊎ (NamesInstance (kept_of wanted w.elements) command → ⊥)) (b : Bool) → failed ≡ b
+  named_verdict : (w : IsFine context.syntax (limits depth most) set) (c : NamesUid (kept_of wanted w.elements) class_tag command.class ⊎ (NamesUid (kept_of wanted w.elements) class_tag command.class → ⊥)) (i : NamesInstance (kept_of wanted w.elements) command ⊎ (NamesInstance (kept_of wanted w.elements) command → ⊥)) (b : Bool) → failed ≡ b
       → Verdict depth most context command set failed (finding_on_names (kept_of wanted w.elements) command b c i)
   named_verdict w (inr other) i b e = names_class of (record { elements = w.elements; whole = w.whole; unbroken = w.unbroken }) (fine_kept context.syntax (limits depth most) set w) other
   named_verdict w (inl class) (inr other) b e = names_instance of (record { elements = w.elements; whole = w.whole; unbroken = w.unbroken }) (fine_kept context.syntax (limits depth most) set w) class other

@@ -19,7 +19,7 @@ use Rattle.sequence.specs.machine.Keeping.{keeps}
 use Rattle.sequence.proofs.Public.{nothing_unbroken}
 use Rattle.dictionary.specs.Syntaxes.{syntax_named}
 use Rattle.dimse.specs.declared.fault.DimseFault.{DimseFault}
-use Rattle.dimse.specs.Command.{CommandRecord, command_element_bytes, stored, command_of}
+use Rattle.dimse.specs.Command.{CommandRecord, command_element_bytes, store_command, command_of}
 use Rattle.dimse.specs.Reading.{element_at, elements_in, elements_of, set_of, command_in}
 use Rattle.dimse.specs.Reply.{reply_command, fragments, reply_bytes}
 use Rattle.dimse.specs.Messages.{Begun, NoMessage, InSet}
@@ -33,7 +33,7 @@ use Rattle.pdu.specs.Spot.{spot}
 use Rattle.engine.specs.Timeline.{Entry, Finding, good, entries, entries_of}
 use Rattle.engine.specs.Fair.{IsFair, IsVerdict, InStore, message_at}
 use Rattle.negotiate.proofs.Public.{context_in-context_rows}
-use Rattle.pdu.specs.Items.{record_of}
+use Rattle.pdu.specs.Items.{request_record}
 use Rattle.std.specs.List.{IsDistinct}
 use Rattle.engine.specs.Progress.{Progress, absorb}
 use Rattle.engine.specs.Run.{Rooms}
@@ -62,7 +62,7 @@ calm_fair : {p : Progress} {e : Entry} → IsVerdict rooms settings (absorb fals
 calm_fair v = record { verdict = v; wire = tt; filing = λ f. absurd cc }
 
 pub the_echo_runs : TheEchoRuns
-unfolding frames_of rest_of pieces_of marks new_marks pdv_marks items_of left_over item_fault items_fault class_named syntax_named is_short command_element_bytes stored command_of element_at elements_in elements_of set_of command_in reply_command fragments reply_bytes
+unfolding frames_of rest_of pieces_of marks new_marks pdv_marks items_of left_over item_fault items_fault class_named syntax_named is_short command_element_bytes store_command command_of element_at elements_in elements_of set_of command_in reply_command fragments reply_bytes
 the_echo_runs = (
   record {
     story_is = record {
@@ -111,7 +111,7 @@ it_stands_established = (
           refused_is = λ e. refl;
           body_is = refl;
           join_is = record { shows = refl; accepted = λ le. absurd (omega (arith, le)) };
-          agreed = λ e. record { caller = refl; maximum = refl; contexts = context_in-context_rows (record_of (drop 6 request)) (one_distinct 1); count = refl };
+          agreed = λ e. record { caller = refl; maximum = refl; contexts = context_in-context_rows (request_record (drop 6 request)) (one_distinct 1); count = refl };
           none_left = λ e. absurd cc;
           failed_in = λ still failed. absurd cc;
           walks = storing.not_walked (no_store_in _);

@@ -9,16 +9,16 @@ use Rattle.pdu.specs.Marks.{End}
 use Rattle.negotiate.specs.Settings.{Settings}
 use Rattle.dimse.specs.Messages.{NoMessage}
 use Rattle.engine.specs.Timeline.{At, good}
-use Rattle.engine.specs.Progress.{Progress, Advance, start, left, nothing, done, is_due, is_established}
+use Rattle.engine.specs.Progress.{Progress, Advance, at_start, left, nothing, done, is_due, is_established}
 use Rattle.engine.specs.Held.{is_ended}
 use Rattle.engine.specs.Requests.{at_request}
 use Rattle.engine.specs.Devices.{Devices, line_after, IsFront}
 use Rattle.engine.specs.Run.{Rooms, cut, at_end, at_entry, released}
 use Rattle.engine.specs.machine.Pends.{Kept, Pends, counted_body, body_in}
-use Rattle.engine.specs.machine.Tries.{Tries}
+use Rattle.engine.specs.machine.DoesDue.{DoesDue}
 use Rattle.engine.proofs.ShownLemmas.{pends_ended}
 use Rattle.engine.proofs.StoreLemmas.{unfiled_same}
-use Rattle.engine.proofs.TriesLemmas.{none_counted_body, line_same, not_counted}
+use Rattle.engine.proofs.DueLemmas.{none_counted_body, line_same, not_counted}
 use Rattle.engine.proofs.RequestLemmas.{LeavesOrStands, request_comes}
 
 -- by which type it is
@@ -48,7 +48,7 @@ ended_so s p body false false one five e =
     subst (λ (y : State). EndedSo (record p { state = y }) (if one && is_due y then at_request s (record p { state = y }) body else (if five && is_established y then released (record p { state = y }) else nothing (record p { state = y })))) (sym e) (ended_two s p body one five)
 
 pub tries_ended : (rooms : Rooms) (s : Settings) (p : Progress) (kind : ℕ) (body xs : List ℕ) (k : Kept) (d : Devices) → Pends k d.store p xs [] → k.state ≡ Sta1
-    → Tries p (at_entry rooms s p good (At (End kind body))) k xs [] d d
+    → DoesDue p (at_entry rooms s p good (At (End kind body))) k xs [] d d
 tries_ended rooms s p kind body xs k d h e =
     let is : p.state ≡ Sta1 = sym h.state_is ∙ e in
     let so = ended_so s p body p.refused (nat_eq kind 7) (nat_eq kind 1) (nat_eq kind 5) is in
@@ -131,7 +131,7 @@ is_sta2 Sta8 h = absurd cc
 is_sta2 Sta13 h = absurd cc
 
 request_gone : (s : Settings) (p : Progress) (body xs : List ℕ) (due : Bool) → is_due p.state ≡ due → counted_body (if due then at_request s p body else nothing p).next xs ≡ []
-request_gone s p body xs true e = came_to body p (at_request s p body) (at_request s start body) xs (request_comes s body p (is_sta2 p.state e))
+request_gone s p body xs true e = came_to body p (at_request s p body) (at_request s at_start body) xs (request_comes s body p (is_sta2 p.state e))
 request_gone s p body xs false e = undue_body p xs e
 
 end_gone_by : (s : Settings) (p : Progress) (kind : ℕ) (body xs : List ℕ) (r : Bool) → p.refused ≡ r → kind ≡ 1 → counted_body (if r then nothing p else at_end s p kind body).next xs ≡ []
@@ -159,9 +159,9 @@ cleared_pends k store q xs e h = record {
 }
 
 -- the body is given up
-pub tries_cleared : (p : Progress) (g : Advance) (k : Kept) (xs : List ℕ) (old new : Devices) → counted_body g.next xs ≡ [] → Tries p g k xs [] old new → Tries p g (record k { body = [] }) [] [] old new
+pub tries_cleared : (p : Progress) (g : Advance) (k : Kept) (xs : List ℕ) (old new : Devices) → counted_body g.next xs ≡ [] → DoesDue p g k xs [] old new → DoesDue p g (record k { body = [] }) [] [] old new
 tries_cleared p g k xs old new e t = by t.wire refl where
-  by : (w : Option ℕ) → w ≡ t.wire → Tries p g (record k { body = [] }) [] [] old new
+  by : (w : Option ℕ) → w ≡ t.wire → DoesDue p g (record k { body = [] }) [] [] old new
   by None is = record {
     wire = None;
     fair = tt;
@@ -210,5 +210,5 @@ refused_shown k store p body begun h n = h.refused_is (ap is_ended (sym h.state_
 pub state_shown : (k : Kept) (store : Store) (p : Progress) (body begun : List ℕ) (st : State) → Pends k store p body begun → (k.state ≡ st → ⊥) → p.state ≡ st → ⊥
 state_shown k store p body begun st h n e = n (h.state_is ∙ e)
 
-pub tries_as : (p : Progress) (g d : Advance) (k : Kept) (body begun : List ℕ) (old new : Devices) → d ≡ g → Tries p g k body begun old new → Tries p d k body begun old new
-tries_as p g d k body begun old new e t = subst (λ (x : Advance). Tries p x k body begun old new) (sym e) t
+pub tries_as : (p : Progress) (g d : Advance) (k : Kept) (body begun : List ℕ) (old new : Devices) → d ≡ g → DoesDue p g k body begun old new → DoesDue p d k body begun old new
+tries_as p g d k body begun old new e t = subst (λ (x : Advance). DoesDue p x k body begun old new) (sym e) t

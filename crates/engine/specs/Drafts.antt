@@ -1,7 +1,7 @@
 -- The draft of a store in the filing, while its data come (PS3.7 section 9.1.1; when it is begun and dropped is this
 -- product's own profile).
 use Rattle.std.specs.Prelude.{◌≡◌, ℕ, Bool, true, false, List, [], ◌∷◌, Option, Some, None}
-use Rattle.pdu.specs.Items.{record_of}
+use Rattle.pdu.specs.Items.{request_record}
 use Rattle.dimse.specs.Messages.{Begun}
 use Rattle.part10.specs.Store.{Shelf, Store}
 use Rattle.engine.specs.Replies.{file_in}
@@ -12,7 +12,7 @@ use Rattle.engine.specs.Fair.{InStore}
 pub record IsDue (request : List ℕ) (message : Begun) (failed : Bool) (file : List ℕ) : Type 0 where
   pub store : InStore request message
   pub unfailed : failed ≡ false
-  pub filed : file_in (record_of request) (Some store.context) store.asked store.set ≡ file ∷ []
+  pub filed : file_in (request_record request) (Some store.context) store.asked store.set ≡ file ∷ []
 
 -- the filing has a draft of these bytes
 abbrev pub TellsDraft : Option Shelf → List ℕ → Type 0

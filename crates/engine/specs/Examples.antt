@@ -7,7 +7,7 @@ use Rattle.negotiate.specs.Settings.{Settings}
 use Rattle.dimse.specs.Messages.{NoMessage}
 use Rattle.engine.specs.Inputs.{Bytes, Close}
 use Rattle.engine.specs.Timeline.{Entry, At, TimedOut, good, Happened, entries}
-use Rattle.engine.specs.Progress.{Progress, start}
+use Rattle.engine.specs.Progress.{Progress, at_start}
 use Rattle.engine.specs.Run.{Rooms, progress_of, sent_of}
 use Rattle.engine.specs.Held.{held_before_data}
 use Rattle.engine.specs.Reached.{reached}
@@ -24,7 +24,7 @@ abbrev pub calm : List Entry → List Happened
 calm es = map (λ e. (e, record { wire = None; filing = false; finding = good })) es
 
 abbrev pub SentBy : List Entry → List ℕ → State → Type 0
-SentBy es sent state = (sent_of rooms settings start (calm es) ≡ sent) × ((progress_of rooms settings start (calm es)).state ≡ state)
+SentBy es sent state = (sent_of rooms settings at_start (calm es) ≡ sent) × ((progress_of rooms settings at_start (calm es)).state ≡ state)
 
 -- ---- heads
 

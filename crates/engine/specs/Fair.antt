@@ -2,7 +2,7 @@
 -- the filing where they can come (PS3.7 section 9.1.1, PS3.8 section 9.2.2; the profile of failures is this product's
 -- own).
 use Rattle.std.specs.Prelude.{◌≡◌, ℕ, Bool, true, false, not, ◌&&◌, ◌⊎◌, List, [], ◌∷◌, Option, Some, None, Ok, if◌then◌else◌}
-use Rattle.pdu.specs.Items.{record_of}
+use Rattle.pdu.specs.Items.{request_record}
 use Rattle.pdu.specs.Marks.{Pdv}
 use Rattle.negotiate.specs.Settings.{Settings}
 use Rattle.negotiate.specs.declared.proposals.Context.{Context}
@@ -13,7 +13,7 @@ use Rattle.dimse.specs.Messages.{Begun, InSet, Message, ended}
 use Rattle.engine.specs.Inputs.{Received}
 use Rattle.engine.specs.Timeline.{Entry, At, Finding, Happened, entries, entries_of}
 use Rattle.engine.specs.Devices.{IsFront}
-use Rattle.engine.specs.Progress.{Progress, start, absorb, is_established}
+use Rattle.engine.specs.Progress.{Progress, at_start, absorb, is_established}
 use Rattle.engine.specs.Stores.{IsOfContext, Verdict}
 use Rattle.engine.specs.Run.{Rooms, at_entry, gives, progress_of}
 
@@ -27,7 +27,7 @@ message_at p entry = None
 abbrev pub IsVerdict : Rooms → Settings → Progress → Finding → Option Message → Type 0
 IsVerdict rooms s p finding None = Unit {0}
 IsVerdict rooms s p finding (Some m) = (command : CommandRecord) (context : Context) → command_in m.command ≡ Ok command → command.field ≡ c_store
-    → context_of (record_of p.request) m.context ≡ Some context
+    → context_of (request_record p.request) m.context ≡ Some context
     → Verdict rooms.depth s.max_data context command m.set p.filing_failed finding
 
 -- The data of a store whose class is its context's have begun, in the association of this request: filing calls are
@@ -40,7 +40,7 @@ pub record InStore (request : List ℕ) (message : Begun) : Type 0 where
   pub context : Context
   pub begun : message ≡ InSet id command set
   pub spelled : command_in command ≡ Ok asked
-  pub accepted : context_of (record_of request) id ≡ Some context
+  pub accepted : context_of (request_record request) id ≡ Some context
   pub of_context : IsOfContext context asked
 
 -- between these two a filing call can fail: none failed yet in the message, and its data have begun before or at the end
@@ -63,5 +63,5 @@ AreFair rooms s p (h ∷ story) = IsFair rooms s p h × AreFair rooms s (gives r
 -- the open message after the last entry.
 pub record IsStory (rooms : Rooms) (s : Settings) (inputs : List Received) (story : List Happened) (failed : Bool) : Type 0 where
   pub told : entries_of story ≡ entries [] inputs
-  pub fair : AreFair rooms s start story
-  pub last : failed ≡ true → MayFail (progress_of rooms s start story) (progress_of rooms s start story)
+  pub fair : AreFair rooms s at_start story
+  pub last : failed ≡ true → MayFail (progress_of rooms s at_start story) (progress_of rooms s at_start story)

@@ -44,8 +44,8 @@ abbrev pub is_known : ℕ → Bool
 is_known kind = nat_le associate_rq kind && nat_le kind abort
 
 -- the types whose bodies have four bytes
-abbrev pub is_short : ℕ → Bool
-is_short kind = nat_eq kind associate_rj || nat_le release_rq kind
+abbrev pub has_four_bytes : ℕ → Bool
+has_four_bytes kind = nat_eq kind associate_rj || nat_le release_rq kind
 
 -- the actions that answer a PDU by an abort
 abbrev pub is_abort : Action → Bool
@@ -71,7 +71,7 @@ data_length most n = if nat_lt most n || nat_lt n 6 then AtOnce event.Invalid in
 abbrev pub head_event : ℕ → ℕ → State → ℕ → ℕ → HeadEvent
 head_event room most state kind n =
     if not (is_known kind) then AtOnce event.Invalid unrecognized_pdu
-    else (if is_short kind && not (nat_eq n 4) then AtOnce event.Invalid invalid_parameter
+    else (if has_four_bytes kind && not (nat_eq n 4) then AtOnce event.Invalid invalid_parameter
     else (if is_due state && nat_eq kind associate_rq then request_length room n
     else (if is_established state && nat_eq kind p_data_tf then data_length most n
     else out_of_place state kind)))

@@ -5,8 +5,8 @@ use Rattle.acceptor.specs.declared.state.State.TheVariants.{Sta1}
 use Rattle.element.specs.declared.syntax.Syntax.{Syntax}
 use Rattle.element.specs.declared.tag.Tag.{Tag}
 use Rattle.pdu.specs.Marks.{frame_kind}
-use Rattle.pdu.specs.Items.{record_of}
-use Rattle.pdu.specs.Record.{Record}
+use Rattle.pdu.specs.Items.{request_record}
+use Rattle.pdu.specs.Record.{RequestRecord}
 use Rattle.negotiate.specs.Settings.{Settings}
 use Rattle.dimse.specs.Messages.{Begun, NoMessage, InCommand, InSet}
 use Rattle.sequence.specs.Tree.{Elements}
@@ -31,14 +31,14 @@ unfinished bytes = if nat_lt (length bytes) 6 then length bytes else 0
 
 -- what is kept of an accepted request when it is given up: the calling title and the peer's maximum length, 20 bytes
 -- together, and 4 for each accepted context
-abbrev pub of_accepted : Record → ℕ
+abbrev pub of_accepted : RequestRecord → ℕ
 of_accepted request = 20 + 4 * accepted_count request
 
 -- of a request that is taken: in Sta2 what has come of its body, and in an established association what is kept of it
 abbrev pub of_request : Progress → List ℕ → ℕ
 of_request p rest =
     if is_due p.state then (if not p.refused && nat_eq (frame_kind rest) 1 then length rest - 6 else 0)
-    else (if is_established p.state then of_accepted (record_of p.request) else 0)
+    else (if is_established p.state then of_accepted (request_record p.request) else 0)
 
 -- the command set of a message
 abbrev pub of_command : Begun → ℕ

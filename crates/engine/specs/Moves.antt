@@ -5,7 +5,7 @@ use Rattle.engine.specs.Devices.{Devices}
 use Rattle.engine.specs.Gains.{Gains}
 use Rattle.engine.specs.Inputs.{Received}
 use Rattle.engine.specs.Timeline.{Happened}
-use Rattle.engine.specs.Progress.{start}
+use Rattle.engine.specs.Progress.{at_start}
 use Rattle.engine.specs.Run.{Rooms, progress_of}
 use Rattle.engine.specs.Drafts.{Drafts}
 use Rattle.engine.specs.Stands.{Stands, drafting}
@@ -16,7 +16,7 @@ pub record Moved (rooms : Rooms) (s : Settings) (inputs : List Received) (story 
   pub more : List Happened
   pub failed_then : Bool
   pub stands : Stands rooms s (inputs ++ input ∷ []) (story ++ more) failed_then seen_new new.store
-  pub gains : Gains rooms s (progress_of rooms s start story) more failed failed_then old new
+  pub gains : Gains rooms s (progress_of rooms s at_start story) more failed failed_then old new
   pub drafts : Drafts (drafting seen_old) old.store (drafting seen_new) new.store
 
 -- nothing happens to an association that has ended (PS3.8 section 9.2.2: in Sta1 there is none)

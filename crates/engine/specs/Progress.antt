@@ -19,8 +19,8 @@ pub record Progress : Type 0 where
   pub filing_failed : Bool
 
 -- the transport connection is open, and a request is due
-abbrev pub start : Progress
-start = record { state = Sta2; request = []; refused = false; message = NoMessage; filing_failed = false }
+abbrev pub at_start : Progress
+at_start = record { state = Sta2; request = []; refused = false; message = NoMessage; filing_failed = false }
 
 -- the association is left: its request and a message that has begun are dropped
 abbrev pub left : State → Progress → Progress

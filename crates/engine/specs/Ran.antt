@@ -11,7 +11,7 @@ use Rattle.engine.specs.Devices.{Devices, line_with, filed}
 use Rattle.engine.specs.Fair.{IsStory}
 use Rattle.engine.specs.Held.{Held}
 use Rattle.engine.specs.Inputs.{Received, first_inputs, others_of}
-use Rattle.engine.specs.Progress.{start}
+use Rattle.engine.specs.Progress.{at_start}
 use Rattle.engine.specs.Reached.{reached}
 use Rattle.engine.specs.Run.{Rooms, progress_of, sent_of, files_of, wire_failures, filing_failures}
 use Rattle.engine.specs.Timeline.{Happened, entries}
@@ -19,9 +19,9 @@ use Rattle.engine.specs.Timeline.{Happened, entries}
 -- The inputs, with the outcomes of the entries of their timeline, give these bytes sent, these files, and this state.
 pub record Run (rooms : Rooms) (s : Settings) (inputs : List Received) (story : List Happened) (failed : Bool) (sent : List ℕ) (files : List (List ℕ)) (state : State) : Type 0 where
   pub story_is : IsStory rooms s inputs story failed
-  pub sent_is : sent ≡ sent_of rooms s start story
-  pub files_are : files ≡ files_of rooms s start story
-  pub state_is : state ≡ (progress_of rooms s start story).state
+  pub sent_is : sent ≡ sent_of rooms s at_start story
+  pub files_are : files ≡ files_of rooms s at_start story
+  pub state_is : state ≡ (progress_of rooms s at_start story).state
 
 -- what is left after n inputs
 abbrev pub inputs_after : ℕ → List Received → List Received
@@ -34,7 +34,7 @@ story_after n inputs story = take (length (entries [] (take n inputs))) story
 
 -- no shorter front of the inputs ended the association
 abbrev pub EndsLast : Rooms → Settings → List Received → List Happened → Type 0
-EndsLast rooms s inputs story = (n : ℕ) → n < length inputs → (progress_of rooms s start (story_after n inputs story)).state ≢ Sta1
+EndsLast rooms s inputs story = (n : ℕ) → n < length inputs → (progress_of rooms s at_start (story_after n inputs story)).state ≢ Sta1
 
 abbrev pub standing_of : State → Standing
 standing_of Sta1 = standing.Ended
@@ -58,7 +58,7 @@ pub record Answered (rooms : Rooms) (s : Settings) (taken : List Received) (repo
   pub count : new.store.failures ≡ old.store.failures + filing_failures story failed
 
 -- the source gave these inputs, and has the others left
-pub record Leaves (taken all : List Received) (new : Option (List Received)) : Type 0 where
+pub record LeavesOthers (taken all : List Received) (new : Option (List Received)) : Type 0 where
   pub first : taken ≡ first_inputs (length taken) all
   pub others : new ≡ Some (inputs_after (length taken) all)
 
@@ -68,6 +68,6 @@ pub record Ran (rooms : Rooms) (s : Settings) (turns : ℕ) (report : Report) (s
   pub taken : List Received
   pub most_turns : length taken ≤ turns
   pub all_turns : length taken < turns → report.standing ≡ standing.Ended
-  pub source : (all : List Received) → source_old ≡ Some all → Leaves taken all source_new
+  pub source : (all : List Received) → source_old ≡ Some all → LeavesOthers taken all source_new
   pub answered : Answered rooms s taken report old new
   pub no_draft : new.store.has_draft ≡ false

@@ -8,7 +8,7 @@ use Rattle.dimse.specs.Messages.{Begun}
 use Rattle.dimse.specs.Joining.{with_pdv}
 use Rattle.engine.specs.Inputs.{Received, stream_of}
 use Rattle.engine.specs.Timeline.{Happened}
-use Rattle.engine.specs.Progress.{Progress, start, absorb, is_established}
+use Rattle.engine.specs.Progress.{Progress, at_start, absorb, is_established}
 use Rattle.engine.specs.Run.{Rooms, progress_of}
 
 -- the progress along the timeline, and the bytes of the PDU that has begun
@@ -18,7 +18,7 @@ pub record Reached : Type 0 where
 
 -- by these inputs, with the outcomes of their entries, and with a filing call that failed after the last one or not
 abbrev pub reached : Rooms → Settings → List Received → List Happened → Bool → Reached
-reached rooms s inputs story failed = record { progress = absorb failed (progress_of rooms s start story); rest = rest_of (stream_of inputs) }
+reached rooms s inputs story failed = record { progress = absorb failed (progress_of rooms s at_start story); rest = rest_of (stream_of inputs) }
 
 abbrev pub begun_in : Spot → List ℕ
 begun_in Opening = []

@@ -5,8 +5,8 @@ use Rattle.acceptor.specs.declared.event.Event.TheVariants as event
 use Rattle.dictionary.specs.declared.class.Class.{Class}
 use Rattle.dictionary.specs.declared.class.Class.TheVariants.{Verification}
 use Rattle.dictionary.specs.Classes.{class_of}
-use Rattle.pdu.specs.Record.{Record}
-use Rattle.pdu.specs.Items.{record_of}
+use Rattle.pdu.specs.Record.{RequestRecord}
+use Rattle.pdu.specs.Items.{request_record}
 use Rattle.negotiate.specs.declared.proposals.Context.{Context}
 use Rattle.negotiate.specs.Contexts.{context_of}
 use Rattle.dimse.specs.declared.fault.DimseFault.{DimseFault}
@@ -26,15 +26,15 @@ invalid p = refusing (done [] invalid_parameter p event.Invalid)
 abbrev pub user_aborts : Progress → Advance
 user_aborts p = refusing (done [] 0 p event.UserAborts)
 
-abbrev pub unless_refused : Option DimseFault → Progress → Advance
-unless_refused None p = nothing p
-unless_refused (Some fault) p = user_aborts p
+abbrev pub aborted_if_refused : Option DimseFault → Progress → Advance
+aborted_if_refused None p = nothing p
+aborted_if_refused (Some fault) p = user_aborts p
 
 -- a PDV of a context that was not accepted is invalid; one that doesn't go on with the message is the user's abort
 abbrev pub at_pdv_head : ℕ → Progress → ℕ → ℕ → ℕ → Advance
-at_pdv_head room p n context control = elim (context_of (record_of p.request) context) [
+at_pdv_head room p n context control = elim (context_of (request_record p.request) context) [
   | None ↦ invalid p
-  | Some accepted ↦ unless_refused (refusal room p.message n context control) p
+  | Some accepted ↦ aborted_if_refused (refusal room p.message n context control) p
 ]
 
 -- ---- replies
@@ -60,13 +60,13 @@ some_or_nothing None = []
 some_or_nothing (Some bytes) = bytes
 
 -- the file of a stored instance
-abbrev pub file_in : Record → Option Context → CommandRecord → List ℕ → List (List ℕ)
+abbrev pub file_in : RequestRecord → Option Context → CommandRecord → List ℕ → List (List ℕ)
 file_in r None command data_set = []
 file_in r (Some context) command data_set =
     File (record { class = command.class; instance = some_or_nothing command.instance; syntax = context.syntax; calling = record { 0 = r.calling } }) data_set ∷ []
 
 -- a C-STORE of status 0000 puts its file last
-abbrev pub file_put : Record → ℕ → CommandRecord → List ℕ → Finding → List (List ℕ)
+abbrev pub file_put : RequestRecord → ℕ → CommandRecord → List ℕ → Finding → List (List ℕ)
 file_put r id command data_set finding =
     if nat_eq command.field c_store && nat_eq finding.status success then file_in r (context_of r id) command data_set else []
 
@@ -76,7 +76,7 @@ ended_message p = record p { message = NoMessage; filing_failed = false }
 abbrev pub replied : Progress → Finding → Message → Result CommandRecord DimseFault → Advance
 replied p finding m (Err fault) = nothing (ended_message p)
 replied p finding m (Ok command) =
-    let r = record_of p.request in
+    let r = request_record p.request in
     let f = finding_on (context_of r m.context) command finding in
     record {
       next = ended_message p;

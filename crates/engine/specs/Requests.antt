@@ -2,8 +2,8 @@
 -- answers at once (this product's own profile).
 use Rattle.std.specs.Prelude.{ℕ, List, [], Some, None, true, false, nat_eq, if◌then◌else◌}
 use Rattle.acceptor.specs.declared.event.Event.TheVariants as event
-use Rattle.pdu.specs.Record.{Record}
-use Rattle.pdu.specs.Items.{record_of}
+use Rattle.pdu.specs.Record.{RequestRecord}
+use Rattle.pdu.specs.Items.{request_record}
 use Rattle.pdu.specs.Refusal.{request_fault}
 use Rattle.pdu.specs.Texts.{reject_text}
 use Rattle.negotiate.specs.declared.answer.Answer.{Answer}
@@ -19,16 +19,16 @@ use Rattle.engine.specs.Heads.{invalid_parameter}
 abbrev pub keeping : List ℕ → Progress → Progress
 keeping body p = record p { request = body }
 
--- the request is accepted, and the local user accepts or refuses it, sending these bytes
-abbrev pub accepted : Progress → List ℕ → Advance
-accepted p answer = followed_by (done [] 0 p (event.Request true)) (λ q. done answer 0 q event.UserAccepts)
+-- the request is accepting, and the local user accepts or refuses it, sending these bytes
+abbrev pub accepting : Progress → List ℕ → Advance
+accepting p answer = followed_by (done [] 0 p (event.Request true)) (λ q. done answer 0 q event.UserAccepts)
 
 abbrev pub declined : Progress → List ℕ → Advance
 declined p answer = followed_by (done [] 0 p (event.Request true)) (λ q. done answer 0 q event.UserRefuses)
 
 -- a rejection whose source is ACSE is the service provider's, any other the local user's
-abbrev pub answered : Settings → Record → Progress → Answer → Advance
-answered s r p Accept = accepted p (accept_text s r)
+abbrev pub answered : Settings → RequestRecord → Progress → Answer → Advance
+answered s r p Accept = accepting p (accept_text s r)
 answered s r p (Reject result source reason) =
     if nat_eq source service_provider_acse then done (reject_text result source reason) 0 p (event.Request false)
     else declined p (reject_text result source reason)
@@ -36,5 +36,5 @@ answered s r p (Reject result source reason) =
 abbrev pub at_request : Settings → Progress → List ℕ → Advance
 at_request s p body = elim (request_fault body) [
   | Some fault ↦ done [] invalid_parameter p event.Invalid
-  | None ↦ answered s (record_of body) (keeping body p) (judged s (record_of body))
+  | None ↦ answered s (request_record body) (keeping body p) (judged s (request_record body))
 ]

@@ -1,7 +1,7 @@
 -- What follows for stores in a whole run.
 use Rattle.std.specs.Prelude.{◌≡◌, ℕ, Bool, List, [], ◌∷◌, ◌++◌, Some, None, Ok}
 use Rattle.acceptor.specs.declared.state.State.{State}
-use Rattle.pdu.specs.Items.{record_of}
+use Rattle.pdu.specs.Items.{request_record}
 use Rattle.dimse.specs.Command.{CommandRecord, c_store}
 use Rattle.dimse.specs.Messages.{Message}
 use Rattle.dimse.specs.Reading.{command_in}
@@ -12,7 +12,7 @@ use Rattle.negotiate.specs.Contexts.{context_of}
 use Rattle.negotiate.specs.Settings.{Settings}
 use Rattle.engine.specs.Inputs.{Received}
 use Rattle.engine.specs.Timeline.{Happened}
-use Rattle.engine.specs.Progress.{Progress, start}
+use Rattle.engine.specs.Progress.{Progress, at_start}
 use Rattle.engine.specs.Run.{Rooms, gives, progress_of, sent_of, files_of, wire_failures, filing_failures}
 use Rattle.engine.specs.Fair.{message_at}
 use Rattle.engine.specs.Ran.{Run}
@@ -22,19 +22,19 @@ use Rattle.engine.specs.StoreLaws.{EndsAt, IsGoodImage, IsCalm, file_of}
 -- A run in which a good image ends and no device fails in its message: its file is put between those of the entries
 -- before it and those after it, and so is the reply of success sent.
 pub record IsFiledBetween (rooms : Rooms) (s : Settings) (before : List Happened) (h : Happened) (after : List Happened) (m : Message) (command : CommandRecord) (context : Context) (sent : List ℕ) (files : List (List ℕ)) : Type 0 where
-  pub files_are : files ≡ files_of rooms s start before
-      ++ file_of command context.syntax (record_of (progress_of rooms s start before).request).calling m.set
-      ∷ files_of rooms s (gives rooms s (progress_of rooms s start before) h).next after
-  pub sent_is : sent ≡ sent_of rooms s start before
-      ++ (reply_bytes command success None m.context (record_of (progress_of rooms s start before).request).maximum
-      ++ sent_of rooms s (gives rooms s (progress_of rooms s start before) h).next after)
+  pub files_are : files ≡ files_of rooms s at_start before
+      ++ file_of command context.syntax (request_record (progress_of rooms s at_start before).request).calling m.set
+      ∷ files_of rooms s (gives rooms s (progress_of rooms s at_start before) h).next after
+  pub sent_is : sent ≡ sent_of rooms s at_start before
+      ++ (reply_bytes command success None m.context (request_record (progress_of rooms s at_start before).request).maximum
+      ++ sent_of rooms s (gives rooms s (progress_of rooms s at_start before) h).next after)
 
 -- Every good image that a run has taken whole is filed and answered by success, whatever else came in its association.
 abbrev pub EveryGoodImageIsFiled : Type 0
 EveryGoodImageIsFiled =
     (rooms : Rooms) (s : Settings) (inputs : List Received) (before after : List Happened) (h : Happened) (failed : Bool) (sent : List ℕ) (files : List (List ℕ)) (state : State) (m : Message) (command : CommandRecord) (context : Context)
     → Run rooms s inputs (before ++ h ∷ after) failed sent files state
-    → EndsAt (progress_of rooms s start before) h m command context → IsGoodImage rooms.depth s.max_data context command m.set → IsCalm (progress_of rooms s start before) h
+    → EndsAt (progress_of rooms s at_start before) h m command context → IsGoodImage rooms.depth s.max_data context command m.set → IsCalm (progress_of rooms s at_start before) h
     → IsFiledBetween rooms s before h after m command context sent files
 
 -- ---- a run without failures
@@ -42,7 +42,7 @@ EveryGoodImageIsFiled =
 -- a store that ends at this entry came in a presentation context that was accepted
 abbrev pub IsAccepted : Progress → Happened → Type 0
 IsAccepted p h = (m : Message) (command : CommandRecord) → message_at p h.0 ≡ Some m → command_in m.command ≡ Ok command → command.field ≡ c_store
-    → (context : Context) × (context_of (record_of p.request) m.context ≡ Some context)
+    → (context : Context) × (context_of (request_record p.request) m.context ≡ Some context)
 
 abbrev pub AreAccepted : Rooms → Settings → Progress → List Happened → Type 0
 AreAccepted rooms s p [] = Unit {0}
@@ -59,5 +59,5 @@ abbrev pub OneRun : Type 0
 OneRun =
     (rooms : Rooms) (s : Settings) (a b : List Received) (story story2 : List Happened) (failed failed2 : Bool) (sent sent2 : List ℕ) (files files2 : List (List ℕ)) (state state2 : State)
     → DifferInCuts a b → Run rooms s a story failed sent files state → Run rooms s b story2 failed2 sent2 files2 state2
-    → IsUnfailed story failed → IsUnfailed story2 failed2 → AreAccepted rooms s start story
+    → IsUnfailed story failed → IsUnfailed story2 failed2 → AreAccepted rooms s at_start story
     → (sent ≡ sent2) × (files ≡ files2) × (state ≡ state2)

@@ -3,7 +3,7 @@
 use Rattle.std.specs.Prelude.{◌≡◌, ℕ, Bool, false, List, [], ◌∷◌, Option, Some, None, Ok}
 use Rattle.element.specs.Numbers.{IsBytes}
 use Rattle.element.specs.declared.syntax.Syntax.{Syntax}
-use Rattle.pdu.specs.Items.{record_of}
+use Rattle.pdu.specs.Items.{request_record}
 use Rattle.dimse.specs.Command.{CommandRecord, c_store}
 use Rattle.dimse.specs.Messages.{Message}
 use Rattle.dimse.specs.Reading.{command_in}
@@ -14,11 +14,11 @@ use Rattle.negotiate.specs.Contexts.{context_of}
 use Rattle.negotiate.specs.Settings.{Settings}
 use Rattle.part10.specs.File.{File}
 use Rattle.sequence.specs.Wanted.{kept_of}
-use Rattle.sequence.specs.Ending.{IsWhole}
+use Rattle.sequence.specs.Ending.{IsWholeDataSet}
 use Rattle.engine.specs.Timeline.{Finding, Happened, good}
 use Rattle.engine.specs.Progress.{Progress}
 use Rattle.engine.specs.Replies.{some_or_nothing}
-use Rattle.engine.specs.Stores.{IsOfContext, Names, NamesInstance, Verdict, wanted, limits, class_tag}
+use Rattle.engine.specs.Stores.{IsOfContext, NamesUid, NamesInstance, Verdict, wanted, limits, class_tag}
 use Rattle.engine.specs.Run.{Rooms, gives}
 use Rattle.engine.specs.Fair.{IsFair, message_at}
 
@@ -40,14 +40,14 @@ pub record EndsAt (p : Progress) (h : Happened) (m : Message) (command : Command
   pub ended : message_at p h.0 ≡ Some m
   pub spelled : command_in m.command ≡ Ok command
   pub store : command.field ≡ c_store
-  pub accepted : context_of (record_of p.request) m.context ≡ Some context
+  pub accepted : context_of (request_record p.request) m.context ≡ Some context
 
 -- A good image: it is sent under its own class and instance, in an accepted context of that class, as a whole data set
 -- within the limits.
 pub record IsGoodImage (depth most : ℕ) (context : Context) (command : CommandRecord) (data_set : List ℕ) : Type 0 where
   pub of_context : IsOfContext context command
-  pub whole : IsWhole context.syntax (limits depth most) data_set
-  pub own_class : Names (kept_of wanted whole.elements) class_tag command.class
+  pub whole : IsWholeDataSet context.syntax (limits depth most) data_set
+  pub own_class : NamesUid (kept_of wanted whole.elements) class_tag command.class
   pub own_instance : NamesInstance (kept_of wanted whole.elements) command
 
 -- no device failed in the message up to the end of this entry
@@ -67,8 +67,8 @@ NoGoodImageIsRefused =
     (rooms : Rooms) (s : Settings) (p : Progress) (h : Happened) (m : Message) (command : CommandRecord) (context : Context)
     → EndsAt p h m command context → IsGoodImage rooms.depth s.max_data context command m.set → IsCalm p h → IsFair rooms s p h
     → (h.1.finding ≡ good)
-    × ((gives rooms s p h).files ≡ file_of command context.syntax (record_of p.request).calling m.set ∷ [])
-    × ((gives rooms s p h).sent ≡ reply_bytes command success None m.context (record_of p.request).maximum)
+    × ((gives rooms s p h).files ≡ file_of command context.syntax (request_record p.request).calling m.set ∷ [])
+    × ((gives rooms s p h).sent ≡ reply_bytes command success None m.context (request_record p.request).maximum)
 
 -- ---- what is filed
 
@@ -78,6 +78,6 @@ abbrev pub FiledByItself : Type 0
 FiledByItself =
     (rooms rooms2 : Rooms) (s s2 : Settings) (p p2 : Progress) (h h2 : Happened) (m m2 : Message) (command command2 : CommandRecord) (context context2 : Context)
     → EndsAt p h m command context → EndsAt p2 h2 m2 command2 context2
-    → m.command ≡ m2.command → m.set ≡ m2.set → context.syntax ≡ context2.syntax → (record_of p.request).calling ≡ (record_of p2.request).calling
+    → m.command ≡ m2.command → m.set ≡ m2.set → context.syntax ≡ context2.syntax → (request_record p.request).calling ≡ (request_record p2.request).calling
     → h.1.finding.status ≡ success → h2.1.finding.status ≡ success
     → (gives rooms s p h).files ≡ (gives rooms2 s2 p2 h2).files

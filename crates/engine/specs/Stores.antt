@@ -12,7 +12,7 @@ use Rattle.dimse.specs.Detail.{class_mismatch, instance_mismatch}
 use Rattle.dimse.specs.Status.{class_not_supported, out_of_resources, data_set_mismatch, cannot_understand}
 use Rattle.sequence.specs.declared.wanted.Want.{Want}
 use Rattle.sequence.specs.Rules.{Limits, too_deep, too_long, truncated}
-use Rattle.sequence.specs.Wanted.{Values, Kept, value_of}
+use Rattle.sequence.specs.Wanted.{Values, KeepsWanted, value_of}
 use Rattle.sequence.specs.Tree.{Elements, DataSet}
 use Rattle.sequence.specs.FirstFault.{IsUnbroken, FirstFault, EndFault}
 use Rattle.engine.specs.Timeline.{Finding, good}
@@ -44,12 +44,12 @@ pub record IsOfContext (context : Context) (command : CommandRecord) : Type 0 wh
   pub storage : is_storage context.class ≡ true
 
 -- the value of this tag names this identifier
-abbrev pub Names : Values → Tag → List ℕ → Type 0
-Names values tag uid = (value : List ℕ) × (value_of values (number tag) ≡ Some value) × (uid_of value ≡ Some uid)
+abbrev pub NamesUid : Values → Tag → List ℕ → Type 0
+NamesUid values tag uid = (value : List ℕ) × (value_of values (number tag) ≡ Some value) × (uid_of value ≡ Some uid)
 
 -- the data set's instance is the command's
 abbrev pub NamesInstance : Values → CommandRecord → Type 0
-NamesInstance values command = (uid : List ℕ) × (command.instance ≡ Some uid) × Names values instance_tag uid
+NamesInstance values command = (uid : List ℕ) × (command.instance ≡ Some uid) × NamesUid values instance_tag uid
 
 -- a failure that names its cause: a fault of the data set, or what doesn't match the command
 abbrev pub cause : ℕ → ℕ → Tag → Finding
@@ -72,16 +72,16 @@ pub data Verdict (depth bytes : ℕ) (context : Context) (command : CommandRecor
       → Verdict depth bytes context command data_set failed (cause cannot_understand truncated tag)
   -- the data set's class is missing, unreadable or other than the command's
   names_class : {values : Values} → IsOfContext context command → HasNoFault context.syntax (limits depth bytes) data_set
-      → Kept context.syntax wanted data_set values → (Names values class_tag command.class → ⊥)
+      → KeepsWanted context.syntax wanted data_set values → (NamesUid values class_tag command.class → ⊥)
       → Verdict depth bytes context command data_set failed (cause data_set_mismatch class_mismatch class_tag)
   -- its instance is
   names_instance : {values : Values} → IsOfContext context command → HasNoFault context.syntax (limits depth bytes) data_set
-      → Kept context.syntax wanted data_set values → Names values class_tag command.class → (NamesInstance values command → ⊥)
+      → KeepsWanted context.syntax wanted data_set values → NamesUid values class_tag command.class → (NamesInstance values command → ⊥)
       → Verdict depth bytes context command data_set failed (cause data_set_mismatch instance_mismatch instance_tag)
   -- a filing call failed
   unfiled : {values : Values} → IsOfContext context command → HasNoFault context.syntax (limits depth bytes) data_set
-      → Kept context.syntax wanted data_set values → Names values class_tag command.class → NamesInstance values command → failed ≡ true
+      → KeepsWanted context.syntax wanted data_set values → NamesUid values class_tag command.class → NamesInstance values command → failed ≡ true
       → Verdict depth bytes context command data_set failed (record { status = out_of_resources; detail = None })
   filed : {values : Values} → IsOfContext context command → HasNoFault context.syntax (limits depth bytes) data_set
-      → Kept context.syntax wanted data_set values → Names values class_tag command.class → NamesInstance values command → failed ≡ false
+      → KeepsWanted context.syntax wanted data_set values → NamesUid values class_tag command.class → NamesInstance values command → failed ≡ false
       → Verdict depth bytes context command data_set failed good

@@ -14,7 +14,7 @@ use Rattle.engine.specs.Ran.{Run}
 use Rattle.engine.specs.Held.{Held}
 use Rattle.engine.specs.Reached.{reached}
 use Rattle.negotiate.specs.ContextRows.{context_rows}
-use Rattle.pdu.specs.Items.{record_of}
+use Rattle.pdu.specs.Items.{request_record}
 use Rattle.dimse.specs.Status.{class_not_supported, data_set_mismatch}
 use Rattle.dimse.specs.Messages.{NoMessage}
 use Rattle.dimse.specs.Joining.{shown}
@@ -61,7 +61,7 @@ established table = record {
 -- it stands established with the accepted context, whatever the filing shows, and not without it
 abbrev pub ItStandsEstablished : Type 0
 ItStandsEstablished =
-    ((store : Store) → Stands rooms settings request_inputs (calmly request_inputs) false (established (context_rows (record_of (drop 6 request)))) store)
+    ((store : Store) → Stands rooms settings request_inputs (calmly request_inputs) false (established (context_rows (request_record (drop 6 request)))) store)
     × ((store : Store) → Stands rooms settings request_inputs (calmly request_inputs) false (established []) store → ⊥)
 
 abbrev pub ct_context : Context

@@ -2,10 +2,10 @@
 pub mod HeadEvents
 pub mod Answers
 pub mod Storing
-pub mod Judged
+pub mod Verdicts
 pub mod Pends
 pub mod Kept
-pub mod Tries
+pub mod DoesDue
 pub mod Messages
 pub mod Does
 pub mod Counts

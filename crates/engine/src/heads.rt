@@ -1,6 +1,6 @@
 //! What the head of a PDU brings at its sixth byte, before its body has come.
 ghost use Rattle.std.specs.Prelude.{◌≡◌, ◌≤◌, ℕ};
-ghost use Rattle.engine.specs.machine.Tries.{Stays};
+ghost use Rattle.engine.specs.machine.DoesDue.{Stays};
 ghost use Rattle.acceptor.specs.declared.state.State.TheVariants.{Sta2};
 ghost use Rattle.engine.specs.Heads as spelling;
 ghost use Rattle.engine.specs.machine.HeadEvents.{brings};
@@ -107,7 +107,7 @@ fn data_length(most: u32, length: u32) -> HeadEvent
 
 /// Whether the body of a PDU of this known type has four bytes.
 fn is_short(kind: u8) -> bool
-    ensures { result ≡ spelling.is_short kind }
+    ensures { result ≡ spelling.has_four_bytes kind }
 {
     kind == pdu_type::A_ASSOCIATE_RJ || pdu_type::A_RELEASE_RQ <= kind
 }

@@ -32,7 +32,7 @@ impl<const A: usize, const C: usize, const V: usize, const D: usize> Provider<A,
     ghost use Rattle.engine.specs.machine.Messages.{Aside, HasCome, Proceeds, Ended, Concludes, with_storing};
     ghost use Rattle.engine.specs.machine.Pends.{Agreed};
     ghost use Rattle.std.specs.Prelude.{true};
-    ghost use Rattle.pdu.specs.Items.{record_of};
+    ghost use Rattle.pdu.specs.Items.{request_record};
     ghost use Rattle.engine.specs.machine.Does.{Does, Appends};
     ghost use Rattle.engine.specs.machine.Kept.{kept_of, settings_in, rooms_of};
 
@@ -96,7 +96,7 @@ impl<const A: usize, const C: usize, const V: usize, const D: usize> Provider<A,
         ensures kept { kept_of self.new ≡ with_storing (kept_of self.new).storing (kept_of self.old) }
         ensures settings { settings_in self.new ≡ settings_in self.old }
         ensures drafts { Drafts (drafting_in (kept_of self.old).storing) (F.store filing.old) (drafting_in (kept_of self.new).storing) (F.store filing.new) }
-        ensures proceeds { (request : List ℕ) → Agreed (kept_of self.old) (record_of request) → (kept_of self.old).storing ≡ Nothing
+        ensures proceeds { (request : List ℕ) → Agreed (kept_of self.old) (request_record request) → (kept_of self.old).storing ≡ Nothing
             → ((c : CommandRecord) → command_in self.old.join.command ≡ Ok c → c.with_data ≡ true)
             → Proceeds D self.old.config.max_data request (messages.InSet context self.old.join.command []) false (kept_of self.new).storing (F.store filing.old) (F.store filing.new) }
     {
@@ -126,7 +126,7 @@ impl<const A: usize, const C: usize, const V: usize, const D: usize> Provider<A,
         ensures kept { kept_of self.new ≡ with_storing (kept_of self.new).storing (kept_of self.old) }
         ensures settings { settings_in self.new ≡ settings_in self.old }
         ensures drafts { Drafts (drafting_in (kept_of self.old).storing) (F.store filing.old) (drafting_in (kept_of self.new).storing) (F.store filing.new) }
-        ensures ended { (p : Progress) (m : messages.Message) (come : messages.Begun) → Agreed (kept_of self.old) (record_of p.request) → HasCome m come
+        ensures ended { (p : Progress) (m : messages.Message) (come : messages.Begun) → Agreed (kept_of self.old) (request_record p.request) → HasCome m come
             → self.old.join.command ≡ m.command → context ≡ m.context → Walks D self.old.config.max_data p.request come (kept_of self.old).storing
             → IsDraft p.request come p.filing_failed (F.store filing.old) (drafting_in (kept_of self.old).storing)
             → Ended (rooms_of A C V D) (settings_in self.old) p m come result (W.line wire.old) (W.line wire.new) (F.store filing.old) (F.store filing.new) }

@@ -50,7 +50,7 @@ impl<const A: usize, const C: usize, const V: usize, const D: usize> Provider<A,
     ghost use Rattle.std.specs.Prelude.{ℕ, List, true, false};
     ghost use Rattle.pdu.specs.Marks.{BadPdv, Leftover};
     ghost use Rattle.acceptor.specs.Table.{table};
-    ghost use Rattle.engine.specs.Progress.{Progress, done, refusing, start};
+    ghost use Rattle.engine.specs.Progress.{Progress, done, refusing, at_start};
     ghost use Rattle.engine.specs.Timeline.{At, Shut, TimedOut, Aborted};
     ghost use Rattle.engine.specs.Devices.{devices};
     ghost use Rattle.engine.specs.machine.Answers.{answer_text};
@@ -58,9 +58,9 @@ impl<const A: usize, const C: usize, const V: usize, const D: usize> Provider<A,
     ghost use Rattle.part10.specs.Store.{Store};
     ghost use Rattle.engine.specs.Drafts.{IsThere, Drafts};
     ghost use Rattle.engine.specs.machine.Storing.{drafting_in};
-    ghost use Rattle.engine.specs.machine.Tries.{IsLeft, Unfiled};
+    ghost use Rattle.engine.specs.machine.DoesDue.{IsLeft, Unfiled};
     ghost use Rattle.engine.specs.machine.Pends.{Pends, held_by, BodyFits, FragmentFits, takes_pdvs_in, counted_body, counted_pdv};
-    ghost use Rattle.engine.specs.machine.Tries.{Tries, Settles, Stays};
+    ghost use Rattle.engine.specs.machine.DoesDue.{DoesDue, ComesTo, Stays};
     ghost use Rattle.engine.specs.machine.Does.{Does};
     ghost use Rattle.engine.specs.machine.Kept.{kept_of, settings_in, rooms_of};
 
@@ -73,7 +73,7 @@ impl<const A: usize, const C: usize, const V: usize, const D: usize> Provider<A,
         requires greatest_kept { V ≤ 2 ^ 24 }
         requires least_levels { 2 ≤ D }
         requires greatest_levels { D ≤ 2 ^ 24 }
-        ensures pends { (store : Store) → Pends (kept_of result) store start [] [] }
+        ensures pends { (store : Store) → Pends (kept_of result) store at_start [] [] }
         ensures no_draft { drafting_in (kept_of result).storing ≡ false }
         ensures settings { settings_in result ≡ settings_of config.now }
     {
@@ -152,7 +152,7 @@ impl<const A: usize, const C: usize, const V: usize, const D: usize> Provider<A,
         requires draft { IsThere (drafting_in (kept_of self.old).storing) (F.store filing.old) }
         requires given_up { next ≡ Sta6 → self.old.body.items ≡ [] }
         ensures settings { settings_in self.new ≡ settings_in self.old }
-        ensures settles { Settles next sent (kept_of self.old) (kept_of self.new) (F.store filing.old) (F.store filing.new) }
+        ensures settles { ComesTo next sent (kept_of self.old) (kept_of self.new) (F.store filing.old) (F.store filing.new) }
         ensures drafts { Drafts (drafting_in (kept_of self.old).storing) (F.store filing.old) (drafting_in (kept_of self.new).storing) (F.store filing.new) }
     {
         self.state = state_after(next, sent);
@@ -181,7 +181,7 @@ impl<const A: usize, const C: usize, const V: usize, const D: usize> Provider<A,
         ensures body_fits { (kind m : ℕ) → BodyFits (A - 12) (kept_of self.old) kind m → BodyFits (A - 12) (kept_of self.new) kind m }
         ensures fragment_fits { (m : ℕ) → FragmentFits (kept_of self.old) m → FragmentFits (kept_of self.new) m }
         ensures tries { (p : Progress) (body begun : List ℕ) → Pends (kept_of self.old) (F.store filing.old) p body begun
-            → Tries p (done (answer_text answering.entry) reason p event) (kept_of self.new) body begun (devices (W.line wire.old) (F.store filing.old)) (devices (W.line wire.new) (F.store filing.new)) }
+            → DoesDue p (done (answer_text answering.entry) reason p event) (kept_of self.new) body begun (devices (W.line wire.old) (F.store filing.old)) (devices (W.line wire.new) (F.store filing.new)) }
     {
         let (next, sent) = step(self.state, event, reason, answering, wire);
         self.settle(next, sent, filing);
@@ -204,7 +204,7 @@ impl<const A: usize, const C: usize, const V: usize, const D: usize> Provider<A,
         ensures body { self.old.body.items ≡ [] → self.new.body.items ≡ [] }
         ensures tries { (p : Progress) (body begun body_then begun_then : List ℕ) → Pends (kept_of self.old) (F.store filing.old) p body begun
             → counted_body (done (answer_text answering.entry) reason p event).next body ≡ [] → counted_pdv (done (answer_text answering.entry) reason p event).next begun ≡ []
-            → Tries p (refusing (done (answer_text answering.entry) reason p event)) (kept_of self.new) body_then begun_then (devices (W.line wire.old) (F.store filing.old)) (devices (W.line wire.new) (F.store filing.new)) }
+            → DoesDue p (refusing (done (answer_text answering.entry) reason p event)) (kept_of self.new) body_then begun_then (devices (W.line wire.old) (F.store filing.old)) (devices (W.line wire.new) (F.store filing.new)) }
     {
         self.happens(event, reason, answering, wire, filing);
         self.refused = true;

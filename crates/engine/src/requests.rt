@@ -2,14 +2,14 @@
 ghost use Rattle.std.specs.Prelude.{◌≡◌, ◌≤◌, ◌<◌, ◌+◌, ◌*◌, ◌-◌, ◌++◌, [], List, ℕ, length, true, false, OnErr};
 ghost use Rattle.acceptor.specs.declared.state.State.TheVariants.{Sta2, Sta6};
 ghost use Rattle.arrayvec.specs.ArrayVec.{array_vec_len};
-ghost use Rattle.pdu.specs.Items.{record_of};
+ghost use Rattle.pdu.specs.Items.{request_record};
 ghost use Rattle.pdu.specs.Sent.{Sends};
 ghost use Rattle.negotiate.specs.ContextRows.{context_in, accepted_count};
 ghost use Rattle.negotiate.specs.Contexts as contexts;
 ghost use Rattle.negotiate.specs.Settings.{settings_of};
 ghost use Rattle.negotiate.specs.Accept.{answer_bytes};
-ghost use Rattle.engine.specs.machine.Tries.{rejected_state, rejected_text};
-ghost use Rattle.engine.specs.Progress.{start};
+ghost use Rattle.engine.specs.machine.DoesDue.{rejected_state, rejected_text};
+ghost use Rattle.engine.specs.Progress.{at_start};
 ghost use Rattle.engine.specs.Requests.{at_request};
 
 use crate::heads::INVALID_PARAMETER;
@@ -54,13 +54,13 @@ fn answer_request<W: Wire>(
     wire: &mut W,
 ) -> (State, Result<(), WireFailed>)
     requires due { state ≡ Sta2 }
-    ensures state { result.0 ≡ (at_request (settings_of config.now) start body.now).next.state }
-    ensures sends { Sends (at_request (settings_of config.now) start body.now).sent result.1 (W.line wire.old) (W.line wire.new) }
-    ensures due { OnErr result.1 (0 < length (at_request (settings_of config.now) start body.now).sent) }
-    ensures caller { result.0 ≡ Sta6 → caller.new ≡ (record_of body.now).calling }
-    ensures maximum { result.0 ≡ Sta6 → peer_max.new ≡ (record_of body.now).maximum }
-    ensures contexts { result.0 ≡ Sta6 → (id : ℕ) → context_in table.new.items id ≡ contexts.context_of (record_of body.now) id }
-    ensures count { result.0 ≡ Sta6 → length table.new.items ≡ accepted_count (record_of body.now) }
+    ensures state { result.0 ≡ (at_request (settings_of config.now) at_start body.now).next.state }
+    ensures sends { Sends (at_request (settings_of config.now) at_start body.now).sent result.1 (W.line wire.old) (W.line wire.new) }
+    ensures due { OnErr result.1 (0 < length (at_request (settings_of config.now) at_start body.now).sent) }
+    ensures caller { result.0 ≡ Sta6 → caller.new ≡ (request_record body.now).calling }
+    ensures maximum { result.0 ≡ Sta6 → peer_max.new ≡ (request_record body.now).maximum }
+    ensures contexts { result.0 ≡ Sta6 → (id : ℕ) → context_in table.new.items id ≡ contexts.context_of (request_record body.now) id }
+    ensures count { result.0 ≡ Sta6 → length table.new.items ≡ accepted_count (request_record body.now) }
     ensures rows { (n : ℕ) → 32 + 4 * array_vec_len table.old ≤ n → length body.now + 12 ≤ n → 32 + 4 * array_vec_len table.new ≤ n }
     ensures answerable { (peer_max.old < 8 → peer_max.old ≡ 0) → peer_max.new < 8 → peer_max.new ≡ 0 }
 {
@@ -99,7 +99,7 @@ impl<const A: usize, const C: usize, const V: usize, const D: usize> Provider<A,
     ghost use Rattle.part10.specs.Store.{Store};
     ghost use Rattle.engine.specs.Drafts.{IsThere, Drafts};
     ghost use Rattle.engine.specs.machine.Storing.{drafting_in};
-    ghost use Rattle.engine.specs.machine.Tries.{Tries};
+    ghost use Rattle.engine.specs.machine.DoesDue.{DoesDue};
     ghost use Rattle.engine.specs.machine.Does.{Does};
     ghost use Rattle.engine.specs.machine.Kept.{kept_of, settings_in, rooms_of};
 
@@ -133,7 +133,7 @@ impl<const A: usize, const C: usize, const V: usize, const D: usize> Provider<A,
         ensures settings { settings_in self.new ≡ settings_in self.old }
         ensures drafts { Drafts (drafting_in (kept_of self.old).storing) (F.store filing.old) (drafting_in (kept_of self.new).storing) (F.store filing.new) }
         ensures tries { (p : Progress) (body : List ℕ) → Pends (kept_of self.old) (F.store filing.old) p body [] → p.refused ≡ false
-            → Tries p (at_request (settings_in self.old) p body) (kept_of self.new) body [] (devices (W.line wire.old) (F.store filing.old)) (devices (W.line wire.new) (F.store filing.new)) }
+            → DoesDue p (at_request (settings_in self.old) p body) (kept_of self.new) body [] (devices (W.line wire.old) (F.store filing.old)) (devices (W.line wire.new) (F.store filing.new)) }
     {
         let (next, sent) = answer_request(
             &self.config,
@@ -155,7 +155,7 @@ impl<const A: usize, const C: usize, const V: usize, const D: usize> Provider<A,
         ensures settings { settings_in self.new ≡ settings_in self.old }
         ensures drafts { Drafts (drafting_in (kept_of self.old).storing) (F.store filing.old) (drafting_in (kept_of self.new).storing) (F.store filing.new) }
         ensures tries { (p : Progress) (body begun : List ℕ) → Pends (kept_of self.old) (F.store filing.old) p body begun
-            → Tries p (released p) (kept_of self.new) body begun (devices (W.line wire.old) (F.store filing.old)) (devices (W.line wire.new) (F.store filing.new)) }
+            → DoesDue p (released p) (kept_of self.new) body begun (devices (W.line wire.old) (F.store filing.old)) (devices (W.line wire.new) (F.store filing.new)) }
     {
         let (_, asked) = act(self.state, Event::ReleaseRq);
         let (next, sent) = step(asked, Event::UserReleases, 0, Answering::Nothing, wire);
@@ -168,7 +168,7 @@ impl<const A: usize, const C: usize, const V: usize, const D: usize> Provider<A,
         ensures settings { settings_in self.new ≡ settings_in self.old }
         ensures drafts { Drafts (drafting_in (kept_of self.old).storing) (F.store filing.old) (drafting_in (kept_of self.new).storing) (F.store filing.new) }
         ensures tries { (p : Progress) (body : List ℕ) → Pends (kept_of self.old) (F.store filing.old) p (body_in kind body) []
-            → Tries p (at_entry (rooms_of A C V D) (settings_in self.old) p good (At (End kind body))) (kept_of self.new) (body_in kind body) [] (devices (W.line wire.old) (F.store filing.old)) (devices (W.line wire.new) (F.store filing.new)) }
+            → DoesDue p (at_entry (rooms_of A C V D) (settings_in self.old) p good (At (End kind body))) (kept_of self.new) (body_in kind body) [] (devices (W.line wire.old) (F.store filing.old)) (devices (W.line wire.new) (F.store filing.new)) }
     {
         if let State::Sta1 = self.state {
             return;

@@ -5,8 +5,8 @@ ghost use Rattle.acceptor.specs.Table.{table};
 ghost use Rattle.pdu.specs.Sent.{Sends};
 ghost use Rattle.pdu.specs.Texts.{abort_text, release_text};
 ghost use Rattle.acceptor.specs.Effect.{bytes_sent};
-ghost use Rattle.engine.specs.machine.Tries.{step_text};
-ghost use Rattle.engine.specs.machine.Tries as machine;
+ghost use Rattle.engine.specs.machine.DoesDue.{step_text};
+ghost use Rattle.engine.specs.machine.DoesDue as machine;
 ghost use Rattle.engine.specs.machine.Answers.{answer_text};
 
 use acceptor::{Event, Sending, State, act};

@@ -8,9 +8,9 @@ ghost use Rattle.sequence.specs.Stored.{wanted_tags};
 ghost use Rattle.engine.specs.Drafts.{IsThere, Drafts};
 ghost use Rattle.engine.specs.Replies.{some_or_nothing};
 ghost use Rattle.engine.specs.Stores as spelling;
-ghost use Rattle.engine.specs.Stores.{IsOfContext, Names, NamesInstance, limits};
-ghost use Rattle.engine.specs.machine.Storing.{Nothing, Begins, BeginsStore, Grows, Takes, finding_of, stored_of};
-ghost use Rattle.engine.specs.machine.Judged.{Commits, Compared, JudgedBy, of_fault};
+ghost use Rattle.engine.specs.Stores.{IsOfContext, NamesUid, NamesInstance, limits};
+ghost use Rattle.engine.specs.machine.Storing.{Nothing, Begins, BeginsStore, Grows, HasWalked, finding_of, stored_of};
+ghost use Rattle.engine.specs.machine.Verdicts.{Commits, Compared, WalkHasVerdict, of_fault};
 
 use dictionary::class_of;
 use dimse::{CLASS_MISMATCH, Command, Detail, INSTANCE_MISMATCH, status};
@@ -150,7 +150,7 @@ pub(crate) fn begin_store<const V: usize, const D: usize, F: Filing>(
 
 /// Walks the part to its end, or to a refusal. A step takes nothing only after one.
 fn walk<const V: usize, const D: usize>(walker: &mut Walker<V, D>, part: &[u8])
-    ensures { (syntax : Syntax) (lim : Limits) (set : List ℕ) → Takes walker.old syntax lim set → Takes walker.new syntax lim (set ++ part.now) }
+    ensures { (syntax : Syntax) (lim : Limits) (set : List ℕ) → HasWalked walker.old syntax lim set → HasWalked walker.new syntax lim (set ++ part.now) }
 {
     let mut rest = part;
     while !rest.is_empty() {
@@ -177,8 +177,8 @@ fn extend_draft<F: Filing>(part: &[u8], drafting: bool, filing: &mut F) -> bool
 
 /// Whether the data set names this identifier by this tag.
 fn names<const V: usize, const D: usize>(walker: &Walker<V, D>, tag: Tag, uid: &Uid) -> bool
-    ensures yes { result ≡ true → Names (told_by walker.now).kept tag uid.now }
-    ensures no { result ≡ false → Names (told_by walker.now).kept tag uid.now → ⊥ }
+    ensures yes { result ≡ true → NamesUid (told_by walker.now).kept tag uid.now }
+    ensures no { result ≡ false → NamesUid (told_by walker.now).kept tag uid.now → ⊥ }
 {
     match walker.kept(tag) {
         Some(value) => match Uid::read(value) {
@@ -227,11 +227,11 @@ fn compare<const V: usize, const D: usize>(
 }
 
 /// Judges a data set at its end: its first fault, and whether it names what the command names.
-fn judge<const V: usize, const D: usize>(
+fn verdict_of<const V: usize, const D: usize>(
     walker: &Walker<V, D>,
     command: &Command,
 ) -> Result<(), StoreStatus>
-    ensures { JudgedBy walker.now command.now result }
+    ensures { WalkHasVerdict walker.now command.now result }
 {
     match walker.finish() {
         Err(fault) => Err(failure_of(fault)),
@@ -255,8 +255,8 @@ impl<const V: usize, const D: usize> Storing<V, D> {
     ghost use Rattle.sequence.specs.declared.walker.Walker.{Walker};
     ghost use Rattle.dimse.specs.Status.{class_not_supported};
     ghost use Rattle.negotiate.specs.declared.proposals.Context.{Context};
-    ghost use Rattle.engine.specs.machine.Judged.{Judged};
-    ghost use Rattle.engine.specs.machine.Storing.{Nothing, Walking, Takes, GoesOn, Drops, EndsStore, stored_of, drafting_in, held_in, finding_of};
+    ghost use Rattle.engine.specs.machine.Verdicts.{HasVerdict};
+    ghost use Rattle.engine.specs.machine.Storing.{Nothing, Walking, HasWalked, GoesOn, Drops, EndsStore, stored_of, drafting_in, held_in, finding_of};
 
     /// Whether the draft is in the filing.
     pub(crate) fn drafting(&self) -> bool
@@ -294,12 +294,12 @@ impl<const V: usize, const D: usize> Storing<V, D> {
     }
 
     /// What is wrong with the data set, if it is whole.
-    fn judged(&self, command: &Command) -> Result<(), StoreStatus>
-        ensures { Judged command.now (stored_of self.now) result }
+    fn verdict(&self, command: &Command) -> Result<(), StoreStatus>
+        ensures { HasVerdict command.now (stored_of self.now) result }
     {
         match self {
             Storing::Nothing => Err(StoreStatus::of(status::CLASS_NOT_SUPPORTED)),
-            Storing::DataSet { walker, .. } => judge(walker, command),
+            Storing::DataSet { walker, .. } => verdict_of(walker, command),
         }
     }
 
@@ -309,12 +309,12 @@ impl<const V: usize, const D: usize> Storing<V, D> {
         ensures nothing { stored_of self.new ≡ Nothing }
         ensures unsupported { stored_of self.old ≡ Nothing → (finding_of result ≡ record { status = class_not_supported; detail = None }) × (F.store filing.new ≡ F.store filing.old) }
         ensures ends { (W E : ℕ) (walker : Walker W E) (drafting : Bool) (context : Context) (depth most : ℕ) (set : List ℕ) → stored_of self.old ≡ Walking walker drafting
-            → Takes walker context.syntax (spelling.limits depth most) set
+            → HasWalked walker context.syntax (spelling.limits depth most) set
             → EndsStore depth most context command.now set drafting (finding_of result) (F.store filing.old) (F.store filing.new) }
         ensures drafts { Drafts (drafting_in (stored_of self.old)) (F.store filing.old) (drafting_in (stored_of self.new)) (F.store filing.new) }
     {
         let drafting = self.drafting();
-        match self.judged(command) {
+        match self.verdict(command) {
             Ok(()) => {
                 *self = Storing::Nothing;
                 if drafting {

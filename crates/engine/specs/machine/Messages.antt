@@ -2,7 +2,7 @@
 use Rattle.std.specs.Prelude.{◌≡◌, ◌⊎◌, ℕ, ◌+◌, ◌<◌, Bool, true, false, ◌||◌, List, [], length, Option, Some, Result, Ok, OnErr}
 use Rattle.acceptor.specs.declared.state.State.TheVariants.{Sta6}
 use Rattle.pdu.specs.declared.wire.WireFailed.{WireFailed}
-use Rattle.pdu.specs.Items.{record_of}
+use Rattle.pdu.specs.Items.{request_record}
 use Rattle.pdu.specs.Sent.{Line, Sends}
 use Rattle.negotiate.specs.Settings.{Settings}
 use Rattle.dimse.specs.Command.{CommandRecord}
@@ -32,7 +32,7 @@ pub record Aside (kept : Kept) (p : Progress) : Type 0 where
   pub state_is : kept.state ≡ p.state
   pub refused_is : is_ended p.state ≡ false → kept.refused ≡ p.refused
   pub body_is : kept.body ≡ counted_body p []
-  pub agreed : p.state ≡ Sta6 → Agreed kept (record_of p.request)
+  pub agreed : p.state ≡ Sta6 → Agreed kept (request_record p.request)
   pub none_left : is_established p.state ≡ false → p.message ≡ NoMessage
 
 -- More of a message has come, in which a filing call had failed before or not: its data are walked and in the draft, no

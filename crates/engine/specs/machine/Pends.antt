@@ -2,13 +2,13 @@
 use Rattle.std.specs.Prelude.{◌≡◌, ℕ, ◌+◌, ◌*◌, ◌≤◌, Bool, true, false, not, ◌&&◌, List, [], length, nat_eq, if◌then◌else◌}
 use Rattle.acceptor.specs.declared.state.State.{State}
 use Rattle.acceptor.specs.declared.state.State.TheVariants.{Sta2, Sta6}
-use Rattle.pdu.specs.Record.{Record}
-use Rattle.pdu.specs.Items.{record_of}
+use Rattle.pdu.specs.Record.{RequestRecord}
+use Rattle.pdu.specs.Items.{request_record}
 use Rattle.negotiate.specs.Contexts.{context_of}
 use Rattle.negotiate.specs.declared.table.ContextRow.{ContextRow}
 use Rattle.negotiate.specs.ContextRows.{context_in, accepted_count}
 use Rattle.dimse.specs.Messages.{NoMessage}
-use Rattle.dimse.specs.Joining.{Joining, Shows}
+use Rattle.dimse.specs.Joining.{Joining, ShowsMessage}
 use Rattle.engine.specs.Progress.{Progress, is_due, is_established}
 use Rattle.engine.specs.Held.{is_ended}
 use Rattle.engine.specs.Reached.{takes_pdvs}
@@ -38,7 +38,7 @@ pub record Kept : Type 0 where
   pub storing : Stored
 
 -- what an accepted request leaves of itself
-pub record Agreed (kept : Kept) (r : Record) : Type 0 where
+pub record Agreed (kept : Kept) (r : RequestRecord) : Type 0 where
   pub caller : kept.caller ≡ r.calling
   pub maximum : kept.peer_max ≡ r.maximum
   pub contexts : (id : ℕ) → context_in kept.table id ≡ context_of r id
@@ -63,8 +63,8 @@ pub record Pends (kept : Kept) (store : Store) (p : Progress) (body begun : List
   pub state_is : kept.state ≡ p.state
   pub refused_is : is_ended p.state ≡ false → kept.refused ≡ p.refused
   pub body_is : kept.body ≡ counted_body p body
-  pub join_is : Shows kept.room kept.join p.message (counted_pdv p begun)
-  pub agreed : p.state ≡ Sta6 → Agreed kept (record_of p.request)
+  pub join_is : ShowsMessage kept.room kept.join p.message (counted_pdv p begun)
+  pub agreed : p.state ≡ Sta6 → Agreed kept (request_record p.request)
   pub none_left : is_established p.state ≡ false → p.message ≡ NoMessage
   pub walks : Walks kept.depth kept.most p.request (with_pdv (counted_pdv p begun) p.message) kept.storing
   pub draft : IsDraft p.request (with_pdv (counted_pdv p begun) p.message) p.filing_failed store (drafting_in kept.storing)

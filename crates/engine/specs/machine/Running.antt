@@ -4,7 +4,7 @@ use Rattle.negotiate.specs.Settings.{Settings}
 use Rattle.engine.specs.Devices.{Devices}
 use Rattle.engine.specs.Inputs.{Received, first_inputs}
 use Rattle.engine.specs.Gains.{Gains}
-use Rattle.engine.specs.Progress.{start}
+use Rattle.engine.specs.Progress.{at_start}
 use Rattle.engine.specs.Ran.{inputs_after, EndsLast}
 use Rattle.engine.specs.Run.{Rooms}
 use Rattle.engine.specs.Stands.{Stands}
@@ -22,7 +22,7 @@ pub record Stood (rooms : Rooms) (s : Settings) (taken : List Received) (seen : 
   pub failed : Bool
   pub stands : Stands rooms s taken story failed seen new.store
   pub last : EndsLast rooms s taken story
-  pub gains : Gains rooms s start story false failed old new
+  pub gains : Gains rooms s at_start story false failed old new
 
 -- so many inputs were taken
 pub record Running (rooms : Rooms) (s : Settings) (turns : ℕ) (source_old source_now : Option (List Received)) (seen : Fields) (old new : Devices) : Type 0 where

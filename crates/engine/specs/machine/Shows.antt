@@ -87,7 +87,7 @@ pub record Found (rooms : Rooms) (s : Settings) (f : Fields) (p : Progress) (r c
   pub later : FoundThen f r c spot_then ended
 
 -- a part of the stream was taken
-pub record Took (rooms : Rooms) (s : Settings) (f : Fields) (p : Progress) (r c : List ℕ) (old new : Devices) : Type 0 where
+pub record DoesPart (rooms : Rooms) (s : Settings) (f : Fields) (p : Progress) (r c : List ℕ) (old new : Devices) : Type 0 where
   pub story : List Happened
   pub failed : Bool
   pub told : entries_of story ≡ map At (new_marks r c)

@@ -3,7 +3,7 @@ use Rattle.std.specs.Prelude.{◌≡◌, ℕ, Bool, true, false, not, ◌||◌, 
 use Rattle.element.specs.declared.syntax.Syntax.{Syntax}
 use Rattle.sequence.specs.declared.walker.Walker.{Walker}
 use Rattle.sequence.specs.Rules.{Limits}
-use Rattle.sequence.specs.Taken.{StandsAt, syntax_of, limits_of, told_by}
+use Rattle.sequence.specs.Taken.{StandsAt, walker_syntax, limits_of, told_by}
 use Rattle.dimse.specs.Command.{CommandRecord}
 use Rattle.dimse.specs.Messages.{Begun}
 use Rattle.dimse.specs.Status.{success}
@@ -35,9 +35,9 @@ held_in Nothing = 0
 held_in (Walking walker drafting) = (told_by walker).held
 
 -- a walker of a data set in this syntax, held to these limits, took these bytes of it
-pub record Takes {V D : ℕ} (walker : Walker V D) (syntax : Syntax) (lim : Limits) (set : List ℕ) : Type 0 where
+pub record HasWalked {V D : ℕ} (walker : Walker V D) (syntax : Syntax) (lim : Limits) (set : List ℕ) : Type 0 where
   pub stands : StandsAt walker set
-  pub syntax_is : syntax_of walker ≡ syntax
+  pub syntax_is : walker_syntax walker ≡ syntax
   pub limits_are : limits_of walker ≡ lim
 
 -- Of a message in the association of this request: the data of a store whose class is its context's are walked, and of
@@ -45,7 +45,7 @@ pub record Takes {V D : ℕ} (walker : Walker V D) (syntax : Syntax) (lim : Limi
 pub data Walks (depth most : ℕ) (request : List ℕ) (message : Begun) : Stored → Type 0 where
   not_walked : (InStore request message → ⊥) → Walks depth most request message Nothing
   walked : {V D : ℕ} {walker : Walker V D} {drafting : Bool} → (store : InStore request message)
-      → Takes walker store.context.syntax (limits depth most) store.set → Walks depth most request message (Walking walker drafting)
+      → HasWalked walker store.context.syntax (limits depth most) store.set → Walks depth most request message (Walking walker drafting)
 
 abbrev pub finding_of : StoreStatus → Finding
 finding_of s = record { status = s.status; detail = s.detail }
@@ -60,7 +60,7 @@ Begins head false old new = new ≡ failed old
 -- a walk with its draft begins
 abbrev pub BeginsStore : Syntax → Limits → List ℕ → Stored → Store → Store → Type 0
 BeginsStore syntax lim head Nothing old new = ⊥
-BeginsStore syntax lim head (Walking walker drafting) old new = Takes walker syntax lim [] × Begins head drafting old new
+BeginsStore syntax lim head (Walking walker drafting) old new = HasWalked walker syntax lim [] × Begins head drafting old new
 
 -- a draft gets these bytes more, or the filing fails in it; without a draft the filing stays as it is
 abbrev pub Grows : List ℕ → Bool → Bool → Store → Store → Type 0
@@ -73,7 +73,7 @@ abbrev pub GoesOn : List ℕ → Stored → Stored → Store → Store → Type 
 GoesOn part Nothing now old new = (now ≡ Nothing) × (new ≡ old)
 GoesOn part (Walking before drafting) Nothing old new = ⊥
 GoesOn part (Walking before drafting) (Walking after drafting_new) old new =
-    ((syntax : Syntax) (lim : Limits) (set : List ℕ) → Takes before syntax lim set → Takes after syntax lim (set ++ part))
+    ((syntax : Syntax) (lim : Limits) (set : List ℕ) → HasWalked before syntax lim set → HasWalked after syntax lim (set ++ part))
     × Grows part drafting drafting_new old new
 
 -- the draft is dropped, if there is one

@@ -79,7 +79,7 @@ impl<const A: usize, const C: usize, const V: usize, const D: usize> Association
     ghost use Rattle.pdu.specs.Marks.{new_marks};
     ghost use Rattle.pdu.specs.Spot.{Spot, spot};
     ghost use Rattle.engine.specs.Held.{is_ended};
-    ghost use Rattle.engine.specs.machine.Shows.{InHead, InBody, InPdvHead, InFragment, ShowsFrame, Found, Took, body_of};
+    ghost use Rattle.engine.specs.machine.Shows.{InHead, InBody, InPdvHead, InFragment, ShowsFrame, Found, DoesPart, body_of};
     ghost use Rattle.engine.specs.Fields.{fields_of};
 
     /// Takes bytes of the head of a PDU.
@@ -305,7 +305,7 @@ impl<const A: usize, const C: usize, const V: usize, const D: usize> Association
         ensures settings { settings_in self.new.provider ≡ settings_in self.old.provider }
         ensures drafts { Drafts (drafting_in (kept_of self.old.provider).storing) (F.store filing.old) (drafting_in (kept_of self.new.provider).storing) (F.store filing.new) }
         ensures took { (p : Progress) (r : List ℕ) → IsRest r → ShowsFrame (fields_of self.old) (F.store filing.old) p r
-            → Took (rooms_of A C V D) (settings_in self.old.provider) (fields_of self.new) p r (take result piece.now)
+            → DoesPart (rooms_of A C V D) (settings_in self.old.provider) (fields_of self.new) p r (take result piece.now)
             (devices (W.line wire.old) (F.store filing.old)) (devices (W.line wire.new) (F.store filing.new)) }
     {
         if self.is_ended() {
@@ -329,7 +329,7 @@ impl<const A: usize, const C: usize, const V: usize, const D: usize> Association
         ensures settings { settings_in self.new.provider ≡ settings_in self.old.provider }
         ensures drafts { Drafts (drafting_in (kept_of self.old.provider).storing) (F.store filing.old) (drafting_in (kept_of self.new.provider).storing) (F.store filing.new) }
         ensures took { (p : Progress) (r : List ℕ) → IsRest r → ShowsFrame (fields_of self.old) (F.store filing.old) p r
-            → Took (rooms_of A C V D) (settings_in self.old.provider) (fields_of self.new) p r piece.now
+            → DoesPart (rooms_of A C V D) (settings_in self.old.provider) (fields_of self.new) p r piece.now
             (devices (W.line wire.old) (F.store filing.old)) (devices (W.line wire.new) (F.store filing.new)) }
     {
         let mut at = 0;

@@ -1,7 +1,7 @@
 -- The next state and the text are those of the definition from Sta2.
 use Rattle.std.proofs.Common.{◌≡◌, ◌∙◌, ap, sym, subst, ℕ, ◌<◌, List, length, OnErr, arith}
 use Rattle.pdu.specs.Sent.{Sends}
-use Rattle.pdu.specs.Items.{record_of}
+use Rattle.pdu.specs.Items.{request_record}
 use Rattle.pdu.proofs.Public.{request_fits}
 use Rattle.negotiate.specs.declared.answer.Answer.TheVariants.{Accept, Reject}
 use Rattle.negotiate.specs.Settings.{settings_of}
@@ -14,14 +14,14 @@ pub returns-in-Accept-clause-state : goal.returns-in-Accept-clause-state
 returns-in-Accept-clause-state g c =
     let s = settings_of c.args.config.now in
     let none = request_fits c.in-Ok.request c.args.body.now c.in-Ok.ensures.text in
-    let accept : judged s (record_of c.args.body.now) ≡ Accept = ap (judged s) (sym c.in-Ok.ensures.record) ∙ sym c.judge.ensures ∙ c.in-Accept.is in
+    let accept : judged s (request_record c.args.body.now) ≡ Accept = ap (judged s) (sym c.in-Ok.ensures.record) ∙ sym c.judge.ensures ∙ c.in-Accept.is in
     accepted_state s c.args.body.now c.args.state c.requires.due none c.act-asked.result _ c.act-asked.ensures.table c.step-in-Accept.ensures.state accept
 
 pub returns-in-Accept-clause-sends : goal.returns-in-Accept-clause-sends
 returns-in-Accept-clause-sends g c =
     let s = settings_of c.args.config.now in
     let none = request_fits c.in-Ok.request c.args.body.now c.in-Ok.ensures.text in
-    let accept : judged s (record_of c.args.body.now) ≡ Accept = ap (judged s) (sym c.in-Ok.ensures.record) ∙ sym c.judge.ensures ∙ c.in-Accept.is in
+    let accept : judged s (request_record c.args.body.now) ≡ Accept = ap (judged s) (sym c.in-Ok.ensures.record) ∙ sym c.judge.ensures ∙ c.in-Accept.is in
     subst (λ (t : List ℕ). Sends t c.step-in-Accept.result.1 (g.W.Wire.line c.args.wire.now) (g.W.Wire.line c.step-in-Accept.new.wire))
     (accepted_sent s c.args.body.now c.args.state c.requires.due none c.act-asked.result c.in-Ok.request c.act-asked.ensures.table c.in-Ok.ensures.record accept) c.step-in-Accept.ensures.sends
 
@@ -29,7 +29,7 @@ pub returns-in-Reject-clause-state : goal.returns-in-Reject-clause-state
 returns-in-Reject-clause-state g c =
     let s = settings_of c.args.config.now in
     let none = request_fits c.in-Ok.request c.args.body.now c.in-Ok.ensures.text in
-    let rejected : judged s (record_of c.args.body.now) ≡ Reject c.in-Reject.field-0 c.in-Reject.source c.in-Reject.field-2 =
+    let rejected : judged s (request_record c.args.body.now) ≡ Reject c.in-Reject.field-0 c.in-Reject.source c.in-Reject.field-2 =
     ap (judged s) (sym c.in-Ok.ensures.record) ∙ sym c.judge.ensures ∙ c.in-Reject.is in
     c.reject.ensures.state ∙ rejection_state s c.args.body.now c.args.state c.requires.due none c.in-Reject.field-0 c.in-Reject.source c.in-Reject.field-2 rejected
 
@@ -37,7 +37,7 @@ pub returns-in-Reject-clause-sends : goal.returns-in-Reject-clause-sends
 returns-in-Reject-clause-sends g c =
     let s = settings_of c.args.config.now in
     let none = request_fits c.in-Ok.request c.args.body.now c.in-Ok.ensures.text in
-    let rejected : judged s (record_of c.args.body.now) ≡ Reject c.in-Reject.field-0 c.in-Reject.source c.in-Reject.field-2 =
+    let rejected : judged s (request_record c.args.body.now) ≡ Reject c.in-Reject.field-0 c.in-Reject.source c.in-Reject.field-2 =
     ap (judged s) (sym c.in-Ok.ensures.record) ∙ sym c.judge.ensures ∙ c.in-Reject.is in
     subst (λ (t : List ℕ). Sends t c.reject.result.1 (g.W.Wire.line c.args.wire.now) (g.W.Wire.line c.reject.new.wire))
     (rejection_sent s c.args.body.now c.args.state c.requires.due none c.in-Reject.field-0 c.in-Reject.source c.in-Reject.field-2 c.in-Ok.request c.in-Ok.ensures.record rejected) c.reject.ensures.sends
@@ -46,7 +46,7 @@ pub returns-in-Reject-clause-due : goal.returns-in-Reject-clause-due
 returns-in-Reject-clause-due g c =
     let s = settings_of c.args.config.now in
     let none = request_fits c.in-Ok.request c.args.body.now c.in-Ok.ensures.text in
-    let rejected : judged s (record_of c.args.body.now) ≡ Reject c.in-Reject.field-0 c.in-Reject.source c.in-Reject.field-2 =
+    let rejected : judged s (request_record c.args.body.now) ≡ Reject c.in-Reject.field-0 c.in-Reject.source c.in-Reject.field-2 =
     ap (judged s) (sym c.in-Ok.ensures.record) ∙ sym c.judge.ensures ∙ c.in-Reject.is in
     subst (λ (t : List ℕ). OnErr c.reject.result.1 (0 < length t))
     (rejection_sent s c.args.body.now c.args.state c.requires.due none c.in-Reject.field-0 c.in-Reject.source c.in-Reject.field-2 c.in-Ok.request c.in-Ok.ensures.record rejected) c.reject.ensures.due

@@ -6,7 +6,7 @@ use Rattle.engine.specs.Progress.{absorb}
 use Rattle.engine.specs.Run.{Rooms, progress_of}
 use Rattle.negotiate.specs.Settings.{Settings}
 use Rattle.engine.specs.machine.Kept.{settings_in, rooms_of}
-use Rattle.engine.proofs.TookLemmas.{drafts_then, took_nothing, took_then}
+use Rattle.engine.proofs.PartLemmas.{drafts_then, took_nothing, took_then}
 use Rattle.engine.proofs.association.Association.take_all.Goals as goal
 
 pub loop-at-init : goal.loop-at-init

@@ -6,7 +6,7 @@ use Rattle.engine.specs.machine.Storing.{drafting_in}
 use Rattle.engine.specs.Drafts.{Drafts}
 use Rattle.engine.specs.machine.Kept.{kept_of, settings_in, rooms_of}
 use Rattle.engine.specs.Fields.{fields_of}
-use Rattle.engine.specs.machine.Shows.{ShowsFrame, Took}
+use Rattle.engine.specs.machine.Shows.{ShowsFrame, DoesPart}
 use Rattle.engine.proofs.association.Association.take_all.Given as goal
 
 abbrev pub invariant-loop-at : goal.invariant-loop-at
@@ -15,7 +15,7 @@ invariant-loop-at g l = record {
   settings : settings_in l.self.provider ≡ settings_in l.fn.self.provider;
   drafts : Drafts (drafting_in (kept_of l.fn.self.provider).storing) (g.F.Filing.store l.fn.filing) (drafting_in (kept_of l.self.provider).storing) (g.F.Filing.store l.filing);
   took : (p : Progress) (r : List ℕ) → IsRest r → ShowsFrame (fields_of l.fn.self) (g.F.Filing.store l.fn.filing) p r
-      → Took (rooms_of g.row.A g.row.C g.row.V g.row.D) (settings_in l.fn.self.provider) (fields_of l.self) p r (take l.at l.piece)
+      → DoesPart (rooms_of g.row.A g.row.C g.row.V g.row.D) (settings_in l.fn.self.provider) (fields_of l.self) p r (take l.at l.piece)
       (devices (g.W.Wire.line l.fn.wire) (g.F.Filing.store l.fn.filing)) (devices (g.W.Wire.line l.wire) (g.F.Filing.store l.filing));
 }
 

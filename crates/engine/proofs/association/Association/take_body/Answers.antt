@@ -1,7 +1,7 @@
-use Rattle.std.proofs.Common.{◌≡◌, ◌<◌, ℕ, List, length, take, drop, get_or, arith, rules, ap, sym, refl, ◌∙◌, ◌+◌, ◌-◌}
+use Rattle.std.proofs.Common.{◌≡◌, ℕ, List, length, take, drop, get_or, arith, rules, ap, sym, refl, ◌∙◌, ◌+◌, ◌-◌}
 use Rattle.pdu.specs.Marks.{frame_kind}
 use Rattle.std.proofs.lemmas.List.{length-take}
-use Rattle.engine.proofs.CountLemmas.{none_is_due, at_least, at_most, from_none}
+use Rattle.engine.proofs.CountLemmas.{none_is_due, at_least, at_most, at_none, from_none, no_more}
 use Rattle.engine.proofs.FoundLemmas.{found_body, found_body_end, no_items}
 use Rattle.engine.proofs.association.Association.take_body.Goals as goal
 
@@ -47,5 +47,18 @@ invariant_of-self-else-left-eq0 g c = record {
       let kind : get_or c.deref.result.now 0 0 ≡ frame_kind c.args.self.now.head.items = ap (λ (xs : List ℕ). get_or xs 0 0) c.deref.ensures.0 in
       let fits = c.on_body.ensures.fits more (λ due taken one. omega (arith, count, c.requires.fits due taken (sym kind ∙ one))) in
       λ due taken one. fits due taken (kind ∙ one);
+  fragment_fits = λ some. none_is_due some;
+}
+
+pub invariant_of-self : goal.invariant_of-self
+invariant_of-self g c = record {
+  some_due = at_least 1 1 refl;
+  head_least = from_none _;
+  head_most = no_more 5 _ c.clear.ensures;
+  pdv_least = from_none _;
+  pdv_most = at_none _ _ c.requires.pdv;
+  «data» = λ some. none_is_due some;
+  within = from_none _;
+  body_fits = λ some. none_is_due some;
   fragment_fits = λ some. none_is_due some;
 }

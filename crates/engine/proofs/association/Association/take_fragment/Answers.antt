@@ -2,8 +2,9 @@ use Rattle.std.proofs.Common.{◌≡◌, ◌+◌, ◌-◌, ℕ, List, length, ta
 use Rattle.std.proofs.lemmas.List.{length-take}
 use Rattle.pdu.specs.Marks.{frame_kind}
 use Rattle.engine.proofs.CountLemmas.{none_is_due, at_least, at_most, at_none, no_more, due_of_none, due_first, due_second, no_request}
-use Rattle.engine.proofs.TookLemmas.{drafts_then}
+use Rattle.engine.proofs.PartLemmas.{drafts_then}
 use Rattle.engine.proofs.ValueLemmas.{found_fragment, found_fragment_end}
+use Rattle.engine.proofs.SizeLemmas.{provider_small}
 use Rattle.engine.proofs.association.Association.take_fragment.Goals as goal
 
 pub returns-then-more-gt0 : goal.returns-then-more-gt0
@@ -59,3 +60,6 @@ invariant_of-self-2 g c = record {
   body_fits = λ some due taken one. no_request _ (ap frame_kind (c.end_pdv-ended.ensures.kept (due_first _ _ some)) ∙ c.requires.data) one;
   fragment_fits = λ some. due_of_none _ c.end_pdv-ended.ensures.no_fragment some;
 }
+
+pub on_data-requires : goal.on_data-requires
+on_data-requires g c = (provider_small c.args.self.now.provider, (c.requires.draft, λ there taken. let few = c.requires.fits there taken in omega (arith, few, length-take c.min-count.result c.args.piece.now, c.min-count.ensures)))

@@ -3,7 +3,7 @@ use Rattle.std.proofs.lemmas.List.{take_all}
 use Rattle.pdu.specs.declared.head.PduHead.{PduHead}
 use Rattle.pdu.specs.Marks.{frame_kind, frame_length}
 use Rattle.engine.proofs.FoundLemmas.{found_head_part, found_head_empty, found_head_data, found_head_other}
-use Rattle.engine.proofs.CountLemmas.{none_is_due, at_least, at_most, at_none, from_none}
+use Rattle.engine.proofs.CountLemmas.{none_is_due, at_least, at_most, at_none, from_none, no_more}
 use Rattle.engine.proofs.SizeLemmas.{provider_small}
 use Rattle.engine.proofs.association.Association.take_head.Goals as goal
 
@@ -101,3 +101,29 @@ invariant_of-self-2 g c = record {
 
 pub on_head-requires : goal.on_head-requires
 on_head-requires g c = (provider_small c.args.self.now.provider, c.requires.draft)
+
+pub invariant_of-self : goal.invariant_of-self
+invariant_of-self g c = record {
+  some_due = at_least 1 1 refl;
+  head_least = from_none _;
+  head_most = omega (arith, c.in_default.ensures.cases, ap length c.deref.ensures.0);
+  pdv_least = from_none _;
+  pdv_most = at_none _ 0 c.requires.pdv;
+  «data» = λ some. none_is_due some;
+  within = from_none _;
+  body_fits = λ some. none_is_due some;
+  fragment_fits = λ some. none_is_due some;
+}
+
+pub invariant_of-self-then-head-eq0 : goal.invariant_of-self-then-head-eq0
+invariant_of-self-then-head-eq0 g c = record {
+  some_due = at_least 1 1 refl;
+  head_least = from_none _;
+  head_most = no_more 5 _ c.clear.ensures;
+  pdv_least = from_none _;
+  pdv_most = at_none _ 0 c.requires.pdv;
+  «data» = λ some. none_is_due some;
+  within = from_none _;
+  body_fits = λ some. none_is_due some;
+  fragment_fits = λ some. none_is_due some;
+}

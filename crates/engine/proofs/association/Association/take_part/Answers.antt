@@ -6,7 +6,7 @@ use Rattle.engine.specs.machine.Shows.{InHead, InBody, InPdvHead, InFragment}
 use Rattle.engine.specs.machine.Storing.{Stored, drafting_in}
 use Rattle.engine.specs.machine.Kept.{kept_of}
 use Rattle.engine.proofs.StoreLemmas.{same_drafts}
-use Rattle.engine.proofs.TookLemmas.{pends_head, pends_body, pends_pdv, pends_fragment}
+use Rattle.engine.proofs.PartLemmas.{pends_head, pends_body, pends_pdv, pends_fragment}
 use Rattle.engine.proofs.association.Association.take_part.Goals as goal
 
 pub returns-in-Head : goal.returns-in-Head

@@ -5,7 +5,7 @@ use Rattle.pdu.specs.Heads.{pdv_head_of}
 use Rattle.pdu.specs.Marks.{frame_kind}
 use Rattle.pdu.specs.declared.head.PdvHead.{PdvHead}
 use Rattle.engine.proofs.CountLemmas.{none_is_due, at_least, at_most, at_none, from_none, no_more, due_of_none, due_first, due_second, no_request}
-use Rattle.engine.proofs.TookLemmas.{drafts_then}
+use Rattle.engine.proofs.PartLemmas.{drafts_then}
 use Rattle.engine.proofs.ValueLemmas.{found_pdv_part, found_pdv_short, found_bad, found_bad_end, found_pdv_head, found_pdv_whole}
 use Rattle.engine.proofs.SizeLemmas.{provider_small}
 use Rattle.engine.proofs.association.Association.take_pdv_head.Goals as goal
@@ -169,3 +169,42 @@ on_pdv_head-requires g c = (provider_small c.args.self.now.provider, (c.requires
 
 pub end_pdv-ended-requires : goal.end_pdv-ended-requires
 end_pdv-ended-requires g c = (provider_small c.args.self.now.provider, (c.on_pdv_head.ensures.drafts.there, c.requires.head))
+
+pub invariant_of-self : goal.invariant_of-self
+invariant_of-self g c = record {
+  some_due = at_least 1 1 refl;
+  head_least = from_none _;
+  head_most = no_more 5 _ c.clear.ensures;
+  pdv_least = from_none _;
+  pdv_most = no_more 0 _ c.clear-then-left-eq0.ensures;
+  «data» = λ some. none_is_due some;
+  within = from_none _;
+  body_fits = λ some. none_is_due some;
+  fragment_fits = λ some. none_is_due some;
+}
+
+pub invariant_of-self-in_default : goal.invariant_of-self-in_default
+invariant_of-self-in_default g c = record {
+  some_due = omega (arith, c.if-left-eq0.false);
+  head_least = at_least 6 _ c.requires.head;
+  head_most = at_most 6 _ c.requires.head;
+  pdv_least = from_none _;
+  pdv_most = omega (arith, c.in_default.ensures.cases, ap length c.deref.ensures.0);
+  «data» = λ some. c.requires.data;
+  within = from_none _;
+  body_fits = λ some. none_is_due some;
+  fragment_fits = λ some. none_is_due some;
+}
+
+pub invariant_of-self-then-left-eq0-2 : goal.invariant_of-self-then-left-eq0-2
+invariant_of-self-then-left-eq0-2 g c = record {
+  some_due = at_least 1 1 refl;
+  head_least = from_none _;
+  head_most = no_more 5 _ c.clear-then-left-eq0-2.ensures;
+  pdv_least = from_none _;
+  pdv_most = no_more 0 _ c.clear-then-head-lt2.ensures;
+  «data» = λ some. none_is_due some;
+  within = from_none _;
+  body_fits = λ some. none_is_due some;
+  fragment_fits = λ some. none_is_due some;
+}

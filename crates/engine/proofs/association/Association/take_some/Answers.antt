@@ -2,7 +2,7 @@ use Rattle.std.proofs.Common.{◌∙◌, ◌≡◌, false, sym, ap, refl}
 use Rattle.engine.specs.Held.{is_ended}
 use Rattle.engine.proofs.CountLemmas.{at_most}
 use Rattle.engine.proofs.StoreLemmas.{same_drafts}
-use Rattle.engine.proofs.TookLemmas.{drafts_then, took_calm, took_goes, took_ends}
+use Rattle.engine.proofs.PartLemmas.{drafts_then, took_calm, took_goes, took_ends}
 use Rattle.engine.proofs.SizeLemmas.{association_small}
 use Rattle.engine.proofs.association.Association.take_some.Goals as goal
 

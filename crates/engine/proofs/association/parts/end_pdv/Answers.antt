@@ -4,7 +4,7 @@ use Rattle.engine.specs.Timeline.{At}
 use Rattle.engine.specs.machine.Kept.{kept_of}
 use Rattle.engine.proofs.CountLemmas.{none_is_due, at_least, at_most, from_none, no_more, goes_on, keeps_head, left_over, next_head}
 use Rattle.engine.proofs.DoesLemmas.{does_one, does_more}
-use Rattle.engine.proofs.TookLemmas.{drafts_then}
+use Rattle.engine.proofs.PartLemmas.{drafts_then}
 use Rattle.engine.proofs.association.parts.end_pdv.Goals as goal
 
 pub returns-then-left-eq0 : goal.returns-then-left-eq0

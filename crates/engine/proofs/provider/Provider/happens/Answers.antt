@@ -2,7 +2,7 @@
 use Rattle.std.proofs.Common.{subst, ◌≡◌, ◌-◌, sym, false}
 use Rattle.acceptor.specs.declared.state.State.{State}
 use Rattle.engine.specs.machine.Answers.{answer_text}
-use Rattle.engine.specs.machine.Tries.{Settles, Stays, is_left}
+use Rattle.engine.specs.machine.DoesDue.{ComesTo, Stays, is_left}
 use Rattle.engine.specs.machine.Kept.{kept_of}
 use Rattle.engine.proofs.PendsLemmas.{happened, settles_body, settles_body_fits, settles_fragment_fits}
 use Rattle.engine.proofs.provider.Provider.happens.Goals as goal
@@ -11,7 +11,7 @@ pub returns-clause-tries : goal.returns-clause-tries
 returns-clause-tries g c = λ p body begun h.
     happened p c.args.event c.args.reason (answer_text c.args.answering) c.step-next.result.1 (kept_of c.args.self.now) (kept_of c.settle.new.self) body begun _ _ _ _ h
     (subst (λ (st : State). Stays st c.args.event) h.state_is c.requires.stays)
-    (subst (λ (st : State). Settles st c.step-next.result.1 (kept_of c.args.self.now) (kept_of c.settle.new.self) (g.F.Filing.store c.args.filing.now) (g.F.Filing.store c.settle.new.filing)) c.step-next.ensures.state c.settle.ensures.settles)
+    (subst (λ (st : State). ComesTo st c.step-next.result.1 (kept_of c.args.self.now) (kept_of c.settle.new.self) (g.F.Filing.store c.args.filing.now) (g.F.Filing.store c.settle.new.filing)) c.step-next.ensures.state c.settle.ensures.settles)
     c.step-next.ensures.sends c.step-next.ensures.due
 
 pub returns-clause-body : goal.returns-clause-body

@@ -1,6 +1,6 @@
 -- The join has the part, and it is walked and goes to the draft.
 use Rattle.std.proofs.Common.{◌∙◌, ◌++◌, sym, subst, List, ℕ, []}
-use Rattle.dimse.specs.Joining.{Shows}
+use Rattle.dimse.specs.Joining.{ShowsMessage}
 use Rattle.engine.specs.machine.Kept.{kept_of, settings_in, rooms_of}
 use Rattle.engine.specs.machine.Storing.{stored_of}
 use Rattle.engine.proofs.StoreLemmas.{goes_drafts}
@@ -14,7 +14,7 @@ pub returns-then-takes_pdvs-clause-appends : goal.returns-then-takes_pdvs-clause
 returns-then-takes_pdvs-clause-appends g c = λ p begun six h.
     let k = kept_of c.args.self.now in
     let taken = sym (takes_shown k _ p [] begun h) ∙ sym c.takes_pdvs.ensures ∙ c.if-takes_pdvs.true in
-    let was : Shows g.row.C k.join p.message begun = subst (λ (xs : List ℕ). Shows g.row.C k.join p.message xs) (counted_taken p begun taken) h.join_is in
+    let was : ShowsMessage g.row.C k.join p.message begun = subst (λ (xs : List ℕ). ShowsMessage g.row.C k.join p.message xs) (counted_taken p begun taken) h.join_is in
     does_append (rooms_of g.row.A g.row.C g.row.V g.row.D) (settings_in c.args.self.now) p begun c.args.part.now k c.take.new.self (stored_of c.take-then-takes_pdvs.new.self) _ _ _ h taken six
     (c.take.ensures.shows p.message begun was) c.take-then-takes_pdvs.ensures.goes_on
 
@@ -29,3 +29,18 @@ returns-else-takes_pdvs-clause-appends g c = λ p begun six h.
 
 pub takes_pdvs-requires : goal.takes_pdvs-requires
 takes_pdvs-requires g c = provider_small c.args.self.now
+
+pub invariant_of-self : goal.invariant_of-self
+invariant_of-self g c = record {
+  least = c.args.self.now.least;
+  greatest = c.args.self.now.greatest;
+  command_greatest = c.args.self.now.command_greatest;
+  least_kept = c.args.self.now.least_kept;
+  greatest_kept = c.args.self.now.greatest_kept;
+  least_levels = c.args.self.now.least_levels;
+  greatest_levels = c.args.self.now.greatest_levels;
+  answerable = c.args.self.now.answerable;
+  room = c.args.self.now.room;
+  rows_room = c.args.self.now.rows_room;
+  given_up = c.args.self.now.given_up;
+}

@@ -12,7 +12,7 @@ use Rattle.engine.specs.Timeline.{At}
 use Rattle.engine.specs.machine.Kept.{kept_of, settings_in, rooms_of}
 use Rattle.engine.proofs.PendsLemmas.{pends_begins, tries_from}
 use Rattle.engine.proofs.HeadLemmas.{head_nothing, head_at_once, head_rejected}
-use Rattle.engine.proofs.TriesLemmas.{does_by, tries_nothing, none_counted_body, none_counted_pdv}
+use Rattle.engine.proofs.DueLemmas.{does_by, tries_nothing, none_counted_body, none_counted_pdv}
 use Rattle.engine.proofs.AskedLemmas.{is_refused}
 use Rattle.engine.proofs.StoreLemmas.{same_drafts}
 use Rattle.engine.proofs.SizeLemmas.{provider_small}
@@ -78,3 +78,18 @@ returns-in-TooLong g c = record {
 
 pub refuse-requires : goal.refuse-requires
 refuse-requires g c = (provider_small c.args.self.now, (c.requires.draft, c.in-AtOnce.ensures.stays c.in-AtOnce.event c.in-AtOnce.reason refl))
+
+pub invariant_of-self : goal.invariant_of-self
+invariant_of-self g c = record {
+  least = c.args.self.now.least;
+  greatest = c.args.self.now.greatest;
+  command_greatest = c.args.self.now.command_greatest;
+  least_kept = c.args.self.now.least_kept;
+  greatest_kept = c.args.self.now.greatest_kept;
+  least_levels = c.args.self.now.least_levels;
+  greatest_levels = c.args.self.now.greatest_levels;
+  answerable = c.args.self.now.answerable;
+  room = omega (arith, c.args.self.now.least, ap length c.clear.ensures);
+  rows_room = c.args.self.now.rows_room;
+  given_up = λ six. c.clear.ensures;
+}

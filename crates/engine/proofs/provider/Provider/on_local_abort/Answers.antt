@@ -4,7 +4,7 @@ use Rattle.acceptor.specs.declared.event.Event.TheVariants as event
 use Rattle.engine.specs.Progress.{done}
 use Rattle.engine.specs.Timeline.{Aborted}
 use Rattle.engine.specs.machine.Kept.{kept_of, settings_in, rooms_of}
-use Rattle.engine.proofs.TriesLemmas.{does_by}
+use Rattle.engine.proofs.DueLemmas.{does_by}
 use Rattle.engine.proofs.provider.Provider.on_local_abort.Goals as goal
 
 pub returns-clause-does : goal.returns-clause-does

@@ -5,7 +5,7 @@ use Rattle.dimse.specs.declared.joined.Joined.TheVariants as joined
 use Rattle.dimse.specs.declared.fault.DimseFault.{DimseFault}
 use Rattle.dimse.specs.Reading.{command_in}
 use Rattle.dimse.specs.Messages.{Begun, InSet, Goes, Refuses, brought}
-use Rattle.dimse.specs.Joining.{Joining, Joins, Shows, pdv_of, with_pdv, command_bytes}
+use Rattle.dimse.specs.Joining.{Joining, Joins, ShowsMessage, pdv_of, with_pdv, command_bytes}
 use Rattle.engine.specs.Timeline.{At, good}
 use Rattle.engine.specs.Progress.{nothing}
 use Rattle.engine.specs.Replies.{user_aborts, going_on}
@@ -16,7 +16,7 @@ use Rattle.engine.specs.machine.Messages.{with_join, Proceeds}
 use Rattle.engine.specs.machine.Kept.{kept_of, settings_in, rooms_of}
 use Rattle.engine.proofs.ShownLemmas.{takes_shown}
 use Rattle.engine.proofs.StoreLemmas.{Carried, carried, nothing_walked, no_store_yet, long_pdv, pdv_store}
-use Rattle.engine.proofs.TriesLemmas.{does_by, does_nothing}
+use Rattle.engine.proofs.DueLemmas.{does_by, does_nothing}
 use Rattle.engine.proofs.MessageLemmas.{entry_of, pdv_taken, pdv_dropped, pdv_comes, pends_dropped, goes_of, ends_of, refuses_of, due_of, counted_taken, pends_going_on, aside_of, aside_joined, taken_state, aborted_pdv, aborted_body, verdict_by, verdict_none, tries_still}
 use Rattle.engine.proofs.EndedLemmas.{does_concluded}
 use Rattle.engine.proofs.DataLemmas.{does_due}
@@ -38,7 +38,7 @@ returns-in-Ok-More-clause-does g c = λ p begun six whole id h.
     let k = kept_of c.args.self.now in
     let so = g.F.Filing.store c.args.filing.now in
     let taken = sym (takes_shown k so p [] begun h) ∙ sym c.takes_pdvs.ensures ∙ c.if-not-takes_pdvs.false in
-    let was : Shows g.row.C k.join p.message begun = subst (λ (xs : List ℕ). Shows g.row.C k.join p.message xs) (counted_taken p begun taken) h.join_is in
+    let was : ShowsMessage g.row.C k.join p.message begun = subst (λ (xs : List ℕ). ShowsMessage g.row.C k.join p.message xs) (counted_taken p begun taken) h.join_is in
     let j = c.end.new.self in
     let joins : Joins g.row.C p.message (brought p.message (pdv_of begun)) k.join j c.end.result = c.end.ensures p.message begun six was in
     let is : c.end.result ≡ Ok joined.More = c.in-Ok-More.is ∙ ap (λ (x : Joined). Ok x) c.in-Ok-More.field-0-is in
@@ -56,7 +56,7 @@ returns-in-Ok-Message-clause-does g c = λ p begun six whole id h.
     let k = kept_of c.args.self.now in
     let so = g.F.Filing.store c.args.filing.now in
     let taken = sym (takes_shown k so p [] begun h) ∙ sym c.takes_pdvs.ensures ∙ c.if-not-takes_pdvs.false in
-    let was : Shows g.row.C k.join p.message begun = subst (λ (xs : List ℕ). Shows g.row.C k.join p.message xs) (counted_taken p begun taken) h.join_is in
+    let was : ShowsMessage g.row.C k.join p.message begun = subst (λ (xs : List ℕ). ShowsMessage g.row.C k.join p.message xs) (counted_taken p begun taken) h.join_is in
     let j = c.end.new.self in
     let joins : Joins g.row.C p.message (brought p.message (pdv_of begun)) k.join j c.end.result = c.end.ensures p.message begun six was in
     let is : c.end.result ≡ Ok joined.Message = c.in-Ok-Message.is ∙ ap (λ (x : Joined). Ok x) c.in-Ok-Message.field-0-is in
@@ -77,7 +77,7 @@ returns-in-Ok-DataDue-clause-does g c = λ p begun six whole id h.
     let k = kept_of c.args.self.now in
     let so = g.F.Filing.store c.args.filing.now in
     let taken = sym (takes_shown k so p [] begun h) ∙ sym c.takes_pdvs.ensures ∙ c.if-not-takes_pdvs.false in
-    let was : Shows g.row.C k.join p.message begun = subst (λ (xs : List ℕ). Shows g.row.C k.join p.message xs) (counted_taken p begun taken) h.join_is in
+    let was : ShowsMessage g.row.C k.join p.message begun = subst (λ (xs : List ℕ). ShowsMessage g.row.C k.join p.message xs) (counted_taken p begun taken) h.join_is in
     let j = c.end.new.self in
     let joins : Joins g.row.C p.message (brought p.message (pdv_of begun)) k.join j c.end.result = c.end.ensures p.message begun six was in
     let is : c.end.result ≡ Ok joined.DataDue = c.in-Ok-DataDue.is ∙ ap (λ (x : Joined). Ok x) c.in-Ok-DataDue.field-0-is in
@@ -103,7 +103,7 @@ returns-in-Err-clause-does g c = λ p begun six whole id h.
     let k = kept_of c.args.self.now in
     let so = g.F.Filing.store c.args.filing.now in
     let taken = sym (takes_shown k so p [] begun h) ∙ sym c.takes_pdvs.ensures ∙ c.if-not-takes_pdvs.false in
-    let was : Shows g.row.C k.join p.message begun = subst (λ (xs : List ℕ). Shows g.row.C k.join p.message xs) (counted_taken p begun taken) h.join_is in
+    let was : ShowsMessage g.row.C k.join p.message begun = subst (λ (xs : List ℕ). ShowsMessage g.row.C k.join p.message xs) (counted_taken p begun taken) h.join_is in
     let j = c.end.new.self in
     let joins : Joins g.row.C p.message (brought p.message (pdv_of begun)) k.join j c.end.result = c.end.ensures p.message begun six was in
     let told = subst (λ (r : Result Joined DimseFault). Joins g.row.C p.message (brought p.message (pdv_of begun)) k.join j r) c.in-Err.is joins in
@@ -115,3 +115,18 @@ returns-in-Err-clause-does g c = λ p begun six whole id h.
 
 pub takes_pdvs-requires : goal.takes_pdvs-requires
 takes_pdvs-requires g c = provider_small c.args.self.now
+
+pub invariant_of-self : goal.invariant_of-self
+invariant_of-self g c = record {
+  least = c.args.self.now.least;
+  greatest = c.args.self.now.greatest;
+  command_greatest = c.args.self.now.command_greatest;
+  least_kept = c.args.self.now.least_kept;
+  greatest_kept = c.args.self.now.greatest_kept;
+  least_levels = c.args.self.now.least_levels;
+  greatest_levels = c.args.self.now.greatest_levels;
+  answerable = c.args.self.now.answerable;
+  room = c.args.self.now.room;
+  rows_room = c.args.self.now.rows_room;
+  given_up = c.args.self.now.given_up;
+}

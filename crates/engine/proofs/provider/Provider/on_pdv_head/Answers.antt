@@ -8,8 +8,8 @@ use Rattle.negotiate.specs.declared.table.ContextRow.{ContextRow}
 use Rattle.negotiate.specs.Contexts.{context_of}
 use Rattle.negotiate.specs.ContextRows.{context_in}
 use Rattle.dimse.specs.Messages.{head_refusal}
-use Rattle.dimse.specs.Joining.{Joining, Shows}
-use Rattle.pdu.specs.Items.{record_of}
+use Rattle.dimse.specs.Joining.{Joining, ShowsMessage}
+use Rattle.pdu.specs.Items.{request_record}
 use Rattle.engine.specs.Timeline.{At}
 use Rattle.engine.specs.Progress.{done}
 use Rattle.engine.specs.Replies.{invalid, user_aborts}
@@ -17,7 +17,7 @@ use Rattle.engine.specs.machine.Pends.{Pends}
 use Rattle.engine.specs.machine.Messages.{with_join}
 use Rattle.engine.specs.machine.Kept.{kept_of, settings_in, rooms_of}
 use Rattle.engine.proofs.ShownLemmas.{takes_shown}
-use Rattle.engine.proofs.TriesLemmas.{does_by, does_nothing, none_counted_body, none_counted_pdv}
+use Rattle.engine.proofs.DueLemmas.{does_by, does_nothing, none_counted_body, none_counted_pdv}
 use Rattle.engine.proofs.MessageLemmas.{head_taken, head_dropped, head_unaccepted, head_accepted, pends_dropped, context_shown, join_between, judged_none, judged_some, pends_headed}
 use Rattle.engine.proofs.AskedLemmas.{not_taking, is_refused}
 use Rattle.engine.proofs.CountLemmas.{at_least}
@@ -49,7 +49,7 @@ returns-in_default g c = record {
       let k = kept_of c.args.self.now in
       let taken = sym (takes_shown k _ p [] [] h) ∙ sym c.takes_pdvs.ensures ∙ c.if-not-takes_pdvs.false in
       let id : c.args.head.context ≡ get_or begun 4 0 = ap (λ (x : PdvHead). x.context) head in
-      let none : context_of (record_of p.request) (get_or begun 4 0) ≡ None =
+      let none : context_of (request_record p.request) (get_or begun 4 0) ≡ None =
       sym (context_shown k _ p [] [] (get_or begun 4 0) h taken) ∙ ap (context_in k.table) (sym id) ∙ ap (λ (rows : List ContextRow). context_in rows c.args.head.context) (sym c.as_slice.ensures.value)
       ∙ sym c.context_of.ensures ∙ c.in_default.is in
       does_by rooms s p (At (head_mark begun)) (invalid p) (kept_of c.refuse.new.self) [] begun _ _
@@ -68,7 +68,7 @@ returns-in-Err g c = record {
       let k = kept_of c.args.self.now in
       let taken = sym (takes_shown k _ p [] [] h) ∙ sym c.takes_pdvs.ensures ∙ c.if-not-takes_pdvs.false in
       let id : c.args.head.context ≡ get_or begun 4 0 = ap (λ (x : PdvHead). x.context) head in
-      let some : context_of (record_of p.request) (get_or begun 4 0) ≡ Some c.in-Some.field-0 =
+      let some : context_of (request_record p.request) (get_or begun 4 0) ≡ Some c.in-Some.field-0 =
       sym (context_shown k _ p [] [] (get_or begun 4 0) h taken) ∙ ap (context_in k.table) (sym id) ∙ ap (λ (rows : List ContextRow). context_in rows c.args.head.context) (sym c.as_slice.ensures.value)
       ∙ sym c.context_of.ensures ∙ c.in-Some.is in
       let message = join_between k _ p [] h in
@@ -92,13 +92,13 @@ returns-in-Ok g c = record {
       let k = kept_of c.args.self.now in
       let taken = sym (takes_shown k _ p [] [] h) ∙ sym c.takes_pdvs.ensures ∙ c.if-not-takes_pdvs.false in
       let id : c.args.head.context ≡ get_or begun 4 0 = ap (λ (x : PdvHead). x.context) head in
-      let some : context_of (record_of p.request) (get_or begun 4 0) ≡ Some c.in-Some.field-0 =
+      let some : context_of (request_record p.request) (get_or begun 4 0) ≡ Some c.in-Some.field-0 =
       sym (context_shown k _ p [] [] (get_or begun 4 0) h taken) ∙ ap (context_in k.table) (sym id) ∙ ap (λ (rows : List ContextRow). context_in rows c.args.head.context) (sym c.as_slice.ensures.value)
       ∙ sym c.context_of.ensures ∙ c.in-Some.is in
       let message = join_between k _ p [] h in
       let fine : head_refusal g.row.C p.message (pdv_head_of begun) ≡ None =
       ap (head_refusal g.row.C p.message) (sym head) ∙ judged_none (head_refusal g.row.C p.message c.args.head) c.in-Ok.field-0 (sym (c.head.ensures.judged p.message message) ∙ c.in-Ok.is) in
-      let shows : Shows g.row.C c.head.new.self p.message begun = c.in-Ok.ensures.begun p.message begun message six head in
+      let shows : ShowsMessage g.row.C c.head.new.self p.message begun = c.in-Ok.ensures.begun p.message begun message six head in
       let j = c.head.new.self in
       let pends = pends_headed k _ p j begun six taken h shows in
       does_nothing rooms s p (At (head_mark begun)) (with_join j k) [] begun _
@@ -107,3 +107,18 @@ returns-in-Ok g c = record {
 
 pub takes_pdvs-requires : goal.takes_pdvs-requires
 takes_pdvs-requires g c = provider_small c.args.self.now
+
+pub invariant_of-self : goal.invariant_of-self
+invariant_of-self g c = record {
+  least = c.args.self.now.least;
+  greatest = c.args.self.now.greatest;
+  command_greatest = c.args.self.now.command_greatest;
+  least_kept = c.args.self.now.least_kept;
+  greatest_kept = c.args.self.now.greatest_kept;
+  least_levels = c.args.self.now.least_levels;
+  greatest_levels = c.args.self.now.greatest_levels;
+  answerable = c.args.self.now.answerable;
+  room = c.args.self.now.room;
+  rows_room = c.args.self.now.rows_room;
+  given_up = c.args.self.now.given_up;
+}

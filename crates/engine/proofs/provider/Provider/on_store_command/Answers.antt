@@ -1,6 +1,6 @@
 -- The data are walked where the command's class is that of its context.
 use Rattle.std.proofs.Common.{◌≡◌, ◌∙◌, ap, sym, List, ℕ, [], Ok, Some, None, true, false, refl}
-use Rattle.pdu.specs.Items.{record_of}
+use Rattle.pdu.specs.Items.{request_record}
 use Rattle.negotiate.specs.declared.table.ContextRow.{ContextRow}
 use Rattle.negotiate.specs.Contexts.{context_of}
 use Rattle.negotiate.specs.ContextRows.{context_in}
@@ -44,7 +44,7 @@ returns-in_default-context_of g c = record {
   drafts = same_drafts _ _ c.requires.draft;
   proceeds = λ request agreed none announced.
       let command = c.args.self.now.join.command in
-      let absent : context_of (record_of request) c.args.context ≡ None =
+      let absent : context_of (request_record request) c.args.context ≡ None =
       sym (agreed.contexts c.args.context) ∙ ap (λ (rows : List ContextRow). context_in rows c.args.context) (sym c.as_slice.ensures.value) ∙ sym c.context_of.ensures ∙ c.in_default-context_of.is in
       idle_proceeds g.row.D c.args.self.now.config.max_data request (InSet c.args.context command []) (kept_of c.args.self.now).storing _ none (unaccepted_store request c.args.context command absent);
 }
@@ -57,7 +57,7 @@ returns-else-is_of_context g c = record {
   proceeds = λ request agreed none announced.
       let command = c.args.self.now.join.command in
       let e : command_in command ≡ Ok c.in-Ok.command = ap command_in (sym c.command.ensures.value) ∙ sym c.read_command.ensures.exact ∙ c.in-Ok.is in
-      let accepted : context_of (record_of request) c.args.context ≡ Some c.in-Some.accepted =
+      let accepted : context_of (request_record request) c.args.context ≡ Some c.in-Some.accepted =
       sym (agreed.contexts c.args.context) ∙ ap (λ (rows : List ContextRow). context_in rows c.args.context) (sym c.as_slice.ensures.value) ∙ sym c.context_of.ensures ∙ c.in-Some.is in
       idle_proceeds g.row.D c.args.self.now.config.max_data request (InSet c.args.context command []) (kept_of c.args.self.now).storing _ none
       (other_store request c.args.context command c.in-Ok.command c.in-Some.accepted e accepted (c.is_of_context.ensures.no c.if-is_of_context.false));
@@ -71,7 +71,7 @@ returns-then-is_of_context g c = record {
   proceeds = λ request agreed none announced.
       let command = c.args.self.now.join.command in
       let e : command_in command ≡ Ok c.in-Ok.command = ap command_in (sym c.command.ensures.value) ∙ sym c.read_command.ensures.exact ∙ c.in-Ok.is in
-      let accepted : context_of (record_of request) c.args.context ≡ Some c.in-Some.accepted =
+      let accepted : context_of (request_record request) c.args.context ≡ Some c.in-Some.accepted =
       sym (agreed.contexts c.args.context) ∙ ap (λ (rows : List ContextRow). context_in rows c.args.context) (sym c.as_slice.ensures.value) ∙ sym c.context_of.ensures ∙ c.in-Some.is in
       let store : InStore request (InSet c.args.context command []) = record {
         id = c.args.context;

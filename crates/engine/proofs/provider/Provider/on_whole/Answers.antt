@@ -8,11 +8,11 @@ use Rattle.engine.specs.Progress.{nothing, done}
 use Rattle.engine.specs.Run.{at_entry, released}
 use Rattle.engine.specs.Requests.{at_request}
 use Rattle.engine.specs.Devices.{devices}
-use Rattle.engine.specs.machine.Tries.{Tries}
+use Rattle.engine.specs.machine.DoesDue.{DoesDue}
 use Rattle.engine.specs.machine.Kept.{kept_of, settings_in, rooms_of}
 use Rattle.engine.specs.machine.Pends.{Pends, body_in}
 use Rattle.engine.proofs.StoreLemmas.{same_drafts}
-use Rattle.engine.proofs.TriesLemmas.{tries_nothing}
+use Rattle.engine.proofs.DueLemmas.{tries_nothing}
 use Rattle.engine.proofs.WholeLemmas.{tries_ended, refused_shown, state_shown, tries_as, refused_end, taken_end, whole_abort, whole_request, whole_release, whole_undue, whole_unestablished, whole_other}
 use Rattle.engine.proofs.provider.Provider.on_whole.Goals as goal
 
@@ -87,7 +87,7 @@ returns-in-Sta2 g c = record {
       let due : p.state ≡ Sta2 = sym h.state_is ∙ c.in-Sta2.is in
       tries_as p (at_request s p body) (at_entry rooms s p good (At (End c.args.kind body))) (kept_of c.on_request.new.self) xs [] _ _
       (taken_end rooms s p c.args.kind body r ∙ whole_request s p c.args.kind body c.in-1.is due)
-      (subst (λ (b : List ℕ). Tries p (at_request s p body) (kept_of c.on_request.new.self) b [] (devices (g.W.Wire.line c.args.wire.now) (g.F.Filing.store c.args.filing.now)) (devices (g.W.Wire.line c.on_request.new.wire) (g.F.Filing.store c.on_request.new.filing)))
+      (subst (λ (b : List ℕ). DoesDue p (at_request s p body) (kept_of c.on_request.new.self) b [] (devices (g.W.Wire.line c.args.wire.now) (g.F.Filing.store c.args.filing.now)) (devices (g.W.Wire.line c.on_request.new.wire) (g.F.Filing.store c.on_request.new.filing)))
       (sym one) (c.on_request.ensures.tries p body (subst (λ (b : List ℕ). Pends (kept_of c.args.self.now) (g.F.Filing.store c.args.filing.now) p b []) one h) r));
 }
 

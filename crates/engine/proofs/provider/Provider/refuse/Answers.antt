@@ -2,7 +2,7 @@
 use Rattle.engine.specs.Progress.{done}
 use Rattle.engine.specs.machine.Answers.{answer_text}
 use Rattle.engine.specs.machine.Kept.{kept_of}
-use Rattle.engine.proofs.TriesLemmas.{refused_by}
+use Rattle.engine.proofs.DueLemmas.{refused_by}
 use Rattle.engine.proofs.provider.Provider.refuse.Goals as goal
 
 pub returns-clause-tries : goal.returns-clause-tries

@@ -1,6 +1,6 @@
 -- The reply is that of the definition, and the finding is the verdict.
 use Rattle.std.proofs.Common.{◌≡◌, ◌∙◌, ap, sym, List, Ok}
-use Rattle.pdu.specs.Items.{record_of}
+use Rattle.pdu.specs.Items.{request_record}
 use Rattle.negotiate.specs.declared.table.ContextRow.{ContextRow}
 use Rattle.negotiate.specs.Contexts.{context_of}
 use Rattle.negotiate.specs.ContextRows.{context_in}
@@ -18,8 +18,8 @@ returns-in_default-clause-ended g c = λ p m come agreed has same id walks draft
 pub returns-then-field-eq-C_ECHO-clause-ended : goal.returns-then-field-eq-C_ECHO-clause-ended
 returns-then-field-eq-C_ECHO-clause-ended g c = λ p m come agreed has same id walks draft.
     let e : command_in m.command ≡ Ok c.in-Ok.command = ap command_in (sym (c.command.ensures.value ∙ same)) ∙ sym c.read_command.ensures.exact ∙ c.in-Ok.is in
-    let accepted : c.context_of.result ≡ context_of (record_of p.request) m.context =
-    c.context_of.ensures ∙ ap (λ (rows : List ContextRow). context_in rows c.args.context) c.as_slice.ensures.value ∙ agreed.contexts c.args.context ∙ ap (context_of (record_of p.request)) id in
+    let accepted : c.context_of.result ≡ context_of (request_record p.request) m.context =
+    c.context_of.ensures ∙ ap (λ (rows : List ContextRow). context_in rows c.args.context) c.as_slice.ensures.value ∙ agreed.contexts c.args.context ∙ ap (context_of (request_record p.request)) id in
     echo_ended (rooms_of g.row.A g.row.C g.row.V g.row.D) (settings_in c.args.self.now) p m come _ _ _ _ c.in-Ok.command c.echo_status-status.result c.args.context c.args.self.now.peer_max c.context_of.result
     e (sym c.field.ensures.value ∙ c.if-field-eq-C_ECHO.true) c.echo_status-status.ensures accepted id agreed.maximum c.write_response.ensures.sends
 
@@ -37,3 +37,18 @@ returns-clause-ended g c = λ p m come agreed has same id walks draft.
     store_ended (rooms_of g.row.A g.row.C g.row.V g.row.D) (settings_in c.args.self.now) p m come c.in-Ok.command f _ _ _ _ _ c.args.context c.args.self.now.peer_max e kind.0 id agreed.maximum
     (judged_store g.row.D c.args.self.now.config.max_data p.request m come c.in-Ok.command p.filing_failed f _ _ (stored_of c.args.self.now.storing) walks draft has e kind c.end-ended.ensures.unsupported c.end-ended.ensures.ends)
     c.write_response-2.ensures.sends
+
+pub invariant_of-self : goal.invariant_of-self
+invariant_of-self g c = record {
+  least = c.args.self.now.least;
+  greatest = c.args.self.now.greatest;
+  command_greatest = c.args.self.now.command_greatest;
+  least_kept = c.args.self.now.least_kept;
+  greatest_kept = c.args.self.now.greatest_kept;
+  least_levels = c.args.self.now.least_levels;
+  greatest_levels = c.args.self.now.greatest_levels;
+  answerable = c.args.self.now.answerable;
+  room = c.args.self.now.room;
+  rows_room = c.args.self.now.rows_room;
+  given_up = c.args.self.now.given_up;
+}

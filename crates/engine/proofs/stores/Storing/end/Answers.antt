@@ -1,27 +1,27 @@
 use Rattle.std.proofs.Common.{sym, ap, subst, ◌∙◌}
-use Rattle.engine.specs.machine.Judged.{Judged}
+use Rattle.engine.specs.machine.Verdicts.{HasVerdict}
 use Rattle.engine.specs.machine.Storing.{stored_of, drafting_in, finding_of}
 use Rattle.engine.proofs.StoreLemmas.{committed_drafts, undrafted_drafts, drops_drafts}
-use Rattle.engine.proofs.JudgedLemmas.{ends_committed, ends_unfiled, ends_failed, ends_of}
+use Rattle.engine.proofs.WalkVerdictLemmas.{ends_committed, ends_unfiled, ends_failed, ends_of}
 use Rattle.engine.proofs.stores.Storing.end.Goals as goal
 
 pub returns-then-drafting-clause-ends : goal.returns-then-drafting-clause-ends
 returns-then-drafting-clause-ends g c =
     ends_of c.args.command.now (finding_of c.commit.result) (g.F.Filing.store c.args.filing.now) (g.F.Filing.store c.commit.new.filing) (stored_of c.args.self.now)
     (ends_committed c.args.command.now (finding_of c.commit.result) (g.F.Filing.store c.args.filing.now) (g.F.Filing.store c.commit.new.filing) (stored_of c.args.self.now) (sym c.drafting-drafting.ensures ∙ c.if-drafting.true)
-    (subst (Judged c.args.command.now (stored_of c.args.self.now)) c.in-Ok.is c.judged.ensures) c.commit.ensures)
+    (subst (HasVerdict c.args.command.now (stored_of c.args.self.now)) c.in-Ok.is c.verdict.ensures) c.commit.ensures)
 
 pub returns-else-drafting-clause-ends : goal.returns-else-drafting-clause-ends
 returns-else-drafting-clause-ends g c =
     ends_of c.args.command.now (finding_of c.of.result) (g.F.Filing.store c.args.filing.now) (g.F.Filing.store c.args.filing.now) (stored_of c.args.self.now)
     (ends_unfiled c.args.command.now (finding_of c.of.result) (g.F.Filing.store c.args.filing.now) (stored_of c.args.self.now) (sym c.drafting-drafting.ensures ∙ c.if-drafting.false)
-    (subst (Judged c.args.command.now (stored_of c.args.self.now)) c.in-Ok.is c.judged.ensures) (ap finding_of c.of.ensures))
+    (subst (HasVerdict c.args.command.now (stored_of c.args.self.now)) c.in-Ok.is c.verdict.ensures) (ap finding_of c.of.ensures))
 
 pub returns-in-Err-clause-ends : goal.returns-in-Err-clause-ends
 returns-in-Err-clause-ends g c =
     ends_of c.args.command.now (finding_of c.in-Err.failure) (g.F.Filing.store c.args.filing.now) (g.F.Filing.store c.leave.new.filing) (stored_of c.args.self.now)
     (ends_failed c.args.command.now c.in-Err.failure (g.F.Filing.store c.args.filing.now) (g.F.Filing.store c.leave.new.filing) (stored_of c.args.self.now)
-    (subst (Judged c.args.command.now (stored_of c.args.self.now)) c.in-Err.is c.judged.ensures) c.leave.ensures.drops)
+    (subst (HasVerdict c.args.command.now (stored_of c.args.self.now)) c.in-Err.is c.verdict.ensures) c.leave.ensures.drops)
 
 pub returns-then-drafting-clause-drafts : goal.returns-then-drafting-clause-drafts
 returns-then-drafting-clause-drafts g c = committed_drafts (drafting_in (stored_of c.args.self.now)) (finding_of c.commit.result) (g.F.Filing.store c.args.filing.now) (g.F.Filing.store c.commit.new.filing) c.commit.ensures

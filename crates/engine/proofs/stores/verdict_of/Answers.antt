@@ -1,7 +1,7 @@
 use Rattle.std.proofs.Common.{refl, sym, ap, ◌∙◌}
 use Rattle.engine.specs.Timeline.{Finding}
-use Rattle.engine.proofs.JudgedLemmas.{fault_fails, fault_is_failure, judged_by}
-use Rattle.engine.proofs.stores.judge.Goals as goal
+use Rattle.engine.proofs.WalkVerdictLemmas.{fault_fails, fault_is_failure, judged_by}
+use Rattle.engine.proofs.stores.verdict_of.Goals as goal
 
 pub returns-in-Err : goal.returns-in-Err
 returns-in-Err g c = (

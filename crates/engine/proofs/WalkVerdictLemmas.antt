@@ -5,11 +5,11 @@ use Rattle.element.specs.declared.tag.Tag.{Tag}
 use Rattle.sequence.specs.declared.fault.Fault.{Fault}
 use Rattle.sequence.specs.declared.walker.Walker.{Walker}
 use Rattle.sequence.specs.Rules.{Limits}
-use Rattle.sequence.specs.Wanted.{Values, Kept}
-use Rattle.sequence.specs.Ending.{IsWhole, Fails, breaks_rule, ends_early}
+use Rattle.sequence.specs.Wanted.{Values, KeepsWanted}
+use Rattle.sequence.specs.Ending.{IsWholeDataSet, Fails, breaks_rule, ends_early}
 use Rattle.sequence.specs.FirstFault.{IsUnbroken, FirstFault}
 use Rattle.sequence.specs.Walk.{Told, Tells, going, refused}
-use Rattle.sequence.specs.Taken.{StandsAt, syntax_of, limits_of, told_by}
+use Rattle.sequence.specs.Taken.{StandsAt, walker_syntax, limits_of, told_by}
 use Rattle.sequence.proofs.Public.{whole_breaks_no_rule}
 use Rattle.dimse.specs.Command.{CommandRecord, is_request}
 use Rattle.dimse.specs.Status.{success, out_of_resources, cannot_understand}
@@ -18,9 +18,9 @@ use Rattle.part10.specs.Store.{Store}
 use Rattle.engine.specs.declared.stores.StoreStatus.{StoreStatus}
 use Rattle.engine.specs.Timeline.{Finding, good}
 use Rattle.engine.specs.Stores.{IsOfContext, HasNoFault, Verdict, no_room, faulty, cut, names_class, names_instance, unfiled, filed, wanted, limits}
-use Rattle.engine.specs.machine.Storing.{Stored, Nothing, Walking, Takes, Drops, EndsDraft, EndsStore, finding_of, drafting_in}
+use Rattle.engine.specs.machine.Storing.{Stored, Nothing, Walking, HasWalked, Drops, EndsDraft, EndsStore, finding_of, drafting_in}
 use Rattle.engine.specs.machine.Storing as ends
-use Rattle.engine.specs.machine.Judged.{no_resources, of_fault, IsGood, FailsAs, Differs, other_class, other_instance, Compared, JudgedBy, Judged, Commits, done, undone, EndsAs}
+use Rattle.engine.specs.machine.Verdicts.{no_resources, of_fault, IsGood, FailsAs, Differs, other_class, other_instance, Compared, WalkHasVerdict, HasVerdict, Commits, done, undone, EndsAs}
 
 -- only a C-STORE announces a data set, and it names an instance
 pub data_is_named : (field : ℕ) (announced : Bool) (instance : Option (List ℕ)) → is_request field announced instance ≡ true → announced ≡ true → (nat_eq field 1 ≡ true) × (is_some instance ≡ true)
@@ -30,25 +30,25 @@ data_is_named field false instance e d = absurd cc
 
 -- ---- what a walker reports of a whole data set
 
-pub kept_told : {s : Syntax} {lim : Limits} {b : List ℕ} {told : Told} → IsUnbroken s lim b → Tells s lim b told → Kept s lim.wanted b told.kept
+pub kept_told : {s : Syntax} {lim : Limits} {b : List ℕ} {told : Told} → IsUnbroken s lim b → Tells s lim b told → KeepsWanted s lim.wanted b told.kept
 kept_told ok (going {es = es} {path = path} {last = last} {tail = tail} unbroken o) = record { elements = es; path = path; last = last; tail = tail; front = o; kept = refl }
 kept_told ok (refused {p = p} {u = u} {rule = rule} {tag = tag} f o) = absurd (ok p u f.rest rule tag f.text f.breaks)
 
 -- the walker's data set is whole, and these are its wanted values
 pub record IsRead {V D : ℕ} (w : Walker V D) (context : Context) (depth most : ℕ) (set : List ℕ) : Type 0 where
   pub fault_free : HasNoFault context.syntax (limits depth most) set
-  pub kept : Kept context.syntax wanted set (told_by w).kept
+  pub kept : KeepsWanted context.syntax wanted set (told_by w).kept
 
-read_by : {V D : ℕ} (w : Walker V D) (syntax : Syntax) (lim : Limits) (set : List ℕ) → Takes w syntax lim set → ((b : List ℕ) → StandsAt w b → IsWhole (syntax_of w) (limits_of w) b)
-    → HasNoFault syntax lim set × Kept syntax lim.wanted set (told_by w).kept
+read_by : {V D : ℕ} (w : Walker V D) (syntax : Syntax) (lim : Limits) (set : List ℕ) → HasWalked w syntax lim set → ((b : List ℕ) → StandsAt w b → IsWholeDataSet (walker_syntax w) (limits_of w) b)
+    → HasNoFault syntax lim set × KeepsWanted syntax lim.wanted set (told_by w).kept
 read_by w syntax lim set k whole =
-    let here : IsWhole syntax lim set = subst (λ z. IsWhole z lim set) k.syntax_is (subst (λ z. IsWhole (syntax_of w) z set) k.limits_are (whole set k.stands)) in
+    let here : IsWholeDataSet syntax lim set = subst (λ z. IsWholeDataSet z lim set) k.syntax_is (subst (λ z. IsWholeDataSet (walker_syntax w) z set) k.limits_are (whole set k.stands)) in
     let ok : IsUnbroken syntax lim set = whole_breaks_no_rule syntax lim set here in
-    let tells : Tells syntax lim set (told_by w) = subst (λ z. Tells z lim set (told_by w)) k.syntax_is (subst (λ z. Tells (syntax_of w) z set (told_by w)) k.limits_are k.stands.tells) in
+    let tells : Tells syntax lim set (told_by w) = subst (λ z. Tells z lim set (told_by w)) k.syntax_is (subst (λ z. Tells (walker_syntax w) z set (told_by w)) k.limits_are k.stands.tells) in
     (record { elements = here.elements; whole = here.text; unbroken = ok }, kept_told ok tells)
 
-pub is_read : {V D : ℕ} (w : Walker V D) → ((b : List ℕ) → StandsAt w b → IsWhole (syntax_of w) (limits_of w) b)
-    → (context : Context) (depth most : ℕ) (set : List ℕ) → Takes w context.syntax (limits depth most) set → IsRead w context depth most set
+pub is_read : {V D : ℕ} (w : Walker V D) → ((b : List ℕ) → StandsAt w b → IsWholeDataSet (walker_syntax w) (limits_of w) b)
+    → (context : Context) (depth most : ℕ) (set : List ℕ) → HasWalked w context.syntax (limits depth most) set → IsRead w context depth most set
 is_read w whole context depth most set k = let r = read_by w context.syntax (limits depth most) set k whole in record { fault_free = r.0; kept = r.1 }
 
 -- ---- the verdicts
@@ -65,12 +65,12 @@ fault_found : (context : Context) (command : CommandRecord) (depth most : ℕ) (
 fault_found context command depth most set fault (breaks_rule {p = p} {u = u} {rule = rule} {tag = tag} f) of filing = rule_found context command depth most set p u rule (length p) tag filing of f (nat_eq rule 18) (nat_eq rule 19) refl refl
 fault_found context command depth most set fault (ends_early f) of filing = cut of f
 
-pub fault_fails : {V D : ℕ} (w : Walker V D) (command : CommandRecord) (fault : Fault) (s : StoreStatus) → finding_of s ≡ of_fault fault → ((b : List ℕ) → StandsAt w b → Fails (syntax_of w) (limits_of w) b fault)
-    → (context : Context) (depth most : ℕ) (set : List ℕ) → Takes w context.syntax (limits depth most) set → FailsAs depth most context command set (finding_of s)
+pub fault_fails : {V D : ℕ} (w : Walker V D) (command : CommandRecord) (fault : Fault) (s : StoreStatus) → finding_of s ≡ of_fault fault → ((b : List ℕ) → StandsAt w b → Fails (walker_syntax w) (limits_of w) b fault)
+    → (context : Context) (depth most : ℕ) (set : List ℕ) → HasWalked w context.syntax (limits depth most) set → FailsAs depth most context command set (finding_of s)
 fault_fails w command fault s e fails context depth most set k =
     subst (FailsAs depth most context command set) (sym e)
     (fault_found context command depth most set fault
-    (subst (λ z. Fails z (limits depth most) set fault) k.syntax_is (subst (λ z. Fails (syntax_of w) z set fault) k.limits_are (fails set k.stands))))
+    (subst (λ z. Fails z (limits depth most) set fault) k.syntax_is (subst (λ z. Fails (walker_syntax w) z set fault) k.limits_are (fails set k.stands))))
 
 pub fault_is_failure : (fault : Fault) → (of_fault fault).status ≡ success → ⊥
 fault_is_failure fault = by (nat_eq fault.number 18 || nat_eq fault.number 19) refl
@@ -79,8 +79,8 @@ fault_is_failure fault = by (nat_eq fault.number 18 || nat_eq fault.number 19) r
     by true e k = let z : out_of_resources ≡ success = (rw e at k) in absurd (omega (arith, z))
     by false e k = let z : cannot_understand ≡ success = (rw e at k) in absurd (omega (arith, z))
 
-pub differs_fails : {V D : ℕ} (w : Walker V D) (command : CommandRecord) (finding : Finding) → ((b : List ℕ) → StandsAt w b → IsWhole (syntax_of w) (limits_of w) b) → Differs (told_by w).kept command finding
-    → (context : Context) (depth most : ℕ) (set : List ℕ) → Takes w context.syntax (limits depth most) set → FailsAs depth most context command set finding
+pub differs_fails : {V D : ℕ} (w : Walker V D) (command : CommandRecord) (finding : Finding) → ((b : List ℕ) → StandsAt w b → IsWholeDataSet (walker_syntax w) (limits_of w) b) → Differs (told_by w).kept command finding
+    → (context : Context) (depth most : ℕ) (set : List ℕ) → HasWalked w context.syntax (limits depth most) set → FailsAs depth most context command set finding
 differs_fails w command finding whole (other_class other) context depth most set k of filing = let r = is_read w whole context depth most set k in names_class of r.fault_free r.kept other
 differs_fails w command finding whole (other_instance class other) context depth most set k of filing = let r = is_read w whole context depth most set k in names_instance of r.fault_free r.kept class other
 
@@ -89,7 +89,7 @@ differs_is_failure values command finding (other_class other) e = omega (arith, 
 differs_is_failure values command finding (other_instance class other) e = omega (arith, e)
 
 -- the comparison of a whole data set is the judgement
-pub judged_by : {V D : ℕ} (w : Walker V D) (command : CommandRecord) (result : Result (Unit {0}) StoreStatus) → ((b : List ℕ) → StandsAt w b → IsWhole (syntax_of w) (limits_of w) b) → Compared (told_by w).kept command result → JudgedBy w command result
+pub judged_by : {V D : ℕ} (w : Walker V D) (command : CommandRecord) (result : Result (Unit {0}) StoreStatus) → ((b : List ℕ) → StandsAt w b → IsWholeDataSet (walker_syntax w) (limits_of w) b) → Compared (told_by w).kept command result → WalkHasVerdict w command result
 judged_by w command (Ok u) whole named = λ context depth most set k.
     let r = is_read w whole context depth most set k in record { values = (told_by w).kept; fault_free = r.fault_free; kept = r.kept; class = named.0; instance = named.1 }
 judged_by w command (Err s) whole named = (differs_is_failure _ command (finding_of s) named, differs_fails w command (finding_of s) whole named)
@@ -117,11 +117,11 @@ committed_walk w command finding old new drafting context depth most set e g (un
   verdict = λ of. rw is (verdict_unfiled g of);
 }
 
-pub ends_committed : (command : CommandRecord) (finding : Finding) (old new : Store) (stored : Stored) → drafting_in stored ≡ true → Judged command stored (Ok tt) → Commits finding old new → EndsAs command finding old new stored
+pub ends_committed : (command : CommandRecord) (finding : Finding) (old new : Store) (stored : Stored) → drafting_in stored ≡ true → HasVerdict command stored (Ok tt) → Commits finding old new → EndsAs command finding old new stored
 ends_committed command finding old new Nothing e k c = tt
 ends_committed command finding old new (Walking w drafting) e k c = λ context depth most set takes. committed_walk w command finding old new drafting context depth most set e (k context depth most set takes) c
 
-pub ends_unfiled : (command : CommandRecord) (finding : Finding) (store : Store) (stored : Stored) → drafting_in stored ≡ false → Judged command stored (Ok tt) → finding ≡ no_resources → EndsAs command finding store store stored
+pub ends_unfiled : (command : CommandRecord) (finding : Finding) (store : Store) (stored : Stored) → drafting_in stored ≡ false → HasVerdict command stored (Ok tt) → finding ≡ no_resources → EndsAs command finding store store stored
 ends_unfiled command finding store Nothing e k is = tt
 ends_unfiled command finding store (Walking w drafting) e k is = λ context depth most set takes. record {
   failed_then = false;
@@ -129,7 +129,7 @@ ends_unfiled command finding store (Walking w drafting) e k is = λ context dept
   verdict = λ of. rw e (rw is (verdict_unfiled (k context depth most set takes) of));
 }
 
-pub ends_failed : (command : CommandRecord) (s : StoreStatus) (old new : Store) (stored : Stored) → Judged command stored (Err s) → Drops (drafting_in stored) old new → EndsAs command (finding_of s) old new stored
+pub ends_failed : (command : CommandRecord) (s : StoreStatus) (old new : Store) (stored : Stored) → HasVerdict command stored (Err s) → Drops (drafting_in stored) old new → EndsAs command (finding_of s) old new stored
 ends_failed command s old new Nothing k d = tt
 ends_failed command s old new (Walking w drafting) k d = λ context depth most set takes. record {
   failed_then = false;
@@ -139,6 +139,6 @@ ends_failed command s old new (Walking w drafting) k d = λ context depth most s
 
 -- the same, of the walker that it is
 pub ends_of : (command : CommandRecord) (finding : Finding) (old new : Store) (stored : Stored) → EndsAs command finding old new stored
-    → (W E : ℕ) (walker : Walker W E) (drafting : Bool) (context : Context) (depth most : ℕ) (set : List ℕ) → stored ≡ Walking walker drafting → Takes walker context.syntax (limits depth most) set
+    → (W E : ℕ) (walker : Walker W E) (drafting : Bool) (context : Context) (depth most : ℕ) (set : List ℕ) → stored ≡ Walking walker drafting → HasWalked walker context.syntax (limits depth most) set
     → EndsStore depth most context command set drafting finding old new
 ends_of command finding old new stored k W E walker drafting context depth most set e takes = (subst (EndsAs command finding old new) e k) context depth most set takes

@@ -20,7 +20,7 @@ use Rattle.engine.specs.Reached.{begun_in}
 use Rattle.engine.specs.Held.{is_ended}
 use Rattle.engine.specs.machine.Pends.{Kept, Pends, body_in}
 use Rattle.engine.specs.machine.Does.{Does, DoesAll}
-use Rattle.engine.specs.machine.Shows.{Framed, InHead, InBody, InPdvHead, InFragment, Fields, ShowsFrame, Found, Took, body_of}
+use Rattle.engine.specs.machine.Shows.{Framed, InHead, InBody, InPdvHead, InFragment, Fields, ShowsFrame, Found, DoesPart, body_of}
 use Rattle.engine.proofs.ShownLemmas.{pends_short, pends_ended}
 use Rattle.engine.proofs.StoryLemmas.{line_nothing, no_files}
 use Rattle.engine.proofs.DoesLemmas.{does_one, does_then, joined}
@@ -68,7 +68,7 @@ pends_fragment l f h v k store p r rest shows pends =
 module _ (rooms : Rooms) (s : Settings) where
   -- the marks of a part were done, and this is where the frame stands
   took_by : (f : Fields) (p : Progress) (r c r2 : List ℕ) (ms : List Mark) (t u : Devices) → new_marks r c ≡ ms → rest_of (r ++ c) ≡ r2 → Framed f.framing f.head f.pdv r2 (spot r2)
-      → DoesAll rooms s p (map At ms) f.kept (body_of r2) (begun_in (spot r2)) t u → Took rooms s f p r c t u
+      → DoesAll rooms s p (map At ms) f.kept (body_of r2) (begun_in (spot r2)) t u → DoesPart rooms s f p r c t u
   took_by f p r c r2 ms t u marks rest framed d = record {
     story = d.story;
     failed = d.failed;
@@ -80,7 +80,7 @@ module _ (rooms : Rooms) (s : Settings) where
   }
 
   -- the frame goes on
-  pub took_goes : (f : Fields) (p : Progress) (r c : List ℕ) (t u : Devices) → Found rooms s f p r c None t u → Took rooms s f p r c t u
+  pub took_goes : (f : Fields) (p : Progress) (r c : List ℕ) (t u : Devices) → Found rooms s f p r c None t u → DoesPart rooms s f p r c t u
   took_goes f p r c t u h =
       let l : IsRest (r ++ c) × Framed f.framing f.head f.pdv (r ++ c) h.spot_then = h.later in
       let g = h.comes.goes_on l.0 in
@@ -91,7 +91,7 @@ module _ (rooms : Rooms) (s : Settings) where
   -- the frame is whole
   pub took_ends : (fr : Framing) (hd pv : List ℕ) (k n : Kept) (p : Progress) (r c : List ℕ) (kind : ℕ) (t u v : Devices) → Found rooms s (record { framing = fr; head = hd; pdv = pv; kept = k }) p r c (Some kind) t u
       → ((q : Progress) (body : List ℕ) → Pends k u.store q (body_in kind body) [] → Does rooms s q (At (End kind body)) n [] [] u v)
-      → Took rooms s (record { framing = fr; head = hd; pdv = pv; kept = n }) p r c t v
+      → DoesPart rooms s (record { framing = fr; head = hd; pdv = pv; kept = n }) p r c t v
   took_ends fr hd pv k n p r c kind t u v h does =
       let l : IsFrame (r ++ c) × (length (begun_in h.spot_then) < 6) × (kind ≡ frame_kind (r ++ c)) × Framed fr hd pv [] Opening = h.later in
       let e = h.comes.ends l.0 in
@@ -110,7 +110,7 @@ module _ (rooms : Rooms) (s : Settings) where
       took_by (record { framing = fr; head = hd; pdv = pv; kept = n }) p r c [] (h.marks ++ end_mark (r ++ c) ∷ []) t v e.marks e.rest framed w
 
   -- after the end
-  pub took_calm : (f : Fields) (p : Progress) (r c : List ℕ) (t : Devices) → is_ended p.state ≡ true → ShowsFrame f t.store p r → Took rooms s f p r c t t
+  pub took_calm : (f : Fields) (p : Progress) (r c : List ℕ) (t : Devices) → is_ended p.state ≡ true → ShowsFrame f t.store p r → DoesPart rooms s f p r c t t
   took_calm f p r c t e h =
       let ms = map At (new_marks r c) in
       let is : p.state ≡ Sta1 = ended_is p.state e in
@@ -135,7 +135,7 @@ module _ (rooms : Rooms) (s : Settings) where
 
   -- ---- one after the other
 
-  pub took_nothing : (f : Fields) (p : Progress) (r : List ℕ) (t : Devices) → IsRest r → ShowsFrame f t.store p r → Took rooms s f p r [] t t
+  pub took_nothing : (f : Fields) (p : Progress) (r : List ℕ) (t : Devices) → IsRest r → ShowsFrame f t.store p r → DoesPart rooms s f p r [] t t
   took_nothing f p r t rest h = record {
     story = [];
     failed = false;
@@ -150,8 +150,8 @@ module _ (rooms : Rooms) (s : Settings) where
   marks_twice : (r a b : List ℕ) → map At (new_marks r (a ++ b)) ≡ map At (new_marks r a) ++ map At (new_marks (rest_of (r ++ a)) b)
   marks_twice r a b = ap (λ (ms : List Mark). map At ms) (new_then r a b ∙ ap (λ (ms : List Mark). new_marks r a ++ ms) (new_rest (r ++ a) b)) ∙ map-append At (new_marks r a) (new_marks (rest_of (r ++ a)) b)
 
-  pub took_then : (f g : Fields) (p : Progress) (r a b : List ℕ) (t u v : Devices) → (x : Took rooms s f p r a t u) → Took rooms s g (absorb x.failed (progress_of rooms s p x.story)) (rest_of (r ++ a)) b u v
-      → Took rooms s g p r (a ++ b) t v
+  pub took_then : (f g : Fields) (p : Progress) (r a b : List ℕ) (t u v : Devices) → (x : DoesPart rooms s f p r a t u) → DoesPart rooms s g (absorb x.failed (progress_of rooms s p x.story)) (rest_of (r ++ a)) b u v
+      → DoesPart rooms s g p r (a ++ b) t v
   took_then f g p r a b t u v x y =
       let q = progress_of rooms s p x.story in
       let d : DoesAll rooms s p (map At (new_marks r a)) f.kept _ _ t u = record { story = x.story; failed = x.failed; told = x.told; fair = x.fair; last = x.last; pends = x.shows.pends; gains = x.gains } in
@@ -169,7 +169,7 @@ module _ (rooms : Rooms) (s : Settings) where
       }
 
   -- the heads were given up where the association has ended
-  pub took_dropped : (f g : Fields) (p : Progress) (r c : List ℕ) (t u : Devices) → g.kept ≡ f.kept → (is_ended f.kept.state ≡ false → g ≡ f) → Took rooms s f p r c t u → Took rooms s g p r c t u
+  pub took_dropped : (f g : Fields) (p : Progress) (r c : List ℕ) (t u : Devices) → g.kept ≡ f.kept → (is_ended f.kept.state ≡ false → g ≡ f) → DoesPart rooms s f p r c t u → DoesPart rooms s g p r c t u
   took_dropped f g p r c t u kept same x =
       let q = absorb x.failed (progress_of rooms s p x.story) in
       let rest = rest_of (r ++ c) in

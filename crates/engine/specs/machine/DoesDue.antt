@@ -13,7 +13,7 @@ use Rattle.part10.specs.Store.{Store}
 use Rattle.engine.specs.Devices.{Devices, files_in, line_after, IsFront}
 use Rattle.engine.specs.machine.Storing.{Nothing}
 use Rattle.dimse.specs.Messages.{NoMessage}
-use Rattle.dimse.specs.Joining.{Shows}
+use Rattle.dimse.specs.Joining.{ShowsMessage}
 use Rattle.engine.specs.Progress.{Progress, Advance}
 use Rattle.engine.specs.Run.{cut}
 use Rattle.engine.specs.machine.Pends.{Kept, Pends}
@@ -24,7 +24,7 @@ pub record Unfiled (old new : Store) : Type 0 where
   pub count : new.failures ≡ old.failures
 
 -- what is due in this progress was tried: there is an outcome of the wire such that the fields show what that gives
-pub record Tries (p : Progress) (g : Advance) (new : Kept) (body begun : List ℕ) (devices_old devices_new : Devices) : Type 0 where
+pub record DoesDue (p : Progress) (g : Advance) (new : Kept) (body begun : List ℕ) (devices_old devices_new : Devices) : Type 0 where
   pub wire : Option ℕ
   pub fair : IsFront wire g.sent
   pub pends : Pends new devices_new.store (cut wire p g).next body begun
@@ -50,14 +50,14 @@ is_left state = false
 
 pub record IsLeft (kept : Kept) : Type 0 where
   pub body : kept.body ≡ []
-  pub join : Shows kept.room kept.join NoMessage []
+  pub join : ShowsMessage kept.room kept.join NoMessage []
   pub storing : kept.storing ≡ Nothing
 
 abbrev pub with_state : State → Kept → Kept
 with_state state kept = record kept { state = state }
 
 -- the state came that was due after a send with this result, and nothing else changed, unless the association was left
-pub record Settles (state : State) (sent : Result (Unit {0}) WireFailed) (old new : Kept) (store_old store_new : Store) : Type 0 where
+pub record ComesTo (state : State) (sent : Result (Unit {0}) WireFailed) (old new : Kept) (store_old store_new : Store) : Type 0 where
   pub state_is : new.state ≡ state_after sent state
   pub refused : new.refused ≡ old.refused
   pub left : is_left new.state ≡ true → IsLeft new

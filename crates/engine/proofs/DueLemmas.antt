@@ -9,7 +9,7 @@ use Rattle.pdu.specs.Marks.{BadPdv, Leftover}
 use Rattle.negotiate.specs.Settings.{Settings}
 use Rattle.pdu.specs.Sent.{Line}
 use Rattle.part10.specs.Store.{Store}
-use Rattle.dimse.specs.Joining.{Shows, with_pdv}
+use Rattle.dimse.specs.Joining.{ShowsMessage, with_pdv}
 use Rattle.engine.specs.Devices.{Devices, line_after, line_with, IsFront, files_in, with_files}
 use Rattle.engine.specs.Timeline.{Entry, At, good}
 use Rattle.engine.specs.Progress.{Progress, Advance, nothing, left, refusing, is_due, is_established}
@@ -20,7 +20,7 @@ use Rattle.engine.specs.Fair.{IsVerdict, message_at}
 use Rattle.engine.specs.machine.Pends.{Kept, Pends, counted_body, counted_pdv}
 use Rattle.engine.specs.Drafts.{IsDraft}
 use Rattle.engine.specs.machine.Storing.{Walks, drafting_in}
-use Rattle.engine.specs.machine.Tries.{Tries, Stays}
+use Rattle.engine.specs.machine.DoesDue.{DoesDue, Stays}
 use Rattle.engine.proofs.StoreLemmas.{unfiled_same}
 use Rattle.engine.specs.machine.Does.{Does}
 
@@ -48,7 +48,7 @@ files_cut (Some k) p g = refl
 -- ---- an entry
 
 pub does_by : (rooms : Rooms) (s : Settings) (p : Progress) (e : Entry) (g : Advance) (new : Kept) (body begun : List ℕ) (old later : Devices)
-    → at_entry rooms s p good e ≡ g → g.files ≡ [] → IsVerdict rooms s p good (message_at p e) → Tries p g new body begun old later → Does rooms s p e new body begun old later
+    → at_entry rooms s p good e ≡ g → g.files ≡ [] → IsVerdict rooms s p good (message_at p e) → DoesDue p g new body begun old later → Does rooms s p e new body begun old later
 does_by rooms s p e g new body begun old later is none verdict t = record {
   outcome = record { wire = t.wire; filing = false; finding = good };
   fair = record { verdict = verdict; wire = subst (λ (x : Advance). IsFront t.wire x.sent) (sym is) t.fair; filing = λ yes. absurd cc };
@@ -59,7 +59,7 @@ does_by rooms s p e g new body begun old later is none verdict t = record {
   count = omega (arith, t.unfiled.count);
 }
 
-pub tries_nothing : (p : Progress) (k : Kept) (body begun : List ℕ) (d : Devices) → Pends k d.store p body begun → Tries p (nothing p) k body begun d d
+pub tries_nothing : (p : Progress) (k : Kept) (body begun : List ℕ) (d : Devices) → Pends k d.store p body begun → DoesDue p (nothing p) k body begun d d
 tries_nothing p k body begun d h = record { wire = None; fair = tt; pends = h; line = line_same d.line; unfiled = unfiled_same d.store }
 
 pub does_nothing : (rooms : Rooms) (s : Settings) (p : Progress) (e : Entry) (k : Kept) (body begun : List ℕ) (d : Devices)
@@ -80,7 +80,7 @@ pends_refused q mid store body begun body2 begun2 b d h =
       state_is = h.state_is;
       refused_is = λ n. refl;
       body_is = h.body_is ∙ b ∙ not_counted (is_due q.state) body2;
-      join_is = subst (λ (xs : List ℕ). Shows mid.room mid.join q.message xs) same h.join_is;
+      join_is = subst (λ (xs : List ℕ). ShowsMessage mid.room mid.join q.message xs) same h.join_is;
       agreed = λ six. let a = h.agreed six in record { caller = a.caller; maximum = a.maximum; contexts = a.contexts; count = a.count };
       none_left = h.none_left;
       walks = subst (λ (xs : List ℕ). Walks mid.depth mid.most q.request (with_pdv xs q.message) mid.storing) same h.walks;
@@ -93,9 +93,9 @@ ended_refused p mid store body begun body2 begun2 h =
     record { state_is = h.state_is; refused_is = λ n. absurd cc; body_is = h.body_is; join_is = h.join_is; agreed = λ six. absurd cc; none_left = λ e. refl; walks = h.walks; draft = h.draft; failed_in = λ n. absurd cc }
 
 pub refused_by : (p : Progress) (g : Advance) (mid : Kept) (body begun body2 begun2 : List ℕ) (old new : Devices) → counted_body g.next body ≡ [] → counted_pdv g.next begun ≡ []
-    → Tries p g mid body begun old new → Tries p (refusing g) (record mid { refused = true }) body2 begun2 old new
+    → DoesDue p g mid body begun old new → DoesDue p (refusing g) (record mid { refused = true }) body2 begun2 old new
 refused_by p g mid body begun body2 begun2 old new b d t = by t.wire refl where
-  by : (w : Option ℕ) → w ≡ t.wire → Tries p (refusing g) (record mid { refused = true }) body2 begun2 old new
+  by : (w : Option ℕ) → w ≡ t.wire → DoesDue p (refusing g) (record mid { refused = true }) body2 begun2 old new
   by None e = record {
     wire = None;
     fair = tt;

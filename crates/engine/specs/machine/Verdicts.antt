@@ -2,16 +2,16 @@
 use Rattle.std.specs.Prelude.{◌≡◌, ℕ, Bool, false, ◌||◌, List, Result, Ok, Err, None, nat_eq, if◌then◌else◌}
 use Rattle.sequence.specs.declared.fault.Fault.{Fault}
 use Rattle.sequence.specs.declared.walker.Walker.{Walker}
-use Rattle.sequence.specs.Wanted.{Values, Kept}
+use Rattle.sequence.specs.Wanted.{Values, KeepsWanted}
 use Rattle.dimse.specs.Command.{CommandRecord}
 use Rattle.dimse.specs.Status.{success, class_not_supported, out_of_resources, data_set_mismatch, cannot_understand}
 use Rattle.negotiate.specs.declared.proposals.Context.{Context}
 use Rattle.part10.specs.Store.{Store, stepped, committed, failed}
 use Rattle.engine.specs.declared.stores.StoreStatus.{StoreStatus}
 use Rattle.dimse.specs.Detail.{class_mismatch, instance_mismatch}
-use Rattle.engine.specs.Stores.{IsOfContext, HasNoFault, Names, NamesInstance, Verdict, wanted, limits, class_tag, instance_tag, cause}
+use Rattle.engine.specs.Stores.{IsOfContext, HasNoFault, NamesUid, NamesInstance, Verdict, wanted, limits, class_tag, instance_tag, cause}
 use Rattle.engine.specs.Timeline.{Finding, good}
-use Rattle.engine.specs.machine.Storing.{Stored, Nothing, Walking, Takes, EndsStore, finding_of}
+use Rattle.engine.specs.machine.Storing.{Stored, Nothing, Walking, HasWalked, EndsStore, finding_of}
 
 abbrev pub no_resources : Finding
 no_resources = record { status = out_of_resources; detail = None }
@@ -24,17 +24,17 @@ of_fault fault = if nat_eq fault.number 18 || nat_eq fault.number 19 then no_res
 pub record IsGood (depth most : ℕ) (context : Context) (command : CommandRecord) (set : List ℕ) : Type 0 where
   pub values : Values
   pub fault_free : HasNoFault context.syntax (limits depth most) set
-  pub kept : Kept context.syntax wanted set values
-  pub class : Names values class_tag command.class
+  pub kept : KeepsWanted context.syntax wanted set values
+  pub class : NamesUid values class_tag command.class
   pub instance : NamesInstance values command
 
 -- what the kept values name beside the command
 pub data Differs (values : Values) (command : CommandRecord) : Finding → Type 0 where
-  other_class : (Names values class_tag command.class → ⊥) → Differs values command (cause data_set_mismatch class_mismatch class_tag)
-  other_instance : Names values class_tag command.class → (NamesInstance values command → ⊥) → Differs values command (cause data_set_mismatch instance_mismatch instance_tag)
+  other_class : (NamesUid values class_tag command.class → ⊥) → Differs values command (cause data_set_mismatch class_mismatch class_tag)
+  other_instance : NamesUid values class_tag command.class → (NamesInstance values command → ⊥) → Differs values command (cause data_set_mismatch instance_mismatch instance_tag)
 
 abbrev pub Compared : Values → CommandRecord → Result (Unit {0}) StoreStatus → Type 0
-Compared values command (Ok u) = Names values class_tag command.class × NamesInstance values command
+Compared values command (Ok u) = NamesUid values class_tag command.class × NamesInstance values command
 Compared values command (Err s) = Differs values command (finding_of s)
 
 -- the store fails with this finding, whatever the filing does
@@ -42,16 +42,16 @@ abbrev pub FailsAs : ℕ → ℕ → Context → CommandRecord → List ℕ → 
 FailsAs depth most context command set finding = IsOfContext context command → (filing_failed : Bool) → Verdict depth most context command set filing_failed finding
 
 -- the data set that a walker took is good, or fails
-abbrev pub JudgedBy : {V D : ℕ} → Walker V D → CommandRecord → Result (Unit {0}) StoreStatus → Type 0
-JudgedBy walker command (Ok u) =
-    (context : Context) (depth most : ℕ) (set : List ℕ) → Takes walker context.syntax (limits depth most) set → IsGood depth most context command set
-JudgedBy walker command (Err s) =
+abbrev pub WalkHasVerdict : {V D : ℕ} → Walker V D → CommandRecord → Result (Unit {0}) StoreStatus → Type 0
+WalkHasVerdict walker command (Ok u) =
+    (context : Context) (depth most : ℕ) (set : List ℕ) → HasWalked walker context.syntax (limits depth most) set → IsGood depth most context command set
+WalkHasVerdict walker command (Err s) =
     (s.status ≡ success → ⊥)
-    × ((context : Context) (depth most : ℕ) (set : List ℕ) → Takes walker context.syntax (limits depth most) set → FailsAs depth most context command set (finding_of s))
+    × ((context : Context) (depth most : ℕ) (set : List ℕ) → HasWalked walker context.syntax (limits depth most) set → FailsAs depth most context command set (finding_of s))
 
-abbrev pub Judged : CommandRecord → Stored → Result (Unit {0}) StoreStatus → Type 0
-Judged command Nothing result = result ≡ Err (record { status = class_not_supported; detail = None })
-Judged command (Walking walker drafting) result = JudgedBy walker command result
+abbrev pub HasVerdict : CommandRecord → Stored → Result (Unit {0}) StoreStatus → Type 0
+HasVerdict command Nothing result = result ≡ Err (record { status = class_not_supported; detail = None })
+HasVerdict command (Walking walker drafting) result = WalkHasVerdict walker command result
 
 -- the draft was committed, with success; or the filing failed
 pub data Commits (finding : Finding) (old new : Store) : Type 0 where
@@ -62,5 +62,5 @@ pub data Commits (finding : Finding) (old new : Store) : Type 0 where
 abbrev pub EndsAs : CommandRecord → Finding → Store → Store → Stored → Type 0
 EndsAs command finding old new Nothing = Unit {0}
 EndsAs command finding old new (Walking walker drafting) =
-    (context : Context) (depth most : ℕ) (set : List ℕ) → Takes walker context.syntax (limits depth most) set
+    (context : Context) (depth most : ℕ) (set : List ℕ) → HasWalked walker context.syntax (limits depth most) set
     → EndsStore depth most context command set drafting finding old new
