@@ -2,11 +2,11 @@
 use Rattle.std.proofs.Common.{◌≡◌, ℕ, ◌+◌, ◌^◌, ◌<◌, ◌≤◌, true, false, List, [], ◌∷◌, ◌++◌, length, None, refl, sym, ap, ap₂, codes, ◌∙◌, append_assoc, arith}
 use Rattle.std.proofs.lemmas.Bool.Decides.{nat_tests}
 use Rattle.std.proofs.lemmas.List.{append-nil}
-use Rattle.element.specs.Header.{header_bytes}
+use Rattle.element.specs.Header.{header_bytes, item_tag}
 use Rattle.element.specs.Numbers.{le}
 use Rattle.element.specs.Vr.{is_short}
-use Rattle.sequence.specs.Tree.{Elements, Items, no_items, item_tag}
-use Rattle.dicomdir.specs.declared.build_plan.Entry.{Entry}
+use Rattle.sequence.specs.Tree.{Elements, Items, no_items}
+use Rattle.dicomdir.specs.declared.build_plan.LaidRecord.{LaidRecord}
 use Rattle.dicomdir.specs.declared.level.Level.TheVariants.{Patient}
 use Rattle.dicomdir.specs.Built.{directory_header, directory_file, file_is_too_large}
 use Rattle.dicomdir.specs.Directory.{Record}
@@ -16,7 +16,7 @@ use Rattle.dicomdir.specs.Levels.{forest_for}
 use Rattle.dicomdir.specs.Places.{root_size, forest_size, with_places, first_record_place, last_record_place, record_items, elements_with_places, directory_elements, directory_of}
 use Rattle.dicomdir.specs.Row.{Row, without_doubles}
 use Rattle.dicomdir.specs.Record.{tag}
-use Rattle.dicomdir.specs.RecordText.{element}
+use Rattle.dicomdir.specs.RecordText.{element_text}
 use Rattle.dicomdir.specs.TreeOf.{Forest, no_nodes, node, TreeOf}
 use Rattle.dicomdir.specs.machine.Building.{IsBuilt, root_text}
 use Rattle.dicomdir.proofs.Sizes.{items_size}
@@ -61,16 +61,16 @@ file_fits uid rows header records s small =
     let lt : length (directory_header uid) + root_size + forest_size (TreeOf rows) < 2 ^ 32 = omega (arith, small, a, b, root) in
     grind (arith, nat_tests)
 
-pub lays_tree : {A : Type 0} (rows kept : List Row) (e0 e1 : List (Entry A)) (s0 s1 first last : ℕ) → kept ≡ without_doubles [] rows → e0 ≡ [] → s0 ≡ 0
+pub lays_tree : {A : Type 0} (rows kept : List Row) (e0 e1 : List (LaidRecord A)) (s0 s1 first last : ℕ) → kept ≡ without_doubles [] rows → e0 ≡ [] → s0 ≡ 0
     → Lays (forest_for Patient kept) e0 e1 s0 s1 first last → Lays (TreeOf rows) [] e1 0 s1 first last
 lays_tree rows kept e0 e1 s0 s1 first last e none zero_is lays = rw (← same_tree kept rows e, ← none, ← zero_is) lays
 
 root_parts : (first last size : ℕ)
     → root_text first last size
-    ≡ element (tag 0x0004 0x1130) (codes "CS") []
-    ++ (element (tag 0x0004 0x1200) (codes "UL") (le first 4)
-    ++ (element (tag 0x0004 0x1202) (codes "UL") (le last 4)
-    ++ (element (tag 0x0004 0x1212) (codes "US") (le 0 2)
+    ≡ element_text (tag 0x0004 0x1130) (codes "CS") []
+    ++ (element_text (tag 0x0004 0x1200) (codes "UL") (le first 4)
+    ++ (element_text (tag 0x0004 0x1202) (codes "UL") (le last 4)
+    ++ (element_text (tag 0x0004 0x1212) (codes "US") (le 0 2)
     ++ ((0x04 ∷ 0x00 ∷ 0x20 ∷ 0x12 ∷ 0x53 ∷ 0x51 ∷ 0 ∷ 0 ∷ []) ++ le size 4))))
 unfolding root_text is_short
 root_parts first last size = refl
@@ -79,17 +79,17 @@ joined : (a b c d e f : List ℕ) → (((((([] ++ a) ++ b) ++ c) ++ d) ++ e) ++ 
 joined a b c d e f = simp append_assoc
 
 pub root_laid : (first last size : ℕ)
-    → (((((([] ++ element (tag 0x0004 0x1130) (codes "CS") []) ++ element (tag 0x0004 0x1200) (codes "UL") (le first 4)) ++ element (tag 0x0004 0x1202) (codes "UL") (le last 4))
-    ++ element (tag 0x0004 0x1212) (codes "US") (le 0 2)) ++ (0x04 ∷ 0x00 ∷ 0x20 ∷ 0x12 ∷ 0x53 ∷ 0x51 ∷ 0 ∷ 0 ∷ [])) ++ le size 4)
+    → (((((([] ++ element_text (tag 0x0004 0x1130) (codes "CS") []) ++ element_text (tag 0x0004 0x1200) (codes "UL") (le first 4)) ++ element_text (tag 0x0004 0x1202) (codes "UL") (le last 4))
+    ++ element_text (tag 0x0004 0x1212) (codes "US") (le 0 2)) ++ (0x04 ∷ 0x00 ∷ 0x20 ∷ 0x12 ∷ 0x53 ∷ 0x51 ∷ 0 ∷ 0 ∷ [])) ++ le size 4)
     ≡ root_text first last size
 root_laid first last size =
-    joined (element (tag 0x0004 0x1130) (codes "CS") []) (element (tag 0x0004 0x1200) (codes "UL") (le first 4)) (element (tag 0x0004 0x1202) (codes "UL") (le last 4))
-    (element (tag 0x0004 0x1212) (codes "US") (le 0 2)) (0x04 ∷ 0x00 ∷ 0x20 ∷ 0x12 ∷ 0x53 ∷ 0x51 ∷ 0 ∷ 0 ∷ []) (le size 4)
+    joined (element_text (tag 0x0004 0x1130) (codes "CS") []) (element_text (tag 0x0004 0x1200) (codes "UL") (le first 4)) (element_text (tag 0x0004 0x1202) (codes "UL") (le last 4))
+    (element_text (tag 0x0004 0x1212) (codes "US") (le 0 2)) (0x04 ∷ 0x00 ∷ 0x20 ∷ 0x12 ∷ 0x53 ∷ 0x51 ∷ 0 ∷ 0 ∷ []) (le size 4)
     ∙ sym (root_parts first last size)
 
 -- the root's elements, and the text of the items
 root_elements_are : (first last : ℕ) (is : Items) → spelled (root_elements first last is) ≡ root_text first last (length (spelled_items is)) ++ spelled_items is
-unfolding root_text element is_short
+unfolding root_text element_text is_short
 root_elements_are first last is = rw (append-nil (spelled_items is)) refl
 
 one_item : (own b n o : List ℕ) → own ++ (b ++ (n ++ o)) ≡ ((own ++ []) ++ (b ++ n)) ++ o
@@ -121,7 +121,7 @@ unfolding directory_elements
 directory_text front rows = refl
 
 -- the file is its header, its root, and the records that are laid down
-pub file_text : {A : Type 0} (uid : List ℕ) (rows : List Row) (entries : List (Entry A)) (records first last size : ℕ) (doubles : List ℕ) → IsBuilt uid rows entries records first last size doubles
+pub file_text : {A : Type 0} (uid : List ℕ) (rows : List Row) (entries : List (LaidRecord A)) (records first last size : ℕ) (doubles : List ℕ) → IsBuilt uid rows entries records first last size doubles
     → directory_file (record { uid = uid; rows = rows })
     ≡ directory_header uid ++ (root_text (place_from_end size first) (place_from_end size last) records ++ laid_text size entries)
 file_text uid rows entries records first last size doubles b =

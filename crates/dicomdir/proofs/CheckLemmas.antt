@@ -5,12 +5,12 @@ use Rattle.std.proofs.lemmas.List.{append-nil}
 use Rattle.element.specs.declared.syntax.Syntax.{Syntax}
 use Rattle.element.specs.declared.syntax.Syntax.TheVariants.{Explicit}
 use Rattle.sequence.proofs.Public.{whole_breaks_no_rule}
-use Rattle.sequence.specs.Ending.{IsWhole}
+use Rattle.sequence.specs.Ending.{IsWholeDataSet}
 use Rattle.sequence.specs.Rules.{no_tag}
 use Rattle.sequence.specs.Tree.{Elements, Items, DataSet}
 use Rattle.dicomdir.specs.declared.fault.DirFault.{DirFault}
 use Rattle.dicomdir.specs.declared.links.Root.{Root}
-use Rattle.dicomdir.specs.declared.records.Entry.{Entry}
+use Rattle.dicomdir.specs.declared.records.ReadRecord.{ReadRecord}
 use Rattle.dicomdir.specs.declared.tree.TreeRecord.{TreeRecord}
 use Rattle.dicomdir.specs.CheckFault.{check_limits, CheckFault, HasHeader, in_directory}
 use Rattle.dicomdir.specs.Directory.{Found, value_at, found, number_in, Record, records_at, records_in, first_offset, records_of}
@@ -124,7 +124,7 @@ fails_in_records start es records f has is =
     fails_on (each_fault records) (directory_fault start es) f is
     (λ x e. directory_is start es records has ∙ or_some (each_fault records) (links_fault start es records) x e)
 
-pub fails_in_links : (start : ℕ) (es : Elements) (records : List Record) (root : Root) (entries : List Entry) (f : DirFault) → HasRecords start es records
+pub fails_in_links : (start : ℕ) (es : Elements) (records : List Record) (root : Root) (entries : List ReadRecord) (f : DirFault) → HasRecords start es records
     → AreRead root entries start es records → FailsToFollow root entries f → FailsAs (directory_fault start es) f
 fails_in_links start es records root entries f has read fails =
     record {
@@ -133,7 +133,7 @@ fails_in_links start es records root entries f has read fails =
       fault = λ other. directory_is start es records has ∙ (or_none (each_fault records) (links_fault start es records) (entries_good read.entries_are) ∙ fails.fault start es records other read);
     }
 
-pub checks_as : (start : ℕ) (es : Elements) (records : List Record) (root : Root) (entries : List Entry) (old new : List TreeRecord) (nodes : List LevelNode) → HasRecords start es records
+pub checks_as : (start : ℕ) (es : Elements) (records : List Record) (root : Root) (entries : List ReadRecord) (old new : List TreeRecord) (nodes : List LevelNode) → HasRecords start es records
     → AreRead root entries start es records → old ≡ [] → AreFollowed root entries old new → nodes ≡ map node_of new → ChecksAs start es nodes
 checks_as start es records root entries old new nodes has read none followed same =
     let both = followed start es records read in
@@ -146,7 +146,7 @@ checks_as start es records root entries old new nodes has read none followed sam
 
 -- ---- the file
 
-pub file_fails : {file back : List ℕ} (h : HasHeader file back) (start : ℕ) (whole : IsWhole Explicit check_limits back) (f : DirFault) → start ≡ length file - length back
+pub file_fails : {file back : List ℕ} (h : HasHeader file back) (start : ℕ) (whole : IsWholeDataSet Explicit check_limits back) (f : DirFault) → start ≡ length file - length back
     → FailsAs (directory_fault start whole.elements) f → f.number ≢ 67 → CheckFault file f.number f.place f.tag
 file_fails {file = file} {back = back} h start whole f from fails other =
     let long = ap length h.explicit.whole ∙ length-append h.front back in
@@ -171,7 +171,7 @@ file_nodes {file = file} {back = back} h start es nodes from spelled checks =
       nodes_are = ap (nodes_in_use 1) by.placed_is ∙ sym checks.nodes_are;
     }
 
-pub are_read : (start first : ℕ) (es : Elements) (items : Items) (root : Root) (entries : List Entry)
+pub are_read : (start first : ℕ) (es : Elements) (items : Items) (root : Root) (entries : List ReadRecord)
     → IsRootOffset start (found 0x00041200 start es) root.first_place root.first → IsRootOffset start (found 0x00041202 start es) root.last_place root.last
     → AreEntries entries (records_at first items) → AreRead root entries start es (records_at first items)
 are_read start first es items root entries one other are =

@@ -1,12 +1,12 @@
 -- Rows are gone through one after the other, with the instances that were seen.
-use Rattle.std.proofs.Common.{zero, take, ◌≡◌, ℕ, suc, ◌+◌, ◌<◌, ◌≤◌, Bool, true, false, cond, not, ◌||◌, List, [], ◌∷◌, ◌++◌, drop, get_or, length, Vec, refl, sym, ap, ap₂, subst, ◌∙◌, append_assoc, drop-cons, arith}
+use Rattle.std.proofs.Common.{zero, take, ◌≡◌, ℕ, suc, ◌+◌, ◌<◌, ◌≤◌, Bool, true, false, cond, not, ◌||◌, List, [], ◌∷◌, ◌++◌, drop, get_or, length, refl, sym, ap, ap₂, subst, ◌∙◌, append_assoc, drop-cons, arith}
 use Rattle.std.specs.List.{list_any, AllByRecursion}
 use Rattle.std.specs.Str.{bytes_eq}
-use Rattle.std.proofs.lemmas.List.{map-append, append-nil, drop_all, take_all}
+use Rattle.std.proofs.lemmas.List.{append-nil, drop_all, take_all}
 use Rattle.std.proofs.lemmas.List.Folds.{list_any-append}
 use Rattle.dicomdir.specs.Places.{doubles_of, doubles_after}
 use Rattle.dicomdir.specs.Row.{Row, without_doubles}
-use Rattle.dicomdir.proofs.GroupingSteps.{texts, any_texts}
+use Rattle.dicomdir.specs.machine.FirstSeen.{is_seen, with_one, Sees, Takes}
 
 abbrev pub newest_first : List (List ℕ) → List (List ℕ)
 newest_first [] = []
@@ -56,73 +56,86 @@ one_double : (at : ℕ) (before : List (List ℕ)) (row : Row) (rows : List Row)
     → doubles_after at before (row ∷ rows) ≡ at ∷ doubles_after (suc at) before rows
 one_double at before row rows e = ap (λ (b : Bool). cond b (at ∷ doubles_after (suc at) before rows) (doubles_after (suc at) (row.instance ∷ before) rows)) e
 
--- whether the instance of a row was seen, and what was seen then
-pub record Seen {A : Type 0} (row : Row) (keys new : List (Vec ℕ A)) (v : Vec ℕ A) (is_new : Bool) : Type 0 where
-  pub key : v.items ≡ row.instance
-  pub added : is_new ≡ not (list_any (λ y. bytes_eq v.items y.items) keys)
-  pub keys_are : new ≡ cond (list_any (λ y. bytes_eq v.items y.items) keys) keys (keys ++ v ∷ [])
+-- a row that is kept, and one that is left out
 
--- what is left of a row's instance
-abbrev seen_before : {A : Type 0} → List (Vec ℕ A) → List (List ℕ)
-seen_before keys = newest_first (texts keys)
+module _ (at : ℕ) (row : Row) (k : List ℕ) (keys new : List (List ℕ)) (n : ℕ) (is_new : Bool) (key : k ≡ row.instance) (s : Sees k keys new n is_new) (rows after : List Row) (doubles more : List ℕ) where
+  sees_row : Sees row.instance keys new n is_new
+  sees_row = subst (λ z. Sees z keys new n is_new) key s
 
-any_seen : {A : Type 0} (row : Row) (keys new : List (Vec ℕ A)) (v : Vec ℕ A) (is_new : Bool) → Seen row keys new v is_new
-    → list_any (λ y. bytes_eq v.items y.items) keys ≡ list_any (bytes_eq row.instance) (seen_before keys)
-any_seen row keys new v is_new s =
-    any_texts v.items keys ∙ ap (λ (t : List ℕ). list_any (bytes_eq t) (texts keys)) s.key ∙ sym (any_newest (bytes_eq row.instance) (texts keys))
+  pub takes_new : is_new ≡ true → after ≡ rows ++ row ∷ [] → Takes at row keys new rows after doubles doubles
+  takes_new e put =
+      let none = not_true (is_seen row.instance keys) is_new sees_row.newness e in
+      record {
+        keys_are = sees_row.keys_are;
+        rows_are = put ∙ sym (ap (λ (b : Bool). cond b rows (rows ++ row ∷ [])) none);
+        doubles_are = sym (ap (λ (b : Bool). cond b (doubles ++ at ∷ []) doubles) none);
+      }
 
-new_keys : {A : Type 0} (row : Row) (keys new : List (Vec ℕ A)) (v : Vec ℕ A) (is_new : Bool) → Seen row keys new v is_new
-    → list_any (λ y. bytes_eq v.items y.items) keys ≡ false → seen_before new ≡ row.instance ∷ seen_before keys
-new_keys row keys new v is_new s none =
-    let grown : new ≡ keys ++ v ∷ [] = s.keys_are ∙ ap (λ (b : Bool). cond b keys (keys ++ v ∷ [])) none in
-    let told : texts new ≡ texts keys ++ row.instance ∷ [] = ap texts grown ∙ map-append (λ x. x.items) keys (v ∷ []) ∙ ap (λ (t : List ℕ). texts keys ++ t ∷ []) s.key in
-    ap newest_first told ∙ one_newer (texts keys) row.instance
-
-old_keys : {A : Type 0} (row : Row) (keys new : List (Vec ℕ A)) (v : Vec ℕ A) (is_new : Bool) → Seen row keys new v is_new
-    → list_any (λ y. bytes_eq v.items y.items) keys ≡ true → seen_before new ≡ seen_before keys
-old_keys row keys new v is_new s one = ap seen_before (s.keys_are ∙ ap (λ (b : Bool). cond b keys (keys ++ v ∷ [])) one)
+  pub takes_double : is_new ≡ false → more ≡ doubles ++ at ∷ [] → Takes at row keys new rows rows doubles more
+  takes_double e put =
+      let one = not_false (is_seen row.instance keys) is_new sees_row.newness e in
+      record {
+        keys_are = sees_row.keys_are;
+        rows_are = sym (ap (λ (b : Bool). cond b rows (rows ++ row ∷ [])) one);
+        doubles_are = put ∙ sym (ap (λ (b : Bool). cond b (doubles ++ at ∷ []) doubles) one);
+      }
 
 -- the rows that are kept so far and the doubles, with those of the rest, are all
 pub record Leaves (rows : List Row) (at : ℕ) (before : List (List ℕ)) (kept : List Row) (doubles : List ℕ) : Type 0 where
   pub rows_are : kept ++ without_doubles before (drop at rows) ≡ without_doubles [] rows
   pub doubles_are : doubles ++ doubles_after at before (drop at rows) ≡ doubles_of rows
 
-module _ {A : Type 0} (rows : List Row) (at : ℕ) (row : Row) (lt : at < length rows) (is : row ≡ get_or rows at row) (keys new : List (Vec ℕ A)) (v : Vec ℕ A) (is_new : Bool) (s : Seen row keys new v is_new) (kept : List Row) (doubles : List ℕ) (l : Leaves rows at (seen_before keys) kept doubles) where
-  pub leaves_new : is_new ≡ true → Leaves rows (at + 1) (seen_before new) (kept ++ row ∷ []) doubles
+module _ (rows : List Row) (at : ℕ) (row : Row) (lt : at < length rows) (is : row ≡ get_or rows at row) (keys new : List (List ℕ)) (kept kept2 : List Row) (doubles doubles2 : List ℕ)
+    (l : Leaves rows at (newest_first keys) kept doubles) (t : Takes at row keys new kept kept2 doubles doubles2) where
+  next : at + 1 ≡ suc at
+  next = omega arith
+
+  leaves_new : is_seen row.instance keys ≡ false → Leaves rows (at + 1) (newest_first new) kept2 doubles2
   leaves_new e =
-      let none = not_true (list_any (λ y. bytes_eq v.items y.items) keys) is_new s.added e in
-      let unseen : list_any (bytes_eq row.instance) (seen_before keys) ≡ false = sym (any_seen row keys new v is_new s) ∙ none in
-      let after = new_keys row keys new v is_new s none in
-      let next : at + 1 ≡ suc at = omega arith in
+      let unseen = any_newest (bytes_eq row.instance) keys ∙ e in
+      let after : newest_first new ≡ row.instance ∷ newest_first keys = ap newest_first (t.keys_are ∙ ap (λ (b : Bool). with_one b row.instance keys) e) ∙ one_newer keys row.instance in
+      let grown : kept2 ≡ kept ++ row ∷ [] = t.rows_are ∙ ap (λ (b : Bool). cond b kept (kept ++ row ∷ [])) e in
+      let same : doubles2 ≡ doubles = t.doubles_are ∙ ap (λ (b : Bool). cond b (doubles ++ at ∷ []) doubles) e in
       record {
         rows_are =
-            append_assoc kept (row ∷ []) (without_doubles (seen_before new) (drop (at + 1) rows))
+            ap (λ (rs : List Row). rs ++ without_doubles (newest_first new) (drop (at + 1) rows)) grown
+            ∙ append_assoc kept (row ∷ []) (without_doubles (newest_first new) (drop (at + 1) rows))
             ∙ ap (λ (b : List (List ℕ)). kept ++ row ∷ without_doubles b (drop (at + 1) rows)) after
-            ∙ ap (λ (rs : List Row). kept ++ rs) (sym (row_kept (seen_before keys) row (drop (at + 1) rows) unseen) ∙ ap (without_doubles (seen_before keys)) (sym (rest_is rows at row lt is)))
+            ∙ ap (λ (rs : List Row). kept ++ rs) (sym (row_kept (newest_first keys) row (drop (at + 1) rows) unseen) ∙ ap (without_doubles (newest_first keys)) (sym (rest_is rows at row lt is)))
             ∙ l.rows_are;
         doubles_are =
-            ap₂ (λ (n : ℕ) (b : List (List ℕ)). doubles ++ doubles_after n b (drop (at + 1) rows)) next after
-            ∙ ap (λ (ds : List ℕ). doubles ++ ds) (sym (no_double at (seen_before keys) row (drop (at + 1) rows) unseen) ∙ ap (doubles_after at (seen_before keys)) (sym (rest_is rows at row lt is)))
+            ap (λ (ds : List ℕ). ds ++ doubles_after (at + 1) (newest_first new) (drop (at + 1) rows)) same
+            ∙ ap₂ (λ (n : ℕ) (b : List (List ℕ)). doubles ++ doubles_after n b (drop (at + 1) rows)) next after
+            ∙ ap (λ (ds : List ℕ). doubles ++ ds) (sym (no_double at (newest_first keys) row (drop (at + 1) rows) unseen) ∙ ap (doubles_after at (newest_first keys)) (sym (rest_is rows at row lt is)))
             ∙ l.doubles_are;
       }
 
-  pub leaves_double : is_new ≡ false → Leaves rows (at + 1) (seen_before new) kept (doubles ++ at ∷ [])
+  leaves_double : is_seen row.instance keys ≡ true → Leaves rows (at + 1) (newest_first new) kept2 doubles2
   leaves_double e =
-      let one = not_false (list_any (λ y. bytes_eq v.items y.items) keys) is_new s.added e in
-      let seen : list_any (bytes_eq row.instance) (seen_before keys) ≡ true = sym (any_seen row keys new v is_new s) ∙ one in
-      let after = old_keys row keys new v is_new s one in
-      let next : at + 1 ≡ suc at = omega arith in
+      let seen = any_newest (bytes_eq row.instance) keys ∙ e in
+      let after : newest_first new ≡ newest_first keys = ap newest_first (t.keys_are ∙ ap (λ (b : Bool). with_one b row.instance keys) e) in
+      let same : kept2 ≡ kept = t.rows_are ∙ ap (λ (b : Bool). cond b kept (kept ++ row ∷ [])) e in
+      let grown : doubles2 ≡ doubles ++ at ∷ [] = t.doubles_are ∙ ap (λ (b : Bool). cond b (doubles ++ at ∷ []) doubles) e in
       record {
         rows_are =
-            ap (λ (b : List (List ℕ)). kept ++ without_doubles b (drop (at + 1) rows)) after
-            ∙ ap (λ (rs : List Row). kept ++ rs) (sym (row_left (seen_before keys) row (drop (at + 1) rows) seen) ∙ ap (without_doubles (seen_before keys)) (sym (rest_is rows at row lt is)))
+            ap (λ (rs : List Row). rs ++ without_doubles (newest_first new) (drop (at + 1) rows)) same
+            ∙ ap (λ (b : List (List ℕ)). kept ++ without_doubles b (drop (at + 1) rows)) after
+            ∙ ap (λ (rs : List Row). kept ++ rs) (sym (row_left (newest_first keys) row (drop (at + 1) rows) seen) ∙ ap (without_doubles (newest_first keys)) (sym (rest_is rows at row lt is)))
             ∙ l.rows_are;
         doubles_are =
-            append_assoc doubles (at ∷ []) (doubles_after (at + 1) (seen_before new) (drop (at + 1) rows))
+            ap (λ (ds : List ℕ). ds ++ doubles_after (at + 1) (newest_first new) (drop (at + 1) rows)) grown
+            ∙ append_assoc doubles (at ∷ []) (doubles_after (at + 1) (newest_first new) (drop (at + 1) rows))
             ∙ ap₂ (λ (n : ℕ) (b : List (List ℕ)). doubles ++ at ∷ doubles_after n b (drop (at + 1) rows)) next after
-            ∙ ap (λ (ds : List ℕ). doubles ++ ds) (sym (one_double at (seen_before keys) row (drop (at + 1) rows) seen) ∙ ap (doubles_after at (seen_before keys)) (sym (rest_is rows at row lt is)))
+            ∙ ap (λ (ds : List ℕ). doubles ++ ds) (sym (one_double at (newest_first keys) row (drop (at + 1) rows) seen) ∙ ap (doubles_after at (newest_first keys)) (sym (rest_is rows at row lt is)))
             ∙ l.doubles_are;
       }
+
+  leaves_by : (b : Bool) → is_seen row.instance keys ≡ b → Leaves rows (at + 1) (newest_first new) kept2 doubles2
+  leaves_by true e = leaves_double e
+  leaves_by false e = leaves_new e
+
+  pub leaves_next : Leaves rows (at + 1) (newest_first new) kept2 doubles2
+  leaves_next = leaves_by (is_seen row.instance keys) refl
 
 pub leaves_all : (rows : List Row) (at : ℕ) (before : List (List ℕ)) (kept : List Row) (doubles : List ℕ) → length rows ≤ at → Leaves rows at before kept doubles
     → (kept ≡ without_doubles [] rows) × (doubles ≡ doubles_of rows)

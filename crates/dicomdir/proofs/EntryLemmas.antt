@@ -6,8 +6,8 @@ use Rattle.std.specs.Ordering.{nat_cmp, ordering_index}
 use Rattle.std.proofs.lemmas.Cmp.{ranked}
 use Rattle.std.proofs.lemmas.Bool.{cases_lt}
 use Rattle.std.proofs.lemmas.Bool.Decides.{nat_tests}
-use Rattle.dicomdir.specs.declared.records.Entry.{Entry}
-use Rattle.dicomdir.specs.Directory.{Record, carried}
+use Rattle.dicomdir.specs.declared.records.ReadRecord.{ReadRecord}
+use Rattle.dicomdir.specs.Directory.{Record, carried_node}
 use Rattle.dicomdir.specs.Linked.{record_at}
 use Rattle.dicomdir.specs.DirFault.{Fault, is_one_of, fault, unreached_fault}
 use Rattle.dicomdir.specs.machine.Entries.{IsEntry, AreEntries, no_entries, entry_then, Rise}
@@ -16,11 +16,11 @@ use Rattle.dicomdir.proofs.Linking.{when_yes, when_no}
 
 -- the search
 
-pub place_found : (entries : List Entry) (place at : ℕ) → HoldsAt (λ e. nat_cmp e.place place ≡ Equal) entries at → (d : Entry) → (get_or entries at d).place ≡ place
+pub place_found : (entries : List ReadRecord) (place at : ℕ) → HoldsAt (λ e. nat_cmp e.place place ≡ Equal) entries at → (d : ReadRecord) → (get_or entries at d).place ≡ place
 place_found entries place at equal d = ranked _ place _ (sym (equal d))
 
-least_below : (entries : List Entry) (records : List Record) (least : ℕ) → AreEntries entries records → Rise least records
-    → (j : ℕ) (d : Entry) → j < length entries → least ≤ (get_or entries j d).place
+least_below : (entries : List ReadRecord) (records : List Record) (least : ℕ) → AreEntries entries records → Rise least records
+    → (j : ℕ) (d : ReadRecord) → j < length entries → least ≤ (get_or entries j d).place
 least_below [] (r ∷ rs) least are rise j d fits = elim are [ ]
 least_below (e ∷ es) [] least are rise j d fits = elim are [ ]
 least_below [] [] least no_entries rise j d fits = absurd (omega (arith, fits))
@@ -29,8 +29,8 @@ least_below (e ∷ es) (r ∷ rs) least (entry_then is rest) rise (suc j) d fits
     let later = least_below es rs (suc r.place) rest rise.1 j d (omega (arith, fits)) in
     omega (arith, rise.0, later)
 
-places_rise : (entries : List Entry) (records : List Record) (least : ℕ) → AreEntries entries records → Rise least records
-    → (i j : ℕ) (d : Entry) → i ≤ j → j < length entries → (get_or entries i d).place ≤ (get_or entries j d).place
+places_rise : (entries : List ReadRecord) (records : List Record) (least : ℕ) → AreEntries entries records → Rise least records
+    → (i j : ℕ) (d : ReadRecord) → i ≤ j → j < length entries → (get_or entries i d).place ≤ (get_or entries j d).place
 places_rise [] (r ∷ rs) least are rise i j d below fits = elim are [ ]
 places_rise (e ∷ es) [] least are rise i j d below fits = elim are [ ]
 places_rise [] [] least no_entries rise i j d below fits = absurd (omega (arith, fits))
@@ -45,7 +45,7 @@ places_rise (e ∷ es) (r ∷ rs) least (entry_then is rest) rise (suc i) (suc j
 compared : (a b p : ℕ) → a ≤ b → ordering_index (nat_cmp a p) ≤ ordering_index (nat_cmp b p)
 compared a b p below = grind (arith, nat_tests)
 
-comparisons_rise : (entries : List Entry) (records : List Record) (place : ℕ) → AreEntries entries records → Rise 0 records
+comparisons_rise : (entries : List ReadRecord) (records : List Record) (place : ℕ) → AreEntries entries records → Rise 0 records
     → IsNonDecreasingBy (λ e. ordering_index (nat_cmp e.place place)) entries
 comparisons_rise entries records place are rise i j d below fits =
     compared (get_or entries i d).place (get_or entries j d).place place (places_rise entries records 0 are rise i j d below fits)
@@ -57,22 +57,22 @@ no_record_step r rs place other none = by (nat_eq r.place place) refl
     by true same = absurd (other (eqb-true r.place place same))
     by false differs = none
 
-no_record : (entries : List Entry) (records : List Record) (place : ℕ) → AreEntries entries records
-    → ((k : ℕ) (d : Entry) → k < length entries → (get_or entries k d).place ≡ place → ⊥) → record_at place records ≡ None
+no_record : (entries : List ReadRecord) (records : List Record) (place : ℕ) → AreEntries entries records
+    → ((k : ℕ) (d : ReadRecord) → k < length entries → (get_or entries k d).place ≡ place → ⊥) → record_at place records ≡ None
 no_record [] (r ∷ rs) place are none = elim are [ ]
 no_record (e ∷ es) [] place are none = elim are [ ]
 no_record [] [] place no_entries none = refl
 no_record (e ∷ es) (r ∷ rs) place (entry_then is rest) none =
     no_record_step r rs place (λ same. none 0 e (omega arith) (is.place ∙ same)) (no_record es rs place rest (λ k d fits. none (suc k) d (omega (arith, fits))))
 
-neither : (entries : List Entry) (place i k : ℕ) (d : Entry) → AllWithin (λ e. nat_cmp e.place place ≡ Less) entries 0 i
+neither : (entries : List ReadRecord) (place i k : ℕ) (d : ReadRecord) → AllWithin (λ e. nat_cmp e.place place ≡ Less) entries 0 i
     → AllWithin (λ e. nat_cmp e.place place ≡ Greater) entries i (length entries) → k < length entries → (get_or entries k d).place ≡ place → ⊥
 neither entries place i k d less greater fits same = elim (cases_lt k i) [
   | inl before ↦ let under = ranked _ place _ (sym (less k d (omega arith) before)) in absurd (omega (arith, under, same))
   | inr after ↦ let over = ranked _ place _ (sym (greater k d after fits)) in absurd (omega (arith, over, same))
 ]
 
-pub place_absent : (entries : List Entry) (place i : ℕ)
+pub place_absent : (entries : List ReadRecord) (place i : ℕ)
     → (IsNonDecreasingBy (λ e. ordering_index (nat_cmp e.place place)) entries
     → IsPartitionPoint (λ e. nat_cmp e.place place ≡ Less) (λ e. nat_cmp e.place place ≡ Greater) entries i)
     → (records : List Record) → AreEntries entries records → Rise 0 records → record_at place records ≡ None
@@ -86,7 +86,7 @@ pub length_flags : (reached : List ℕ) (records : List Record) → length (flag
 length_flags reached [] = refl
 length_flags reached (r ∷ rs) = ap suc (length_flags reached rs)
 
-pub length_entries : (entries : List Entry) (records : List Record) → AreEntries entries records → length entries ≡ length records
+pub length_entries : (entries : List ReadRecord) (records : List Record) → AreEntries entries records → length entries ≡ length records
 length_entries [] (r ∷ rs) are = elim are [ ]
 length_entries (e ∷ es) [] are = elim are [ ]
 length_entries [] [] no_entries = refl
@@ -105,7 +105,7 @@ same_flags p reached least (r ∷ rs) rise below =
     λ i. (other i || is_one_of r.place reached) ∷ rest i
 
 -- the record of an entry
-pub record AtEntry (e : Entry) (records : List Record) (at least : ℕ) : Type 0 where
+pub record AtEntry (e : ReadRecord) (records : List Record) (at least : ℕ) : Type 0 where
   pub of_it : Record
   pub is : IsEntry e of_it
   pub above : least ≤ of_it.place
@@ -113,12 +113,12 @@ pub record AtEntry (e : Entry) (records : List Record) (at least : ℕ) : Type 0
   pub flag : (reached : List ℕ) (d : Bool) → get_or (flags_of reached records) at d ≡ is_one_of of_it.place reached
   pub marked : (reached : List ℕ) → set (flags_of reached records) at true ≡ flags_of (of_it.place ∷ reached) records
   pub left : (reached : List ℕ) → unreached_fault reached (drop at records)
-      ≡ (if not (carried of_it.elements).in_use || is_one_of of_it.place reached then unreached_fault reached (drop (suc at) records) else fault 63 of_it.place)
+      ≡ (if not (carried_node of_it.elements).in_use || is_one_of of_it.place reached then unreached_fault reached (drop (suc at) records) else fault 63 of_it.place)
 
 same_place : (x : ℕ) → nat_eq x x ≡ true
 same_place x = grind (arith, nat_tests)
 
-first_entry : (e : Entry) (r : Record) (rs : List Record) (least : ℕ) → IsEntry e r → Rise least (r ∷ rs) → AtEntry e (r ∷ rs) 0 least
+first_entry : (e : ReadRecord) (r : Record) (rs : List Record) (least : ℕ) → IsEntry e r → Rise least (r ∷ rs) → AtEntry e (r ∷ rs) 0 least
 first_entry e r rs least is rise =
     let here = same_place r.place in
     record {
@@ -131,7 +131,7 @@ first_entry e r rs least is rise =
       left = λ reached. refl;
     }
 
-later_entry : (e : Entry) (r : Record) (rs : List Record) (at least : ℕ) → least ≤ r.place → AtEntry e rs at (suc r.place) → AtEntry e (r ∷ rs) (suc at) least
+later_entry : (e : ReadRecord) (r : Record) (rs : List Record) (at least : ℕ) → least ≤ r.place → AtEntry e rs at (suc r.place) → AtEntry e (r ∷ rs) (suc at) least
 later_entry e r rs at least first later =
     let above = later.above in
     let other : nat_eq r.place later.of_it.place ≡ false = grind (arith, nat_tests, above) in
@@ -145,7 +145,7 @@ later_entry e r rs at least first later =
       left = λ reached. later.left reached;
     }
 
-pub at_entry : (entries : List Entry) (records : List Record) (least at : ℕ) (d : Entry) → AreEntries entries records → Rise least records → at < length entries
+pub at_entry : (entries : List ReadRecord) (records : List Record) (least at : ℕ) (d : ReadRecord) → AreEntries entries records → Rise least records → at < length entries
     → AtEntry (get_or entries at d) records at least
 at_entry [] (r ∷ rs) least at d are rise fits = elim are [ ]
 at_entry (e ∷ es) [] least at d are rise fits = elim are [ ]
@@ -156,7 +156,7 @@ at_entry (e ∷ es) (r ∷ rs) least (suc at) d (entry_then is rest) rise fits =
 
 -- an entry in use that was not reached is the first such one; any other is passed over
 
-entry_there : (entries : List Entry) (flags : List Bool) (records : List Record) (reached : List ℕ) (e : Entry) (at : ℕ) → AreFlagged entries flags records reached
+entry_there : (entries : List ReadRecord) (flags : List Bool) (records : List Record) (reached : List ℕ) (e : ReadRecord) (at : ℕ) → AreFlagged entries flags records reached
     → e ≡ get_or entries at e → at < length entries → AtEntry e records at 0
 entry_there entries flags records reached e at flagged is fits =
     subst (λ z. AtEntry z records at 0) (sym is) (at_entry entries records 0 at e flagged.are flagged.rise fits)
@@ -171,31 +171,31 @@ halts true x y true false e f g = absurd cc
 halts true x y false r e f g = absurd cc
 halts false x y u r e f g = refl
 
-pub unreached_here : (entries : List Entry) (flags : List Bool) (records : List Record) (reached : List ℕ) (e : Entry) (at : ℕ) → AreFlagged entries flags records reached
+pub unreached_here : (entries : List ReadRecord) (flags : List Bool) (records : List Record) (reached : List ℕ) (e : ReadRecord) (at : ℕ) → AreFlagged entries flags records reached
     → e ≡ get_or entries at e → at < length entries → e.in_use ≡ true → get_or flags at false ≡ false
     → unreached_fault reached (drop at records) ≡ fault 63 e.place
 unreached_here entries flags records reached e at flagged is fits used new =
     let there = entry_there entries flags records reached e at flagged is fits in
-    let in_use : e.in_use ≡ (carried there.of_it.elements).in_use = ap (λ z. z.in_use) there.is.carries in
+    let in_use : e.in_use ≡ (carried_node there.of_it.elements).in_use = ap (λ z. z.in_use) there.is.carries in
     let flag : get_or flags at false ≡ is_one_of there.of_it.place reached = ap (λ z. get_or z at false) flagged.flagged ∙ there.flag reached false in
-    let same : (not (carried there.of_it.elements).in_use || is_one_of there.of_it.place reached) ≡ (not e.in_use || get_or flags at false)
+    let same : (not (carried_node there.of_it.elements).in_use || is_one_of there.of_it.place reached) ≡ (not e.in_use || get_or flags at false)
     = λ i. not (sym in_use i) || sym flag i in
     there.left reached
-    ∙ (halts (not (carried there.of_it.elements).in_use || is_one_of there.of_it.place reached) (unreached_fault reached (drop (suc at) records)) (fault 63 there.of_it.place) e.in_use (get_or flags at false) same used new
+    ∙ (halts (not (carried_node there.of_it.elements).in_use || is_one_of there.of_it.place reached) (unreached_fault reached (drop (suc at) records)) (fault 63 there.of_it.place) e.in_use (get_or flags at false) same used new
     ∙ ap (λ z. fault 63 z) (sym there.is.place))
 
-pub unreached_later : (entries : List Entry) (flags : List Bool) (records : List Record) (reached : List ℕ) (e : Entry) (at next : ℕ) → AreFlagged entries flags records reached
+pub unreached_later : (entries : List ReadRecord) (flags : List Bool) (records : List Record) (reached : List ℕ) (e : ReadRecord) (at next : ℕ) → AreFlagged entries flags records reached
     → e ≡ get_or entries at e → at < length entries → (not e.in_use || get_or flags at false) ≡ true → next ≡ suc at
     → unreached_fault reached (drop next records) ≡ unreached_fault reached (drop at records)
 unreached_later entries flags records reached e at next flagged is fits passed next_is =
     let there = entry_there entries flags records reached e at flagged is fits in
-    let in_use : e.in_use ≡ (carried there.of_it.elements).in_use = ap (λ z. z.in_use) there.is.carries in
+    let in_use : e.in_use ≡ (carried_node there.of_it.elements).in_use = ap (λ z. z.in_use) there.is.carries in
     let flag : get_or flags at false ≡ is_one_of there.of_it.place reached = ap (λ z. get_or z at false) flagged.flagged ∙ there.flag reached false in
-    let same : (not (carried there.of_it.elements).in_use || is_one_of there.of_it.place reached) ≡ (not e.in_use || get_or flags at false)
+    let same : (not (carried_node there.of_it.elements).in_use || is_one_of there.of_it.place reached) ≡ (not e.in_use || get_or flags at false)
     = λ i. not (sym in_use i) || sym flag i in
     ap (λ z. unreached_fault reached (drop z records)) next_is
     ∙ sym (there.left reached
-    ∙ passes (not (carried there.of_it.elements).in_use || is_one_of there.of_it.place reached) (unreached_fault reached (drop (suc at) records)) (fault 63 there.of_it.place) e.in_use (get_or flags at false) same passed)
+    ∙ passes (not (carried_node there.of_it.elements).in_use || is_one_of there.of_it.place reached) (unreached_fault reached (drop (suc at) records)) (fault 63 there.of_it.place) e.in_use (get_or flags at false) same passed)
 
 pub inactive_passes : (u r : Bool) → u ≡ false → (not u || r) ≡ true
 inactive_passes true r e = absurd cc

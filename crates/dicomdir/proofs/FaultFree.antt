@@ -6,9 +6,9 @@ use Rattle.std.proofs.lemmas.Bool.{and_parts, and_from}
 use Rattle.byteorder.specs.Endian.{little_number}
 use Rattle.sequence.specs.Tree.{Elements}
 use Rattle.dicomdir.specs.TreeOf.{Forest}
-use Rattle.dicomdir.specs.Directory.{Found, missing, value_at, items_at, found, number_in, Record, header_size, records_at, records_in, carried, first_offset, last_offset, records_of, next_offset, lower_offset, has_record, has_file_id, is_use_flag, Node}
+use Rattle.dicomdir.specs.Directory.{Found, missing, value_at, items_at, found, number_in, Record, header_size, records_at, records_in, carried_node, first_offset, last_offset, records_of, next_offset, lower_offset, has_record, has_file_id, is_use_flag, Node}
 use Rattle.dicomdir.specs.Linked.{PlacedNode, nodes_of, places_of, record_at, are_records, LinkedElements, IsAllReached}
-use Rattle.dicomdir.specs.DirFault.{Fault, fault, ◌or_else◌, offset_fault, records_fault, root_fault, record_fault, each_fault, Walked, stopped, went, walk, is_one_of, or_zero, place_in, unreached_fault, end_fault, root_way, links_fault, records_then_links, directory_fault}
+use Rattle.dicomdir.specs.DirFault.{Fault, fault, ◌or_else◌, offset_fault, records_fault, root_fault, record_fault, each_fault, Walked, stopped, went, walk, is_one_of, or_zero, place_in, unreached_fault, end_of_links, root_way, links_fault, records_then_links, directory_fault}
 use Rattle.dicomdir.specs.Followed.{forest_from}
 use Rattle.dicomdir.specs.NoFault.{NoFaultIsLinked}
 use Rattle.dicomdir.proofs.Linking.{IsIn, HaveOffsets, reaches}
@@ -58,9 +58,9 @@ have_offsets (r ∷ records) good p es e =
   where
     offsets : has_record r.elements ≡ true → (is_some (lower_offset r.elements) ≡ true) × (is_some (next_offset r.elements) ≡ true)
     offsets h =
-        let sides = and_parts (is_some (next_offset r.elements) && is_use_flag (number_in 2 (found 0x00041410 0 r.elements))) (is_some (lower_offset r.elements) && not (bytes_eq (carried r.elements).kind [])) h in
+        let sides = and_parts (is_some (next_offset r.elements) && is_use_flag (number_in 2 (found 0x00041410 0 r.elements))) (is_some (lower_offset r.elements) && not (bytes_eq (carried_node r.elements).kind [])) h in
         let left = and_parts (is_some (next_offset r.elements)) (is_use_flag (number_in 2 (found 0x00041410 0 r.elements))) sides.0 in
-        let right = and_parts (is_some (lower_offset r.elements)) (not (bytes_eq (carried r.elements).kind [])) sides.1 in
+        let right = and_parts (is_some (lower_offset r.elements)) (not (bytes_eq (carried_node r.elements).kind [])) sides.1 in
         (right.0, left.0)
 
     by : (b : Bool) → has_record r.elements ≡ true
@@ -77,7 +77,7 @@ pub record EndsWell (start : ℕ) (es : Elements) (records : List Record) (w : W
   pub last_is : or_zero (last_offset start es) ≡ last
   pub all : unreached_fault reached records ≡ None
 
-ends_well : (start : ℕ) (es : Elements) (records : List Record) (w : Walked) → end_fault start es records w ≡ None → EndsWell start es records w
+ends_well : (start : ℕ) (es : Elements) (records : List Record) (w : Walked) → end_of_links start es records w ≡ None → EndsWell start es records w
 ends_well start es records (stopped f) e = absurd cc
 ends_well start es records (went reached last) e =
     let parts = both_none (if nat_eq (or_zero (last_offset start es)) last then None else fault 60 (place_in (found 0x00041202 start es))) (unreached_fault reached records) e in
@@ -88,15 +88,15 @@ ends_well start es records (went reached last) e =
     by false same e = absurd cc
 
 all_there : (nodes more : List ℕ) (records : List Record) → ((p : ℕ) → is_one_of p more ≡ (is_one_of p nodes || false)) → unreached_fault more records ≡ None
-    → list_all (λ r. not (carried r.elements).in_use || list_any (nat_eq r.place) nodes) records ≡ true
+    → list_all (λ r. not (carried_node r.elements).in_use || list_any (nat_eq r.place) nodes) records ≡ true
 all_there nodes more [] members e = refl
 all_there nodes more (r ∷ records) members e =
-    by (not (carried r.elements).in_use) (is_one_of r.place more) (is_one_of r.place nodes) (members r.place) (all_there nodes more records members) e
+    by (not (carried_node r.elements).in_use) (is_one_of r.place more) (is_one_of r.place nodes) (members r.place) (all_there nodes more records members) e
   where
     by : (inactive a b : Bool) → a ≡ (b || false)
-        → (unreached_fault more records ≡ None → list_all (λ r. not (carried r.elements).in_use || list_any (nat_eq r.place) nodes) records ≡ true)
+        → (unreached_fault more records ≡ None → list_all (λ r. not (carried_node r.elements).in_use || list_any (nat_eq r.place) nodes) records ≡ true)
         → (if inactive || a then unreached_fault more records else fault 63 r.place) ≡ None
-        → ((inactive || b) && list_all (λ r. not (carried r.elements).in_use || list_any (nat_eq r.place) nodes) records) ≡ true
+        → ((inactive || b) && list_all (λ r. not (carried_node r.elements).in_use || list_any (nat_eq r.place) nodes) records) ≡ true
     by true a b same rest e = rest e
     by false true true same rest e = rest e
     by false true false same rest e = absurd cc

@@ -3,7 +3,7 @@ use Rattle.std.proofs.Common.{◌≡◌, ℕ, ◌%◌, Bool, true, false, not, �
 use Rattle.std.specs.List.{list_all}
 use Rattle.std.proofs.lemmas.Bool.{and_parts, and_from}
 use Rattle.element.specs.Padding.{is_space, is_empty, kept_before, without_trailing, padded}
-use Rattle.dicomdir.specs.FileId.{is_id_character, is_component, before_parts, parts_of, is_file_id, if_file_id, file_id_of}
+use Rattle.dicomdir.specs.FileId.{is_id_character, is_file_id_component, before_parts, parts_of, is_file_id, if_file_id, file_id_of}
 
 abbrev no_space : ℕ → Bool
 no_space c = not (is_space c)
@@ -38,10 +38,10 @@ no_spaces (c ∷ text) e = by (nat_eq c 92) refl (no_spaces text) e
         let both = of_before c (parts_of text) e in
         and_from (no_space c) (list_all no_space text) (character_is_no_space c both.0) (rest both.1)
 
-components_are : (parts : List (List ℕ)) → list_all is_component parts ≡ true → are_characters parts ≡ true
+components_are : (parts : List (List ℕ)) → list_all is_file_id_component parts ≡ true → are_characters parts ≡ true
 components_are [] e = refl
 components_are (part ∷ parts) e =
-    let two = and_parts (is_component part) (list_all is_component parts) e in
+    let two = and_parts (is_file_id_component part) (list_all is_file_id_component parts) e in
     let chars = and_parts _ (list_all is_id_character part) two.0 in
     and_from (list_all is_id_character part) (are_characters parts) chars.1 (components_are parts two.1)
 
@@ -72,7 +72,7 @@ trimmed_space (c ∷ text) e =
 
 pub file_id_back : (text : List ℕ) → is_file_id text ≡ true → file_id_of (padded 32 text) ≡ Some text
 file_id_back text e =
-    let parts = and_parts (nat_le (length (parts_of text)) 8) (list_all is_component (parts_of text)) e in
+    let parts = and_parts (nat_le (length (parts_of text)) 8) (list_all is_file_id_component (parts_of text)) e in
     let clean = no_spaces text (components_are (parts_of text) parts.1) in
     by (nat_eq (length text % 2) 0) clean
   where

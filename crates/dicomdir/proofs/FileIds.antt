@@ -4,7 +4,7 @@ use Rattle.std.specs.List.{list_all}
 use Rattle.std.proofs.lemmas.Bool.{and_parts}
 use Rattle.std.proofs.lemmas.Bool.Decides.{nat_tests}
 use Rattle.std.proofs.lemmas.List.{drop-replicate}
-use Rattle.dicomdir.specs.FileId.{is_id_character, is_component, before_parts, parts_of, is_file_id, filled}
+use Rattle.dicomdir.specs.FileId.{is_id_character, is_file_id_component, before_parts, parts_of, is_file_id, filled}
 use Rattle.dicomdir.specs.FileIdRoom.{IsKept}
 
 -- the first part, of which characters may still come in front
@@ -15,7 +15,7 @@ first_size (part ∷ parts) = length part
 -- whether its characters and the other parts are good
 abbrev pub is_good : List (List ℕ) → Bool
 is_good [] = true
-is_good (part ∷ parts) = list_all is_component parts && list_all is_id_character part
+is_good (part ∷ parts) = list_all is_file_id_component parts && list_all is_id_character part
 
 abbrev pub is_size : ℕ → Bool
 is_size n = nat_le 1 n && nat_le n 8
@@ -58,7 +58,7 @@ moved false false false false = refl
 
 good_end : (parts : List (List ℕ)) → is_none parts ≡ false → is_good ([] ∷ parts) ≡ (is_good parts && is_size (first_size parts))
 good_end [] some = absurd cc
-good_end (part ∷ parts) some = moved (nat_le 1 (length part)) (nat_le (length part) 8) (list_all is_id_character part) (list_all is_component parts)
+good_end (part ∷ parts) some = moved (nat_le 1 (length part)) (nat_le (length part) 8) (list_all is_id_character part) (list_all is_file_id_component parts)
 
 shifted : (a b c : Bool) → (a && (b && c)) ≡ ((a && c) && b)
 shifted true true c = by c
@@ -72,7 +72,7 @@ shifted false b c = refl
 
 good_more : (c : ℕ) (parts : List (List ℕ)) → is_none parts ≡ false → is_good (before_parts c parts) ≡ (is_good parts && is_id_character c)
 good_more c [] some = absurd cc
-good_more c (part ∷ parts) some = shifted (list_all is_component parts) (is_id_character c) (list_all is_id_character part)
+good_more c (part ∷ parts) some = shifted (list_all is_file_id_component parts) (is_id_character c) (list_all is_id_character part)
 
 size_more : (c : ℕ) (parts : List (List ℕ)) → is_none parts ≡ false → first_size (before_parts c parts) ≡ first_size parts + 1
 size_more c [] some = absurd cc
@@ -139,9 +139,9 @@ gathered false b true false false = refl
 gathered false b false true false = refl
 gathered false b false false false = refl
 
-by_parts : (parts : List (List ℕ)) → is_none parts ≡ false → (nat_le (length parts) 8 && list_all is_component parts) ≡ (is_good parts && (is_size (first_size parts) && nat_le (length parts) 8))
+by_parts : (parts : List (List ℕ)) → is_none parts ≡ false → (nat_le (length parts) 8 && list_all is_file_id_component parts) ≡ (is_good parts && (is_size (first_size parts) && nat_le (length parts) 8))
 by_parts [] some = absurd cc
-by_parts (part ∷ parts) some = gathered (nat_le 1 (length part)) (nat_le (length part) 8) (list_all is_id_character part) (list_all is_component parts) (nat_le (length (part ∷ parts)) 8)
+by_parts (part ∷ parts) some = gathered (nat_le 1 (length part)) (nat_le (length part) 8) (list_all is_id_character part) (list_all is_file_id_component parts) (nat_le (length (part ∷ parts)) 8)
 
 pub is_file_id_by_parts : (xs : List ℕ) → is_file_id xs ≡ (is_good (parts_of xs) && (is_size (first_size (parts_of xs)) && nat_le (length (parts_of xs)) 8))
 is_file_id_by_parts xs = by_parts (parts_of xs) (some_part xs)
@@ -178,17 +178,17 @@ total_is (x ∷ xs) = by (total_is xs) (nat_eq x 92)
 short : (n : ℕ) (b : Bool) → (nat_le 1 n && nat_le n 8 && b) ≡ true → n ≤ 8
 short n b e = grind (arith, nat_tests, e)
 
-total_most : (parts : List (List ℕ)) → list_all is_component parts ≡ true → total parts ≤ 9 * length parts
+total_most : (parts : List (List ℕ)) → list_all is_file_id_component parts ≡ true → total parts ≤ 9 * length parts
 total_most [] e = omega (arith)
 total_most (part ∷ parts) e =
-    let both = and_parts (is_component part) (list_all is_component parts) e in
+    let both = and_parts (is_file_id_component part) (list_all is_file_id_component parts) e in
     let few = short (length part) (list_all is_id_character part) both.0 in
     let most = total_most parts both.1 in
     omega (arith, few, most)
 
 pub file_id_room : (xs : List ℕ) → is_file_id xs ≡ true → length xs ≤ 71
 file_id_room xs e =
-    let both = and_parts (nat_le (length (parts_of xs)) 8) (list_all is_component (parts_of xs)) e in
+    let both = and_parts (nat_le (length (parts_of xs)) 8) (list_all is_file_id_component (parts_of xs)) e in
     let few : length (parts_of xs) ≤ 8 = grind (arith, nat_tests, both.0) in
     let most = total_most (parts_of xs) both.1 in
     omega (arith, few, most, total_is xs)

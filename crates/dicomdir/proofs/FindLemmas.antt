@@ -6,12 +6,12 @@ use Rattle.std.proofs.Math.Seq.{take-append_seam}
 use Rattle.element.specs.declared.syntax.Syntax.{Syntax}
 use Rattle.element.specs.declared.tag.Tag.{Tag}
 use Rattle.element.specs.declared.header.Header.{Header}
-use Rattle.element.specs.Header.{number, is_marker, IsTag, SpellsHeader, plain, short, long}
+use Rattle.element.specs.Header.{number, is_marker, IsTag, SpellsHeader, plain, short, long, item_end_tag}
 use Rattle.sequence.specs.declared.shape.Shape.{Shape}
 use Rattle.sequence.specs.declared.shape.Shape.TheVariants.{Value, Sequence, NotAllowed}
 use Rattle.sequence.specs.Rules.{same_tag}
 use Rattle.sequence.specs.Shape.{undefined_length, is_undefined, shape}
-use Rattle.sequence.specs.Tree.{Elements, no_elements, item_end_tag, delimitation, Ended, counted, delimited}
+use Rattle.sequence.specs.Tree.{Elements, no_elements, delimitation, Ended, counted, delimited}
 use Rattle.dicomdir.specs.declared.found.Head.{Head}
 use Rattle.dicomdir.specs.Directory.{Found, missing, value_at, found, header_size}
 use Rattle.dicomdir.specs.machine.Heads.{head_at}

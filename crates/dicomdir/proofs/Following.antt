@@ -7,10 +7,10 @@ use Rattle.dicomdir.specs.declared.fault.DirFault.{DirFault}
 use Rattle.dicomdir.specs.declared.links.Root.{Root}
 use Rattle.dicomdir.specs.declared.links.Mark.{Mark}
 use Rattle.dicomdir.specs.declared.links.Step.{Step}
-use Rattle.dicomdir.specs.declared.records.Entry.{Entry}
-use Rattle.dicomdir.specs.Directory.{found, Record, Node, carried, first_offset, last_offset, lower_offset, next_offset}
+use Rattle.dicomdir.specs.declared.records.ReadRecord.{ReadRecord}
+use Rattle.dicomdir.specs.Directory.{found, Record, Node, carried_node, first_offset, last_offset, lower_offset, next_offset}
 use Rattle.dicomdir.specs.Linked.{record_at, fits, fits_level, is_upper_kind}
-use Rattle.dicomdir.specs.DirFault.{Fault, fault, lower_way, next_way, went, walk, named_fault, unreached_fault, end_fault, root_way, links_fault, elements_at, or_zero, place_in, ◌or_else◌}
+use Rattle.dicomdir.specs.DirFault.{Fault, fault, lower_way, next_way, went, walk, named_fault, unreached_fault, end_of_links, root_way, links_fault, elements_at, or_zero, place_in, ◌or_else◌}
 use Rattle.dicomdir.specs.Followed.{forest_from}
 use Rattle.dicomdir.specs.NodesInUse.{LevelNode, nodes_in_use}
 use Rattle.dicomdir.specs.machine.Entries.{AreRead, FailsToFollow, carried_by}
@@ -27,14 +27,14 @@ abbrev pub whole : Root → List Record → List LevelNode → Surveyed
 whole root records nodes = survey_all records (way_of root.first_place [] true) true (record { reached = []; nodes = nodes }) root.first
 
 -- the flags and the nodes are those of what was seen, and the whole comes of what is left
-pub record Following (root : ℕ) (entries : List Entry) (records : List Record) (flags : List Bool) (ms : List Mark) (pending : Option Step) (nodes : List LevelNode) (last : ℕ) (all : Surveyed) : Type 0 where
+pub record Following (root : ℕ) (entries : List ReadRecord) (records : List Record) (flags : List Bool) (ms : List Mark) (pending : Option Step) (nodes : List LevelNode) (last : ℕ) (all : Surveyed) : Type 0 where
   pub seen : Seen
   pub nodes_are : seen.nodes ≡ nodes
   pub is_in : IsIn records seen.reached
   pub flagged : AreFlagged entries flags records seen.reached
   pub stands : Stands root records ms pending seen last all
 
-pub starts : (root : Root) (entries : List Entry) (start : ℕ) (es : Elements) (records : List Record) (flags : List Bool) (pending : Option Step) (nodes : List LevelNode)
+pub starts : (root : Root) (entries : List ReadRecord) (start : ℕ) (es : Elements) (records : List Record) (flags : List Bool) (pending : Option Step) (nodes : List LevelNode)
     → AreRead root entries start es records → flags ≡ replicate (length entries) false
     → Stands root.first_place records [] pending (record { reached = []; nodes = nodes }) 0 (whole root records nodes)
     → Following root.first_place entries records flags [] pending nodes 0 (whole root records nodes)
@@ -85,17 +85,17 @@ elements_there None es e = absurd cc
 elements_there (Some found) es e = cc
 
 -- the entry of a target, as what its record says
-pub record Turned (root : ℕ) (entries : List Entry) (records : List Record) (flags : List Bool) (ms : List Mark) (step : Step) (seen : Seen) (e : Entry) (at : ℕ) : Type 0 where
+pub record Turned (root : ℕ) (entries : List ReadRecord) (records : List Record) (flags : List Bool) (ms : List Mark) (step : Step) (seen : Seen) (e : ReadRecord) (at : ℕ) : Type 0 where
   pub place : e.place ≡ step.offset
-  pub elements : carried_by e ≡ carried (elements_at records step.offset)
+  pub elements : carried_by e ≡ carried_node (elements_at records step.offset)
   pub lower : e.lower ≡ lower_at records step.offset
   pub next : e.next ≡ next_at records step.offset
   pub flagged : AreFlagged entries (set flags at true) records (step.offset ∷ seen.reached)
   pub is_in : IsIn records (step.offset ∷ seen.reached)
-  pub fit : fits (way_of root ms step.begins).level (carried (elements_at records step.offset)) ≡ true
+  pub fit : fits (way_of root ms step.begins).level (carried_node (elements_at records step.offset)) ≡ true
   pub good : named_fault (way_of root ms step.begins) seen.reached step.offset (record_at step.offset records) ≡ None
 
-turned : (root : ℕ) (entries : List Entry) (records : List Record) (flags : List Bool) (ms : List Mark) (step : Step) (seen : Seen) (e : Entry) (at : ℕ)
+turned : (root : ℕ) (entries : List ReadRecord) (records : List Record) (flags : List Bool) (ms : List Mark) (step : Step) (seen : Seen) (e : ReadRecord) (at : ℕ)
     → IsIn records seen.reached → AreFlagged entries flags records seen.reached → IsTarget root entries records ms step seen.reached at
     → e ≡ get_or entries at e → at < length entries → Turned root entries records flags ms step seen e at
 turned root entries records flags ms step seen e at inside flagged target is fits_in =
@@ -110,7 +110,7 @@ turned root entries records flags ms step seen e at inside flagged target is fit
     let named_elements : elements_at records o ≡ named.elements = elements_there (record_at o records) named.elements named.stands in
     record {
       place = place;
-      elements = there.is.carries ∙ ap (λ z. carried z) (sym elements);
+      elements = there.is.carries ∙ ap (λ z. carried_node z) (sym elements);
       lower = there.is.lower ∙ ap (λ z. or_zero (lower_offset z)) (sym elements);
       next = there.is.next ∙ ap (λ z. or_zero (next_offset z)) (sym elements);
       flagged = record {
@@ -119,11 +119,11 @@ turned root entries records flags ms step seen e at inside flagged target is fit
         flagged = ap (λ z. set z at true) flagged.flagged ∙ (there.marked seen.reached ∙ ap (λ z. flags_of (z ∷ seen.reached) records) same_place);
       };
       is_in = one_more_in records seen.reached o named.elements inside named.stands named.new;
-      fit = ap (λ z. fits way.level (carried z)) named_elements ∙ named.fit;
+      fit = ap (λ z. fits way.level (carried_node z)) named_elements ∙ named.fit;
       good = target.good;
     }
 
-pub turn : (root : ℕ) (entries : List Entry) (records : List Record) (flags : List Bool) (ms marked ms2 : List Mark) (step : Step) (pending2 : Option Step) (nodes nodes2 : List LevelNode) (last last2 : ℕ) (all : Surveyed) (e : Entry) (at : ℕ)
+pub turn : (root : ℕ) (entries : List ReadRecord) (records : List Record) (flags : List Bool) (ms marked ms2 : List Mark) (step : Step) (pending2 : Option Step) (nodes nodes2 : List LevelNode) (last last2 : ℕ) (all : Surveyed) (e : ReadRecord) (at : ℕ)
     → Following root entries records flags ms (Some step) nodes last all
     → LeadsTo root entries flags ms step at
     → e ≡ get_or entries at e → at < length entries
@@ -153,8 +153,8 @@ turn root entries records flags ms marked ms2 step pending2 nodes nodes2 last la
     = λ i. finish root records ms step.begins (with_seen
     (survey_all records (lower_way way (place i)) (step.shown && used i) seen2 (lower i))
     (λ more. survey_all records (next_way way (place i)) step.shown more (next i))) in
-    let nodes_same : own_node step.shown way.level o (carried (elements_at records o)) ≡ own_node step.shown step.level e.place (carried_by e)
-    = own_same step.shown step.level way.level o (carried (elements_at records o)) level got.fit
+    let nodes_same : own_node step.shown way.level o (carried_node (elements_at records o)) ≡ own_node step.shown step.level e.place (carried_by e)
+    = own_same step.shown step.level way.level o (carried_node (elements_at records o)) level got.fit
     ∙ (λ i. own_node step.shown step.level (sym place i) (sym got.elements i)) in
     record {
       seen = seen2;
@@ -167,14 +167,14 @@ turn root entries records flags ms marked ms2 step pending2 nodes nodes2 last la
 
 -- what comes of the whole is what the definition of the links' fault says
 
-walk_of_whole : (root : Root) (entries : List Entry) (start : ℕ) (es : Elements) (records : List Record) (nodes : List LevelNode) → AreRead root entries start es records
+walk_of_whole : (root : Root) (entries : List ReadRecord) (start : ℕ) (es : Elements) (records : List Record) (nodes : List LevelNode) → AreRead root entries start es records
     → walk (suc (length records)) records (root_way start es) [] (or_zero (first_offset start es)) ≡ walked_of (whole root records nodes)
 unfolding survey_all
 walk_of_whole root entries start es records nodes read =
     (λ i. walk (suc (length records)) records (record { told = sym read.first_place i; level = 1; chain = []; above = []; begins = true }) [] (sym read.first i))
     ∙ sym (survey_walks (suc (length records)) records (way_of root.first_place [] true) true (record { reached = []; nodes = nodes }) root.first)
 
-pub stops : (root : Root) (entries : List Entry) (start : ℕ) (es : Elements) (records : List Record) (flags : List Bool) (ms : List Mark) (step : Step) (nodes nodes0 : List LevelNode) (last : ℕ) (f : Fault)
+pub stops : (root : Root) (entries : List ReadRecord) (start : ℕ) (es : Elements) (records : List Record) (flags : List Bool) (ms : List Mark) (step : Step) (nodes nodes0 : List LevelNode) (last : ℕ) (f : Fault)
     → AreRead root entries start es records
     → Following root.first_place entries records flags ms (Some step) nodes last (whole root records nodes0)
     → ((records : List Record) (places : List ℕ) → AreFlagged entries flags records places → IsStep ms (Some step)
@@ -186,13 +186,13 @@ stops root entries start es records flags ms step nodes nodes0 last f read at fa
     let bad = all_faults records (way_of root.first_place ms step.begins) step.shown at.seen step.offset f nonzero (faults records at.seen.reached at.flagged at.stands.step) in
     let is : whole root records nodes0 ≡ refused f = sym at.stands.outcome
     ∙ (ap (λ z. finish root.first_place records ms step.begins z) bad ∙ finish_refused root.first_place records ms step.begins f) in
-    ap (λ w. end_fault start es records w) (walk_of_whole root entries start es records nodes0 read ∙ ap walked_of is)
+    ap (λ w. end_of_links start es records w) (walk_of_whole root entries start es records nodes0 read ∙ ap walked_of is)
 
-went_whole : (root : Root) (entries : List Entry) (start : ℕ) (es : Elements) (records : List Record) (flags : List Bool) (ms : List Mark) (nodes nodes0 : List LevelNode) (last : ℕ)
+went_whole : (root : Root) (entries : List ReadRecord) (start : ℕ) (es : Elements) (records : List Record) (flags : List Bool) (ms : List Mark) (nodes nodes0 : List LevelNode) (last : ℕ)
     → AreRead root entries start es records → (at : Following root.first_place entries records flags ms None nodes last (whole root records nodes0))
-    → links_fault start es records ≡ end_fault start es records (went at.seen.reached last)
+    → links_fault start es records ≡ end_of_links start es records (went at.seen.reached last)
 went_whole root entries start es records flags ms nodes nodes0 last read at =
-    ap (λ w. end_fault start es records w) (walk_of_whole root entries start es records nodes0 read ∙ ap walked_of (sym at.stands.outcome))
+    ap (λ w. end_of_links start es records w) (walk_of_whole root entries start es records nodes0 read ∙ ap walked_of (sym at.stands.outcome))
 
 if_true : (b : Bool) (x y : Option Fault) → b ≡ true → (if b then x else y) ≡ x
 if_true true x y e = refl
@@ -202,7 +202,7 @@ if_false : (b : Bool) (x y : Option Fault) → b ≡ false → (if b then x else
 if_false true x y e = absurd cc
 if_false false x y e = refl
 
-pub ends_elsewhere : (root : Root) (entries : List Entry) (start : ℕ) (es : Elements) (records : List Record) (flags : List Bool) (ms : List Mark) (nodes nodes0 : List LevelNode) (last : ℕ)
+pub ends_elsewhere : (root : Root) (entries : List ReadRecord) (start : ℕ) (es : Elements) (records : List Record) (flags : List Bool) (ms : List Mark) (nodes nodes0 : List LevelNode) (last : ℕ)
     → AreRead root entries start es records → Following root.first_place entries records flags ms None nodes last (whole root records nodes0)
     → (root.last ≡ last → ⊥) → links_fault start es records ≡ fault 60 root.last_place
 ends_elsewhere root entries start es records flags ms nodes nodes0 last read at other =
@@ -213,7 +213,7 @@ ends_elsewhere root entries start es records flags ms nodes nodes0 last read at 
     ∙ (ap (λ z. z or_else unreached_fault at.seen.reached records) (if_false (nat_eq there last) None (fault 60 (place_in (found 0x00041202 start es))) test)
     ∙ ap (λ z. fault 60 z) (sym read.last_place))
 
-pub ends_there : (root : Root) (entries : List Entry) (start : ℕ) (es : Elements) (records : List Record) (flags : List Bool) (ms : List Mark) (nodes nodes0 : List LevelNode) (last : ℕ)
+pub ends_there : (root : Root) (entries : List ReadRecord) (start : ℕ) (es : Elements) (records : List Record) (flags : List Bool) (ms : List Mark) (nodes nodes0 : List LevelNode) (last : ℕ)
     → AreRead root entries start es records → (at : Following root.first_place entries records flags ms None nodes last (whole root records nodes0))
     → root.last ≡ last → links_fault start es records ≡ unreached_fault at.seen.reached records
 ends_there root entries start es records flags ms nodes nodes0 last read at same =
@@ -223,7 +223,7 @@ ends_there root entries start es records flags ms nodes nodes0 last read at same
     went_whole root entries start es records flags ms nodes nodes0 last read at
     ∙ ap (λ z. z or_else unreached_fault at.seen.reached records) (if_true (nat_eq there last) None (fault 60 (place_in (found 0x00041202 start es))) test)
 
-pub nodes_of_whole : (root : Root) (entries : List Entry) (start : ℕ) (es : Elements) (records : List Record) (flags : List Bool) (ms : List Mark) (nodes nodes0 : List LevelNode) (last : ℕ)
+pub nodes_of_whole : (root : Root) (entries : List ReadRecord) (start : ℕ) (es : Elements) (records : List Record) (flags : List Bool) (ms : List Mark) (nodes nodes0 : List LevelNode) (last : ℕ)
     → AreRead root entries start es records → Following root.first_place entries records flags ms None nodes last (whole root records nodes0)
     → nodes ≡ nodes0 ++ nodes_in_use 1 (forest_from (suc (length records)) records (or_zero (first_offset start es)))
 unfolding survey_all
@@ -236,17 +236,17 @@ pub none_is : (o : Option Step) → ((s : Step) → o ≡ Some s → ⊥) → o 
 none_is None other = refl
 none_is (Some s) other = absurd (other s refl)
 
-pub ended : (root : ℕ) (entries : List Entry) (records : List Record) (flags : List Bool) (ms : List Mark) (pending : Option Step) (nodes : List LevelNode) (last : ℕ) (all : Surveyed)
+pub ended : (root : ℕ) (entries : List ReadRecord) (records : List Record) (flags : List Bool) (ms : List Mark) (pending : Option Step) (nodes : List LevelNode) (last : ℕ) (all : Surveyed)
     → pending ≡ None → Following root entries records flags ms pending nodes last all → Following root entries records flags ms None nodes last all
 ended root entries records flags ms pending nodes last all e f = subst (λ z. Following root entries records flags ms z nodes last all) e f
 
-pub going : (root : ℕ) (entries : List Entry) (records : List Record) (flags : List Bool) (ms : List Mark) (pending : Option Step) (step : Step) (nodes : List LevelNode) (last : ℕ) (all : Surveyed)
+pub going : (root : ℕ) (entries : List ReadRecord) (records : List Record) (flags : List Bool) (ms : List Mark) (pending : Option Step) (step : Step) (nodes : List LevelNode) (last : ℕ) (all : Surveyed)
     → pending ≡ Some step → Following root entries records flags ms pending nodes last all → Following root entries records flags ms (Some step) nodes last all
 going root entries records flags ms pending step nodes last all e f = subst (λ z. Following root entries records flags ms z nodes last all) e f
 
 -- a fault of the links, and one of the allocator
 
-pub fault_fails : (root : Root) (entries : List Entry) (f : DirFault) → f.tag ≡ no_tag → (f.number ≡ 67 → ⊥)
+pub fault_fails : (root : Root) (entries : List ReadRecord) (f : DirFault) → f.tag ≡ no_tag → (f.number ≡ 67 → ⊥)
     → ((start : ℕ) (es : Elements) (records : List Record) → AreRead root entries start es records → links_fault start es records ≡ Some (record { number = f.number; place = f.place }))
     → FailsToFollow root entries f
 fault_fails root entries f tag other fault = record {

@@ -1,5 +1,5 @@
 -- What one more row does to the keys of a set and to the groups of rows.
-use Rattle.std.proofs.Common.{◌≡◌, ℕ, zero, suc, ◌+◌, ◌<◌, ◌≤◌, Bool, true, false, cond, not, ◌||◌, List, [], ◌∷◌, ◌++◌, map, take, get_or, set, length, Vec, refl, sym, ap, ap₂, ◌∙◌, arith}
+use Rattle.std.proofs.Common.{◌≡◌, ℕ, zero, suc, ◌+◌, ◌<◌, ◌≤◌, Bool, true, false, cond, not, ◌||◌, List, [], ◌∷◌, ◌++◌, map, take, get_or, set, length, Vec, refl, sym, ap, ap₂, subst, ◌∙◌, arith}
 use Rattle.std.specs.Borrow.{Bor}
 use Rattle.std.specs.List.{list_any, position_or_len}
 use Rattle.std.specs.Str.{bytes_eq}
@@ -7,10 +7,8 @@ use Rattle.std.proofs.lemmas.List.{map-append, length-map, length-append, take_a
 use Rattle.dicomdir.specs.Grouping.{rows_at, row_groups, groups_of}
 use Rattle.dicomdir.specs.TreeOf.{rows_with}
 use Rattle.dicomdir.specs.Row.{Row}
+use Rattle.dicomdir.specs.machine.FirstSeen.{texts, is_seen, with_one, Sees, put_in, Puts}
 use Rattle.dicomdir.proofs.GroupingLemmas.{Grouped, grouped_old, grouped_new}
-
-abbrev pub texts : {A : Type 0} → List (Vec ℕ A) → List (List ℕ)
-texts keys = map (λ v. v.items) keys
 
 pub any_texts : {A : Type 0} (k : List ℕ) (keys : List (Vec ℕ A)) → list_any (λ y. bytes_eq k y.items) keys ≡ list_any (bytes_eq k) (texts keys)
 any_texts k [] = refl
@@ -42,27 +40,53 @@ step_by true key_of done row keys new groups g1 g2 n any g is place opened put =
 step_by false key_of done row keys new groups g1 g2 n any g is place opened put =
     rw (put, opened, place, is) (grouped_new key_of done row keys groups g any)
 
-pub pick : {A : Type 0} (b : Bool) (keys : List (Vec ℕ A)) (v : Vec ℕ A) → texts (cond b keys (keys ++ v ∷ [])) ≡ cond b (texts keys) (texts keys ++ v.items ∷ [])
+pick : {A : Type 0} (b : Bool) (keys : List (Vec ℕ A)) (v : Vec ℕ A) → texts (cond b keys (keys ++ v ∷ [])) ≡ with_one b v.items (texts keys)
 pick true keys v = refl
 pick false keys v = map-append (λ x. x.items) keys (v ∷ [])
 
-pub step : {A : Type 0} (key_of : Row → List ℕ) (rows : List (Bor Row)) (i : ℕ) (row : Bor Row) (keys new : List (Vec ℕ A)) (v : Vec ℕ A) (groups g1 g2 : List (List Row)) (n : ℕ) (is_new : Bool)
-    → i < length rows → row ≡ get_or rows i row → v.items ≡ key_of row.now
-    → Grouped key_of (take i (rows_at rows)) (texts keys) groups
+pub sees : {A : Type 0} (k : List ℕ) (keys new : List (Vec ℕ A)) (v : Vec ℕ A) (n : ℕ) (is_new : Bool) → v.items ≡ k
     → new ≡ cond (list_any (λ y. bytes_eq v.items y.items) keys) keys (keys ++ v ∷ [])
     → n ≡ position_or_len (λ y. bytes_eq v.items y.items) keys
     → is_new ≡ not (list_any (λ y. bytes_eq v.items y.items) keys)
-    → g1 ≡ cond is_new (groups ++ [] ∷ []) groups → g2 ≡ set g1 n (get_or g1 n [] ++ row.now ∷ [])
-    → Grouped key_of (take (suc i) (rows_at rows)) (texts new) g2
-step key_of rows i row keys new v groups g1 g2 n is_new lt is key g news place newness opened put =
-    let k = key_of row.now in
-    let b = list_any (bytes_eq k) (texts keys) in
-    let any : list_any (λ y. bytes_eq v.items y.items) keys ≡ b = any_texts v.items keys ∙ ap (λ (t : List ℕ). list_any (bytes_eq t) (texts keys)) key in
-    let at : n ≡ position_or_len (bytes_eq k) (texts keys) = place ∙ place_texts v.items keys ∙ ap (λ (t : List ℕ). position_or_len (bytes_eq t) (texts keys)) key in
-    let new_texts : texts new ≡ cond b (texts keys) (texts keys ++ k ∷ []) =
-    ap texts news ∙ pick (list_any (λ y. bytes_eq v.items y.items) keys) keys v ∙ ap₂ (λ (c : Bool) (t : List ℕ). cond c (texts keys) (texts keys ++ t ∷ [])) any key in
-    let opens : g1 ≡ cond (not b) (groups ++ [] ∷ []) groups = opened ∙ ap (λ (c : Bool). cond c (groups ++ [] ∷ []) groups) (newness ∙ ap not any) in
-    let whole = step_by b key_of (take i (rows_at rows)) row.now (texts keys) (texts new) groups g1 g2 n refl g new_texts at opens put in
+    → Sees k (texts keys) (texts new) n is_new
+sees k keys new v n is_new key news place newness =
+    let any : list_any (λ y. bytes_eq v.items y.items) keys ≡ is_seen k (texts keys) = any_texts v.items keys ∙ ap (λ (t : List ℕ). is_seen t (texts keys)) key in
+    record {
+      keys_are = ap texts news ∙ pick (list_any (λ y. bytes_eq v.items y.items) keys) keys v ∙ ap₂ (λ (c : Bool) (t : List ℕ). with_one c t (texts keys)) any key;
+      number_is = place ∙ place_texts v.items keys ∙ ap (λ (t : List ℕ). position_or_len (bytes_eq t) (texts keys)) key;
+      newness = newness ∙ ap not any;
+    }
+
+both_grow : (b : Bool) (keys : List (List ℕ)) (k : List ℕ) (groups : List (List Row)) → length groups ≡ length keys
+    → length (cond (not b) (groups ++ [] ∷ []) groups) ≡ length (with_one b k keys)
+both_grow true keys k groups e = e
+both_grow false keys k groups e = omega (arith, e, length-append groups ([] ∷ []), length-append keys (k ∷ []))
+
+pub opened_length : (k : List ℕ) (keys new : List (List ℕ)) (n : ℕ) (is_new : Bool) (groups g1 : List (List Row)) → length groups ≡ length keys
+    → Sees k keys new n is_new → g1 ≡ cond is_new (groups ++ [] ∷ []) groups → length g1 ≡ length new
+opened_length k keys new n is_new groups g1 e s opened =
+    ap length (opened ∙ ap (λ (c : Bool). cond c (groups ++ [] ∷ []) groups) s.newness) ∙ both_grow (is_seen k keys) keys k groups e ∙ ap length (sym s.keys_are)
+
+pub puts : (k : List ℕ) (row : Row) (keys new : List (List ℕ)) (groups g1 g2 : List (List Row)) (n : ℕ) (is_new : Bool)
+    → Sees k keys new n is_new → g1 ≡ cond is_new (groups ++ [] ∷ []) groups → g2 ≡ put_in g1 n row → Puts k row keys new groups g2
+puts k row keys new groups g1 g2 n is_new s opened put = record {
+  keys_are = s.keys_are;
+  groups_are =
+      put
+      ∙ ap (λ (g : List (List Row)). put_in g n row) opened
+      ∙ ap₂ (λ (c : Bool) (m : ℕ). put_in (cond c (groups ++ [] ∷ []) groups) m row) s.newness s.number_is;
+}
+
+pub as_many : (key_of : Row → List ℕ) (done : List Row) (keys : List (List ℕ)) (groups : List (List Row)) → Grouped key_of done keys groups → length groups ≡ length keys
+as_many key_of done keys groups g = ap length g.each ∙ length-map keys (λ k. rows_with key_of k done)
+
+pub step : (key_of : Row → List ℕ) (rows : List (Bor Row)) (i : ℕ) (row : Bor Row) (k : List ℕ) (keys new : List (List ℕ)) (groups after : List (List Row))
+    → i < length rows → row ≡ get_or rows i row → k ≡ key_of row.now → Grouped key_of (take i (rows_at rows)) keys groups → Puts k row.now keys new groups after
+    → Grouped key_of (take (suc i) (rows_at rows)) new after
+step key_of rows i row k keys new groups after lt is key g p =
+    let q : Puts (key_of row.now) row.now keys new groups after = subst (λ z. Puts z row.now keys new groups after) key p in
+    let b = is_seen (key_of row.now) keys in
+    let whole = step_by b key_of (take i (rows_at rows)) row.now keys new groups (cond (not b) (groups ++ [] ∷ []) groups) after (position_or_len (bytes_eq (key_of row.now)) keys) refl g q.keys_are refl refl q.groups_are in
     rw (taken rows i row lt is) whole
 
 pub finished : (key_of : Row → List ℕ) (rows : List (Bor Row)) (n : ℕ) (keys : List (List ℕ)) (groups : List (List Row)) → length rows ≤ n
@@ -71,14 +95,3 @@ finished key_of rows n keys groups le g =
     let all : take n (rows_at rows) ≡ rows_at rows = take_all n (rows_at rows) (omega (arith, le, length-map rows (λ (r : Bor Row). r.now))) in
     let whole : Grouped key_of (rows_at rows) keys groups = rw all at g in
     whole.each ∙ ap (map (λ k. rows_with key_of k (rows_at rows))) whole.seen
-
-opened_by : (b : Bool) (groups : List (List Row)) → length (cond b (groups ++ [] ∷ []) groups) ≡ length groups + cond b 1 0
-opened_by true groups = length-append groups ([] ∷ [])
-opened_by false groups = omega arith
-
-pub opened_length : (b : Bool) (key_of : Row → List ℕ) (done : List Row) (keys : List (List ℕ)) (groups g1 : List (List Row)) → Grouped key_of done keys groups
-    → g1 ≡ cond b (groups ++ [] ∷ []) groups → length g1 ≡ length keys + cond b 1 0
-opened_length b key_of done keys groups g1 g e =
-    let a = opened_by b groups in
-    let l = length-map keys (λ k. rows_with key_of k done) in
-    omega (arith, ap length e, a, ap length g.each, l)

@@ -7,7 +7,7 @@ use Rattle.dictionary.specs.Syntaxes.{syntax_uid}
 use Rattle.part10.specs.declared.meta.Meta.{Meta}
 use Rattle.part10.specs.declared.meta_fault.MetaFault.{MetaFault}
 use Rattle.part10.specs.declared.meta_fault.MetaFault.TheVariants.{NotPart10, BadMeta, OtherSyntax, ReadFailed}
-use Rattle.part10.specs.MetaText.{said_of, TakesMeta, Refuses}
+use Rattle.part10.specs.MetaText.{said_of, TakesMeta, FailsToRead}
 use Rattle.sequence.specs.Rules.{no_tag}
 use Rattle.sequence.specs.declared.fault.Fault.{Fault}
 use Rattle.sequence.specs.Ending.{Fails, breaks_rule, ends_early}
@@ -15,7 +15,7 @@ use Rattle.dicomdir.specs.declared.fault.DirFault.{DirFault}
 use Rattle.dicomdir.specs.CheckFault.{CheckFault, check_limits, HasHeader, IsAtNone, in_header, in_syntax, in_data_set, at_the_end}
 use Rattle.dicomdir.specs.machine.Steps.{header_fault_of}
 
-pub header_check : (file : List ℕ) (fault : MetaFault) → Refuses fault (Some file) → (header_fault_of fault).number ≢ 67
+pub header_check : (file : List ℕ) (fault : MetaFault) → FailsToRead fault (Some file) → (header_fault_of fault).number ≢ 67
     → CheckFault file (header_fault_of fault).number (header_fault_of fault).place (header_fault_of fault).tag
 header_check file NotPart10 r some = in_header NotPart10 r
 header_check file BadMeta r some = in_header BadMeta r

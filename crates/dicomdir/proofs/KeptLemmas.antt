@@ -1,5 +1,5 @@
 -- What the nodes of a tree keep.
-use Rattle.std.proofs.Common.{◌≡◌, ℕ, suc, ◌+◌, ◌<◌, Bool, true, false, List, [], ◌∷◌, ◌++◌, length, drop, get_or, map, refl, sym, ap, ◌∙◌, arith, if◌then◌else◌}
+use Rattle.std.proofs.Common.{◌≡◌, ℕ, suc, ◌+◌, ◌<◌, ◌≤◌, Bool, true, false, List, [], ◌∷◌, ◌++◌, length, drop, get_or, map, refl, sym, ap, ◌∙◌, if◌then◌else◌}
 use Rattle.std.proofs.lemmas.List.{append_assoc, append-nil, drop_more, drop_all}
 use Rattle.dicomdir.specs.TreeOf.{no_nodes, node}
 use Rattle.dicomdir.specs.Linked.{nodes_of}
@@ -40,7 +40,7 @@ kept_one_more records i d kept one within is all =
     ap (λ z. kept_in (map node_of z)) (drop_more records i d within) ∙ ap (λ z. z ++ kept_from (i + 1) records) (sym is) in
     append_assoc kept one (kept_from (i + 1) records) ∙ (ap (λ z. kept ++ z) (sym first) ∙ all)
 
-pub kept_whole : (records : List TreeRecord) (kept : List (List ℕ)) → kept ++ kept_from (length records) records ≡ kept_in (map node_of records) → kept ≡ kept_in (map node_of records)
-kept_whole records kept all =
-    let none : drop (length records) records ≡ [] = drop_all (length records) records (omega arith) in
+pub kept_whole : (records : List TreeRecord) (kept : List (List ℕ)) (i : ℕ) → length records ≤ i → kept ++ kept_from i records ≡ kept_in (map node_of records) → kept ≡ kept_in (map node_of records)
+kept_whole records kept i le all =
+    let none : drop i records ≡ [] = drop_all i records le in
     sym (append-nil kept) ∙ (ap (λ z. kept ++ kept_in (map node_of z)) (sym none) ∙ all)

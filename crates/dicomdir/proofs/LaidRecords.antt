@@ -15,12 +15,12 @@ use Rattle.element.specs.Uid.{is_uid}
 use Rattle.element.specs.Vr.{is_short}
 use Rattle.dictionary.specs.Syntaxes.{syntax_uid}
 use Rattle.sequence.specs.Tree.{Elements, no_elements, value, sequence}
-use Rattle.dicomdir.specs.Directory.{carried, next_offset, lower_offset, has_record, has_file_id}
+use Rattle.dicomdir.specs.Directory.{carried_node, next_offset, lower_offset, has_record, has_file_id}
 use Rattle.dicomdir.specs.FileId.{file_id_of}
 use Rattle.dicomdir.specs.Keys.{IsRow, optional_size, fits_rooms, fits_patient, fits_study, fits_study_text, fits_series}
 use Rattle.dicomdir.specs.Layout.{with_offsets}
 use Rattle.dicomdir.specs.Linked.{fits}
-use Rattle.dicomdir.specs.Record.{tag, record_of, character_set_key, text_key, uid_key, patient_record, study_record, series_record, image_record}
+use Rattle.dicomdir.specs.Record.{tag, record_elements, character_set_key, text_key, uid_key, patient_record, study_record, series_record, image_record}
 use Rattle.dicomdir.specs.Row.{Row}
 use Rattle.dicomdir.proofs.FileIds.{file_id_room}
 use Rattle.dicomdir.proofs.FileIdText.{file_id_back}
@@ -173,7 +173,7 @@ uid_room text e =
     omega (arith, lt)
 
 -- a record's offsets, its flag and its type, before good elements
-good_start : (next lower : ℕ) (kind : List ℕ) (es : Elements) → length kind ≤ 1024 → IsGood 0x00041430 es → IsGood 0 (with_offsets next lower (record_of kind es))
+good_start : (next lower : ℕ) (kind : List ℕ) (es : Elements) → length kind ≤ 1024 → IsGood 0x00041430 es → IsGood 0 (with_offsets next lower (record_elements kind es))
 good_start next lower kind es short good =
     good_field 0 (tag 0x0004 0x1400) (codes "UL") (le next 4) _ fixed_00000000_00041400 refl (omega arith)
     (good_field 0x00041400 (tag 0x0004 0x1410) (codes "US") (le 0xffff 2) _ fixed_00041400_00041410 refl (omega arith)
@@ -253,18 +253,18 @@ good_image row next lower is s =
 -- what the tree's nodes are: with any offsets they are good, and say what they say without them
 pub record IsNode (level : ℕ) (es : Elements) : Type 0 where
   pub good : (next lower : ℕ) → IsGood 0 (with_offsets next lower es)
-  pub carries : (next lower : ℕ) → carried (with_offsets next lower es) ≡ carried es
+  pub carries : (next lower : ℕ) → carried_node (with_offsets next lower es) ≡ carried_node es
   pub names_next : (next lower : ℕ) → next < 2 ^ 32 → next_offset (with_offsets next lower es) ≡ Some next
   pub names_lower : (next lower : ℕ) → lower < 2 ^ 32 → lower_offset (with_offsets next lower es) ≡ Some lower
   pub whole : (next lower : ℕ) → (has_record (with_offsets next lower es) && has_file_id (with_offsets next lower es)) ≡ true
-  pub fit : fits level (carried es) ≡ true
+  pub fit : fits level (carried_node es) ≡ true
 
 pub number_back : (n : ℕ) → n < 2 ^ 32 → Some (little_number 4 (le n 4)) ≡ Some n
 number_back n small = ap (λ (x : ℕ). Some x) (ap (little_number 4) (sym (append-nil (le n 4))) ∙ little_number-reads_back 4 n [] small)
 
 patient_node_by : (cs : Option (List ℕ)) (name id : List ℕ)
-    → ((next lower : ℕ) → IsGood 0 (with_offsets next lower (record_of (codes "PATIENT") (character_set_key cs (text_key (tag 0x0010 0x0010) (codes "PN") name (text_key (tag 0x0010 0x0020) (codes "LO") id no_elements))))))
-    → IsNode 1 (record_of (codes "PATIENT") (character_set_key cs (text_key (tag 0x0010 0x0010) (codes "PN") name (text_key (tag 0x0010 0x0020) (codes "LO") id no_elements))))
+    → ((next lower : ℕ) → IsGood 0 (with_offsets next lower (record_elements (codes "PATIENT") (character_set_key cs (text_key (tag 0x0010 0x0010) (codes "PN") name (text_key (tag 0x0010 0x0020) (codes "LO") id no_elements))))))
+    → IsNode 1 (record_elements (codes "PATIENT") (character_set_key cs (text_key (tag 0x0010 0x0010) (codes "PN") name (text_key (tag 0x0010 0x0020) (codes "LO") id no_elements))))
 patient_node_by None name id good = record {
   good = good;
   carries = λ n l. refl;
@@ -286,8 +286,8 @@ pub patient_node : (row : Row) → IsRow row → IsNode 1 (patient_record row)
 patient_node row is = patient_node_by row.character_set row.patient_name row.patient_id (λ n l. good_patient row n l (sizes row is.fits))
 
 study_node_by : (cs : Option (List ℕ)) (date time accession description uid id : List ℕ)
-    → ((next lower : ℕ) → IsGood 0 (with_offsets next lower (record_of (codes "STUDY") (character_set_key cs (text_key (tag 0x0008 0x0020) (codes "DA") date (text_key (tag 0x0008 0x0030) (codes "TM") time (text_key (tag 0x0008 0x0050) (codes "SH") accession (text_key (tag 0x0008 0x1030) (codes "LO") description (uid_key (tag 0x0020 0x000d) uid (text_key (tag 0x0020 0x0010) (codes "SH") id no_elements))))))))))
-    → IsNode 2 (record_of (codes "STUDY") (character_set_key cs (text_key (tag 0x0008 0x0020) (codes "DA") date (text_key (tag 0x0008 0x0030) (codes "TM") time (text_key (tag 0x0008 0x0050) (codes "SH") accession (text_key (tag 0x0008 0x1030) (codes "LO") description (uid_key (tag 0x0020 0x000d) uid (text_key (tag 0x0020 0x0010) (codes "SH") id no_elements))))))))
+    → ((next lower : ℕ) → IsGood 0 (with_offsets next lower (record_elements (codes "STUDY") (character_set_key cs (text_key (tag 0x0008 0x0020) (codes "DA") date (text_key (tag 0x0008 0x0030) (codes "TM") time (text_key (tag 0x0008 0x0050) (codes "SH") accession (text_key (tag 0x0008 0x1030) (codes "LO") description (uid_key (tag 0x0020 0x000d) uid (text_key (tag 0x0020 0x0010) (codes "SH") id no_elements))))))))))
+    → IsNode 2 (record_elements (codes "STUDY") (character_set_key cs (text_key (tag 0x0008 0x0020) (codes "DA") date (text_key (tag 0x0008 0x0030) (codes "TM") time (text_key (tag 0x0008 0x0050) (codes "SH") accession (text_key (tag 0x0008 0x1030) (codes "LO") description (uid_key (tag 0x0020 0x000d) uid (text_key (tag 0x0020 0x0010) (codes "SH") id no_elements))))))))
 study_node_by None date time accession description uid id good = record {
   good = good;
   carries = λ n l. refl;
@@ -309,8 +309,8 @@ pub study_node : (row : Row) → IsRow row → IsNode 2 (study_record row)
 study_node row is = study_node_by row.character_set row.study_date row.study_time row.accession_number row.study_description row.study_instance_uid row.study_id (λ n l. good_study row n l (sizes row is.fits))
 
 series_node_by : (cs : Option (List ℕ)) (modality uid count : List ℕ)
-    → ((next lower : ℕ) → IsGood 0 (with_offsets next lower (record_of (codes "SERIES") (character_set_key cs (text_key (tag 0x0008 0x0060) (codes "CS") modality (uid_key (tag 0x0020 0x000e) uid (text_key (tag 0x0020 0x0011) (codes "IS") count no_elements)))))))
-    → IsNode 3 (record_of (codes "SERIES") (character_set_key cs (text_key (tag 0x0008 0x0060) (codes "CS") modality (uid_key (tag 0x0020 0x000e) uid (text_key (tag 0x0020 0x0011) (codes "IS") count no_elements)))))
+    → ((next lower : ℕ) → IsGood 0 (with_offsets next lower (record_elements (codes "SERIES") (character_set_key cs (text_key (tag 0x0008 0x0060) (codes "CS") modality (uid_key (tag 0x0020 0x000e) uid (text_key (tag 0x0020 0x0011) (codes "IS") count no_elements)))))))
+    → IsNode 3 (record_elements (codes "SERIES") (character_set_key cs (text_key (tag 0x0008 0x0060) (codes "CS") modality (uid_key (tag 0x0020 0x000e) uid (text_key (tag 0x0020 0x0011) (codes "IS") count no_elements)))))
 series_node_by None modality uid count good = record {
   good = good;
   carries = λ n l. refl;

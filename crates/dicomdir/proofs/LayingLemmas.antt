@@ -5,7 +5,7 @@ use Rattle.std.proofs.lemmas.Bool.Decides.{nat_tests}
 use Rattle.sequence.specs.Tree.{Elements, no_items}
 use Rattle.dicomdir.specs.declared.level.Level.{Level}
 use Rattle.dicomdir.specs.declared.level.Level.TheVariants.{Patient, Study, Series, Image}
-use Rattle.dicomdir.specs.declared.build_plan.Entry.{Entry}
+use Rattle.dicomdir.specs.declared.build_plan.LaidRecord.{LaidRecord}
 use Rattle.dicomdir.specs.declared.build_plan.Stop.{Stop}
 use Rattle.dicomdir.specs.declared.build_plan.Stop.TheVariants.{TooLarge, OutOfMemory}
 use Rattle.std.specs.Borrow.{Bor}
@@ -24,11 +24,11 @@ none_is n h = grind (arith, nat_tests)
 place_is : (start size : ℕ) → 0 < size → place_from_end (start + size) size ≡ start
 place_is start size h = let e : start + size - size ≡ start = omega arith in ap (λ (b : Bool). cond b 0 (start + size - size)) (none_is size h) ∙ e
 
-pub laid_push : {A : Type 0} (total : ℕ) (es : List (Entry A)) (e : Entry A) → laid_text total (es ++ e ∷ []) ≡ entry_text total e ++ laid_text total es
+pub laid_push : {A : Type 0} (total : ℕ) (es : List (LaidRecord A)) (e : LaidRecord A) → laid_text total (es ++ e ∷ []) ≡ entry_text total e ++ laid_text total es
 laid_push total [] e = sym (append-nil (entry_text total e))
 laid_push total (x ∷ es) e = ap (λ (t : List ℕ). t ++ entry_text total x) (laid_push total es e) ∙ append_assoc (entry_text total e) (laid_text total es) (entry_text total x)
 
-pub lays_none : {A : Type 0} (es : List (Entry A)) (size : ℕ) → Lays no_nodes es es size size 0 0
+pub lays_none : {A : Type 0} (es : List (LaidRecord A)) (size : ℕ) → Lays no_nodes es es size size 0 0
 lays_none es size = record {
   size = omega arith;
   count = omega arith;
@@ -38,7 +38,7 @@ lays_none es size = record {
   none = refl;
 }
 
-module _ {A : Type 0} (forest : Forest Elements) (old new : List (Entry A)) (old_size new_size first last : ℕ) (lays : Lays forest old new old_size new_size first last) where
+module _ {A : Type 0} (forest : Forest Elements) (old new : List (LaidRecord A)) (old_size new_size first last : ℕ) (lays : Lays forest old new old_size new_size first last) where
   text_at : (start total : ℕ) → total ≡ start + new_size → laid_text total new ≡ forest_text (with_places start forest) ++ laid_text total old
   text_at start total e = rw e (lays.text start)
 
@@ -61,7 +61,7 @@ record_is : (level : Level) (row : Row) (next lower : ℕ) → record_text level
 unfolding record_text
 record_is level row next lower = refl
 
-entry_is : {A : Type 0} (e : Entry A) (total : ℕ) (level : Level) (row : Row) (next lower next_place lower_place : ℕ)
+entry_is : {A : Type 0} (e : LaidRecord A) (total : ℕ) (level : Level) (row : Row) (next lower next_place lower_place : ℕ)
     → e.level ≡ level → e.row.now ≡ row → e.next ≡ next → e.lower ≡ lower → place_from_end total next ≡ next_place → place_from_end total lower ≡ lower_place
     → entry_text total e ≡ spelled_items (record_item next_place lower_place (record_for level row) no_items)
 entry_is e total level row next lower next_place lower_place a b c d f g =
@@ -71,7 +71,7 @@ entry_is e total level row next lower next_place lower_place a b c d f g =
 regrouped : (a b c d : List ℕ) → a ++ (b ++ (c ++ d)) ≡ (a ++ (b ++ c)) ++ d
 regrouped a b c d = simp append_assoc
 
-pub lays_node : {A : Type 0} (level : Level) (row : Row) (below next : Forest Elements) (e0 e1 e2 e3 : List (Entry A)) (s0 s1 s2 s3 f1 l1 f2 l2 last : ℕ)
+pub lays_node : {A : Type 0} (level : Level) (row : Row) (below next : Forest Elements) (e0 e1 e2 e3 : List (LaidRecord A)) (s0 s1 s2 s3 f1 l1 f2 l2 last : ℕ)
     → Lays next e0 e1 s0 s1 f1 l1 → Lays below e1 e2 s1 s2 f2 l2 → Adds level row f1 f2 s3 e2 e3 → s3 ≡ s2 + record_size (record_for level row)
     → last ≡ cond (nat_eq f1 0) s3 l1 → Lays (node (record_for level row) below next) e0 e3 s0 s3 s3 last
 lays_node level row below next e0 e1 e2 e3 s0 s1 s2 s3 f1 l1 f2 l2 last others under adds size last_is =
@@ -136,7 +136,7 @@ pub record_length : (level : Level) (row : Row) → length (record_text level ro
 unfolding record_text
 record_length level row = let n = append-nil (spelled (with_offsets 0 0 (record_for level row))) in rw n (omega arith)
 
-named : {A : Type 0} (forest : Forest Elements) (e0 e1 : List (Entry A)) (s0 s1 f l first last : ℕ) → Lays forest e0 e1 s0 s1 f l → first ≡ f → last ≡ l → Lays forest e0 e1 s0 s1 first last
+named : {A : Type 0} (forest : Forest Elements) (e0 e1 : List (LaidRecord A)) (s0 s1 f l first last : ℕ) → Lays forest e0 e1 s0 s1 f l → first ≡ f → last ≡ l → Lays forest e0 e1 s0 s1 first last
 named forest e0 e1 s0 s1 f l first last lays a b = rw (a, b) lays
 
 last_row : {X : Type 0} (xs : List X) (at : ℕ) (x : X) → 0 < at → at ≤ length xs → x ≡ get_or xs (at - 1) x → drop (at - 1) xs ≡ x ∷ drop at xs
@@ -145,7 +145,7 @@ last_row xs at x some le is =
     let next : suc (at - 1) ≡ at = omega arith in
     drop-cons xs (at - 1) x lt ∙ ap₂ (λ y (n : ℕ). y ∷ drop n xs) (sym is) next
 
-pub image_laid : {A : Type 0} (rows : List (Bor Row)) (at : ℕ) (row : Bor Row) (e0 e1 e2 : List (Entry A)) (s0 s1 s2 f l start first last : ℕ)
+pub image_laid : {A : Type 0} (rows : List (Bor Row)) (at : ℕ) (row : Bor Row) (e0 e1 e2 : List (LaidRecord A)) (s0 s1 s2 f l start first last : ℕ)
     → 0 < at → at ≤ length rows → row ≡ get_or rows (at - 1) row
     → Lays (images (rows_at (drop at rows))) e0 e1 s0 s1 f l → Adds Image row.now f 0 start e1 e2 → s2 ≡ s1 + record_size (record_for Image row.now) → start ≡ s2
     → first ≡ start → last ≡ cond (nat_eq f 0) start l
@@ -166,7 +166,7 @@ rows_dropped rows zero = refl
 rows_dropped [] (suc n) = refl
 rows_dropped (row ∷ rows) (suc n) = rows_dropped rows n
 
-pub image_stops : {A : Type 0} (rows : List (Bor Row)) (at : ℕ) (row : Bor Row) (e0 e1 : List (Entry A)) (s0 s1 f l : ℕ) (stop : Stop)
+pub image_stops : {A : Type 0} (rows : List (Bor Row)) (at : ℕ) (row : Bor Row) (e0 e1 : List (LaidRecord A)) (s0 s1 f l : ℕ) (stop : Stop)
     → 0 < at → at ≤ length rows → row ≡ get_or rows (at - 1) row
     → Lays (images (rows_at (drop at rows))) e0 e1 s0 s1 f l → StopsFor (s1 + record_size (record_for Image row.now)) stop
     → StopsFor (s0 + forest_size (images (rows_at rows))) stop
@@ -192,7 +192,7 @@ module _ (level : Level) (groups : List (List Row)) (at : ℕ) (group : List Row
       ap forest one ∙ ap (λ (g : List Row). group_node (record_for level) (forest_for (lower_level level)) g (forest (drop at groups))) two
       ∙ ap (λ (g : List Row). node (record_for level row) (forest_for (lower_level level) g) (forest (drop at groups))) (sym two)
 
-  pub group_laid : {A : Type 0} (e0 e1 e2 e3 : List (Entry A)) (s0 s1 s2 s3 f1 l1 f2 l2 start first last : ℕ)
+  pub group_laid : {A : Type 0} (e0 e1 e2 e3 : List (LaidRecord A)) (s0 s1 s2 s3 f1 l1 f2 l2 start first last : ℕ)
       → Lays (forest (drop at groups)) e0 e1 s0 s1 f1 l1 → Lays (forest_for (lower_level level) group) e1 e2 s1 s2 f2 l2
       → Adds level row f1 f2 start e2 e3 → s3 ≡ s2 + record_size (record_for level row) → start ≡ s3
       → first ≡ start → last ≡ cond (nat_eq f1 0) start l1
@@ -212,7 +212,7 @@ module _ (level : Level) (groups : List (List Row)) (at : ℕ) (group : List Row
       let w : forest_for level rows ≡ forest groups = forest_is level rows no_image ∙ ap forest (sym are) in
       omega (arith, h, e, ap forest_size w)
 
-  pub below_stops : {A : Type 0} (rows : List Row) (e0 e1 : List (Entry A)) (s0 s1 f1 l1 : ℕ) (stop : Stop) → is_image level ≡ false → groups ≡ groups_of (key_for level) rows
+  pub below_stops : {A : Type 0} (rows : List Row) (e0 e1 : List (LaidRecord A)) (s0 s1 f1 l1 : ℕ) (stop : Stop) → is_image level ≡ false → groups ≡ groups_of (key_for level) rows
       → Lays (forest (drop at groups)) e0 e1 s0 s1 f1 l1 → StopsFor (s1 + forest_size (forest_for (lower_level level) group)) stop
       → StopsFor (s0 + forest_size (forest_for level rows)) stop
   below_stops rows e0 e1 s0 s1 f1 l1 stop no_image are others stops =
@@ -220,7 +220,7 @@ module _ (level : Level) (groups : List (List Row)) (at : ℕ) (group : List Row
       let size : s1 ≡ s0 + forest_size (forest (drop at groups)) = others.size in
       stops_more _ _ stop (omega (arith, w, size)) stops
 
-  pub own_stops : {A : Type 0} (rows : List Row) (e0 e1 e2 : List (Entry A)) (s0 s1 s2 f1 l1 f2 l2 : ℕ) (stop : Stop) → is_image level ≡ false → groups ≡ groups_of (key_for level) rows
+  pub own_stops : {A : Type 0} (rows : List Row) (e0 e1 e2 : List (LaidRecord A)) (s0 s1 s2 f1 l1 f2 l2 : ℕ) (stop : Stop) → is_image level ≡ false → groups ≡ groups_of (key_for level) rows
       → Lays (forest (drop at groups)) e0 e1 s0 s1 f1 l1 → Lays (forest_for (lower_level level) group) e1 e2 s1 s2 f2 l2
       → StopsFor (s2 + record_size (record_for level row)) stop
       → StopsFor (s0 + forest_size (forest_for level rows)) stop
@@ -231,7 +231,7 @@ module _ (level : Level) (groups : List (List Row)) (at : ℕ) (group : List Row
       stops_more _ _ stop (omega (arith, w, size, below)) stops
 
 -- a group without rows has no node
-pub empty_group : {A : Type 0} (r : Row → Elements) (b : List Row → Forest Elements) (groups : List (List Row)) (at : ℕ) (group : List Row) (e0 e1 : List (Entry A)) (s0 s1 f l : ℕ)
+pub empty_group : {A : Type 0} (r : Row → Elements) (b : List Row → Forest Elements) (groups : List (List Row)) (at : ℕ) (group : List Row) (e0 e1 : List (LaidRecord A)) (s0 s1 f l : ℕ)
     → 0 < at → at ≤ length groups → group ≡ get_or groups (at - 1) group → slice_get group 0 ≡ None
     → Lays (groups_forest r b (drop at groups)) e0 e1 s0 s1 f l → Lays (groups_forest r b (drop (at - 1) groups)) e0 e1 s0 s1 f l
 empty_group r b groups at [] e0 e1 s0 s1 f l some le is none lays = rw (last_row groups at [] some le is) lays
@@ -251,7 +251,7 @@ pub none_now : (group : List (Bor Row)) → None ≡ slice_get group 0 → slice
 none_now [] e = refl
 none_now (x ∷ group) e = absurd cc
 
-pub whole_laid : {A : Type 0} (level : Level) (groups : List (List Row)) (rows : List Row) (at : ℕ) (e0 e1 : List (Entry A)) (s0 s1 f l : ℕ) → is_image level ≡ false → groups ≡ groups_of (key_for level) rows → at ≤ 0
+pub whole_laid : {A : Type 0} (level : Level) (groups : List (List Row)) (rows : List Row) (at : ℕ) (e0 e1 : List (LaidRecord A)) (s0 s1 f l : ℕ) → is_image level ≡ false → groups ≡ groups_of (key_for level) rows → at ≤ 0
     → Lays (groups_forest (record_for level) (forest_for (lower_level level)) (drop at groups)) e0 e1 s0 s1 f l → Lays (forest_for level rows) e0 e1 s0 s1 f l
 whole_laid level groups rows zero e0 e1 s0 s1 f l image are le lays =
     let w : forest_for level rows ≡ groups_forest (record_for level) (forest_for (lower_level level)) groups = forest_is level rows image ∙ ap (groups_forest (record_for level) (forest_for (lower_level level))) (sym are) in

@@ -4,7 +4,7 @@ use Rattle.std.proofs.lemmas.Bool.{and_parts, and_from, or_parts}
 use Rattle.std.proofs.lemmas.List.Folds.{list_any-append}
 use Rattle.sequence.specs.Tree.{Elements, no_elements}
 use Rattle.dicomdir.specs.TreeOf.{Forest, no_nodes, node}
-use Rattle.dicomdir.specs.Directory.{Record, carried, lower_offset, next_offset}
+use Rattle.dicomdir.specs.Directory.{Record, carried_node, lower_offset, next_offset}
 use Rattle.dicomdir.specs.Linked.{PlacedNode, places_of, first_place, last_place_behind, is_distinct, record_at, fits, AreLinked}
 use Rattle.dicomdir.specs.DirFault.{Fault, fault, Way, leads_back, lower_way, next_way, Walked, stopped, went, with_reached, walk, is_one_of, last_before, or_zero, elements_at, named_fault}
 use Rattle.dicomdir.specs.Followed.{forest_from}
@@ -65,13 +65,13 @@ pub record Named (way : Way) (reached : List ℕ) (offset : ℕ) (o : Option Ele
   pub elements : Elements
   pub stands : o ≡ Some elements
   pub new : is_one_of offset reached ≡ false
-  pub fit : fits way.level (carried elements) ≡ true
+  pub fit : fits way.level (carried_node elements) ≡ true
 
 pub named_none : (way : Way) (reached : List ℕ) (offset : ℕ) (o : Option Elements) → named_fault way reached offset o ≡ None → Named way reached offset o
 named_none way reached offset None e = absurd cc
-named_none way reached offset (Some es) e = by (is_one_of offset reached) (fits way.level (carried es)) refl refl e
+named_none way reached offset (Some es) e = by (is_one_of offset reached) (fits way.level (carried_node es)) refl refl e
   where
-    by : (a b : Bool) → is_one_of offset reached ≡ a → fits way.level (carried es) ≡ b
+    by : (a b : Bool) → is_one_of offset reached ≡ a → fits way.level (carried_node es) ≡ b
         → (if a then fault (if leads_back way offset then 61 else 62) way.told else (if not b then fault 64 offset else None)) ≡ None → Named way reached offset (Some es)
     by true b old fit e = absurd cc
     by false false new fit e = absurd cc
@@ -134,7 +134,7 @@ joined_reach : (records : List Record) (way : Way) (reached : List ℕ) (offset 
     → HaveOffsets records → (named : Named way reached offset (record_at offset records))
     → Reaches records (lower_way way offset) (offset ∷ reached) (or_zero (lower_offset (elements_at records offset))) f1 more1 last1
     → Reaches records (next_way way offset) more1 (or_zero (next_offset (elements_at records offset))) f2 more last
-    → Reaches records way reached offset (node (record { place = offset; carries = carried (elements_at records offset) }) f1 f2) more last
+    → Reaches records way reached offset (node (record { place = offset; carries = carried_node (elements_at records offset) }) f1 f2) more last
 joined_reach records way reached offset f1 f2 more1 more last1 last has named r1 r2 =
     let es : Elements = elements_at records offset in
     let xs : List ℕ = places_of f1 in
@@ -142,7 +142,7 @@ joined_reach records way reached offset f1 f2 more1 more last1 last has named r1
     let stands : record_at offset records ≡ Some es = stands_is (record_at offset records) named.elements named.stands in
     let same : named.elements ≡ es = cc in
     let offsets = has offset es stands in
-    let fit : fits way.level (carried es) ≡ true = subst (λ z. fits way.level (carried z) ≡ true) same named.fit in
+    let fit : fits way.level (carried_node es) ≡ true = subst (λ z. fits way.level (carried_node z) ≡ true) same named.fit in
     let in_first : (p : ℕ) → is_one_of p xs ≡ true → is_one_of p more1 ≡ true = λ p h. r1.members p ∙ or_first (is_one_of p xs) (nat_eq p offset || is_one_of p reached) h in
     let in_here : is_one_of offset more1 ≡ true = r1.members offset ∙ second_true (is_one_of offset xs) (nat_eq offset offset) (is_one_of offset reached) (same_place offset) in
     let in_reached : (p : ℕ) → is_one_of p reached ≡ true → is_one_of p more1 ≡ true = λ p h. r1.members p ∙ third_true (is_one_of p xs) (nat_eq p offset) (is_one_of p reached) h in
@@ -200,7 +200,7 @@ named_walk most records way reached offset =
 
 abbrev forest_node : ℕ → List Record → ℕ → Forest PlacedNode
 forest_node most records offset =
-    node (record { place = offset; carries = carried (elements_at records offset) })
+    node (record { place = offset; carries = carried_node (elements_at records offset) })
     (forest_from most records (or_zero (lower_offset (elements_at records offset))))
     (forest_from most records (or_zero (next_offset (elements_at records offset))))
 

@@ -3,9 +3,9 @@ use Rattle.std.proofs.Common.{◌≡◌, ℕ, suc, Bool, true, false, not, ◌&&
 use Rattle.std.specs.List.{list_all}
 use Rattle.std.proofs.lemmas.Bool.{and_parts}
 use Rattle.std.proofs.Math.Bool.{or-false}
-use Rattle.dicomdir.specs.Directory.{Found, missing, value_at, items_at, found, number_in, records_in, records_of, Record, carried, first_offset, last_offset, has_record, has_file_id}
+use Rattle.dicomdir.specs.Directory.{Found, missing, value_at, items_at, found, number_in, records_in, records_of, Record, carried_node, first_offset, last_offset, has_record, has_file_id}
 use Rattle.dicomdir.specs.Linked.{places_of, first_place, last_place, are_records}
-use Rattle.dicomdir.specs.DirFault.{Fault, fault, offset_fault, records_fault, root_fault, record_fault, each_fault, unreached_fault, end_fault, links_fault, records_then_links, directory_fault, is_one_of, or_zero, ◌or_else◌, root_way, walk, went}
+use Rattle.dicomdir.specs.DirFault.{Fault, fault, offset_fault, records_fault, root_fault, record_fault, each_fault, unreached_fault, end_of_links, links_fault, records_then_links, directory_fault, is_one_of, or_zero, ◌or_else◌, root_way, walk, went}
 use Rattle.dicomdir.specs.NoFault.{LinkedHasNoFault}
 use Rattle.dicomdir.proofs.Within.{nodes_are_records}
 use Rattle.dicomdir.proofs.Walking.{goes, IsApart, same_place}
@@ -42,11 +42,11 @@ when_true true x y e = refl
 when_true false x y e = absurd cc
 
 unreached_none : (places more : List ℕ) (records : List Record) → ((p : ℕ) → is_one_of p more ≡ (is_one_of p places || false))
-    → list_all (λ r. not (carried r.elements).in_use || is_one_of r.place places) records ≡ true → unreached_fault more records ≡ None
+    → list_all (λ r. not (carried_node r.elements).in_use || is_one_of r.place places) records ≡ true → unreached_fault more records ≡ None
 unreached_none places more [] members e = refl
 unreached_none places more (r ∷ records) members e =
-    let inactive : Bool = not (carried r.elements).in_use in
-    let parts = and_parts (inactive || is_one_of r.place places) (list_all (λ r. not (carried r.elements).in_use || is_one_of r.place places) records) e in
+    let inactive : Bool = not (carried_node r.elements).in_use in
+    let parts = and_parts (inactive || is_one_of r.place places) (list_all (λ r. not (carried_node r.elements).in_use || is_one_of r.place places) records) e in
     let here : (inactive || is_one_of r.place more) ≡ true = ap (λ z. inactive || z) (members r.place ∙ or-false (is_one_of r.place places)) ∙ parts.0 in
     when_true (inactive || is_one_of r.place more) (unreached_fault more records) (fault 63 r.place) here ∙ unreached_none places more records members parts.1
 
@@ -70,10 +70,10 @@ linked_has_no_fault start elements tree linked all =
     let from : or_zero (first_offset start elements) ≡ first_place linked.placed = ap or_zero linked.names_first in
     let is : walk (suc (length linked.records)) linked.records way [] (or_zero (first_offset start elements)) ≡ went walked.more (last_place linked.placed) =
     ap (λ z. walk (suc (length linked.records)) linked.records way [] z) from ∙ walked.is in
-    let ends : end_fault start elements linked.records (went walked.more (last_place linked.placed)) ≡ None =
+    let ends : end_of_links start elements linked.records (went walked.more (last_place linked.placed)) ≡ None =
     two_none _ _ (last_named (last_offset start elements) (last_place linked.placed) _ linked.names_last)
     (unreached_none (places_of linked.placed) walked.more linked.records walked.members all) in
-    let links : links_fault start elements linked.records ≡ None = ap (λ w. end_fault start elements linked.records w) is ∙ ends in
+    let links : links_fault start elements linked.records ≡ None = ap (λ w. end_of_links start elements linked.records w) is ∙ ends in
     let after : records_then_links start elements (records_of start elements) ≡ None =
     ap (λ o. records_then_links start elements o) linked.has_records ∙ two_none _ _ (each_none linked.records linked.good) links in
     let root : root_fault start elements ≡ None =

@@ -3,12 +3,12 @@ use Rattle.std.proofs.Common.{◌≡◌, ℕ, ◌≤◌, List, [], ◌∷◌, �
 use Rattle.element.specs.declared.syntax.Syntax.TheVariants.{Explicit}
 use Rattle.element.specs.Vr.{is_short}
 use Rattle.part10.specs.declared.meta.Meta.{Meta}
-use Rattle.part10.specs.File.{head, meta_group, instance_elements, implementation_elements, title_element}
+use Rattle.part10.specs.File.{head, meta_group, identity_elements, implementation_elements, title_element}
 use Rattle.part10.specs.MetaText.{SpellsMeta, said_of}
 use Rattle.part10.proofs.Public.{head_is_read}
 use Rattle.sequence.specs.Tree.{Elements}
 use Rattle.dicomdir.specs.TreeOf.{Forest, no_nodes, node, TreeOf}
-use Rattle.dicomdir.specs.Directory.{IsExplicitFile, IsDirectoryFile, Record, carried, records_of}
+use Rattle.dicomdir.specs.Directory.{IsExplicitFile, IsDirectoryFile, Record, carried_node, records_of}
 use Rattle.dicomdir.specs.Linked.{Linked, PlacedNode, carried_forest, record_at, first_place, AreLinked}
 use Rattle.dicomdir.specs.DirFault.{directory_fault, elements_at}
 use Rattle.dicomdir.specs.Layout.{spelled}
@@ -27,11 +27,11 @@ one_image_meta = record {
 }
 
 header_is : head one_image_meta ≡ one_image_header
-unfolding one_image_meta instance_elements implementation_elements title_element is_short
+unfolding one_image_meta identity_elements implementation_elements title_element is_short
 header_is = refl
 
 group_short : length (meta_group one_image_meta) ≤ 360
-unfolding one_image_meta instance_elements implementation_elements title_element is_short
+unfolding one_image_meta identity_elements implementation_elements title_element is_short
 group_short = omega arith
 
 elements_are : one_image_file ≡ one_image_header ++ spelled (one_image_elements 320 320 0 404 534 626)
@@ -63,7 +63,7 @@ the_records : List Record
 the_records = records_or_none (records_of 266 the_elements)
 
 placed : ℕ → Elements → PlacedNode
-placed place es = record { place = place; carries = carried es }
+placed place es = record { place = place; carries = carried_node es }
 
 the_places : Forest PlacedNode
 the_places =

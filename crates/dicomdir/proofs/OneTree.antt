@@ -7,7 +7,7 @@ use Rattle.part10.proofs.Public.{one_header}
 use Rattle.sequence.specs.Tree.{Elements, DataSet}
 use Rattle.sequence.proofs.Public.{one_tree}
 use Rattle.dicomdir.specs.TreeOf.{Forest, no_nodes, node}
-use Rattle.dicomdir.specs.Directory.{Record, Node, carried, found, first_offset, records_of, next_offset, lower_offset, IsExplicitFile, IsDirectoryFile}
+use Rattle.dicomdir.specs.Directory.{Record, Node, carried_node, found, first_offset, records_of, next_offset, lower_offset, IsExplicitFile, IsDirectoryFile}
 use Rattle.dicomdir.specs.Linked.{LinkedElements, PlacedNode, nodes_of, first_place, record_at, AreLinked}
 use Rattle.dicomdir.specs.DirFault.{is_one_of}
 use Rattle.dicomdir.specs.NoFault.{OneTreeOfFile}
@@ -30,7 +30,7 @@ same_forest records level (node n below next) no_nodes none l m e = absurd (not_
 same_forest records level (node n below next) (node k lower behind) none l m e =
     let both : Some l.0.elements ≡ Some m.0.elements = sym l.0.stands ∙ (ap (λ z. record_at z records) e ∙ m.0.stands) in
     let es : l.0.elements ≡ m.0.elements = some_same l.0.elements m.0.elements both in
-    let carries : n.carries ≡ k.carries = sym l.0.carries ∙ (ap (λ z. carried z) es ∙ m.0.carries) in
+    let carries : n.carries ≡ k.carries = sym l.0.carries ∙ (ap (λ z. carried_node z) es ∙ m.0.carries) in
     let low : first_place below ≡ first_place lower = some_same (first_place below) (first_place lower) (sym l.0.names_lower ∙ (ap (λ z. lower_offset z) es ∙ m.0.names_lower)) in
     let nxt : first_place next ≡ first_place behind = some_same (first_place next) (first_place behind) (sym l.0.names_next ∙ (ap (λ z. next_offset z) es ∙ m.0.names_next)) in
     let below_same = same_forest records (suc level) below lower none l.1 m.1 low in

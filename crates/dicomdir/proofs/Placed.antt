@@ -5,7 +5,7 @@ use Rattle.std.proofs.lemmas.Bool.{and_from, and_parts, ltb-false}
 use Rattle.std.proofs.lemmas.Bool.Decides.{nat_tests}
 use Rattle.std.proofs.lemmas.List.Folds.{list_any-append, list_all-append}
 use Rattle.sequence.specs.Tree.{Elements}
-use Rattle.dicomdir.specs.Directory.{Record, carried}
+use Rattle.dicomdir.specs.Directory.{Record, carried_node}
 use Rattle.dicomdir.specs.Layout.{with_offsets}
 use Rattle.dicomdir.specs.Linked.{PlacedNode, carried_forest, nodes_of, places_of, first_place, last_place_behind, is_distinct, record_at, are_records, AreLinked}
 use Rattle.dicomdir.specs.DirFault.{is_one_of}
@@ -29,12 +29,12 @@ written (node r below next) =
 
 abbrev pub placed : Forest Record → Forest PlacedNode
 placed no_nodes = no_nodes
-placed (node r below next) = node (record { place = r.place; carries = carried r.elements }) (placed below) (placed next)
+placed (node r below next) = node (record { place = r.place; carries = carried_node r.elements }) (placed below) (placed next)
 
 pub nodes_are : (place : ℕ) (tree : Forest Elements) → nodes_of (placed (with_places place tree)) ≡ carried_forest tree
 nodes_are place no_nodes = refl
 nodes_are place (node es below next) =
-    ap₂ (λ b n. node (carried es) b n) (nodes_are (place + record_size es) below) (nodes_are (place + record_size es + forest_size below) next)
+    ap₂ (λ b n. node (carried_node es) b n) (nodes_are (place + record_size es) below) (nodes_are (place + record_size es + forest_size below) next)
 
 pub first_same : (f : Forest Record) → first_place (placed f) ≡ first_record_place f
 first_same no_nodes = refl
@@ -204,7 +204,7 @@ distinct place (node es below next) =
 -- every record is reached
 
 pub reached : (f : Forest Record) (all : List ℕ) → ((p : ℕ) → is_one_of p (places_of (placed f)) ≡ true → is_one_of p all ≡ true)
-    → list_all (λ r. not (carried r.elements).in_use || list_any (nat_eq r.place) all) (written f) ≡ true
+    → list_all (λ r. not (carried_node r.elements).in_use || list_any (nat_eq r.place) all) (written f) ≡ true
 reached no_nodes all sub = refl
 reached (node r below next) all sub =
     let bs = places_of (placed below) in

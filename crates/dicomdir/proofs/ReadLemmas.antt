@@ -4,8 +4,8 @@ use Rattle.std.specs.Str.{bytes_eq}
 use Rattle.sequence.specs.Tree.{Elements}
 use Rattle.dicomdir.specs.declared.found.Element.{Element}
 use Rattle.dicomdir.specs.declared.found.Element.TheVariants as got
-use Rattle.dicomdir.specs.declared.records.Entry.{Entry}
-use Rattle.dicomdir.specs.Directory.{Found, found, number_in, kind_in, file_id_in, is_missing, is_in_use, is_use_flag, carried, next_offset, lower_offset, has_file_id}
+use Rattle.dicomdir.specs.declared.records.ReadRecord.{ReadRecord}
+use Rattle.dicomdir.specs.Directory.{Found, found, number_in, kind_in, file_id_in, is_missing, is_in_use, is_use_flag, carried_node, next_offset, lower_offset, has_file_id}
 use Rattle.dicomdir.specs.DirFault.{or_zero}
 use Rattle.dicomdir.specs.machine.Entries.{IsEntry}
 use Rattle.dicomdir.specs.machine.Reading.{IsEntryOf, use_flag, entry_has_file_id}
@@ -50,7 +50,7 @@ pub not_empty : (xs : List ℕ) (b : Bool) → b ≡ nat_eq (length xs) 0 → b 
 not_empty [] b is e = absurd cc
 not_empty (x ∷ xs) b is e = refl
 
-pub entry_is : (place : ℕ) (es : Elements) (e : Entry) → next_offset es ≡ Some e.next → use_flag (number_in 2 (found 0x00041410 0 es)) ≡ Some e.in_use
+pub entry_is : (place : ℕ) (es : Elements) (e : ReadRecord) → next_offset es ≡ Some e.next → use_flag (number_in 2 (found 0x00041410 0 es)) ≡ Some e.in_use
     → lower_offset es ≡ Some e.lower → e.kind.now ≡ kind_in (found 0x00041430 0 es) → bytes_eq e.kind.now [] ≡ false → e.file_id ≡ file_id_in (found 0x00041500 0 es)
     → e.place ≡ place → IsEntryOf place es e
 entry_is place es e next flag lower kind some file_id at =
@@ -64,7 +64,7 @@ entry_is place es e next flag lower kind some file_id at =
       next = sym (ap or_zero next);
       lower = sym (ap or_zero lower);
       carries = λ i. record { in_use = used.0 i; kind = kind i; file_id = file_id i };
-      has_record = four_true (is_some (next_offset es)) (is_use_flag (number_in 2 (found 0x00041410 0 es))) (is_some (lower_offset es)) (bytes_eq (carried es).kind []) a c b some_kind;
+      has_record = four_true (is_some (next_offset es)) (is_use_flag (number_in 2 (found 0x00041410 0 es))) (is_some (lower_offset es)) (bytes_eq (carried_node es).kind []) a c b some_kind;
     }
   where
     four_true : (a b c d : Bool) → a ≡ true → b ≡ true → c ≡ true → d ≡ false → ((a && b) && (c && not d)) ≡ true
@@ -72,11 +72,11 @@ entry_is place es e next flag lower kind some file_id at =
 
 -- ---- its file ID
 
-pub file_id_as : (place : ℕ) (es : Elements) (e : Entry) (found_id : Element) → IsEntryOf place es e → Finds found_id (found 0x00041500 0 es)
+pub file_id_as : (place : ℕ) (es : Elements) (e : ReadRecord) (found_id : Element) → IsEntryOf place es e → Finds found_id (found 0x00041500 0 es)
     → entry_has_file_id e found_id ≡ has_file_id es
 file_id_as place es e found_id is finds =
     let none = finds_missing found_id (found 0x00041500 0 es) finds in
     (λ i. not (is.carries i).in_use || is_some (is.carries i).file_id || (none i && not (bytes_eq (is.carries i).kind (codes "IMAGE"))))
 
-pub whole_entry : (place : ℕ) (es : Elements) (e : Entry) → IsEntryOf place es e → has_file_id es ≡ true → IsEntry e (record { place = place; elements = es })
+pub whole_entry : (place : ℕ) (es : Elements) (e : ReadRecord) → IsEntryOf place es e → has_file_id es ≡ true → IsEntry e (record { place = place; elements = es })
 whole_entry place es e is has = record { place = is.place_is; next = is.next; lower = is.lower; carries = is.carries; has_record = is.has_record; has_file_id = has }

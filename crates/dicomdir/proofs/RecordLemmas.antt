@@ -10,7 +10,7 @@ use Rattle.element.specs.Padding.{is_empty, without_trailing, is_padding, padded
 use Rattle.dictionary.specs.Syntaxes.{syntax_uid}
 use Rattle.sequence.specs.Tree.{Elements, no_elements}
 use Rattle.dicomdir.specs.Layout.{spelled, with_offsets}
-use Rattle.dicomdir.specs.Record.{tag, field, record_of, character_set_key, text_key, uid_key, patient_record, study_record, series_record, image_record}
+use Rattle.dicomdir.specs.Record.{tag, field, record_elements, character_set_key, text_key, uid_key, patient_record, study_record, series_record, image_record}
 use Rattle.dicomdir.specs.Row.{Row, key}
 use Rattle.dicomdir.specs.RecordText as text
 
@@ -36,14 +36,14 @@ syntax_uid_short Explicit = omega arith
 record Spells (es : Elements) (bytes : List ℕ) : Type 0 where
   pub is : spelled es ≡ bytes
 
-field_then : (t : Tag) (vr v : List ℕ) {es : Elements} {rest : List ℕ} → Spells es rest → Spells (field t vr v es) (text.element t vr v ++ rest)
-unfolding text.element
+field_then : (t : Tag) (vr v : List ℕ) {es : Elements} {rest : List ℕ} → Spells es rest → Spells (field t vr v es) (text.element_text t vr v ++ rest)
+unfolding text.element_text
 field_then t vr v {es} {rest} e =
     let header = header_bytes (record { tag = t; vr = Some vr; length = length v }) in
     record { is = ap (λ (x : List ℕ). header ++ (v ++ x)) e.is ∙ sym (append_assoc header v rest) }
 
-field_last : (t : Tag) (vr v : List ℕ) → Spells (field t vr v no_elements) (text.element t vr v)
-field_last t vr v = record { is = (field_then t vr v {es = no_elements} {rest = []} (record { is = refl })).is ∙ append-nil (text.element t vr v) }
+field_last : (t : Tag) (vr v : List ℕ) → Spells (field t vr v no_elements) (text.element_text t vr v)
+field_last t vr v = record { is = (field_then t vr v {es = no_elements} {rest = []} (record { is = refl })).is ∙ append-nil (text.element_text t vr v) }
 
 character_set_then : (cs : Option (List ℕ)) {es : Elements} {rest : List ℕ} → Spells es rest → Spells (character_set_key cs es) (text.character_set cs ++ rest)
 character_set_then None e = record { is = e.is }
@@ -76,7 +76,7 @@ study_text row =
 series_text : (row : Row) → Spells (character_set_key row.character_set
     (text_key (tag 0x0008 0x0060) (codes "CS") row.modality
     (uid_key (tag 0x0020 0x000e) row.series_instance_uid
-    (text_key (tag 0x0020 0x0011) (codes "IS") row.series_number no_elements)))) (text.series row)
+    (text_key (tag 0x0020 0x0011) (codes "IS") row.series_number no_elements)))) (text.series_text row)
 series_text row =
     character_set_then row.character_set
     (field_then (tag 0x0008 0x0060) (codes "CS") (padded 32 (key row.modality))
@@ -103,15 +103,15 @@ image_text row =
     record {
       is = spells.is
           ∙ four
-          (text.element (tag 0x0004 0x1500) (codes "CS") (padded 32 row.file_id))
-          (text.element (tag 0x0004 0x1510) (codes "UI") (padded 0 row.class))
-          (text.element (tag 0x0004 0x1511) (codes "UI") (padded 0 row.instance))
-          (text.element (tag 0x0004 0x1512) (codes "UI") (padded 0 (syntax_uid row.syntax)))
+          (text.element_text (tag 0x0004 0x1500) (codes "CS") (padded 32 row.file_id))
+          (text.element_text (tag 0x0004 0x1510) (codes "UI") (padded 0 row.class))
+          (text.element_text (tag 0x0004 0x1511) (codes "UI") (padded 0 row.instance))
+          (text.element_text (tag 0x0004 0x1512) (codes "UI") (padded 0 (syntax_uid row.syntax)))
           (text.character_set row.character_set ++ text.text_element (tag 0x0020 0x0013) (codes "IS") row.instance_number);
     }
 
 started : (next lower : ℕ) (kind : List ℕ) (es : Elements) (rest : List ℕ) → Spells es rest
-    → spelled (with_offsets next lower (record_of kind es)) ≡ text.start next lower (padded 32 kind) ++ rest
+    → spelled (with_offsets next lower (record_elements kind es)) ≡ text.start_text next lower (padded 32 kind) ++ rest
 started next lower kind es rest e =
     let spells =
     field_then (tag 0x0004 0x1400) (codes "UL") (le next 4)
@@ -120,20 +120,20 @@ started next lower kind es rest e =
     (field_then (tag 0x0004 0x1430) (codes "CS") (padded 32 kind) e))) in
     spells.is
     ∙ four
-    (text.element (tag 0x0004 0x1400) (codes "UL") (le next 4))
-    (text.element (tag 0x0004 0x1410) (codes "US") (le 0xffff 2))
-    (text.element (tag 0x0004 0x1420) (codes "UL") (le lower 4))
-    (text.element (tag 0x0004 0x1430) (codes "CS") (padded 32 kind))
+    (text.element_text (tag 0x0004 0x1400) (codes "UL") (le next 4))
+    (text.element_text (tag 0x0004 0x1410) (codes "US") (le 0xffff 2))
+    (text.element_text (tag 0x0004 0x1420) (codes "UL") (le lower 4))
+    (text.element_text (tag 0x0004 0x1430) (codes "CS") (padded 32 kind))
     rest
 
-pub patient_spelled : (next lower : ℕ) (row : Row) → spelled (with_offsets next lower (patient_record row)) ≡ text.start next lower (padded 32 (codes "PATIENT")) ++ text.patient row
+pub patient_spelled : (next lower : ℕ) (row : Row) → spelled (with_offsets next lower (patient_record row)) ≡ text.start_text next lower (padded 32 (codes "PATIENT")) ++ text.patient row
 patient_spelled next lower row = started next lower (codes "PATIENT") _ (text.patient row) (patient_text row)
 
-pub study_spelled : (next lower : ℕ) (row : Row) → spelled (with_offsets next lower (study_record row)) ≡ text.start next lower (padded 32 (codes "STUDY")) ++ text.study row
+pub study_spelled : (next lower : ℕ) (row : Row) → spelled (with_offsets next lower (study_record row)) ≡ text.start_text next lower (padded 32 (codes "STUDY")) ++ text.study row
 study_spelled next lower row = started next lower (codes "STUDY") _ (text.study row) (study_text row)
 
-pub series_spelled : (next lower : ℕ) (row : Row) → spelled (with_offsets next lower (series_record row)) ≡ text.start next lower (padded 32 (codes "SERIES")) ++ text.series row
-series_spelled next lower row = started next lower (codes "SERIES") _ (text.series row) (series_text row)
+pub series_spelled : (next lower : ℕ) (row : Row) → spelled (with_offsets next lower (series_record row)) ≡ text.start_text next lower (padded 32 (codes "SERIES")) ++ text.series_text row
+series_spelled next lower row = started next lower (codes "SERIES") _ (text.series_text row) (series_text row)
 
-pub image_spelled : (next lower : ℕ) (row : Row) → spelled (with_offsets next lower (image_record row)) ≡ text.start next lower (padded 32 (codes "IMAGE")) ++ text.image row
+pub image_spelled : (next lower : ℕ) (row : Row) → spelled (with_offsets next lower (image_record row)) ≡ text.start_text next lower (padded 32 (codes "IMAGE")) ++ text.image row
 image_spelled next lower row = started next lower (codes "IMAGE") _ (text.image row) (image_text row)

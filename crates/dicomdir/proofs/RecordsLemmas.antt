@@ -1,12 +1,13 @@
 -- Reading one record after the other.
+use Rattle.element.specs.Header.{item_tag, sequence_end_tag}
 use Rattle.std.proofs.Common.{◌≡◌, ◌≢◌, ℕ, suc, ◌+◌, ◌-◌, ◌≤◌, Bool, true, false, not, List, [], ◌∷◌, ◌++◌, length, drop, Option, Some, None, refl, sym, ap, subst, ◌∙◌, arith, append_assoc, length-append, if◌then◌else◌}
 use Rattle.std.proofs.lemmas.List.{append-nil}
 use Rattle.element.specs.declared.syntax.Syntax.{Syntax}
 use Rattle.sequence.specs.Rules.{no_tag}
-use Rattle.sequence.specs.Tree.{Elements, Items, no_items, item, item_tag, sequence_end_tag}
+use Rattle.sequence.specs.Tree.{Elements, Items, no_items, item}
 use Rattle.dicomdir.specs.declared.fault.DirFault.{DirFault}
 use Rattle.dicomdir.specs.declared.found.Head.{Head}
-use Rattle.dicomdir.specs.declared.records.Entry.{Entry}
+use Rattle.dicomdir.specs.declared.records.ReadRecord.{ReadRecord}
 use Rattle.dicomdir.specs.Directory.{Record, header_size, size_of, end_size, records_at, has_record, has_file_id}
 use Rattle.dicomdir.specs.DirFault.{Fault, fault, ◌or_else◌, record_fault, each_fault}
 use Rattle.dicomdir.specs.machine.Entries.{IsEntry, AreEntries, no_entries, entry_then, Rise}
@@ -20,11 +21,11 @@ use Rattle.dicomdir.proofs.FindLemmas.{item_content}
 
 -- ---- entries and their faults
 
-are_more : {es : List Entry} {rs : List Record} {e : Entry} {r : Record} → AreEntries es rs → IsEntry e r → AreEntries (es ++ e ∷ []) (rs ++ r ∷ [])
+are_more : {es : List ReadRecord} {rs : List Record} {e : ReadRecord} {r : Record} → AreEntries es rs → IsEntry e r → AreEntries (es ++ e ∷ []) (rs ++ r ∷ [])
 are_more (no_entries) last = entry_then last no_entries
 are_more (entry_then first rest) last = entry_then first (are_more rest last)
 
-no_fault : {e : Entry} {r : Record} → IsEntry e r → record_fault r ≡ None
+no_fault : {e : ReadRecord} {r : Record} → IsEntry e r → record_fault r ≡ None
 no_fault {r = r} is = by (has_record r.elements) (has_file_id r.elements) is.has_record is.has_file_id
   where
     by : (a b : Bool) → a ≡ true → b ≡ true → (if not a then fault 68 r.place else (if not b then fault 65 r.place else None)) ≡ None
@@ -32,7 +33,7 @@ no_fault {r = r} is = by (has_record r.elements) (has_file_id r.elements) is.has
     by true false e f = absurd cc
     by false b e f = absurd cc
 
-pub entries_good : {es : List Entry} {rs : List Record} → AreEntries es rs → each_fault rs ≡ None
+pub entries_good : {es : List ReadRecord} {rs : List Record} → AreEntries es rs → each_fault rs ≡ None
 entries_good (no_entries) = refl
 entries_good (entry_then {r = r} {rs = rs} first rest) = ap (λ f. f or_else each_fault rs) (no_fault first) ∙ entries_good rest
 
@@ -46,7 +47,7 @@ each_append (x ∷ xs) ys e = by (record_fault x) (each_append xs ys) e
 
 -- ---- one item after the other
 
-pub record ReadUpTo (s : Syntax) (first : ℕ) (items : Items) (text rest : List ℕ) (old now : List Entry) : Type 0 where
+pub record ReadUpTo (s : Syntax) (first : ℕ) (items : Items) (text rest : List ℕ) (old now : List ReadRecord) : Type 0 where
   pub done : List Record
   pub left : Items
   pub more : List ℕ
@@ -56,7 +57,7 @@ pub record ReadUpTo (s : Syntax) (first : ℕ) (items : Items) (text rest : List
   pub good : each_fault done ≡ None
   pub all : records_at first items ≡ done ++ records_at (first + (length text - length rest)) left
 
-pub read_none : (s : Syntax) (first : ℕ) (items : Items) (text : List ℕ) (old : List Entry) → HasItems s items text → ReadUpTo s first items text text old old
+pub read_none : (s : Syntax) (first : ℕ) (items : Items) (text : List ℕ) (old : List ReadRecord) → HasItems s items text → ReadUpTo s first items text text old old
 read_none s first items text old has =
     let none : first ≡ first + (length text - length text) = omega arith in
     record {
@@ -79,7 +80,7 @@ no_item_head s more text head (end_after rest) whole read tagged =
     let tags : 0xe0dd ≡ 0xe000 = ap (λ z. z.header.tag.1) is ∙ ap (λ t. t.1) tagged in
     absurd (omega (arith, tags))
 
-pub read_next : (s : Syntax) (first : ℕ) (items : Items) (text rest after : List ℕ) (old now new : List Entry) (head : Head) (e : Entry) → length rest ≤ length text
+pub read_next : (s : Syntax) (first : ℕ) (items : Items) (text rest after : List ℕ) (old now new : List ReadRecord) (head : Head) (e : ReadRecord) → length rest ≤ length text
     → ReadUpTo s first items text rest old now → head_at s rest ≡ Some head → head.header.tag ≡ item_tag
     → ((es : Elements) → HasElements s es (content_at head.header (drop head.size rest)) → IsEntry e (record { place = first + (length text - length rest); elements = es }))
     → ((es : Elements) (c more : List ℕ) → IsItemContent s head.header es c → drop head.size rest ≡ c ++ more → after ≡ more)
@@ -121,7 +122,7 @@ read_next s first items text rest after old now new head e fits r read tagged en
 
 -- ---- the first record with a fault
 
-pub read_fails : (s : Syntax) (first : ℕ) (items : Items) (text rest : List ℕ) (old now : List Entry) (head : Head) (f : DirFault)
+pub read_fails : (s : Syntax) (first : ℕ) (items : Items) (text rest : List ℕ) (old now : List ReadRecord) (head : Head) (f : DirFault)
     → ReadUpTo s first items text rest old now → head_at s rest ≡ Some head → head.header.tag ≡ item_tag
     → ((es : Elements) → HasElements s es (content_at head.header (drop head.size rest)) → FailsAs (record_fault (record { place = first + (length text - length rest); elements = es })) f)
     → FailsAs (each_fault (records_at first items)) f
@@ -146,14 +147,14 @@ out_of_memory_as o f is = record { tag = ap (λ z. z.tag) is; memory = λ e. ap 
 
 -- ---- all records
 
-all_read : (s : Syntax) (first : ℕ) (items : Items) (text rest : List ℕ) (old now : List Entry) (before : List Record) (r : ReadUpTo s first items text rest old now) → r.left ≡ no_items
+all_read : (s : Syntax) (first : ℕ) (items : Items) (text rest : List ℕ) (old now : List ReadRecord) (before : List Record) (r : ReadUpTo s first items text rest old now) → r.left ≡ no_items
     → AreEntries old before → AreEntries now (before ++ records_at first items)
 all_read s first items text rest old now before r none are =
     let all : r.done ≡ records_at first items =
     sym (r.all ∙ (ap (λ z. r.done ++ records_at (first + (length text - length rest)) z) none ∙ append-nil r.done)) in
     subst (λ z. AreEntries now (before ++ z)) all (r.entries_are before are)
 
-pub read_to_mark : (s : Syntax) (first : ℕ) (items : Items) (text rest : List ℕ) (old now : List Entry) (before : List Record) (head : Head) → ReadUpTo s first items text rest old now
+pub read_to_mark : (s : Syntax) (first : ℕ) (items : Items) (text rest : List ℕ) (old now : List ReadRecord) (before : List Record) (head : Head) → ReadUpTo s first items text rest old now
     → head_at s rest ≡ Some head → head.header.tag ≢ item_tag → AreEntries old before → AreEntries now (before ++ records_at first items)
 read_to_mark s first items text rest old now before head r read other are = by (front_of_items r.more rest r.spelled.items r.spelled.whole)
   where
@@ -163,7 +164,7 @@ read_to_mark s first items text rest old now before head r read other are = by (
         let at = is_head s head f.header f.spelling (f.content ++ f.rest) rest f.is_item.spelled f.whole read in
         absurd (other (ap (λ h. h.tag) at.header ∙ f.is_item.tagged))
 
-pub read_to_end : (s : Syntax) (first : ℕ) (items : Items) (text rest : List ℕ) (old now : List Entry) (before : List Record) → ReadUpTo s first items text rest old now
+pub read_to_end : (s : Syntax) (first : ℕ) (items : Items) (text rest : List ℕ) (old now : List ReadRecord) (before : List Record) → ReadUpTo s first items text rest old now
     → head_at s rest ≡ None → AreEntries old before → AreEntries now (before ++ records_at first items)
 read_to_end s first items text rest old now before r read are = by (front_of_items r.more rest r.spelled.items r.spelled.whole)
   where

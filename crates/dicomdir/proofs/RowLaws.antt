@@ -17,7 +17,7 @@ use Rattle.sequence.specs.declared.wanted.Want.{Want}
 use Rattle.sequence.specs.Tree.{Elements, no_elements, value, sequence, DataSet}
 use Rattle.sequence.specs.Within.{FitRooms}
 use Rattle.sequence.specs.Wanted.{Values, value_of, room_of, is_wanted, kept_of}
-use Rattle.sequence.specs.Ending.{IsWhole, Fails, breaks_rule, ends_early}
+use Rattle.sequence.specs.Ending.{IsWholeDataSet, Fails, breaks_rule, ends_early}
 use Rattle.sequence.specs.Rules.{Limits}
 use Rattle.sequence.proofs.Public.{one_fault, one_tree, whole_breaks_no_rule}
 use Rattle.dicomdir.specs.declared.skip.Skip.TheVariants as skip
@@ -99,7 +99,7 @@ one_number (breaks_rule {p = p} {u = u} {rule = rule} {tag = t} first) (ends_ear
 one_number (ends_early end) (breaks_rule {p = p} {u = u} {rule = rule} {tag = t} first) = absurd (end.unbroken p u first.rest rule t first.text first.breaks)
 one_number (ends_early end) (ends_early other) = refl
 
-not_both : {s : Syntax} {lim : Limits} {b : List ℕ} {f : Fault} → IsWhole s lim b → Fails s lim b f → ⊥
+not_both : {s : Syntax} {lim : Limits} {b : List ℕ} {f : Fault} → IsWholeDataSet s lim b → Fails s lim b f → ⊥
 not_both {s = s} {lim = lim} {b = b} whole (breaks_rule {p = p} {u = u} {rule = rule} {tag = t} first) = whole_breaks_no_rule s lim b whole p u first.rest rule t first.text first.breaks
 not_both whole (ends_early end) = end.unfinished whole.elements whole.text
 

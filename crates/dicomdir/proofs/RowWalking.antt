@@ -9,9 +9,9 @@ use Rattle.sequence.specs.declared.step.Step.{Step}
 use Rattle.sequence.specs.declared.step.Step.TheVariants.{Refused}
 use Rattle.sequence.specs.declared.walker.Walker.{Walker}
 use Rattle.sequence.specs.Answering.{Answers}
-use Rattle.sequence.specs.Ending.{IsWhole, Fails}
+use Rattle.sequence.specs.Ending.{IsWholeDataSet, Fails}
 use Rattle.sequence.specs.FirstFault.{IsUnbroken}
-use Rattle.sequence.specs.Taken.{StandsAt, syntax_of, limits_of, fault_of}
+use Rattle.sequence.specs.Taken.{StandsAt, walker_syntax, limits_of, fault_of}
 use Rattle.sequence.proofs.Public.{nothing_unbroken}
 use Rattle.dicomdir.specs.declared.skip.Skip.{Skip}
 use Rattle.dicomdir.specs.declared.skip.Skip.TheVariants as skip
@@ -40,8 +40,8 @@ walks_first w piece good =
 
 pub walks_on : {V D : ℕ} (w0 w v : Walker V D) (piece rest : List ℕ) (n : ℕ) (step : Step) → IsGoing w0 → Walks w0 w piece rest → n ≤ length rest
     → ((b : List ℕ) → StandsAt w b → StandsAt v (b ++ take n rest))
-    → ((b : List ℕ) → StandsAt w b → Answers (syntax_of w) (limits_of w) b rest (take n rest) step)
-    → syntax_of v ≡ syntax_of w → limits_of v ≡ limits_of w → refusal_of step ≡ None → Walks w0 v piece (drop n rest)
+    → ((b : List ℕ) → StandsAt w b → Answers (walker_syntax w) (limits_of w) b rest (take n rest) step)
+    → walker_syntax v ≡ walker_syntax w → limits_of v ≡ limits_of w → refusal_of step ≡ None → Walks w0 v piece (drop n rest)
 walks_on w0 w v piece rest n step going g within stands answers syntax limits none =
     let far = farther piece rest n g.fits g.is_rest within in
     let a : ℕ = length piece - length rest in
@@ -49,7 +49,7 @@ walks_on w0 w v piece rest n step going g within stands answers syntax limits no
     let here = g.along going.0 going.1 in
     let there = stands b here in
     let unbroken = unrefused (answers b here) none in
-    let moved : IsUnbroken (syntax_of v) (limits_of v) (b ++ take n rest) = subst (λ z. IsUnbroken z (limits_of v) (b ++ take n rest)) (sym syntax) (subst (λ z. IsUnbroken (syntax_of w) z (b ++ take n rest)) (sym limits) unbroken) in
+    let moved : IsUnbroken (walker_syntax v) (limits_of v) (b ++ take n rest) = subst (λ z. IsUnbroken z (limits_of v) (b ++ take n rest)) (sym syntax) (subst (λ z. IsUnbroken (walker_syntax w) z (b ++ take n rest)) (sym limits) unbroken) in
     record {
       fits = far.fits;
       is_rest = far.is_rest;
@@ -60,8 +60,8 @@ walks_on w0 w v piece rest n step going g within stands answers syntax limits no
 
 pub walks_next : {V D : ℕ} (w0 w v : Walker V D) (piece rest : List ℕ) (n : ℕ) (step : Step) → IsGoing w0 → Walks w0 w piece rest → n ≤ length rest
     → ((b : List ℕ) → StandsAt w b → StandsAt v (b ++ take n rest))
-    → ((b : List ℕ) → StandsAt w b → Answers (syntax_of w) (limits_of w) b rest (take n rest) step)
-    → syntax_of v ≡ syntax_of w → limits_of v ≡ limits_of w → ((x : Fault) → step ≡ Refused x → ⊥) → Walks w0 v piece (take (length rest - n) (drop n rest))
+    → ((b : List ℕ) → StandsAt w b → Answers (walker_syntax w) (limits_of w) b rest (take n rest) step)
+    → walker_syntax v ≡ walker_syntax w → limits_of v ≡ limits_of w → ((x : Fault) → step ≡ Refused x → ⊥) → Walks w0 v piece (take (length rest - n) (drop n rest))
 walks_next w0 w v piece rest n step going g within stands answers syntax limits other =
     subst (λ z. Walks w0 v piece z) (sym (take_rest rest n)) (walks_on w0 w v piece rest n step going g within stands answers syntax limits (not_refused step other))
 
@@ -70,7 +70,7 @@ regrouped : (b piece more front taken behind : List ℕ) → piece ≡ (front ++
 regrouped b piece more front taken behind e = ap (λ z. (b ++ z) ++ more) e ∙ simp append_assoc refl
 
 pub walks_fails : {V D : ℕ} (w0 w : Walker V D) (piece rest : List ℕ) (n : ℕ) (step : Step) (fault : Fault) → Walks w0 w piece rest → n ≤ length rest
-    → ((b : List ℕ) → StandsAt w b → Answers (syntax_of w) (limits_of w) b rest (take n rest) step)
+    → ((b : List ℕ) → StandsAt w b → Answers (walker_syntax w) (limits_of w) b rest (take n rest) step)
     → refusal_of step ≡ Some fault → FailsIn w0 piece fault
 walks_fails w0 w piece rest n step fault g within answers was b more stands bytes =
     let far = farther piece rest n g.fits g.is_rest within in
@@ -78,7 +78,7 @@ walks_fails w0 w piece rest n step fault g within answers was b more stands byte
     let front : List ℕ = b ++ take a piece in
     let text : List ℕ = (b ++ piece) ++ more in
     let whole : text ≡ (front ++ take n rest) ++ (drop n rest ++ more) = regrouped b piece more (take a piece) (take n rest) (drop n rest) far.whole in
-    failed_text (syntax_of w0) (limits_of w0) text fault g.same.0 g.same.1 (refused_fails (drop n rest ++ more) text fault (answers front (g.along b stands)) was bytes whole)
+    failed_text (walker_syntax w0) (limits_of w0) text fault g.same.0 g.same.1 (refused_fails (drop n rest ++ more) text fault (answers front (g.along b stands)) was bytes whole)
 
 take_whole : (n : ℕ) (piece : List ℕ) → n ≡ length piece → take n piece ≡ piece
 take_whole zero [] e = refl
@@ -105,7 +105,7 @@ reads_first w old stands = record {
   taken = [];
   consumed = Consumes-nil old;
   stands = stands;
-  good = tells_none stands.tells (nothing_unbroken (syntax_of w) (limits_of w));
+  good = tells_none stands.tells (nothing_unbroken (walker_syntax w) (limits_of w));
   same = (refl, refl);
 }
 
@@ -128,30 +128,30 @@ taken_all w0 w old mid new r none end =
     Consumes-all old new r.taken [] r.taken (subst (λ z. Consumes old new z) (append-nil r.taken) (Consumes-trans old mid new r.taken [] r.consumed none)) end refl
 
 pub reads_whole : {V D : ℕ} (w0 w : Walker V D) (old mid new : Option (List ℕ)) → Reads w0 w old mid → Consumes mid new [] → IsAtEnd new
-    → ((b : List ℕ) → StandsAt w b → IsWhole (syntax_of w) (limits_of w) b) → TookWhole w old
+    → ((b : List ℕ) → StandsAt w b → IsWholeDataSet (walker_syntax w) (limits_of w) b) → TookWhole w old
 reads_whole w0 w old mid new r none end whole = by old (taken_all w0 w old mid new r none end)
   where
     by : (o : Option (List ℕ)) → IfSome o (λ text. r.taken ≡ text) → TookWhole w o
     by None e = tt
-    by (Some text) e = (subst (λ z. StandsAt w z) e r.stands, subst (λ z. IsWhole (syntax_of w) (limits_of w) z) e (whole r.taken r.stands))
+    by (Some text) e = (subst (λ z. StandsAt w z) e r.stands, subst (λ z. IsWholeDataSet (walker_syntax w) (limits_of w) z) e (whole r.taken r.stands))
 
 pub reads_short : {V D : ℕ} (w0 w : Walker V D) (old mid new : Option (List ℕ)) (fault : Fault) → Reads w0 w old mid → Consumes mid new [] → IsAtEnd new
-    → ((b : List ℕ) → StandsAt w b → Fails (syntax_of w) (limits_of w) b fault) → WalkFails w0 old (skip.Fault fault.number)
+    → ((b : List ℕ) → StandsAt w b → Fails (walker_syntax w) (limits_of w) b fault) → WalkFails w0 old (skip.Fault fault.number)
 reads_short w0 w old mid new fault r none end fails = text_fails (by old (taken_all w0 w old mid new r none end))
   where
-    by : (o : Option (List ℕ)) → IfSome o (λ text. r.taken ≡ text) → IfSome o (λ text. IsBytes text → FailsBy (syntax_of w0) (limits_of w0) text (skip.Fault fault.number))
+    by : (o : Option (List ℕ)) → IfSome o (λ text. r.taken ≡ text) → IfSome o (λ text. IsBytes text → FailsBy (walker_syntax w0) (limits_of w0) text (skip.Fault fault.number))
     by None e = tt
-    by (Some text) e = λ _. (fault, failed_text (syntax_of w0) (limits_of w0) text fault r.same.0 r.same.1 (subst (λ z. Fails (syntax_of w) (limits_of w) z fault) e (fails r.taken r.stands)), refl)
+    by (Some text) e = λ _. (fault, failed_text (walker_syntax w0) (limits_of w0) text fault r.same.0 r.same.1 (subst (λ z. Fails (walker_syntax w) (limits_of w) z fault) e (fails r.taken r.stands)), refl)
 
-by_same : {V D : ℕ} (w0 w : Walker V D) (text : List ℕ) (reason : Skip) → IsSameSet w0 w → FailsBy (syntax_of w) (limits_of w) text reason → FailsBy (syntax_of w0) (limits_of w0) text reason
-by_same w0 w text reason same f = (f.0, failed_text (syntax_of w0) (limits_of w0) text f.0 same.0 same.1 f.1, f.2)
+by_same : {V D : ℕ} (w0 w : Walker V D) (text : List ℕ) (reason : Skip) → IsSameSet w0 w → FailsBy (walker_syntax w) (limits_of w) text reason → FailsBy (walker_syntax w0) (limits_of w0) text reason
+by_same w0 w text reason same f = (f.0, failed_text (walker_syntax w0) (limits_of w0) text f.0 same.0 same.1 f.1, f.2)
 
 pub reads_fails : {V D : ℕ} (w0 w : Walker V D) (old mid new : Option (List ℕ)) (piece : List ℕ) (fault : Fault) → Reads w0 w old mid → Consumes mid new piece
     → FailsIn w piece fault → WalkFails w0 old (skip.Fault fault.number)
 reads_fails w0 w old mid new piece fault r more fails = text_fails (by old new (Consumes-trans old mid new r.taken piece r.consumed more))
   where
-    by : (o n : Option (List ℕ)) → Consumes o n (r.taken ++ piece) → IfSome o (λ text. IsBytes text → FailsBy (syntax_of w0) (limits_of w0) text (skip.Fault fault.number))
+    by : (o n : Option (List ℕ)) → Consumes o n (r.taken ++ piece) → IfSome o (λ text. IsBytes text → FailsBy (walker_syntax w0) (limits_of w0) text (skip.Fault fault.number))
     by None n c = tt
     by (Some text) None c = absurd c
     by (Some text) (Some left) c = λ bytes. by_same w0 w text (skip.Fault fault.number) r.same
-        (fault, subst (λ z. Fails (syntax_of w) (limits_of w) z fault) (sym c) (fails r.taken left r.stands (subst (λ z. IsBytes z) c bytes)), refl)
+        (fault, subst (λ z. Fails (walker_syntax w) (limits_of w) z fault) (sym c) (fails r.taken left r.stands (subst (λ z. IsBytes z) c bytes)), refl)

@@ -5,12 +5,11 @@ use Rattle.element.specs.declared.size.Need.TheVariants.{More, Size, BadVr}
 use Rattle.element.specs.declared.syntax.Syntax.{Syntax}
 use Rattle.element.specs.declared.tag.Tag.{Tag}
 use Rattle.element.specs.declared.header.Header.{Header}
-use Rattle.element.specs.Header.{number, is_marker, tag_at, need, header_at}
+use Rattle.element.specs.Header.{number, is_marker, tag_at, need, header_at, item_tag, item_end_tag, sequence_end_tag}
 use Rattle.sequence.specs.declared.fault.Fault.{Fault}
 use Rattle.sequence.specs.declared.spot.Spot.{Spot}
 use Rattle.sequence.specs.Ending.{Fails, breaks_rule, ends_early}
 use Rattle.sequence.specs.Rules.{Limits, Broken, same_tag, passes, broken_tag, broken_need, broken_header, broken, when, ◌or_else◌}
-use Rattle.sequence.specs.Tree.{item_tag, item_end_tag, sequence_end_tag}
 
 -- a rule, if any is broken
 abbrev IsRule : Broken → Type 0

@@ -4,10 +4,10 @@ use Rattle.std.proofs.Math.Seq.{drop-append_seam}
 use Rattle.element.specs.declared.syntax.Syntax.{Syntax}
 use Rattle.element.specs.declared.tag.Tag.{Tag}
 use Rattle.element.specs.declared.header.Header.{Header}
-use Rattle.element.specs.Header.{number, is_marker, IsTag}
+use Rattle.element.specs.Header.{number, is_marker, IsTag, item_tag, item_end_tag, sequence_end_tag}
 use Rattle.sequence.specs.declared.shape.Shape.TheVariants.{Sequence}
 use Rattle.sequence.specs.Shape.{undefined_length, shape}
-use Rattle.sequence.specs.Tree.{Elements, Items, item_tag, item_end_tag, sequence_end_tag, delimitation, Ended, counted, delimited}
+use Rattle.sequence.specs.Tree.{Elements, Items, delimitation, Ended, counted, delimited}
 use Rattle.dicomdir.specs.declared.found.Head.{Head}
 use Rattle.dicomdir.specs.Directory.{Found}
 use Rattle.dicomdir.specs.machine.Heads.{head_at}

@@ -2,7 +2,7 @@
 use Rattle.std.proofs.Common.{◌≡◌, ℕ, zero, suc, ◌+◌, ◌<◌, ◌≤◌, Bool, true, false, ◌&&◌, List, [], ◌∷◌, ◌++◌, length, Option, Some, None, refl, sym, ap, subst, ◌∙◌, arith, nat_eq, if◌then◌else◌}
 use Rattle.std.proofs.lemmas.List.{append-nil, append_assoc}
 use Rattle.dicomdir.specs.TreeOf.{Forest, no_nodes, node}
-use Rattle.dicomdir.specs.Directory.{Record, carried, lower_offset, next_offset}
+use Rattle.dicomdir.specs.Directory.{Record, carried_node, lower_offset, next_offset}
 use Rattle.dicomdir.specs.Linked.{PlacedNode, record_at}
 use Rattle.dicomdir.specs.DirFault.{Fault, Way, lower_way, next_way, Walked, stopped, went, with_reached, walk, last_before, or_zero, elements_at, named_fault}
 use Rattle.dicomdir.specs.Followed.{forest_from}
@@ -20,7 +20,7 @@ abbrev chosen_walk : Bool → Option Fault → Walked → Walked → Walked
 chosen_walk b o here on = elim b [ true ↦ here | false ↦ elim o [ Some f ↦ stopped f | None ↦ on ] ]
 
 abbrev pub in_use_at : List Record → ℕ → Bool
-in_use_at records offset = (carried (elements_at records offset)).in_use
+in_use_at records offset = (carried_node (elements_at records offset)).in_use
 
 abbrev pub lower_at : List Record → ℕ → ℕ
 lower_at records offset = or_zero (lower_offset (elements_at records offset))
@@ -114,7 +114,7 @@ step_collects most records again way shown seen offset more last e = by (nat_eq 
     by : (b : Bool) (o : Option Fault)
         → chosen b o (surveyed seen (last_before way)) (with_seen (lower_survey most records way shown seen offset) (next_survey most records way shown offset)) ≡ surveyed more last
         → more.nodes ≡ seen.nodes ++ shown_nodes shown way.level
-        (if b then no_nodes else node (record { place = offset; carries = carried (elements_at records offset) }) (forest_from most records (lower_at records offset)) (forest_from most records (next_at records offset)))
+        (if b then no_nodes else node (record { place = offset; carries = carried_node (elements_at records offset) }) (forest_from most records (lower_at records offset)) (forest_from most records (next_at records offset)))
     by true o e =
         let same = same_seen seen more (last_before way) last e in
         sym (append-nil more.nodes) ∙ (ap (λ z. z.nodes ++ []) (sym same) ∙ ap (λ z. seen.nodes ++ z) (sym (none_shown shown way.level)))
@@ -124,7 +124,7 @@ step_collects most records again way shown seen offset more last e = by (nat_eq 
         let lower = again (lower_way way offset) (shown && in_use_at records offset) (with_record records way shown seen offset) (lower_at records offset) first.one first.one_last first.first_is in
         let next = again (next_way way offset) shown first.one (next_at records offset) more last first.then_is in
         next ∙ (ap (λ z. z ++ shown_nodes shown way.level (forest_from most records (next_at records offset))) lower
-        ∙ joined shown (in_use_at records offset) seen.nodes (record { place = offset; level = way.level; carries = carried (elements_at records offset) })
+        ∙ joined shown (in_use_at records offset) seen.nodes (record { place = offset; level = way.level; carries = carried_node (elements_at records offset) })
         (nodes_in_use (suc way.level) (forest_from most records (lower_at records offset))) (nodes_in_use way.level (forest_from most records (next_at records offset))))
 
 pub survey_collects : (most : ℕ) (records : List Record) → Collects most records

@@ -6,8 +6,8 @@ use Rattle.std.proofs.lemmas.List.{get_or_default}
 use Rattle.sequence.specs.Tree.{Elements}
 use Rattle.dicomdir.specs.declared.links.Mark.{Mark}
 use Rattle.dicomdir.specs.declared.links.Step.{Step}
-use Rattle.dicomdir.specs.declared.records.Entry.{Entry}
-use Rattle.dicomdir.specs.Directory.{Record, Node, carried}
+use Rattle.dicomdir.specs.declared.records.ReadRecord.{ReadRecord}
+use Rattle.dicomdir.specs.Directory.{Record, Node, carried_node}
 use Rattle.dicomdir.specs.Linked.{record_at, fits, fits_level}
 use Rattle.dicomdir.specs.DirFault.{fault, Way, leads_back, is_one_of, named_fault}
 use Rattle.dicomdir.specs.machine.Entries.{carried_by}
@@ -36,14 +36,14 @@ fits_same level real n is = ap (λ z. not n.in_use || z) (level_same level real 
 
 -- the record at an offset where an entry was found
 
-pub record AtOffset (entries : List Entry) (flags : List Bool) (records : List Record) (reached : List ℕ) (offset at : ℕ) : Type 0 where
+pub record AtOffset (entries : List ReadRecord) (flags : List Bool) (records : List Record) (reached : List ℕ) (offset at : ℕ) : Type 0 where
   pub elements : Elements
   pub stands : record_at offset records ≡ Some elements
-  pub carries : (d : Entry) → carried_by (get_or entries at d) ≡ carried elements
+  pub carries : (d : ReadRecord) → carried_by (get_or entries at d) ≡ carried_node elements
   pub flag : (d : Bool) → get_or flags at d ≡ is_one_of offset reached
 
-at_offset_by : (entries : List Entry) (flags : List Bool) (records : List Record) (reached : List ℕ) (offset at : ℕ) (d : Entry) → AreFlagged entries flags records reached
-    → at < length entries → ((d : Entry) → (get_or entries at d).place ≡ offset) → AtOffset entries flags records reached offset at
+at_offset_by : (entries : List ReadRecord) (flags : List Bool) (records : List Record) (reached : List ℕ) (offset at : ℕ) (d : ReadRecord) → AreFlagged entries flags records reached
+    → at < length entries → ((d : ReadRecord) → (get_or entries at d).place ≡ offset) → AtOffset entries flags records reached offset at
 at_offset_by entries flags records reached offset at d flagged fits found =
     let there = at_entry entries records 0 at d flagged.are flagged.rise fits in
     let same : there.of_it.place ≡ offset = sym there.is.place ∙ found d in
@@ -54,8 +54,8 @@ at_offset_by entries flags records reached offset at d flagged fits found =
       flag = λ b. ap (λ z. get_or z at b) flagged.flagged ∙ (there.flag reached b ∙ ap (λ z. is_one_of z reached) same);
     }
 
-pub at_offset : (entries : List Entry) (flags : List Bool) (records : List Record) (reached : List ℕ) (offset at : ℕ) → AreFlagged entries flags records reached
-    → at < length entries → ((d : Entry) → (get_or entries at d).place ≡ offset) → AtOffset entries flags records reached offset at
+pub at_offset : (entries : List ReadRecord) (flags : List Bool) (records : List Record) (reached : List ℕ) (offset at : ℕ) → AreFlagged entries flags records reached
+    → at < length entries → ((d : ReadRecord) → (get_or entries at d).place ≡ offset) → AtOffset entries flags records reached offset at
 at_offset [] flags records reached offset at flagged fits found = absurd (omega (arith, fits))
 at_offset (e ∷ es) flags records reached offset at flagged fits found = at_offset_by (e ∷ es) flags records reached offset at e flagged fits found
 
@@ -66,24 +66,24 @@ reached_fault : (way : Way) (reached : List ℕ) (offset : ℕ) (o : Option Elem
 reached_fault way reached offset None es b stands old back = absurd cc
 reached_fault way reached offset (Some found) es b stands old back = rw (old, back) refl
 
-unfit_fault : (way : Way) (reached : List ℕ) (offset : ℕ) (o : Option Elements) (es : Elements) → o ≡ Some es → is_one_of offset reached ≡ false → fits way.level (carried es) ≡ false
+unfit_fault : (way : Way) (reached : List ℕ) (offset : ℕ) (o : Option Elements) (es : Elements) → o ≡ Some es → is_one_of offset reached ≡ false → fits way.level (carried_node es) ≡ false
     → named_fault way reached offset o ≡ fault 64 offset
 unfit_fault way reached offset None es stands new unfit = absurd cc
 unfit_fault way reached offset (Some found) es stands new unfit =
     let same : found ≡ es = cc in
-    let bad : fits way.level (carried found) ≡ false = ap (λ z. fits way.level (carried z)) same ∙ unfit in
+    let bad : fits way.level (carried_node found) ≡ false = ap (λ z. fits way.level (carried_node z)) same ∙ unfit in
     rw (new, bad) refl
 
-no_fault : (way : Way) (reached : List ℕ) (offset : ℕ) (o : Option Elements) (es : Elements) → o ≡ Some es → is_one_of offset reached ≡ false → fits way.level (carried es) ≡ true
+no_fault : (way : Way) (reached : List ℕ) (offset : ℕ) (o : Option Elements) (es : Elements) → o ≡ Some es → is_one_of offset reached ≡ false → fits way.level (carried_node es) ≡ true
     → named_fault way reached offset o ≡ None
 no_fault way reached offset None es stands new fit = absurd cc
 no_fault way reached offset (Some found) es stands new fit =
     let same : found ≡ es = cc in
-    let good : fits way.level (carried found) ≡ true = ap (λ z. fits way.level (carried z)) same ∙ fit in
+    let good : fits way.level (carried_node found) ≡ true = ap (λ z. fits way.level (carried_node z)) same ∙ fit in
     rw (new, good) refl
 
-pub old_target : (root : ℕ) (entries : List Entry) (flags : List Bool) (records : List Record) (reached : List ℕ) (ms : List Mark) (step : Step) (at told : ℕ) (b : Bool)
-    → AreFlagged entries flags records reached → at < length entries → ((d : Entry) → (get_or entries at d).place ≡ step.offset)
+pub old_target : (root : ℕ) (entries : List ReadRecord) (flags : List Bool) (records : List Record) (reached : List ℕ) (ms : List Mark) (step : Step) (at told : ℕ) (b : Bool)
+    → AreFlagged entries flags records reached → at < length entries → ((d : ReadRecord) → (get_or entries at d).place ≡ step.offset)
     → get_or flags at false ≡ true → leads_back (way_of root ms step.begins) step.offset ≡ b → told ≡ (way_of root ms step.begins).told
     → named_fault (way_of root ms step.begins) reached step.offset (record_at step.offset records) ≡ fault (if b then 61 else 62) told
 old_target root entries flags records reached ms step at told b flagged fits found old back is =
@@ -91,27 +91,27 @@ old_target root entries flags records reached ms step at told b flagged fits fou
     reached_fault (way_of root ms step.begins) reached step.offset (record_at step.offset records) there.elements b there.stands (sym (there.flag false) ∙ old) back
     ∙ ap (λ z. fault (if b then 61 else 62) z) (sym is)
 
-pub unfit_target : (root : ℕ) (entries : List Entry) (flags : List Bool) (records : List Record) (reached : List ℕ) (ms : List Mark) (step : Step) (at : ℕ) (e : Entry)
-    → AreFlagged entries flags records reached → IsStep ms (Some step) → at < length entries → ((d : Entry) → (get_or entries at d).place ≡ step.offset)
+pub unfit_target : (root : ℕ) (entries : List ReadRecord) (flags : List Bool) (records : List Record) (reached : List ℕ) (ms : List Mark) (step : Step) (at : ℕ) (e : ReadRecord)
+    → AreFlagged entries flags records reached → IsStep ms (Some step) → at < length entries → ((d : ReadRecord) → (get_or entries at d).place ≡ step.offset)
     → get_or flags at false ≡ false → e ≡ get_or entries at e → fits step.level (carried_by e) ≡ false
     → named_fault (way_of root ms step.begins) reached step.offset (record_at step.offset records) ≡ fault 64 step.offset
 unfit_target root entries flags records reached ms step at e flagged is_step fits_in found new is unfit =
     let way = way_of root ms step.begins in
     let there = at_offset entries flags records reached step.offset at flagged fits_in found in
-    let carries : carried_by e ≡ carried there.elements = ap carried_by is ∙ there.carries e in
+    let carries : carried_by e ≡ carried_node there.elements = ap carried_by is ∙ there.carries e in
     unfit_fault way reached step.offset (record_at step.offset records) there.elements there.stands (sym (there.flag false) ∙ new)
-    (sym (fits_same step.level way.level (carried there.elements) is_step.1) ∙ (ap (λ z. fits step.level z) (sym carries) ∙ unfit))
+    (sym (fits_same step.level way.level (carried_node there.elements) is_step.1) ∙ (ap (λ z. fits step.level z) (sym carries) ∙ unfit))
 
-pub good_target : (root : ℕ) (entries : List Entry) (flags : List Bool) (records : List Record) (reached : List ℕ) (ms : List Mark) (step : Step) (at : ℕ) (e : Entry)
-    → AreFlagged entries flags records reached → IsStep ms (Some step) → at < length entries → ((d : Entry) → (get_or entries at d).place ≡ step.offset)
+pub good_target : (root : ℕ) (entries : List ReadRecord) (flags : List Bool) (records : List Record) (reached : List ℕ) (ms : List Mark) (step : Step) (at : ℕ) (e : ReadRecord)
+    → AreFlagged entries flags records reached → IsStep ms (Some step) → at < length entries → ((d : ReadRecord) → (get_or entries at d).place ≡ step.offset)
     → get_or flags at false ≡ false → e ≡ get_or entries at e → fits step.level (carried_by e) ≡ true
     → IsTarget root entries records ms step reached at
 good_target root entries flags records reached ms step at e flagged is_step fits_in found new is fit =
     let way = way_of root ms step.begins in
     let there = at_offset entries flags records reached step.offset at flagged fits_in found in
-    let carries : carried_by e ≡ carried there.elements = ap carried_by is ∙ there.carries e in
+    let carries : carried_by e ≡ carried_node there.elements = ap carried_by is ∙ there.carries e in
     record {
       place = found;
       good = no_fault way reached step.offset (record_at step.offset records) there.elements there.stands (sym (there.flag false) ∙ new)
-          (sym (fits_same step.level way.level (carried there.elements) is_step.1) ∙ (ap (λ z. fits step.level z) (sym carries) ∙ fit));
+          (sym (fits_same step.level way.level (carried_node there.elements) is_step.1) ∙ (ap (λ z. fits step.level z) (sym carries) ∙ fit));
     }

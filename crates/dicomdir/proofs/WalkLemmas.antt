@@ -13,7 +13,7 @@ use Rattle.sequence.specs.Ending.{Fails, breaks_rule, ends_early}
 use Rattle.sequence.specs.declared.step.Step.TheVariants.{More, Element, Run, Opened, Closed, Refused}
 use Rattle.sequence.specs.Answering.{IsRun, Answers, no_piece, goes_on, element, opened, closed, runs, refuses, stays}
 use Rattle.sequence.specs.declared.walker.Walker.{Walker}
-use Rattle.sequence.specs.Taken.{StandsAt, syntax_of, limits_of}
+use Rattle.sequence.specs.Taken.{StandsAt, walker_syntax, limits_of}
 use Rattle.sequence.proofs.Public.{fault_stays, nothing_unbroken}
 use Rattle.dicomdir.specs.CheckFault.{check_limits}
 use Rattle.dicomdir.specs.machine.RowReading.{IsGoing, FailsIn}
@@ -117,11 +117,11 @@ not_refused (Closed h) other = refl
 -- ---- a walk over a whole text as one piece
 
 pub going_first : {V D : ℕ} (w : Walker V D) → StandsAt w [] → IsGoing w
-going_first w stands = ([], stands, tells_none stands.tells (nothing_unbroken (syntax_of w) (limits_of w)))
+going_first w stands = ([], stands, tells_none stands.tells (nothing_unbroken (walker_syntax w) (limits_of w)))
 
-pub text_fails : {V D : ℕ} (w : Walker V D) (text : List ℕ) (fault : Fault) → StandsAt w [] → syntax_of w ≡ Explicit → limits_of w ≡ check_limits → IsBytes text
+pub text_fails : {V D : ℕ} (w : Walker V D) (text : List ℕ) (fault : Fault) → StandsAt w [] → walker_syntax w ≡ Explicit → limits_of w ≡ check_limits → IsBytes text
     → FailsIn w text fault → Fails Explicit check_limits text fault
 text_fails w text fault stands syntax limits bytes fails =
     let whole = append-nil text in
     failed_text Explicit check_limits text fault syntax limits
-    (subst (λ z. Fails (syntax_of w) (limits_of w) z fault) whole (fails [] [] stands (subst (λ z. IsBytes z) (sym whole) bytes)))
+    (subst (λ z. Fails (walker_syntax w) (limits_of w) z fault) whole (fails [] [] stands (subst (λ z. IsBytes z) (sym whole) bytes)))

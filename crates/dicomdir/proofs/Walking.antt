@@ -5,7 +5,7 @@ use Rattle.std.proofs.lemmas.List.Folds.{list_any-append}
 use Rattle.std.proofs.lemmas.Bool.Decides.{nat_tests}
 use Rattle.sequence.specs.Tree.{Elements, no_elements}
 use Rattle.dicomdir.specs.TreeOf.{Forest, no_nodes, node, count_of}
-use Rattle.dicomdir.specs.Directory.{Record, carried, lower_offset, next_offset}
+use Rattle.dicomdir.specs.Directory.{Record, carried_node, lower_offset, next_offset}
 use Rattle.dicomdir.specs.Linked.{PlacedNode, places_of, first_place, last_place_behind, is_distinct, record_at, fits, AreLinked}
 use Rattle.dicomdir.specs.DirFault.{Fault, Way, lower_way, next_way, Walked, stopped, went, with_reached, walk, is_one_of, last_before, or_zero, elements_at, named_fault}
 
@@ -64,15 +64,15 @@ elements_is None es e = absurd cc
 elements_is (Some found) es e = cc
 
 named_is : (way : Way) (reached : List ℕ) (offset : ℕ) (es : Elements) (o : Option Elements) → o ≡ Some es → is_one_of offset reached ≡ false
-    → fits way.level (carried es) ≡ true → named_fault way reached offset o ≡ None
+    → fits way.level (carried_node es) ≡ true → named_fault way reached offset o ≡ None
 named_is way reached offset es None stands new fit_there = absurd cc
 named_is way reached offset es (Some found) stands new fit_there =
     let same : found ≡ es = cc in
-    let fit : fits way.level (carried found) ≡ true = ap (λ z. fits way.level (carried z)) same ∙ fit_there in
+    let fit : fits way.level (carried_node found) ≡ true = ap (λ z. fits way.level (carried_node z)) same ∙ fit_there in
     rw (new, fit) refl
 
 step : (most : ℕ) (records : List Record) (way : Way) (reached : List ℕ) (offset : ℕ) (es : Elements) (lower next : ℕ)
-    → nat_eq offset 0 ≡ false → record_at offset records ≡ Some es → is_one_of offset reached ≡ false → fits way.level (carried es) ≡ true
+    → nat_eq offset 0 ≡ false → record_at offset records ≡ Some es → is_one_of offset reached ≡ false → fits way.level (carried_node es) ≡ true
     → lower_offset es ≡ Some lower → next_offset es ≡ Some next
     → walk (suc most) records way reached offset
     ≡ with_reached (walk most records (lower_way way offset) (offset ∷ reached) lower) (λ more. walk most records (next_way way offset) more next)
@@ -126,7 +126,7 @@ goes (node n below next) (suc most) records way reached linked few apart =
     let nonzero : nat_eq n.place 0 ≡ false = grind (arith, nat_tests, zeros.0) in
     let self : nat_eq n.place n.place ≡ true = same_place n.place in
     let new : is_one_of n.place reached ≡ false = apart.unreached n.place (rw self refl) in
-    let fit_there : fits way.level (carried here.elements) ≡ true = ap (λ z. fits way.level z) here.carries ∙ here.fits_there in
+    let fit_there : fits way.level (carried_node here.elements) ≡ true = ap (λ z. fits way.level z) here.carries ∙ here.fits_there in
     let among_below : (p : ℕ) → is_one_of p bs ≡ true → is_one_of p reached ≡ false = λ p h.
     apart.unreached p (ap (λ z. nat_eq p n.place || z) (list_any-append (nat_eq p) bs ns) ∙ second_true (nat_eq p n.place) (is_one_of p bs) (is_one_of p ns) h) in
     let among_next : (p : ℕ) → is_one_of p ns ≡ true → is_one_of p reached ≡ false = λ p h.

@@ -5,7 +5,7 @@ use Rattle.std.proofs.lemmas.Bool.{ltb-false}
 use Rattle.std.proofs.lemmas.List.{take_all, take_at, drop_at, take-append-le}
 use Rattle.std.proofs.KnownBytes.{Appends-trans}
 use Rattle.std.specs.Io.KnownBytes.{Appends}
-use Rattle.dicomdir.specs.declared.build_plan.Entry.{Entry}
+use Rattle.dicomdir.specs.declared.build_plan.LaidRecord.{LaidRecord}
 use Rattle.dicomdir.specs.Laying.{entry_text, laid_text}
 use Rattle.dicomdir.specs.Written.{AppendsFront}
 use Rattle.dicomdir.proofs.LayingLemmas.{laid_push}
@@ -27,10 +27,10 @@ front_more a b xs ys p = by (nat_lt p.0 (length xs)) refl
         (p.0, rw (take-append-le p.0 xs ys le) p.1)
     by false e = (length xs, rw (take_at xs ys (length xs) refl, ← take_all p.0 xs (ltb-false p.0 (length xs) e)) p.1)
 
-pub last_entry : {A : Type 0} (total : ℕ) (entries : List (Entry A)) (at : ℕ) (e : Entry A) → 0 < at → at ≤ length entries → e ≡ get_or entries (at - 1) e
+pub last_entry : {A : Type 0} (total : ℕ) (entries : List (LaidRecord A)) (at : ℕ) (e : LaidRecord A) → 0 < at → at ≤ length entries → e ≡ get_or entries (at - 1) e
     → laid_text total (take at entries) ≡ entry_text total e ++ laid_text total (take (at - 1) entries)
 last_entry total entries at e some le is =
     let next : at ≡ suc (at - 1) = omega arith in
     ap (λ (n : ℕ). laid_text total (take n entries)) next
-    ∙ ap (laid_text total) (take-suc entries (at - 1) e (omega arith) ∙ ap (λ (x : Entry _). take (at - 1) entries ++ x ∷ []) (sym is))
+    ∙ ap (laid_text total) (take-suc entries (at - 1) e (omega arith) ∙ ap (λ (x : LaidRecord _). take (at - 1) entries ++ x ∷ []) (sym is))
     ∙ laid_push total (take (at - 1) entries) e

@@ -1,4 +1,5 @@
 -- The directory that is written of rows is linked to their tree, and has no fault.
+use Rattle.element.specs.Header.{item_tag}
 use Rattle.std.proofs.Common.{◌≡◌, ℕ, suc, ◌+◌, ◌%◌, ◌^◌, ◌<◌, ◌≤◌, true, false, List, [], ◌∷◌, ◌++◌, length, Some, None, refl, sym, ap, ◌∙◌, append_assoc, arith, codes, nat_eq, nat_lt}
 use Rattle.std.proofs.lemmas.Bool.{and_from, and_parts, leb-true}
 use Rattle.std.proofs.lemmas.Bool.Decides.{nat_tests}
@@ -7,11 +8,11 @@ use Rattle.std.specs.List.{AllByRecursion}
 use Rattle.element.specs.Numbers.{le}
 use Rattle.element.specs.Uid.{is_uid}
 use Rattle.element.specs.Vr.{is_short}
-use Rattle.part10.specs.File.{meta_group, instance_elements, implementation_elements, title_element}
+use Rattle.part10.specs.File.{meta_group, identity_elements, implementation_elements, title_element}
 use Rattle.part10.specs.MetaText.{SpellsMeta, said_of}
 use Rattle.part10.proofs.Public.{head_is_read}
 use Rattle.sequence.specs.Shape.{undefined_length, is_undefined}
-use Rattle.sequence.specs.Tree.{Elements, no_elements, sequence, Items, no_items, item_tag}
+use Rattle.sequence.specs.Tree.{Elements, no_elements, sequence, Items, no_items}
 use Rattle.dicomdir.specs.Built.{directory_meta, directory_header, directory_file, file_is_too_large}
 use Rattle.dicomdir.specs.Directory.{Record, size_of, end_size, records_at, first_offset, last_offset, records_of}
 use Rattle.dicomdir.specs.Keys.{IsRow}
@@ -143,7 +144,7 @@ root_last start first last is small = number_back last small
 -- the file header
 
 group_short : (uid : List ℕ) → is_uid uid ≡ true → length (meta_group (directory_meta uid)) ≤ 360
-unfolding instance_elements implementation_elements title_element is_short
+unfolding identity_elements implementation_elements title_element is_short
 group_short uid e =
     let parts = and_parts _ _ e in
     let size = and_parts _ _ parts.0 in

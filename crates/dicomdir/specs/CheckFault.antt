@@ -8,7 +8,7 @@ use Rattle.part10.specs.MetaText.{Said, HasMeta, MetaFaultOf, fault_number}
 use Rattle.sequence.specs.Tree.{Elements, DataSet}
 use Rattle.sequence.specs.Rules.{Limits, no_tag}
 use Rattle.sequence.specs.FirstFault.{IsUnbroken, FirstFault, EndFault}
-use Rattle.sequence.specs.Ending.{IsWhole}
+use Rattle.sequence.specs.Ending.{IsWholeDataSet}
 use Rattle.dicomdir.specs.FaultNumbers.{out_of_memory}
 use Rattle.dicomdir.specs.Directory.{IsExplicitFile}
 use Rattle.dicomdir.specs.DirFault.{Fault, directory_fault}
@@ -27,7 +27,7 @@ pub record HasHeader (file back : List ℕ) : Type 0 where
 pub record HasDataSet (file : List ℕ) : Type 0 where
   pub back : List ℕ
   pub header : HasHeader file back
-  pub whole : IsWhole Explicit check_limits back
+  pub whole : IsWholeDataSet Explicit check_limits back
 
 -- where a fault of the file header is told: at its letters, and else behind them
 abbrev pub place_of_meta_fault : ℕ → ℕ

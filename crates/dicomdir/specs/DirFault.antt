@@ -3,7 +3,7 @@ use Rattle.std.specs.Prelude.{ℕ, zero, suc, Bool, true, false, not, ◌||◌, 
 use Rattle.std.specs.List.{list_any}
 use Rattle.sequence.specs.Tree.{Elements, no_elements}
 use Rattle.dicomdir.specs.FaultNumbers.{bad_offset, cycle, twice_reached, unreached, wrong_level, bad_file_id, bad_record}
-use Rattle.dicomdir.specs.Directory.{Found, missing, value_at, items_at, found, Record, carried, first_offset, last_offset, records_of, next_offset, lower_offset, has_record, has_file_id}
+use Rattle.dicomdir.specs.Directory.{Found, missing, value_at, items_at, found, Record, carried_node, first_offset, last_offset, records_of, next_offset, lower_offset, has_record, has_file_id}
 use Rattle.dicomdir.specs.Linked.{fits, record_at}
 
 -- a fault's number, and its place in the file
@@ -111,7 +111,7 @@ abbrev pub named_fault : Way → List ℕ → ℕ → Option Elements → Option
 named_fault way reached offset None = fault bad_offset way.told
 named_fault way reached offset (Some es) =
     if is_one_of offset reached then fault (if leads_back way offset then cycle else twice_reached) way.told
-    else (if not (fits way.level (carried es)) then fault wrong_level offset
+    else (if not (fits way.level (carried_node es)) then fault wrong_level offset
     else None)
 
 abbrev pub elements_at : List Record → ℕ → Elements
@@ -144,11 +144,11 @@ place_in (items_at place h is) = place
 abbrev pub unreached_fault : List ℕ → List Record → Option Fault
 unreached_fault reached [] = None
 unreached_fault reached (r ∷ records) =
-    if not (carried r.elements).in_use || is_one_of r.place reached then unreached_fault reached records else fault unreached r.place
+    if not (carried_node r.elements).in_use || is_one_of r.place reached then unreached_fault reached records else fault unreached r.place
 
-abbrev pub end_fault : ℕ → Elements → List Record → Walked → Option Fault
-end_fault start es records (stopped f) = Some f
-end_fault start es records (went reached last) =
+abbrev pub end_of_links : ℕ → Elements → List Record → Walked → Option Fault
+end_of_links start es records (stopped f) = Some f
+end_of_links start es records (went reached last) =
     (if nat_eq (or_zero (last_offset start es)) last then None else fault bad_offset (place_in (found 0x00041202 start es)))
     or_else unreached_fault reached records
 
@@ -158,7 +158,7 @@ root_way start es =
 
 abbrev pub links_fault : ℕ → Elements → List Record → Option Fault
 links_fault start es records =
-    end_fault start es records (walk (suc (length records)) records (root_way start es) [] (or_zero (first_offset start es)))
+    end_of_links start es records (walk (suc (length records)) records (root_way start es) [] (or_zero (first_offset start es)))
 
 abbrev pub records_then_links : ℕ → Elements → Option (List Record) → Option Fault
 records_then_links start es None = None

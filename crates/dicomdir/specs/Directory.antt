@@ -133,8 +133,8 @@ pub record Node : Type 0 where
   pub file_id : Option (List ℕ)
 
 -- what the node of a record with these elements carries
-abbrev pub carried : Elements → Node
-carried es = record {
+abbrev pub carried_node : Elements → Node
+carried_node es = record {
   in_use = is_in_use (number_in 2 (found 0x00041410 0 es));
   kind = kind_in (found 0x00041430 0 es);
   file_id = file_id_in (found 0x00041500 0 es);
@@ -144,11 +144,11 @@ carried es = record {
 abbrev pub has_record : Elements → Bool
 has_record es =
     (is_some (next_offset es) && is_use_flag (number_in 2 (found 0x00041410 0 es)))
-    && (is_some (lower_offset es) && not (bytes_eq (carried es).kind []))
+    && (is_some (lower_offset es) && not (bytes_eq (carried_node es).kind []))
 
 -- of a record in use, what it has for a file ID is one, and an image has one
 abbrev pub has_file_id : Elements → Bool
 has_file_id es =
-    not (carried es).in_use
-    || is_some (carried es).file_id
-    || (is_missing (found 0x00041500 0 es) && not (bytes_eq (carried es).kind (codes "IMAGE")))
+    not (carried_node es).in_use
+    || is_some (carried_node es).file_id
+    || (is_missing (found 0x00041500 0 es) && not (bytes_eq (carried_node es).kind (codes "IMAGE")))

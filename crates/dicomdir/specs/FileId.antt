@@ -8,8 +8,8 @@ abbrev pub is_id_character : ℕ → Bool
 is_id_character c = (nat_le 65 c && nat_le c 90) || (nat_le 48 c && nat_le c 57) || nat_eq c 95
 
 -- one to eight of them
-abbrev pub is_component : List ℕ → Bool
-is_component text = nat_le 1 (length text) && nat_le (length text) 8 && list_all is_id_character text
+abbrev pub is_file_id_component : List ℕ → Bool
+is_file_id_component text = nat_le 1 (length text) && nat_le (length text) 8 && list_all is_id_character text
 
 abbrev pub before_parts : ℕ → List (List ℕ) → List (List ℕ)
 before_parts c [] = (c ∷ []) ∷ []
@@ -22,7 +22,7 @@ parts_of (c ∷ cs) = if nat_eq c 92 then [] ∷ parts_of cs else before_parts c
 
 -- one to eight components
 abbrev pub is_file_id : List ℕ → Bool
-is_file_id text = nat_le (length (parts_of text)) 8 && list_all is_component (parts_of text)
+is_file_id text = nat_le (length (parts_of text)) 8 && list_all is_file_id_component (parts_of text)
 
 -- a file ID in the room of the longest one, 71 bytes
 abbrev pub filled : List ℕ → List ℕ

@@ -2,7 +2,7 @@
 use Rattle.std.specs.Prelude.{◌≡◌, ℕ, ◌+◌, ◌-◌, ◌^◌, ◌≤◌, Bool, true, false, List, [], ◌∷◌, ◌++◌, length, nat_eq, if◌then◌else◌}
 use Rattle.sequence.specs.Tree.{Elements, no_items}
 use Rattle.dicomdir.specs.declared.level.Level.{Level}
-use Rattle.dicomdir.specs.declared.build_plan.Entry.{Entry}
+use Rattle.dicomdir.specs.declared.build_plan.LaidRecord.{LaidRecord}
 use Rattle.dicomdir.specs.declared.build_plan.Stop.{Stop}
 use Rattle.dicomdir.specs.declared.build_plan.Stop.TheVariants.{TooLarge, OutOfMemory}
 use Rattle.dicomdir.specs.Directory.{Record}
@@ -21,11 +21,11 @@ StopsFor size OutOfMemory = Unit {0}
 abbrev pub place_from_end : ℕ → ℕ → ℕ
 place_from_end total distance = if nat_eq distance 0 then 0 else total - distance
 
-abbrev pub entry_text : {A : Type 0} → ℕ → Entry A → List ℕ
+abbrev pub entry_text : {A : Type 0} → ℕ → LaidRecord A → List ℕ
 entry_text total e = record_text e.level e.row.now (place_from_end total e.next) (place_from_end total e.lower)
 
 -- the text of the records, of which the last comes first in the list
-abbrev pub laid_text : {A : Type 0} → ℕ → List (Entry A) → List ℕ
+abbrev pub laid_text : {A : Type 0} → ℕ → List (LaidRecord A) → List ℕ
 laid_text total [] = []
 laid_text total (e ∷ es) = laid_text total es ++ entry_text total e
 
@@ -40,8 +40,8 @@ abbrev pub has_none : Forest Elements → Bool
 has_none no_nodes = true
 has_none (node es below next) = false
 
-pub record Adds {A : Type 0} (level : Level) (row : Row) (next lower start : ℕ) (old new : List (Entry A)) : Type 0 where
-  pub entry : Entry A
+pub record Adds {A : Type 0} (level : Level) (row : Row) (next lower start : ℕ) (old new : List (LaidRecord A)) : Type 0 where
+  pub entry : LaidRecord A
   pub level_is : entry.level ≡ level
   pub row_is : entry.row.now ≡ row
   pub start_is : entry.start ≡ start
@@ -55,7 +55,7 @@ groups_forest record_of below [] = no_nodes
 groups_forest record_of below (group ∷ groups) = group_node record_of below group (groups_forest record_of below groups)
 
 -- the forest was laid down before what there was
-pub record Lays {A : Type 0} (forest : Forest Elements) (old new : List (Entry A)) (old_size new_size first last : ℕ) : Type 0 where
+pub record Lays {A : Type 0} (forest : Forest Elements) (old new : List (LaidRecord A)) (old_size new_size first last : ℕ) : Type 0 where
   pub size : new_size ≡ old_size + forest_size forest
   pub count : length new ≡ length old + count_of forest
   pub text : (start : ℕ) → laid_text (start + new_size) new ≡ forest_text (with_places start forest) ++ laid_text (start + new_size) old

@@ -3,8 +3,8 @@
 use Rattle.std.specs.Prelude.{ℕ, List, [], ◌++◌, length, Some, None, codes}
 use Rattle.element.specs.declared.header.Header.{Header}
 use Rattle.element.specs.Numbers.{le}
-use Rattle.element.specs.Header.{header_bytes}
-use Rattle.sequence.specs.Tree.{Elements, no_elements, value, sequence, Items, no_items, item, item_tag}
+use Rattle.element.specs.Header.{header_bytes, item_tag}
+use Rattle.sequence.specs.Tree.{Elements, no_elements, value, sequence, Items, no_items, item}
 use Rattle.dicomdir.specs.Record.{tag, field}
 
 -- the bytes of elements and items, one after the other

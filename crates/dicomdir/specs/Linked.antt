@@ -5,12 +5,12 @@ use Rattle.std.specs.List.{list_any, list_all}
 use Rattle.std.specs.Str.{bytes_eq}
 use Rattle.sequence.specs.Tree.{Elements}
 use Rattle.dicomdir.specs.TreeOf.{Forest, no_nodes, node}
-use Rattle.dicomdir.specs.Directory.{IsDirectoryFile, Record, Node, carried, first_offset, last_offset, records_of, next_offset, lower_offset, has_record, has_file_id}
+use Rattle.dicomdir.specs.Directory.{IsDirectoryFile, Record, Node, carried_node, first_offset, last_offset, records_of, next_offset, lower_offset, has_record, has_file_id}
 
 -- what the nodes carry whose elements are those of a forest
 abbrev pub carried_forest : Forest Elements → Forest Node
 carried_forest no_nodes = no_nodes
-carried_forest (node es below next) = node (carried es) (carried_forest below) (carried_forest next)
+carried_forest (node es below next) = node (carried_node es) (carried_forest below) (carried_forest next)
 
 abbrev pub is_upper_kind : List ℕ → Bool
 is_upper_kind kind = bytes_eq kind (codes "PATIENT") || bytes_eq kind (codes "STUDY") || bytes_eq kind (codes "SERIES")
@@ -65,7 +65,7 @@ record_at place (r ∷ records) = if nat_eq r.place place then Some r.elements e
 pub record IsRecordOf (records : List Record) (level : ℕ) (n : PlacedNode) (lower next : ℕ) : Type 0 where
   pub elements : Elements
   pub stands : record_at n.place records ≡ Some elements
-  pub carries : carried elements ≡ n.carries
+  pub carries : carried_node elements ≡ n.carries
   pub fits_there : fits level n.carries ≡ true
   pub names_lower : lower_offset elements ≡ Some lower
   pub names_next : next_offset elements ≡ Some next
@@ -102,4 +102,4 @@ pub record Linked (file : List ℕ) (tree : Forest Node) : Type 0 where
 
 -- each of its records in use is a node of the tree
 abbrev pub IsAllReached : {start : ℕ} {elements : Elements} {tree : Forest Node} → LinkedElements start elements tree → Type 0
-IsAllReached linked = list_all (λ r. not (carried r.elements).in_use || list_any (nat_eq r.place) (places_of linked.placed)) linked.records ≡ true
+IsAllReached linked = list_all (λ r. not (carried_node r.elements).in_use || list_any (nat_eq r.place) (places_of linked.placed)) linked.records ≡ true

@@ -28,5 +28,5 @@ header_name n other =
     else other))
 
 -- the name of the fault with this number: of the file header, of the links and records, or of the data set
-abbrev pub name_of : ℕ → List ℕ
-name_of n = header_name n (link_name n (rule_name n))
+abbrev pub name_of_number : ℕ → List ℕ
+name_of_number n = header_name n (link_name n (rule_name n))

@@ -4,7 +4,7 @@ use Rattle.element.specs.declared.syntax.Syntax.TheVariants.{Explicit}
 use Rattle.element.specs.Numbers.{le}
 use Rattle.sequence.specs.Tree.{Elements, no_elements, no_items}
 use Rattle.dicomdir.specs.Row.{Row}
-use Rattle.dicomdir.specs.Record.{tag, field, record_of, patient_record, study_record, series_record, image_record}
+use Rattle.dicomdir.specs.Record.{tag, field, record_elements, patient_record, study_record, series_record, image_record}
 use Rattle.dicomdir.specs.TreeOf.{Forest, TreeOf}
 use Rattle.dicomdir.specs.Directory.{IsDirectoryFile, Node}
 use Rattle.dicomdir.specs.Layout.{item_of, record_item, root_elements, spelled}
@@ -167,7 +167,7 @@ RecordFaults =
     × (directory_fault 266 (field (tag 0x0004 0x1200) (codes "UL") (le 0 4) no_elements) ≡ fault 68 266)
     × (directory_fault 266 (field (tag 0x0004 0x1130) (codes "CS") [] (field (tag 0x0004 0x1200) (codes "UL") (le 0 2) no_elements)) ≡ fault 68 274)
     × (directory_fault 266 (root_elements 320 320 (item_of (patient_record one_image_row) no_items)) ≡ fault 68 320)
-    × (directory_fault 266 (root_elements 320 320 (record_item 0 0 (record_of (codes "IMAGE") no_elements) no_items)) ≡ fault 65 320)
+    × (directory_fault 266 (root_elements 320 320 (record_item 0 0 (record_elements (codes "IMAGE") no_elements) no_items)) ≡ fault 65 320)
 
 -- the directory of no rows has 320 bytes, and is linked to no node
 abbrev pub no_rows_elements : Elements

@@ -27,21 +27,21 @@ character_set_key None behind = behind
 character_set_key (Some v) behind = text_key (tag 0x0008 0x0005) (codes "CS") v behind
 
 -- Record In-use Flag, FFFFH, and Directory Record Type
-abbrev pub record_of : List ℕ → Elements → Elements
-record_of kind behind =
+abbrev pub record_elements : List ℕ → Elements → Elements
+record_elements kind behind =
     field (tag 0x0004 0x1410) (codes "US") (le 0xffff 2)
     (field (tag 0x0004 0x1430) (codes "CS") (padded 32 kind) behind)
 
 abbrev pub patient_record : Row → Elements
 patient_record row =
-    record_of (codes "PATIENT")
+    record_elements (codes "PATIENT")
     (character_set_key row.character_set
     (text_key (tag 0x0010 0x0010) (codes "PN") row.patient_name
     (text_key (tag 0x0010 0x0020) (codes "LO") row.patient_id no_elements)))
 
 abbrev pub study_record : Row → Elements
 study_record row =
-    record_of (codes "STUDY")
+    record_elements (codes "STUDY")
     (character_set_key row.character_set
     (text_key (tag 0x0008 0x0020) (codes "DA") row.study_date
     (text_key (tag 0x0008 0x0030) (codes "TM") row.study_time
@@ -52,7 +52,7 @@ study_record row =
 
 abbrev pub series_record : Row → Elements
 series_record row =
-    record_of (codes "SERIES")
+    record_elements (codes "SERIES")
     (character_set_key row.character_set
     (text_key (tag 0x0008 0x0060) (codes "CS") row.modality
     (uid_key (tag 0x0020 0x000e) row.series_instance_uid
@@ -61,7 +61,7 @@ series_record row =
 -- with the file ID and what the file header says of the file
 abbrev pub image_record : Row → Elements
 image_record row =
-    record_of (codes "IMAGE")
+    record_elements (codes "IMAGE")
     (field (tag 0x0004 0x1500) (codes "CS") (padded 32 row.file_id)
     (field (tag 0x0004 0x1510) (codes "UI") (padded 0 row.class)
     (field (tag 0x0004 0x1511) (codes "UI") (padded 0 row.instance)

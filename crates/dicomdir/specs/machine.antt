@@ -8,3 +8,4 @@ pub mod RowReading
 pub mod Trail
 pub mod Building
 pub mod Turns
+pub mod FirstSeen

@@ -2,8 +2,10 @@
 ghost use Rattle.std.specs.Prelude.{◌≡◌, ◌<◌, ◌++◌, ◌∷◌, [], IfOk, OnOk, if◌then◌else◌, length, get_or, set};
 ghost use Rattle.dicomdir.specs.Levels.{key_for};
 ghost use Rattle.dicomdir.specs.Grouping.{groups_of, row_groups, rows_at};
+ghost use Rattle.dicomdir.specs.machine.FirstSeen.{Puts, texts};
 
 use crate::Row;
+use crate::first_seen::{SeenKeys, see};
 use crate::level::Level;
 use element::unpadded;
 use indexmap::IndexSet;
@@ -49,6 +51,22 @@ fn put_row<'r, A: Allocator>(
     Ok(())
 }
 
+/// Puts a row into the group of its key, which it opens if the key is new.
+fn put_by_key<'r, A: Allocator + Copy>(
+    alloc: A,
+    seen: &mut SeenKeys<A>,
+    groups: &mut Vec<Vec<&'r Row<A>, A>, A>,
+    key: &[u8],
+    row: &'r Row<A>,
+) -> Result<(), AllocError>
+    requires { length (row_groups groups.old.items) ≡ length (texts seen.old.keys) }
+    ensures { OnOk result (Puts key.now row.now (texts seen.old.keys) (texts seen.new.keys) (row_groups groups.old.items) (row_groups groups.new.items)) }
+{
+    let (number, is_new) = see(alloc, seen, key)?;
+    open_group(alloc, groups, is_new)?;
+    put_row(groups, number, row)
+}
+
 /// Returns the rows of each group with the same key, groups in first-seen order.
 pub(crate) fn groups<'r, A: Allocator + Copy>(
     alloc: A,
@@ -60,10 +78,7 @@ pub(crate) fn groups<'r, A: Allocator + Copy>(
     let mut seen = IndexSet::new(alloc);
     let mut groups = Vec::new(alloc);
     for row in rows {
-        let key = Vec::from_slice(alloc, key_of(row, level))?;
-        let (number, is_new) = seen.insert_full(key)?;
-        open_group(alloc, &mut groups, is_new)?;
-        put_row(&mut groups, number, row)?;
+        put_by_key(alloc, &mut seen, &mut groups, key_of(row, level), row)?;
     }
     Ok(groups)
 }

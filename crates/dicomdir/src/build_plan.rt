@@ -24,7 +24,7 @@ pub(crate) enum Stop {
 /// A record. Its offsets are counted from the end of the file, since that alone is known while the
 /// records are laid down; 0 means none.
 #[derive(Drop)]
-pub(crate) struct Entry<'r, A: Allocator> {
+pub(crate) struct LaidRecord<'r, A: Allocator> {
     pub(crate) level: Level,
     pub(crate) row: &'r Row<A>,
     pub(crate) start: u32,
@@ -55,7 +55,7 @@ impl Chain {
 /// The records that are laid down, the last of the file first, and how many bytes they have.
 #[derive(Drop)]
 pub(crate) struct Plan<'r, A: Allocator> {
-    pub(crate) entries: Vec<Entry<'r, A>, A>,
+    pub(crate) entries: Vec<LaidRecord<'r, A>, A>,
     pub(crate) size: u32,
 }
 
@@ -82,7 +82,7 @@ impl<'r, A: Allocator> Plan<'r, A> {
         let Some(size) = self.size.checked_add(record.len() as u32) else {
             return Err(Stop::TooLarge);
         };
-        let entry = Entry {
+        let entry = LaidRecord {
             level,
             row,
             start: size,

@@ -1,7 +1,7 @@
 //! Checks directories.
 ghost use Rattle.std.specs.Prelude.{◌≡◌, ◌≤◌, ◌<◌, ◌+◌, ◌^◌, ℕ, List, ◌≢◌, length, IsOk, IfOk, IfErr};
 ghost use Rattle.element.specs.declared.syntax.Syntax.TheVariants.{Explicit};
-ghost use Rattle.sequence.specs.Ending.{IsWhole, Fails};
+ghost use Rattle.sequence.specs.Ending.{IsWholeDataSet, Fails};
 ghost use Rattle.sequence.specs.Tree.{Elements, DataSet};
 ghost use Rattle.dicomdir.specs.CheckFault.{check_limits, CheckFault, HasHeader, HasDataSet, IsAtNone};
 ghost use Rattle.dicomdir.specs.Directory.{Found};
@@ -54,7 +54,7 @@ fn after_header(bytes: &[u8]) -> Result<&[u8], DirFault>
 
 /// Walks a data set in Explicit VR Little Endian.
 fn walk(text: &[u8]) -> Result<(), Fault>
-    ensures good { IsOk result → IsWhole Explicit check_limits text.now }
+    ensures good { IsOk result → IsWholeDataSet Explicit check_limits text.now }
     ensures fails { IfErr result (λ fault. Fails Explicit check_limits text.now fault) }
 {
     let mut walker = Walker::<256, 64>::new(Syntax::Explicit, Wanted::none(), 1 << 48);

@@ -5,8 +5,10 @@ ghost use Rattle.dicomdir.specs.Keys.{IsRow};
 ghost use Rattle.dicomdir.specs.Grouping.{rows_at};
 ghost use Rattle.dicomdir.specs.Places.{doubles_of};
 ghost use Rattle.dicomdir.specs.Row.{without_doubles};
+ghost use Rattle.dicomdir.specs.machine.FirstSeen.{Takes, texts};
 
 use crate::Row;
+use crate::first_seen::{SeenKeys, see};
 use indexmap::IndexSet;
 use std::alloc::{AllocError, Allocator};
 
@@ -15,6 +17,25 @@ use std::alloc::{AllocError, Allocator};
 pub(crate) struct Kept<'r, A: Allocator> {
     pub(crate) rows: Vec<&'r Row<A>, A>,
     pub(crate) doubles: Vec<usize, A>,
+}
+
+/// Keeps the row at a place, or adds the place to the doubles if an earlier row has its instance.
+fn take_row<'r, A: Allocator + Copy>(
+    alloc: A,
+    seen: &mut SeenKeys<A>,
+    kept: &mut Kept<'r, A>,
+    at: usize,
+    row: &'r Row<A>,
+) -> Result<(), AllocError>
+    ensures { OnOk result (Takes at row.now (texts seen.old.keys) (texts seen.new.keys) (rows_at kept.old.rows.items) (rows_at kept.new.rows.items) kept.old.doubles.items kept.new.doubles.items) }
+{
+    let (_, is_new) = see(alloc, seen, row.instance())?;
+    if is_new {
+        kept.rows.push(row)?;
+        return Ok(());
+    }
+    kept.doubles.push(at)?;
+    Ok(())
 }
 
 /// Returns the rows without doubles. Of the rows with the same instance the first one is kept.
@@ -27,21 +48,14 @@ pub(crate) fn leave_out_doubles<'r, A: Allocator + Copy>(
     ensures valid { OnOk result (AllByRecursion IsRow rows.now) }
 {
     let mut seen = IndexSet::new(alloc);
-    let mut kept = Vec::new(alloc);
-    let mut doubles = Vec::new(alloc);
+    let mut kept = Kept {
+        rows: Vec::new(alloc),
+        doubles: Vec::new(alloc),
+    };
     for at in 0..rows.len() {
         let row = &rows[at];
         row.keeps();
-        let instance = Vec::from_slice(alloc, row.instance())?;
-        let (_, is_new) = seen.insert_full(instance)?;
-        if is_new {
-            kept.push(row)?;
-        } else {
-            doubles.push(at)?;
-        }
+        take_row(alloc, &mut seen, &mut kept, at, row)?;
     }
-    Ok(Kept {
-        rows: kept,
-        doubles,
-    })
+    Ok(kept)
 }

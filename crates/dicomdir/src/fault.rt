@@ -77,7 +77,7 @@ impl DirFault {
 
     /// Returns the name of the rule, or `Unknown` if no rule has this number.
     pub fn name(self) -> &'static str
-        ensures { result.now ≡ names.name_of self.number }
+        ensures { result.now ≡ names.name_of_number self.number }
     {
         match self.number {
             50 => MetaFault::NotPart10.name(),

@@ -1,7 +1,7 @@
 //! Elements and items in the text of a data set that is known to be good.
 ghost use Rattle.std.specs.Prelude.{◌≡◌, ◌≤◌, ◌<◌, ◌+◌, ◌^◌, ℕ, List, ◌++◌, length, drop, IfSome, Some, option_map};
-ghost use Rattle.element.specs.Header.{number, IsTag};
-ghost use Rattle.sequence.specs.Tree.{Elements, Items, delimitation, item_end_tag, sequence_end_tag};
+ghost use Rattle.element.specs.Header.{number, IsTag, item_end_tag, sequence_end_tag};
+ghost use Rattle.sequence.specs.Tree.{Elements, Items, delimitation};
 ghost use Rattle.dicomdir.specs.Directory.{Found, header_size, found};
 ghost use Rattle.dicomdir.specs.machine.Heads.{head_at};
 ghost use Rattle.dicomdir.specs.machine.Texts.{EndsBefore, ElementsThen, ItemsThen, HasElements, IsContent, IsItemContent, content_at, Finds};

@@ -22,7 +22,6 @@ fn image_id(record: &TreeRecord) -> Option<FileId>
 }
 
 /// Returns the file IDs of the records whose type is IMAGE.
-#[tactic(auto, using(crate::proofs::KeptLemmas::kept_one_more, crate::proofs::KeptLemmas::kept_whole))]
 fn images<A: Allocator + Copy>(alloc: A, records: &[TreeRecord]) -> Result<Vec<FileId, A>, DirFault>
     ensures kept { IfOk result (λ kept. kept.items ≡ kept_in (map node_of records.now)) }
     ensures fault { IfErr result (λ f. f ≡ record { number = 67; place = 0; tag = no_tag }) }

@@ -10,6 +10,7 @@ mod data_set;
 mod doubles;
 mod fault;
 mod file_id;
+mod first_seen;
 mod found;
 mod kept_files;
 mod keys;

@@ -10,7 +10,7 @@ ghost use Rattle.dicomdir.specs.machine.Trail.{above_of, chain_of, left_of, mark
 ghost use Rattle.dicomdir.specs.machine.Turns.{AreAllReached, Begins, Climbs, IsWrongOffset, LeadsTo, GoesOn, IsLeftOver, IsNoPlace};
 
 use crate::fault::DirFault;
-use crate::records::{Entry, is_text};
+use crate::records::{ReadRecord, is_text};
 use crate::tree::TreeRecord;
 use std::alloc::Allocator;
 
@@ -65,7 +65,7 @@ fn fits_level(level: u8, kind: &[u8]) -> bool
 }
 
 /// Returns whether a record may stand on a level; an inactive one may stand on any.
-fn fits(level: u8, entry: &Entry) -> bool
+fn fits(level: u8, entry: &ReadRecord) -> bool
     ensures { result ≡ linked.fits level (carried_by entry.now) }
 {
     !entry.in_use || fits_level(level, entry.kind)
@@ -79,9 +79,9 @@ fn below(level: u8) -> u8
 }
 
 /// Returns the index of the record at a place, by a binary search, since the places rise.
-fn index_of(entries: &[Entry], place: u32) -> Option<usize>
+fn index_of(entries: &[ReadRecord], place: u32) -> Option<usize>
     ensures within { IfSome result (λ at. at < length entries.now) }
-    ensures found { IfSome result (λ at. (d : Entry) → (slice_index_or entries.now at d).place ≡ place) }
+    ensures found { IfSome result (λ at. (d : ReadRecord) → (slice_index_or entries.now at d).place ≡ place) }
     ensures absent { IfNone result (IsNoPlace entries.now place) }
 {
     let place = u64::from(place);
@@ -167,7 +167,7 @@ fn told_of(trail: &[Mark], root: &Root) -> u64
 
 /// Returns the index of the record that an offset leads to, or what is wrong with the offset.
 fn target(
-    entries: &[Entry],
+    entries: &[ReadRecord],
     reached: &[bool],
     trail: &[Mark],
     root: &Root,
@@ -198,7 +198,7 @@ fn target(
 
 /// Adds a record that is reached to the trail and, where it is in use with no inactive record above it, to the tree.
 fn reach<'a, A: Allocator + Copy>(
-    entry: &Entry<'a>,
+    entry: &ReadRecord<'a>,
     step: &Step,
     trail: &mut Vec<Mark, A>,
     tree: &mut Vec<TreeRecord<'a>, A>,
@@ -228,7 +228,7 @@ fn reach<'a, A: Allocator + Copy>(
 
 /// Returns the offset that comes after a record that was reached: its lower one, or else the next one of the trail.
 fn step_after<A: Allocator + Copy>(
-    entry: &Entry,
+    entry: &ReadRecord,
     step: &Step,
     trail: &mut Vec<Mark, A>,
     last: &mut u64,
@@ -265,7 +265,7 @@ fn first_step(root: &Root) -> Option<Step>
 #[tactic(auto, using(crate::proofs::UnreachedLemmas::left_fewer))]
 pub(crate) fn follow<'a, A: Allocator + Copy>(
     alloc: A,
-    entries: &[Entry<'a>],
+    entries: &[ReadRecord<'a>],
     root: &Root,
     tree: &mut Vec<TreeRecord<'a>, A>,
 ) -> Result<(), DirFault>
@@ -290,7 +290,7 @@ pub(crate) fn follow<'a, A: Allocator + Copy>(
 }
 
 /// Refuses the first record in use that was not reached.
-fn all_reached(entries: &[Entry], reached: &[bool]) -> Result<(), DirFault>
+fn all_reached(entries: &[ReadRecord], reached: &[bool]) -> Result<(), DirFault>
     requires { length reached.now ≡ length entries.now }
     ensures good { IsOk result → AreAllReached entries.now reached.now }
     ensures fault { IfErr result (IsLeftOver entries.now reached.now) }

@@ -30,11 +30,11 @@ pub(crate) fn put(out: &mut RecordBytes, bytes: &[u8])
 }
 
 /// Appends an element in Explicit VR Little Endian with a VR whose length takes two bytes.
-#[tactic(auto, unfolding(crate::specs::RecordText::element))]
+#[tactic(auto, unfolding(crate::specs::RecordText::element_text))]
 pub(crate) fn put_element(out: &mut RecordBytes, tag: Tag, vr: [u8; 2], value: &[u8], padding: u8)
     requires room { array_vec_len out.old + length value.now + 9 ≤ 1024 }
     requires short { is_short_vr vr ≡ true }
-    ensures items { out.new.items ≡ out.old.items ++ text.element tag vr (padded padding value.now) }
+    ensures items { out.new.items ≡ out.old.items ++ text.element_text tag vr (padded padding value.now) }
     ensures bound { array_vec_len out.new ≤ array_vec_len out.old + length value.now + 9 }
 {
     let odd = value.len() % 2;
@@ -64,7 +64,7 @@ fn put_text(out: &mut RecordBytes, tag: Tag, vr: [u8; 2], value: &[u8])
 #[tactic(auto, using(crate::proofs::RecordLemmas::key_length), unfolding(element::specs::Vr::is_short))]
 fn put_uid(out: &mut RecordBytes, tag: Tag, value: &[u8])
     requires room { array_vec_len out.old + length value.now + 9 ≤ 1024 }
-    ensures items { out.new.items ≡ out.old.items ++ text.uid_element tag value.now }
+    ensures items { out.new.items ≡ out.old.items ++ text.key_element tag value.now }
     ensures bound { array_vec_len out.new ≤ array_vec_len out.old + length value.now + 9 }
 {
     put_element(out, tag, *b"UI", unpadded(value), 0);
@@ -74,7 +74,7 @@ fn put_uid(out: &mut RecordBytes, tag: Tag, value: &[u8])
 #[tactic(auto, unfolding(element::specs::Vr::is_short))]
 fn put_start(out: &mut RecordBytes, next: u32, lower: u32, kind: &[u8])
     requires room { array_vec_len out.old + length kind.now + 46 ≤ 1024 }
-    ensures items { out.new.items ≡ out.old.items ++ text.start next lower (padded 32 kind.now) }
+    ensures items { out.new.items ≡ out.old.items ++ text.start_text next lower (padded 32 kind.now) }
     ensures bound { array_vec_len out.new ≤ array_vec_len out.old + length kind.now + 46 }
 {
     let mut offset = [0; 4];
@@ -127,7 +127,7 @@ fn put_study<A: Allocator>(out: &mut RecordBytes, row: &Row<A>)
 #[tactic(auto, unfolding(element::specs::Vr::is_short))]
 fn put_series<A: Allocator>(out: &mut RecordBytes, row: &Row<A>)
     requires room { array_vec_len out.old ≤ 100 }
-    ensures items { out.new.items ≡ out.old.items ++ text.series row.now }
+    ensures items { out.new.items ≡ out.old.items ++ text.series_text row.now }
     ensures bound { array_vec_len out.new ≤ 960 }
 {
     put_character_set(out, row);

@@ -4,7 +4,7 @@ ghost use Rattle.std.specs.Io.KnownBytes.{Appends};
 ghost use Rattle.dicomdir.specs.Laying.{place_from_end, entry_text, laid_text};
 ghost use Rattle.dicomdir.specs.Written.{AppendsFront};
 
-use crate::build_plan::Entry;
+use crate::build_plan::LaidRecord;
 use crate::record_bytes::record_bytes;
 use crate::writing::write_all;
 use std::alloc::Allocator;
@@ -25,7 +25,7 @@ pub(crate) fn place_of(size: u32, distance: u32) -> u32
 
 fn write_record<A: Allocator, W: Write>(
     writer: &mut W,
-    entry: &Entry<'_, A>,
+    entry: &LaidRecord<'_, A>,
     size: u32,
 ) -> io::Result<()>
     ensures all { OnOk result (Appends (W.contents writer.old) (W.contents writer.new) (entry_text size entry.now)) }
@@ -40,7 +40,7 @@ fn write_record<A: Allocator, W: Write>(
 /// Writes the records of a file of this size, of which the last comes first in the slice.
 pub(crate) fn write_records<A: Allocator, W: Write>(
     writer: &mut W,
-    entries: &[Entry<'_, A>],
+    entries: &[LaidRecord<'_, A>],
     size: u32,
 ) -> io::Result<()>
     ensures all { OnOk result (Appends (W.contents writer.old) (W.contents writer.new) (laid_text size entries.now)) }

@@ -16,7 +16,7 @@ use std::alloc::Allocator;
 
 /// A record: its place, its offsets, and what it says.
 #[derive(Clone, Copy)]
-pub(crate) struct Entry<'a> {
+pub(crate) struct ReadRecord<'a> {
     pub place: u64,
     pub next: u32,
     pub lower: u32,
@@ -62,7 +62,7 @@ fn file_id_of<'a>(element: &Element<'a>) -> Option<FileId>
 }
 
 /// Reads the record of an item with these elements; `None` where it lacks something.
-fn entry_of<'a>(syntax: Syntax, place: u64, text: &'a [u8]) -> Option<Entry<'a>>
+fn entry_of<'a>(syntax: Syntax, place: u64, text: &'a [u8]) -> Option<ReadRecord<'a>>
     ensures read { IfSome result (λ e. (es : Elements) → HasElements syntax es text.now → IsEntryOf place es e) }
     ensures lacks { IsNone result → (es : Elements) → HasElements syntax es text.now → has_record es ≡ false }
 {
@@ -74,7 +74,7 @@ fn entry_of<'a>(syntax: Syntax, place: u64, text: &'a [u8]) -> Option<Entry<'a>>
         return None;
     }
     let file_id = file_id_of(&find(syntax, Tag(0x0004, 0x1500), 0, text));
-    Some(Entry {
+    Some(ReadRecord {
         place,
         next,
         lower,
@@ -85,7 +85,7 @@ fn entry_of<'a>(syntax: Syntax, place: u64, text: &'a [u8]) -> Option<Entry<'a>>
 }
 
 /// Returns whether the record has the file ID that it needs.
-fn has_file_id(entry: &Entry, element: &Element) -> bool
+fn has_file_id(entry: &ReadRecord, element: &Element) -> bool
     ensures { result ≡ entry_has_file_id entry.now element.now }
 {
     !entry.in_use
@@ -94,7 +94,7 @@ fn has_file_id(entry: &Entry, element: &Element) -> bool
 }
 
 /// Reads the record at a place.
-fn read_record<'a>(syntax: Syntax, place: u64, text: &'a [u8]) -> Result<Entry<'a>, DirFault>
+fn read_record<'a>(syntax: Syntax, place: u64, text: &'a [u8]) -> Result<ReadRecord<'a>, DirFault>
     ensures read { IfOk result (λ e. (es : Elements) → HasElements syntax es text.now → IsEntry e (record { place = place; elements = es })) }
     ensures fails { IfErr result (λ f. (es : Elements) → HasElements syntax es text.now → FailsAs (record_fault (record { place = place; elements = es })) f) }
 {
@@ -112,7 +112,7 @@ pub(crate) fn read_records<'a, A: Allocator + Copy>(
     syntax: Syntax,
     first: u64,
     text: &'a [u8],
-    records: &mut Vec<Entry<'a>, A>,
+    records: &mut Vec<ReadRecord<'a>, A>,
 ) -> Result<(), DirFault>
     requires { first + length text.now < 2 ^ 64 }
     ensures read { IsOk result → (items : Items) (before : List Record) → HasItems syntax items text.now → AreEntries records.old.items before → AreEntries records.new.items (before ++ records_at first items) }

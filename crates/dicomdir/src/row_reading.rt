@@ -135,25 +135,74 @@ fn character_set<A: Allocator>(alloc: A, walker: &RowWalker) -> Result<Option<Ve
     }
 }
 
+/// Copies the values with three tags, each as `key` does.
+fn three_keys<A: Allocator + Copy>(
+    alloc: A,
+    walker: &RowWalker,
+    first: Tag,
+    second: Tag,
+    third: Tag,
+) -> Result<(Vec<u8, A>, Vec<u8, A>, Vec<u8, A>), Skip>
+    ensures first { IfOk result (λ r. r.0.items ≡ key_in (told_by walker.now).kept first) }
+    ensures second { IfOk result (λ r. r.1.items ≡ key_in (told_by walker.now).kept second) }
+    ensures third { IfOk result (λ r. r.2.items ≡ key_in (told_by walker.now).kept third) }
+    ensures failed { IfErr result (λ reason. reason ≡ skip.OutOfMemory) }
+{
+    Ok((
+        key(alloc, walker, first)?,
+        key(alloc, walker, second)?,
+        key(alloc, walker, third)?,
+    ))
+}
+
 /// Copies what a row has of the data set that the walker took.
 fn keys_of<A: Allocator + Copy>(alloc: A, walker: &RowWalker) -> Result<Keys<A>, Skip>
     ensures values { IfOk result (λ keys. (file_id class instance : List ℕ) (syntax : Syntax) → keys_row file_id class instance syntax keys ≡ row_from file_id class instance syntax (told_by walker.now).kept) }
     ensures failed { IfErr result (λ reason. reason ≡ skip.OutOfMemory) }
 {
+    let character_set = character_set(alloc, walker)?;
+    let (patient_name, patient_id, study_date) = three_keys(
+        alloc,
+        walker,
+        Tag(0x0010, 0x0010),
+        Tag(0x0010, 0x0020),
+        Tag(0x0008, 0x0020),
+    )?;
+    let (study_time, accession_number, study_description) = three_keys(
+        alloc,
+        walker,
+        Tag(0x0008, 0x0030),
+        Tag(0x0008, 0x0050),
+        Tag(0x0008, 0x1030),
+    )?;
+    let (study_instance_uid, study_id, modality) = three_keys(
+        alloc,
+        walker,
+        Tag(0x0020, 0x000d),
+        Tag(0x0020, 0x0010),
+        Tag(0x0008, 0x0060),
+    )?;
+    let (series_instance_uid, series_number, instance_number) = three_keys(
+        alloc,
+        walker,
+        Tag(0x0020, 0x000e),
+        Tag(0x0020, 0x0011),
+        Tag(0x0020, 0x0013),
+    )?;
     Ok(Keys {
-        character_set: character_set(alloc, walker)?,
-        patient_name: key(alloc, walker, Tag(0x0010, 0x0010))?,
-        patient_id: key(alloc, walker, Tag(0x0010, 0x0020))?,
-        study_date: key(alloc, walker, Tag(0x0008, 0x0020))?,
-        study_time: key(alloc, walker, Tag(0x0008, 0x0030))?,
-        accession_number: key(alloc, walker, Tag(0x0008, 0x0050))?,
-        study_description: key(alloc, walker, Tag(0x0008, 0x1030))?,
-        study_instance_uid: key(alloc, walker, Tag(0x0020, 0x000d))?,
-        study_id: key(alloc, walker, Tag(0x0020, 0x0010))?,
-        modality: key(alloc, walker, Tag(0x0008, 0x0060))?,
-        series_instance_uid: key(alloc, walker, Tag(0x0020, 0x000e))?,
-        series_number: key(alloc, walker, Tag(0x0020, 0x0011))?,
-        instance_number: key(alloc, walker, Tag(0x0020, 0x0013))?,
+        character_set,
+        patient_name,
+        patient_id,
+        study_date,
+        study_time,
+        accession_number,
+        study_description,
+        study_instance_uid,
+        study_id,
+        modality,
+        series_instance_uid,
+        series_number,
+        instance_number,
     })
 }
 

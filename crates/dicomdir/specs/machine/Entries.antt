@@ -4,31 +4,31 @@ use Rattle.sequence.specs.Rules.{no_tag}
 use Rattle.sequence.specs.Tree.{Elements}
 use Rattle.dicomdir.specs.declared.fault.DirFault.{DirFault}
 use Rattle.dicomdir.specs.declared.links.Root.{Root}
-use Rattle.dicomdir.specs.declared.records.Entry.{Entry}
+use Rattle.dicomdir.specs.declared.records.ReadRecord.{ReadRecord}
 use Rattle.dicomdir.specs.declared.tree.TreeRecord.{TreeRecord}
-use Rattle.dicomdir.specs.Directory.{found, Record, Node, carried, first_offset, last_offset, next_offset, lower_offset, has_record, has_file_id}
+use Rattle.dicomdir.specs.Directory.{found, Record, Node, carried_node, first_offset, last_offset, next_offset, lower_offset, has_record, has_file_id}
 use Rattle.dicomdir.specs.DirFault.{or_zero, place_in, links_fault}
 use Rattle.dicomdir.specs.Followed.{forest_from}
 use Rattle.dicomdir.specs.NodesInUse.{nodes_in_use}
 use Rattle.dicomdir.specs.TreeNodes.{node_of}
 
 -- what the node of an entry carries
-abbrev pub carried_by : Entry → Node
+abbrev pub carried_by : ReadRecord → Node
 carried_by e = record { in_use = e.in_use; kind = e.kind.now; file_id = e.file_id }
 
 -- the entry says what the record says, which has what a record must have
-pub record IsEntry (e : Entry) (r : Record) : Type 0 where
+pub record IsEntry (e : ReadRecord) (r : Record) : Type 0 where
   pub place : e.place ≡ r.place
   pub next : e.next ≡ or_zero (next_offset r.elements)
   pub lower : e.lower ≡ or_zero (lower_offset r.elements)
-  pub carries : carried_by e ≡ carried r.elements
+  pub carries : carried_by e ≡ carried_node r.elements
   pub has_record : has_record r.elements ≡ true
   pub has_file_id : has_file_id r.elements ≡ true
 
 -- each entry is of one record, in their order
-pub data AreEntries : List Entry → List Record → Type 0 where
+pub data AreEntries : List ReadRecord → List Record → Type 0 where
   no_entries : AreEntries [] []
-  entry_then : {e : Entry} {r : Record} {es : List Entry} {rs : List Record} → IsEntry e r → AreEntries es rs → AreEntries (e ∷ es) (r ∷ rs)
+  entry_then : {e : ReadRecord} {r : Record} {es : List ReadRecord} {rs : List Record} → IsEntry e r → AreEntries es rs → AreEntries (e ∷ es) (r ∷ rs)
 
 -- the places rise, and none is below the first number
 abbrev pub Rise : ℕ → List Record → Type 0
@@ -37,7 +37,7 @@ Rise least (r ∷ records) = (least ≤ r.place) × Rise (suc r.place) records
 
 -- of a directory with these elements, of which the first stands at `start`, the root has the offsets, and the entries
 -- are of the records
-pub record AreRead (root : Root) (entries : List Entry) (start : ℕ) (es : Elements) (records : List Record) : Type 0 where
+pub record AreRead (root : Root) (entries : List ReadRecord) (start : ℕ) (es : Elements) (records : List Record) : Type 0 where
   pub first : root.first ≡ or_zero (first_offset start es)
   pub last : root.last ≡ or_zero (last_offset start es)
   pub first_place : root.first_place ≡ place_in (found 0x00041200 start es)
@@ -46,14 +46,14 @@ pub record AreRead (root : Root) (entries : List Entry) (start : ℕ) (es : Elem
   pub rise : Rise 0 records
 
 -- their links have no fault, and to the nodes those in use were added
-abbrev pub AreFollowed : Root → List Entry → List TreeRecord → List TreeRecord → Type 0
+abbrev pub AreFollowed : Root → List ReadRecord → List TreeRecord → List TreeRecord → Type 0
 AreFollowed root entries old new =
     (start : ℕ) (es : Elements) (records : List Record) → AreRead root entries start es records
     → (links_fault start es records ≡ None)
     × (map node_of new ≡ map node_of old ++ nodes_in_use 1 (forest_from (suc (length records)) records (or_zero (first_offset start es))))
 
 -- memory ran out, or it is the first fault of their links
-pub record FailsToFollow (root : Root) (entries : List Entry) (f : DirFault) : Type 0 where
+pub record FailsToFollow (root : Root) (entries : List ReadRecord) (f : DirFault) : Type 0 where
   pub tag : f.tag ≡ no_tag
   pub memory : f.number ≡ 67 → f.place ≡ 0
   pub fault : (start : ℕ) (es : Elements) (records : List Record) → f.number ≢ 67 → AreRead root entries start es records

@@ -5,8 +5,8 @@ use Rattle.sequence.specs.Rules.{no_tag}
 use Rattle.sequence.specs.Tree.{Elements}
 use Rattle.dicomdir.specs.declared.fault.DirFault.{DirFault}
 use Rattle.dicomdir.specs.declared.found.Element.{Element}
-use Rattle.dicomdir.specs.declared.records.Entry.{Entry}
-use Rattle.dicomdir.specs.Directory.{Found, number_in, Record, first_offset, records_of, carried, next_offset, lower_offset, has_record}
+use Rattle.dicomdir.specs.declared.records.ReadRecord.{ReadRecord}
+use Rattle.dicomdir.specs.Directory.{Found, number_in, Record, first_offset, records_of, carried_node, next_offset, lower_offset, has_record}
 use Rattle.dicomdir.specs.DirFault.{Fault, or_zero, place_in, offset_fault, directory_fault}
 use Rattle.dicomdir.specs.Followed.{forest_from}
 use Rattle.dicomdir.specs.NodesInUse.{LevelNode, nodes_in_use}
@@ -30,15 +30,15 @@ use_flag None = None
 use_flag (Some flag) = if nat_eq flag 0xffff then Some true else (if nat_eq flag 0 then Some false else None)
 
 -- the entry is that of the elements of a record at this place
-pub record IsEntryOf (place : ℕ) (es : Elements) (e : Entry) : Type 0 where
+pub record IsEntryOf (place : ℕ) (es : Elements) (e : ReadRecord) : Type 0 where
   pub place_is : e.place ≡ place
   pub next : e.next ≡ or_zero (next_offset es)
   pub lower : e.lower ≡ or_zero (lower_offset es)
-  pub carries : carried_by e ≡ carried es
+  pub carries : carried_by e ≡ carried_node es
   pub has_record : has_record es ≡ true
 
 -- whether an entry has the file ID that it needs, where this is found under its tag
-abbrev pub entry_has_file_id : Entry → Element → Bool
+abbrev pub entry_has_file_id : ReadRecord → Element → Bool
 entry_has_file_id e found = not e.in_use || is_some e.file_id || (got_none found && not (bytes_eq e.kind.now (codes "IMAGE")))
 
 -- the nodes of a directory without a fault

@@ -4,9 +4,9 @@ use Rattle.element.specs.declared.syntax.Syntax.{Syntax}
 use Rattle.element.specs.Numbers.{IsBytes}
 use Rattle.sequence.specs.declared.fault.Fault.{Fault}
 use Rattle.sequence.specs.declared.walker.Walker.{Walker}
-use Rattle.sequence.specs.Ending.{IsWhole, Fails}
+use Rattle.sequence.specs.Ending.{IsWholeDataSet, Fails}
 use Rattle.sequence.specs.Rules.{Limits}
-use Rattle.sequence.specs.Taken.{StandsAt, syntax_of, limits_of, fault_of}
+use Rattle.sequence.specs.Taken.{StandsAt, walker_syntax, limits_of, fault_of}
 use Rattle.dicomdir.specs.declared.skip.Skip.{Skip}
 use Rattle.dicomdir.specs.declared.skip.Skip.TheVariants as skip
 
@@ -16,7 +16,7 @@ IsGoing w = (b : List ℕ) × StandsAt w b × (fault_of w ≡ None)
 
 -- the walker is of the same data set
 abbrev pub IsSameSet : {V D : ℕ} → Walker V D → Walker V D → Type 0
-IsSameSet w v = (syntax_of v ≡ syntax_of w) × (limits_of v ≡ limits_of w)
+IsSameSet w v = (walker_syntax v ≡ walker_syntax w) × (limits_of v ≡ limits_of w)
 
 -- the text has a fault, which is the reason
 abbrev pub FailsBy : Syntax → Limits → List ℕ → Skip → Type 0
@@ -25,13 +25,13 @@ FailsBy s lim text reason = (fault : Fault) × Fails s lim text fault × (reason
 -- the piece has this fault after what the walker took, whatever bytes follow
 abbrev pub FailsIn : {V D : ℕ} → Walker V D → List ℕ → Fault → Type 0
 FailsIn w piece fault =
-    (b more : List ℕ) → StandsAt w b → IsBytes ((b ++ piece) ++ more) → Fails (syntax_of w) (limits_of w) ((b ++ piece) ++ more) fault
+    (b more : List ℕ) → StandsAt w b → IsBytes ((b ++ piece) ++ more) → Fails (walker_syntax w) (limits_of w) ((b ++ piece) ++ more) fault
 
 -- the text that the reader had is a whole data set, which the walker took
 abbrev pub TookWhole : {V D : ℕ} → Walker V D → Option (List ℕ) → Type 0
-TookWhole w old = IfSome old (λ text. StandsAt w text × IsWhole (syntax_of w) (limits_of w) text)
+TookWhole w old = IfSome old (λ text. StandsAt w text × IsWholeDataSet (walker_syntax w) (limits_of w) text)
 
 -- a read failed, or the text that the reader had has a fault
 pub data WalkFails {V D : ℕ} (w : Walker V D) (old : Option (List ℕ)) (reason : Skip) : Type 0 where
   read_failed : reason ≡ skip.Fault 54 → WalkFails w old reason
-  text_fails : IfSome old (λ text. IsBytes text → FailsBy (syntax_of w) (limits_of w) text reason) → WalkFails w old reason
+  text_fails : IfSome old (λ text. IsBytes text → FailsBy (walker_syntax w) (limits_of w) text reason) → WalkFails w old reason

@@ -2,8 +2,8 @@
 use Rattle.std.specs.Prelude.{◌≡◌, ℕ, zero, suc, Bool, true, false, ◌&&◌, List, [], ◌∷◌, ◌++◌, length, map, Option, Some, None, nat_eq, slice_index_or, if◌then◌else◌}
 use Rattle.dicomdir.specs.declared.links.Mark.{Mark}
 use Rattle.dicomdir.specs.declared.links.Step.{Step}
-use Rattle.dicomdir.specs.declared.records.Entry.{Entry}
-use Rattle.dicomdir.specs.Directory.{Record, Node, carried, next_offset, lower_offset}
+use Rattle.dicomdir.specs.declared.records.ReadRecord.{ReadRecord}
+use Rattle.dicomdir.specs.Directory.{Record, Node, carried_node, next_offset, lower_offset}
 use Rattle.dicomdir.specs.Linked.{record_at}
 use Rattle.dicomdir.specs.DirFault.{Fault, Way, is_one_of, last_before, lower_way, next_way, named_fault, elements_at, or_zero}
 use Rattle.dicomdir.specs.NodesInUse.{LevelNode}
@@ -30,7 +30,7 @@ own_node shown level place n = if shown && n.in_use then record { place = place;
 
 abbrev pub with_record : List Record → Way → Bool → Seen → ℕ → Seen
 with_record records way shown seen offset =
-    record { reached = offset ∷ seen.reached; nodes = seen.nodes ++ own_node shown way.level offset (carried (elements_at records offset)) }
+    record { reached = offset ∷ seen.reached; nodes = seen.nodes ++ own_node shown way.level offset (carried_node (elements_at records offset)) }
 
 -- from an offset, over no more records than the first number says
 abbrev pub survey : ℕ → List Record → Way → Bool → Seen → ℕ → Surveyed
@@ -41,7 +41,7 @@ survey (suc most) records way shown seen offset =
       | false ↦ elim (named_fault way seen.reached offset (record_at offset records)) [
         | Some f ↦ refused f
         | None ↦ with_seen
-            (survey most records (lower_way way offset) (shown && (carried (elements_at records offset)).in_use) (with_record records way shown seen offset) (or_zero (lower_offset (elements_at records offset))))
+            (survey most records (lower_way way offset) (shown && (carried_node (elements_at records offset)).in_use) (with_record records way shown seen offset) (or_zero (lower_offset (elements_at records offset))))
             (λ more. survey most records (next_way way offset) shown more (or_zero (next_offset (elements_at records offset))))
       ]
     ]
@@ -71,12 +71,12 @@ pub record Stands (root : ℕ) (records : List Record) (ms : List Mark) (pending
 abbrev pub flags_of : List ℕ → List Record → List Bool
 flags_of reached records = map (λ r. is_one_of r.place reached) records
 
-pub record AreFlagged (entries : List Entry) (flags : List Bool) (records : List Record) (reached : List ℕ) : Type 0 where
+pub record AreFlagged (entries : List ReadRecord) (flags : List Bool) (records : List Record) (reached : List ℕ) : Type 0 where
   pub are : AreEntries entries records
   pub rise : Rise 0 records
   pub flagged : flags ≡ flags_of reached records
 
 -- the entry is of the record at the step's offset, which has no fault
-pub record IsTarget (root : ℕ) (entries : List Entry) (records : List Record) (ms : List Mark) (step : Step) (reached : List ℕ) (at : ℕ) : Type 0 where
-  pub place : (d : Entry) → (slice_index_or entries at d).place ≡ step.offset
+pub record IsTarget (root : ℕ) (entries : List ReadRecord) (records : List Record) (ms : List Mark) (step : Step) (reached : List ℕ) (at : ℕ) : Type 0 where
+  pub place : (d : ReadRecord) → (slice_index_or entries at d).place ≡ step.offset
   pub good : named_fault (way_of root ms step.begins) reached step.offset (record_at step.offset records) ≡ None

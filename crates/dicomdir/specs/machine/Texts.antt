@@ -1,4 +1,5 @@
 -- What a text spells from its front, and what is found in it under a tag.
+use Rattle.element.specs.Header.{item_end_tag, sequence_end_tag}
 use Rattle.std.specs.Prelude.{◌≡◌, ℕ, ◌≤◌, ◌+◌, Bool, true, false, not, ◌&&◌, List, [], ◌++◌, length, take, Option, Some, None, nat_eq, nat_le, if◌then◌else◌}
 use Rattle.byteorder.specs.Endian.{little_number}
 use Rattle.element.specs.declared.syntax.Syntax.{Syntax}
@@ -6,7 +7,7 @@ use Rattle.element.specs.declared.tag.Tag.{Tag}
 use Rattle.element.specs.declared.header.Header.{Header}
 use Rattle.sequence.specs.Shape.{is_undefined, shape}
 use Rattle.sequence.specs.declared.shape.Shape.TheVariants.{Value, Sequence}
-use Rattle.sequence.specs.Tree.{Elements, Items, item_end_tag, sequence_end_tag, delimitation, IsValue, Ended, DataSet, ItemList}
+use Rattle.sequence.specs.Tree.{Elements, Items, delimitation, IsValue, Ended, DataSet, ItemList}
 use Rattle.dicomdir.specs.declared.found.Element.{Element}
 use Rattle.dicomdir.specs.declared.found.Element.TheVariants as got
 use Rattle.dicomdir.specs.Directory.{Found, missing, value_at, items_at, header_size}

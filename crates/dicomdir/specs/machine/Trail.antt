@@ -2,7 +2,7 @@
 use Rattle.std.specs.Prelude.{◌≡◌, ℕ, suc, ◌<◌, min, Bool, List, [], ◌∷◌, ◌++◌, Option, Some, None, if◌then◌else◌}
 use Rattle.dicomdir.specs.declared.links.Mark.{Mark}
 use Rattle.dicomdir.specs.declared.links.Step.{Step}
-use Rattle.dicomdir.specs.declared.records.Entry.{Entry}
+use Rattle.dicomdir.specs.declared.records.ReadRecord.{ReadRecord}
 use Rattle.dicomdir.specs.DirFault.{Way, first_alone}
 
 -- Marks stand here with the last one first.
@@ -43,7 +43,7 @@ abbrev pub left_of : List Mark → List Mark
 left_of [] = []
 left_of (m ∷ ms) = if m.begins then ms else left_of ms
 
-abbrev pub mark_of : Entry → Step → Mark
+abbrev pub mark_of : ReadRecord → Step → Mark
 mark_of e step = record { place = e.place; next = e.next; begins = step.begins; level = step.level; shown = step.shown }
 
 -- levels are counted up to 5, which no record in use fits

@@ -2,7 +2,7 @@ use Rattle.std.proofs.Common.{take}
 use Rattle.dicomdir.specs.Grouping.{rows_at, row_groups}
 use Rattle.dicomdir.specs.Levels.{key_for}
 use Rattle.dicomdir.proofs.GroupingLemmas.{Grouped}
-use Rattle.dicomdir.proofs.GroupingSteps.{texts}
+use Rattle.dicomdir.specs.machine.FirstSeen.{texts}
 use Rattle.dicomdir.proofs.build_groups.groups.Given as goal
 
 abbrev pub invariant-loop-row : goal.invariant-loop-row

@@ -1,6 +1,6 @@
+use Rattle.element.specs.Header.{item_tag}
 use Rattle.std.proofs.Common.{◌∙◌, length, sym, ap, arith}
 use Rattle.std.proofs.lemmas.List.{length-drop}
-use Rattle.sequence.specs.Tree.{item_tag}
 use Rattle.dicomdir.proofs.SkipLemmas.{content_drop, content_items, item_drop, item_elements, end_of_elements, always_elements, next_elements, end_of_items, always_items, next_items}
 use Rattle.dicomdir.proofs.TextLemmas.{same_tags, other_tag}
 use Rattle.dicomdir.proofs.found.+levels.Goals as goal

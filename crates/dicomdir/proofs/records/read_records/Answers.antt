@@ -1,6 +1,6 @@
+use Rattle.element.specs.Header.{item_tag}
 use Rattle.std.proofs.Common.{◌∙◌, [], ◌∷◌, ◌++◌, length, not, is_ok, sym, ap, subst, arith}
 use Rattle.std.proofs.lemmas.List.{length-drop}
-use Rattle.sequence.specs.Tree.{item_tag}
 use Rattle.dicomdir.specs.machine.Texts.{HasElements, content_at}
 use Rattle.dicomdir.proofs.TextLemmas.{same_tags, other_tag, if_yes}
 use Rattle.dicomdir.proofs.RecordsLemmas.{read_none, read_next, read_fails, read_to_mark, read_to_end}

@@ -1,0 +1,24 @@
+//! Keys in first-seen order.
+ghost use Rattle.std.specs.Prelude.{◌<◌, IfOk, length};
+ghost use Rattle.dicomdir.specs.machine.FirstSeen.{Sees, texts};
+
+use indexmap::IndexSet;
+use std::alloc::{AllocError, Allocator};
+use std::hash::{BuildHasherDefault, FoldHasher};
+
+/// The keys that were seen so far.
+pub(crate) type SeenKeys<A> = IndexSet<Vec<u8, A>, BuildHasherDefault<FoldHasher>, A>;
+
+/// Adds a key to those that were seen, and returns its number and whether it is new.
+pub(crate) fn see<A: Allocator + Copy>(
+    alloc: A,
+    seen: &mut SeenKeys<A>,
+    key: &[u8],
+) -> Result<(usize, bool), AllocError>
+    ensures sees { IfOk result (λ r. Sees key.now (texts seen.old.keys) (texts seen.new.keys) r.0 r.1) }
+    ensures within { IfOk result (λ r. r.0 < length (texts seen.new.keys)) }
+{
+    let key = Vec::from_slice(alloc, key)?;
+    let placed = seen.insert_full(key)?;
+    Ok(placed)
+}
