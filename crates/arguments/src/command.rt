@@ -1,84 +1,13 @@
 //! The commands that the program knows.
-ghost use Rattle.std.specs.Prelude.{◌≡◌, IfOk, false, Some, [], ◌∷◌, codes};
+ghost use Rattle.std.specs.Prelude.{◌≡◌, IfOk, false, codes, map};
 ghost use Rattle.clap.specs.declared.builder.command.Command.TheViews.{out-Command as fields_of};
-ghost use Rattle.clap.specs.Walk.{rule_of};
-ghost use Rattle.clap.specs.Simple.{app_of, new_app};
-ghost use Rattle.arguments.specs.CommandLine.{the_command, replay_app, listening_app, limited_app, serve_app, file_app, index_app, positional, needed, optional, free, repeated, flag_rule};
+ghost use Rattle.clap.specs.Simple.{app_of, new_app, with_subcommand};
+ghost use Rattle.arguments.specs.CommandLine.{the_command, replay_app, listening_app, limited_app, serve_app, file_app, index_app, with_subcommands};
+ghost use Rattle.arguments.specs.Tables.{app_for};
 
-use clap::{Arg, ArgAction, Command};
+use crate::argument::{Argument, add_argument, add_arguments};
+use clap::Command;
 use std::alloc::{AllocError, Global};
-
-/// Returns a positional argument that has to be given.
-fn positional_argument<'a>(alloc: Global, name: &'a str, help: &'a str) -> Arg<'a>
-    ensures rule { rule_of result ≡ positional name.entry.now }
-    ensures local { result.global ≡ false }
-{
-    Arg::new(alloc, name).required(true).help(help)
-}
-
-/// Returns an option that has to be given.
-fn needed_option<'a>(alloc: Global, name: &'a str, value: &'a str, help: &'a str) -> Arg<'a>
-    ensures rule { rule_of result ≡ needed name.entry.now }
-    ensures local { result.global ≡ false }
-{
-    Arg::new(alloc, name)
-        .long(name)
-        .value_name(value)
-        .required(true)
-        .help(help)
-}
-
-/// Returns an option, and its value where it is not given.
-fn option<'a>(
-    alloc: Global,
-    name: &'a str,
-    value: &'a str,
-    default: &'a str,
-    help: &'a str,
-) -> Arg<'a>
-    ensures rule { rule_of result ≡ optional name.entry.now default.entry.now }
-    ensures local { result.global ≡ false }
-{
-    Arg::new(alloc, name)
-        .long(name)
-        .value_name(value)
-        .default_value(default)
-        .help(help)
-}
-
-/// Returns an option that may be left out.
-fn free_option<'a>(alloc: Global, name: &'a str, value: &'a str, help: &'a str) -> Arg<'a>
-    ensures rule { rule_of result ≡ free name.entry.now }
-    ensures local { result.global ≡ false }
-{
-    Arg::new(alloc, name)
-        .long(name)
-        .value_name(value)
-        .help(help)
-}
-
-/// Returns an option that may be given more than once.
-fn repeated_option<'a>(alloc: Global, name: &'a str, value: &'a str, help: &'a str) -> Arg<'a>
-    ensures rule { rule_of result ≡ repeated name.entry.now }
-    ensures local { result.global ≡ false }
-{
-    Arg::new(alloc, name)
-        .long(name)
-        .value_name(value)
-        .action(ArgAction::Append)
-        .help(help)
-}
-
-/// Returns an option without a value.
-fn flag<'a>(alloc: Global, name: &'a str, help: &'a str) -> Arg<'a>
-    ensures rule { rule_of result ≡ flag_rule name.entry.now }
-    ensures local { result.global ≡ false }
-{
-    Arg::new(alloc, name)
-        .long(name)
-        .action(ArgAction::SetTrue)
-        .help(help)
-}
 
 /// Returns a command without arguments; its help ends with the example.
 fn new_command<'a>(alloc: Global, name: &'a str, about: &'a str, example: &'a str) -> Command<'a>
@@ -92,34 +21,37 @@ fn replay_command<'a>(alloc: Global) -> Result<Command<'a>, AllocError>
     ensures app { IfOk result (λ c. app_of c ≡ replay_app) }
     ensures local { IfOk result (λ c. (fields_of c).has_globals ≡ false) }
 {
-    new_command(
+    let command = new_command(
         alloc,
         "replay",
         "Runs a recorded association, and prints what is sent in hexadecimal",
         "Example: dcmbox replay echo.bin --out received",
+    );
+    add_arguments(
+        alloc,
+        command,
+        &[
+            Argument::Positional("FILE", "The recorded bytes of one association"),
+            Argument::Needed("out", "DIR", "The folder that received files go to"),
+            Argument::Default(
+                "ae",
+                "TITLE",
+                "DCMBOX",
+                "The AE title that a peer has to call",
+            ),
+            Argument::Default(
+                "cut",
+                "BYTES",
+                "4096",
+                "How many bytes are taken at a time, from 1 to 65536",
+            ),
+            Argument::Free(
+                "per",
+                "FILES",
+                "Files into folders of so many, from 1 to 9999",
+            ),
+        ],
     )
-    .arg(positional_argument(alloc, "FILE", "The recorded bytes of one association"))?
-    .arg(needed_option(alloc, "out", "DIR", "The folder that received files go to"))?
-    .arg(option(
-        alloc,
-        "ae",
-        "TITLE",
-        "DCMBOX",
-        "The AE title that a peer has to call",
-    ))?
-    .arg(option(
-        alloc,
-        "cut",
-        "BYTES",
-        "4096",
-        "How many bytes are taken at a time, from 1 to 65536",
-    ))?
-    .arg(free_option(
-        alloc,
-        "per",
-        "FILES",
-        "Files into folders of so many, from 1 to 9999",
-    ))
 }
 
 /// Returns `serve` with who is served where; the function below adds the rest.
@@ -127,39 +59,32 @@ fn listening_command<'a>(alloc: Global) -> Result<Command<'a>, AllocError>
     ensures app { IfOk result (λ c. app_of c ≡ listening_app) }
     ensures local { IfOk result (λ c. (fields_of c).has_globals ≡ false) }
 {
-    new_command(
+    let command = new_command(
         alloc,
         "serve",
         "Receives images from scanners, one association after the other",
         "Example: dcmbox serve --port 11112 --out received --bind 0.0.0.0 --ae DCMBOX --caller SCANNER1",
+    );
+    add_arguments(
+        alloc,
+        command,
+        &[
+            Argument::Needed("port", "PORT", "The TCP port to listen on, from 1 to 65535"),
+            Argument::Needed("out", "DIR", "The folder that received files go to"),
+            Argument::Default("bind", "ADDRESS", "127.0.0.1", "The address to listen on"),
+            Argument::Default(
+                "ae",
+                "TITLE",
+                "DCMBOX",
+                "The AE title that a peer has to call",
+            ),
+            Argument::Repeated(
+                "caller",
+                "TITLE",
+                "An AE title that may call, up to 16 times; any may where none is given",
+            ),
+        ],
     )
-    .arg(needed_option(
-        alloc,
-        "port",
-        "PORT",
-        "The TCP port to listen on, from 1 to 65535",
-    ))?
-    .arg(needed_option(alloc, "out", "DIR", "The folder that received files go to"))?
-    .arg(option(
-        alloc,
-        "bind",
-        "ADDRESS",
-        "127.0.0.1",
-        "The address to listen on",
-    ))?
-    .arg(option(
-        alloc,
-        "ae",
-        "TITLE",
-        "DCMBOX",
-        "The AE title that a peer has to call",
-    ))?
-    .arg(repeated_option(
-        alloc,
-        "caller",
-        "TITLE",
-        "An AE title that may call, up to 16 times; any may where none is given",
-    ))
 }
 
 /// Returns `serve` with its timeouts and limits.
@@ -167,54 +92,60 @@ fn limited_command<'a>(alloc: Global) -> Result<Command<'a>, AllocError>
     ensures app { IfOk result (λ c. app_of c ≡ limited_app) }
     ensures local { IfOk result (λ c. (fields_of c).has_globals ≡ false) }
 {
-    listening_command(alloc)?
-        .arg(option(
-            alloc,
-            "timeout",
-            "SECONDS",
-            "30",
-            "How long the ARTIM timer runs, from 1 to 86400",
-        ))?
-        .arg(option(
-            alloc,
-            "idle",
-            "SECONDS",
-            "600",
-            "How long an association may be silent, from 1 to 86400",
-        ))?
-        .arg(option(
-            alloc,
-            "max-pdu",
-            "BYTES",
-            "16384",
-            "The longest P-DATA-TF PDU that is taken, from 1024 to 131072",
-        ))?
-        .arg(option(
-            alloc,
-            "max-data",
-            "BYTES",
-            "1099511627776",
-            "The longest data set that is taken, from 1024 to 2^48",
-        ))
+    let command = listening_command(alloc)?;
+    add_arguments(
+        alloc,
+        command,
+        &[
+            Argument::Default(
+                "timeout",
+                "SECONDS",
+                "30",
+                "How long the ARTIM timer runs, from 1 to 86400",
+            ),
+            Argument::Default(
+                "idle",
+                "SECONDS",
+                "600",
+                "How long an association may be silent, from 1 to 86400",
+            ),
+            Argument::Default(
+                "max-pdu",
+                "BYTES",
+                "16384",
+                "The longest P-DATA-TF PDU that is taken, from 1024 to 131072",
+            ),
+            Argument::Default(
+                "max-data",
+                "BYTES",
+                "1099511627776",
+                "The longest data set that is taken, from 1024 to 2^48",
+            ),
+        ],
+    )
 }
 
 fn serve_command<'a>(alloc: Global) -> Result<Command<'a>, AllocError>
     ensures app { IfOk result (λ c. app_of c ≡ serve_app) }
     ensures local { IfOk result (λ c. (fields_of c).has_globals ≡ false) }
 {
-    limited_command(alloc)?
-        .arg(free_option(
-            alloc,
-            "per",
-            "FILES",
-            "Files into folders of so many, from 1 to 9999",
-        ))?
-        .arg(flag(
-            alloc,
-            "no-sync",
-            "Answers a store before its file is surely on the disk",
-        ))?
-        .arg(flag(alloc, "once", "Ends after one association"))
+    let command = limited_command(alloc)?;
+    add_arguments(
+        alloc,
+        command,
+        &[
+            Argument::Free(
+                "per",
+                "FILES",
+                "Files into folders of so many, from 1 to 9999",
+            ),
+            Argument::Flag(
+                "no-sync",
+                "Answers a store before its file is surely on the disk",
+            ),
+            Argument::Flag("once", "Ends after one association"),
+        ],
+    )
 }
 
 /// Returns a command that takes one file.
@@ -228,8 +159,8 @@ fn file_command<'a>(
     ensures app { IfOk result (λ c. app_of c ≡ file_app name.entry.now) }
     ensures local { IfOk result (λ c. (fields_of c).has_globals ≡ false) }
 {
-    let file = positional_argument(alloc, "FILE", help);
-    new_command(alloc, name, about, example).arg(file)
+    let command = new_command(alloc, name, about, example);
+    add_argument(alloc, command, Argument::Positional("FILE", help))
 }
 
 fn show_command<'a>(alloc: Global) -> Result<Command<'a>, AllocError>
@@ -262,19 +193,24 @@ fn index_command<'a>(alloc: Global) -> Result<Command<'a>, AllocError>
     ensures app { IfOk result (λ c. app_of c ≡ index_app) }
     ensures local { IfOk result (λ c. (fields_of c).has_globals ≡ false) }
 {
-    new_command(
+    let command = new_command(
         alloc,
         "index",
         "Writes the DICOMDIR of a folder of received files",
         "Example: dcmbox index received --uid 2.25.1",
-    )
-    .arg(positional_argument(alloc, "DIR", "The folder of received files"))?
-    .arg(needed_option(alloc, "uid", "UID", "The SOP instance UID of the directory"))?
-    .arg(flag(
+    );
+    add_arguments(
         alloc,
-        "keep",
-        "Takes the files that the folder's DICOMDIR names, not those that are there",
-    ))
+        command,
+        &[
+            Argument::Positional("DIR", "The folder of received files"),
+            Argument::Needed("uid", "UID", "The SOP instance UID of the directory"),
+            Argument::Flag(
+                "keep",
+                "Takes the files that the folder's DICOMDIR names, not those that are there",
+            ),
+        ],
+    )
 }
 
 fn checkdir_command<'a>(alloc: Global) -> Result<Command<'a>, AllocError>
@@ -290,19 +226,78 @@ fn checkdir_command<'a>(alloc: Global) -> Result<Command<'a>, AllocError>
     )
 }
 
+/// A command of the program.
+#[derive(Clone, Copy)]
+enum Subcommand {
+    Serve,
+    Replay,
+    Show,
+    Check,
+    Index,
+    CheckDir,
+}
+
+/// Returns clap's command.
+fn command_for<'a>(alloc: Global, subcommand: Subcommand) -> Result<Command<'a>, AllocError>
+    ensures app { IfOk result (λ c. app_of c ≡ app_for subcommand) }
+    ensures local { IfOk result (λ c. (fields_of c).has_globals ≡ false) }
+{
+    match subcommand {
+        Subcommand::Serve => serve_command(alloc),
+        Subcommand::Replay => replay_command(alloc),
+        Subcommand::Show => show_command(alloc),
+        Subcommand::Check => check_command(alloc),
+        Subcommand::Index => index_command(alloc),
+        Subcommand::CheckDir => checkdir_command(alloc),
+    }
+}
+
+/// Adds a command after those that there are.
+fn add_subcommand<'a>(
+    alloc: Global,
+    command: Command<'a>,
+    subcommand: Subcommand,
+) -> Result<Command<'a>, AllocError>
+    ensures { IfOk result (λ c. app_of c ≡ with_subcommand (app_of command.entry) (app_for subcommand).top) }
+{
+    let sub = command_for(alloc, subcommand)?;
+    command.subcommand(sub)
+}
+
+/// Adds commands in order, after those that there are.
+fn add_subcommands<'a>(
+    alloc: Global,
+    command: Command<'a>,
+    subcommands: &[Subcommand],
+) -> Result<Command<'a>, AllocError>
+    ensures { IfOk result (λ c. app_of c ≡ with_subcommands (app_of command.entry) (map app_for subcommands.now)) }
+{
+    let mut command = command;
+    for subcommand in subcommands {
+        command = add_subcommand(alloc, command, *subcommand)?;
+    }
+    Ok(command)
+}
+
 /// Returns the commands that the program knows.
 pub fn command<'a>(alloc: Global) -> Result<Command<'a>, AllocError>
     ensures { IfOk result (λ c. app_of c ≡ the_command) }
 {
-    Command::new(alloc, "dcmbox")
+    let command = Command::new(alloc, "dcmbox")
         .version("0.1.0")
         .about("A DICOM storage receiver whose behaviour is proved")
         .after_help("Help on a command, with an example: dcmbox help COMMAND")
-        .subcommand_required(true)
-        .subcommand(serve_command(alloc)?)?
-        .subcommand(replay_command(alloc)?)?
-        .subcommand(show_command(alloc)?)?
-        .subcommand(check_command(alloc)?)?
-        .subcommand(index_command(alloc)?)?
-        .subcommand(checkdir_command(alloc)?)
+        .subcommand_required(true);
+    add_subcommands(
+        alloc,
+        command,
+        &[
+            Subcommand::Serve,
+            Subcommand::Replay,
+            Subcommand::Show,
+            Subcommand::Check,
+            Subcommand::Index,
+            Subcommand::CheckDir,
+        ],
+    )
 }

@@ -1,6 +1,7 @@
 //! The command line of DCMBOX: its commands, and what the arguments ask for.
 #![tactic(auto)]
 
+mod argument;
 mod command;
 mod values;
 mod words;

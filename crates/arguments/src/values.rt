@@ -108,7 +108,6 @@ pub fn serve_arguments<'a>(matches: &ArgMatches<'a>) -> Option<ServeArguments<'a
         out: matches.get_str("out")?,
         bind: matches.get_str("bind")?,
         ae: matches.get_str("ae")?,
-        callers: values(matches, "caller")?,
         timeout: matches.get_str("timeout")?,
         idle: matches.get_str("idle")?,
         max_pdu: matches.get_str("max-pdu")?,
@@ -116,5 +115,7 @@ pub fn serve_arguments<'a>(matches: &ArgMatches<'a>) -> Option<ServeArguments<'a
         per: matches.get_str("per"),
         no_sync: matches.get_flag("no-sync"),
         once: matches.get_flag("once"),
+        // Last, since it alone has to be dropped where another is missing.
+        callers: values(matches, "caller")?,
     })
 }

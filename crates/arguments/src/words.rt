@@ -71,25 +71,16 @@ fn too_many(alloc: Global) -> WordsError {
 fn job_of<'a>(name: &str, matches: &ArgMatches<'a>) -> Option<Job<'a>>
     ensures { IfSome result (λ job. Names job (Some (name.now, rows_of (found_of matches.now)))) }
 {
-    if name == "serve" {
-        return Some(Job::Serve(serve_arguments(matches)?));
-    }
-    if name == "replay" {
-        return Some(Job::Replay(replay_arguments(matches)?));
-    }
-    if name == "show" {
-        return Some(Job::Show(file_arguments(matches)?));
-    }
-    if name == "check" {
-        return Some(Job::Check(file_arguments(matches)?));
-    }
-    if name == "index" {
-        return Some(Job::Index(index_arguments(matches)?));
-    }
-    if name == "checkdir" {
-        return Some(Job::CheckDir(file_arguments(matches)?));
-    }
-    None
+    let job = match name {
+        "serve" => Job::Serve(serve_arguments(matches)?),
+        "replay" => Job::Replay(replay_arguments(matches)?),
+        "show" => Job::Show(file_arguments(matches)?),
+        "check" => Job::Check(file_arguments(matches)?),
+        "index" => Job::Index(index_arguments(matches)?),
+        "checkdir" => Job::CheckDir(file_arguments(matches)?),
+        _ => return None,
+    };
+    Some(job)
 }
 
 /// Reads the arguments of the command line, of which the first is the program's name.

@@ -1,6 +1,6 @@
 use Rattle.std.proofs.Common.{ap, ◌∙◌, true}
 use Rattle.clap.specs.Walk.{Rule, rule_of}
-use Rattle.arguments.proofs.command.positional_argument.Goals as goal
+use Rattle.arguments.proofs.argument.positional_argument.Goals as goal
 
 pub returns-clause-rule : goal.returns-clause-rule
 returns-clause-rule c =

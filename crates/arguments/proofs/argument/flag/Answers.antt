@@ -1,7 +1,7 @@
 use Rattle.std.proofs.Common.{ap, ◌∙◌, Some}
 use Rattle.clap.specs.Walk.{Rule, rule_of}
 use Rattle.clap.specs.declared.builder.action.ArgAction.TheVariants.{SetTrue}
-use Rattle.arguments.proofs.command.flag.Goals as goal
+use Rattle.arguments.proofs.argument.flag.Goals as goal
 
 pub returns-clause-rule : goal.returns-clause-rule
 returns-clause-rule c =

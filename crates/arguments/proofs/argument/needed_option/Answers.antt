@@ -1,6 +1,6 @@
 use Rattle.std.proofs.Common.{ap, ◌∙◌, Some, true}
 use Rattle.clap.specs.Walk.{Rule, rule_of}
-use Rattle.arguments.proofs.command.needed_option.Goals as goal
+use Rattle.arguments.proofs.argument.needed_option.Goals as goal
 
 pub returns-clause-rule : goal.returns-clause-rule
 returns-clause-rule c =

@@ -1,6 +1,6 @@
 use Rattle.std.proofs.Common.{ap, ◌∙◌, Some}
 use Rattle.clap.specs.Walk.{Rule, rule_of}
-use Rattle.arguments.proofs.command.free_option.Goals as goal
+use Rattle.arguments.proofs.argument.free_option.Goals as goal
 
 pub returns-clause-rule : goal.returns-clause-rule
 returns-clause-rule c =
