@@ -106,6 +106,28 @@ fn walk_data_set<R: Read, L: Listing<O>, O: Write>(
     Ok(walker.finish().err())
 }
 
+/// Lists the rest of a file after its header, up to its first fault.
+fn list_data_set<R: Read, L: Listing<O>, O: Write>(
+    input: &mut Counted<'_, R>,
+    meta: &Meta,
+    listing: &mut L,
+    out: &mut O,
+) -> Result<Outcome, ProgramError> {
+    listing.on_meta(meta, out).map_err(ProgramError::Write)?;
+    let start = input.count();
+    match walk_data_set(input, meta.syntax, listing, out)? {
+        Some(fault) => {
+            write_fault(fault, start, out).map_err(ProgramError::Write)?;
+            Ok(Outcome::Faulty)
+        }
+        None => {
+            let end = listing.on_end(input.count(), out);
+            end.map_err(ProgramError::Write)?;
+            Ok(Outcome::Good)
+        }
+    }
+}
+
 /// Lists a file that the reader gives, up to its first fault, which has a line of its own.
 ///
 /// Fails if the file can't be read or the output can't be written.
@@ -115,26 +137,12 @@ pub fn list<R: Read, L: Listing<O>, O: Write>(
     out: &mut O,
 ) -> Result<Outcome, ProgramError> {
     let mut input = Counted::new(input);
-    let meta = match read_meta(&mut input) {
-        Ok(meta) => meta,
-        Err(MetaFault::ReadFailed) => return Err(input.into_error()),
+    match read_meta(&mut input) {
+        Ok(meta) => list_data_set(&mut input, &meta, listing, out),
+        Err(MetaFault::ReadFailed) => Err(input.into_error()),
         Err(fault) => {
             write_meta_fault(fault, out).map_err(ProgramError::Write)?;
-            return Ok(Outcome::Faulty);
-        }
-    };
-    listing.on_meta(&meta, out).map_err(ProgramError::Write)?;
-    let start = input.count();
-    match walk_data_set(&mut input, meta.syntax, listing, out)? {
-        Some(fault) => {
-            write_fault(fault, start, out).map_err(ProgramError::Write)?;
             Ok(Outcome::Faulty)
-        }
-        None => {
-            listing
-                .on_end(input.count(), out)
-                .map_err(ProgramError::Write)?;
-            Ok(Outcome::Good)
         }
     }
 }

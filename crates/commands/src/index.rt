@@ -3,7 +3,7 @@ use crate::checkdir::{read_directory, tell_fault, write_file_id};
 use crate::error::ProgramError;
 use crate::faults::TagText;
 use crate::names::{path_of, received_files};
-use crate::outcome::Outcome;
+use crate::outcome::{Outcome, flushed};
 use crate::settings::Index;
 use dicomdir::{Built, DirFault, FileId, Row, Skip, build, check, kept_of, rows_of, write_dir};
 use std::alloc::{AllocError, Global};
@@ -50,22 +50,32 @@ struct Contents {
     skipped: Vec<Skipped, Global>,
 }
 
+impl Contents {
+    /// Adds the row of a file, or why it has none; fails where memory ran out.
+    fn push(&mut self, id: &FileId, row: Result<Row<Global>, Skip>) -> Result<(), ProgramError> {
+        match row {
+            Ok(row) => self.rows.push(row)?,
+            Err(Skip::OutOfMemory) => return Err(ProgramError::Memory(AllocError)),
+            Err(reason) => self.skipped.push(Skipped { id: *id, reason })?,
+        }
+        Ok(())
+    }
+}
+
 /// Reads the rows of files, and keeps why a file has none; fails where memory ran out.
 fn read_rows<R: Files<File = File> + Alloc<A = Global>>(
     rt: &R,
     dir: &str,
     ids: &[FileId],
 ) -> Result<Contents, ProgramError> {
-    let mut rows = Vec::new(rt.alloc());
-    let mut skipped = Vec::new(rt.alloc());
+    let mut contents = Contents {
+        rows: Vec::new(rt.alloc()),
+        skipped: Vec::new(rt.alloc()),
+    };
     for id in ids {
-        match row_of(rt, dir, id) {
-            Ok(row) => rows.push(row)?,
-            Err(Skip::OutOfMemory) => return Err(ProgramError::Memory(AllocError)),
-            Err(reason) => skipped.push(Skipped { id: *id, reason })?,
-        }
+        contents.push(id, row_of(rt, dir, id))?;
     }
-    Ok(Contents { rows, skipped })
+    Ok(contents)
 }
 
 /// Writes a line for each file that has no row.
@@ -85,22 +95,52 @@ fn tell_skipped<O: Write>(skipped: &[Skipped], out: &mut O) -> io::Result<()> {
     Ok(())
 }
 
+/// Reads the folder's directory whole.
+fn present_directory<R: Files<File = File> + Alloc<A = Global>>(
+    rt: &R,
+    dir: &str,
+) -> Result<Vec<u8, Global>, ProgramError> {
+    let path = format!(in rt.alloc(); "{dir}/{DIRECTORY}")?;
+    let mut file = fs::open(rt, path.as_str()).map_err(ProgramError::NoDirectory)?;
+    match read_directory(rt.alloc(), &mut file) {
+        Err(ProgramError::Read(error)) => Err(ProgramError::NoDirectory(error)),
+        read => read,
+    }
+}
+
+/// Returns the file IDs of the images that a directory keeps, or its fault.
+fn kept_in(alloc: Global, bytes: &[u8]) -> Result<Vec<FileId, Global>, DirFault> {
+    match check(alloc, bytes) {
+        Ok(tree) => kept_of(alloc, &tree),
+        Err(fault) => Err(fault),
+    }
+}
+
 /// Returns the file IDs of the images that the folder's directory keeps, or the fault of the directory.
 fn kept_files<R: Files<File = File> + Alloc<A = Global>>(
     rt: &R,
     dir: &str,
 ) -> Result<Result<Vec<FileId, Global>, DirFault>, ProgramError> {
-    let path = format!(in rt.alloc(); "{dir}/{DIRECTORY}")?;
-    let mut file = fs::open(rt, path.as_str()).map_err(ProgramError::NoDirectory)?;
-    let bytes = match read_directory(rt.alloc(), &mut file) {
-        Ok(bytes) => bytes,
-        Err(ProgramError::Read(error)) => return Err(ProgramError::NoDirectory(error)),
-        Err(error) => return Err(error),
-    };
-    match check(rt.alloc(), bytes.as_slice()) {
-        Ok(tree) => Ok(kept_of(rt.alloc(), &tree)),
-        Err(fault) => Ok(Err(fault)),
+    let bytes = present_directory(rt, dir)?;
+    Ok(kept_in(rt.alloc(), bytes.as_slice()))
+}
+
+/// Returns the file IDs of the files that the directory is of, or the fault of the present directory.
+fn files_of<R: Files<File = File> + Alloc<A = Global> + Clone + Drop>(
+    rt: &R,
+    settings: &Index,
+) -> Result<Result<Vec<FileId, Global>, DirFault>, ProgramError> {
+    if settings.keep {
+        return kept_files(rt, settings.dir);
     }
+    Ok(Ok(received_files(rt, settings.dir)?))
+}
+
+/// Writes the directory to a file.
+fn write_built(alloc: Global, file: &File, built: &Built<'_, Global>) -> io::Result<()> {
+    let mut writer = BufWriter::new(alloc, file)?;
+    write_dir(built, &mut writer)?;
+    writer.flush()
 }
 
 /// Writes the directory to a file of its own, up to the disk.
@@ -110,10 +150,31 @@ fn write_draft<R: Files<File = File> + Alloc<A = Global>>(
     built: &Built<'_, Global>,
 ) -> io::Result<()> {
     let file = fs::create(rt, path)?;
-    let mut writer = BufWriter::new(rt.alloc(), &file)?;
-    write_dir(built, &mut writer)?;
-    writer.flush()?;
+    write_built(rt.alloc(), &file, built)?;
     file.sync_all()
+}
+
+/// Writes the directory to the draft and gives that its name; removes it where either fails.
+fn replace<R: Files<File = File> + Alloc<A = Global>>(
+    rt: &R,
+    draft: &str,
+    path: &str,
+    built: &Built<'_, Global>,
+) -> io::Result<()> {
+    let written = match write_draft(rt, draft, built) {
+        Ok(()) => fs::rename(rt, draft, path),
+        Err(error) => Err(error),
+    };
+    if written.is_err() {
+        let _ = fs::remove_file(rt, draft);
+    }
+    written
+}
+
+/// Writes what the folder names up to the disk.
+fn sync<R: Files<File = File>>(rt: &R, dir: &str) -> io::Result<()> {
+    let folder = fs::open(rt, dir)?;
+    folder.sync_all()
 }
 
 /// Puts the directory into the folder, in place of an old one once it is whole.
@@ -124,16 +185,8 @@ fn put_directory<R: Files<File = File> + Alloc<A = Global>>(
 ) -> Result<(), ProgramError> {
     let draft = format!(in rt.alloc(); "{dir}/{DRAFT}")?;
     let path = format!(in rt.alloc(); "{dir}/{DIRECTORY}")?;
-    let written = match write_draft(rt, draft.as_str(), built) {
-        Ok(()) => fs::rename(rt, draft.as_str(), path.as_str()),
-        Err(error) => Err(error),
-    };
-    if let Err(error) = written {
-        let _ = fs::remove_file(rt, draft.as_str());
-        return Err(ProgramError::Directory(error));
-    }
-    let folder = fs::open(rt, dir).map_err(ProgramError::Directory)?;
-    folder.sync_all().map_err(ProgramError::Directory)
+    replace(rt, draft.as_str(), path.as_str(), built).map_err(ProgramError::Directory)?;
+    sync(rt, dir).map_err(ProgramError::Directory)
 }
 
 /// Writes a line for each row that is left out because an earlier one has the same instance, and the
@@ -150,6 +203,37 @@ fn tell_built<O: Write>(built: &Built<'_, Global>, out: &mut O) -> io::Result<()
     writeln!(out, "records {records}")
 }
 
+/// Puts the directory into the folder, and tells what it left out.
+fn put_and_tell<R: Files<File = File> + Alloc<A = Global>, O: Write>(
+    rt: &R,
+    dir: &str,
+    built: &Built<'_, Global>,
+    skipped: &[Skipped],
+    out: &mut O,
+) -> Result<Outcome, ProgramError> {
+    put_directory(rt, dir, built)?;
+    tell_skipped(skipped, out).map_err(ProgramError::Write)?;
+    tell_built(built, out).map_err(ProgramError::Write)?;
+    Ok(Outcome::Good)
+}
+
+/// Writes the directory of these files, and tells what it left out, or its fault.
+fn index_files<R: Files<File = File> + Alloc<A = Global>, O: Write>(
+    rt: &R,
+    settings: &Index,
+    contents: &Contents,
+    out: &mut O,
+) -> Result<Outcome, ProgramError> {
+    let skipped = contents.skipped.as_slice();
+    match build(rt.alloc(), contents.rows.as_slice(), settings.uid.copied()) {
+        Ok(built) => put_and_tell(rt, settings.dir, &built, skipped, out),
+        Err(fault) => {
+            tell_skipped(skipped, out).map_err(ProgramError::Write)?;
+            tell_fault(fault, out)
+        }
+    }
+}
+
 /// Writes the file `DICOMDIR` of a folder: the directory of its received files or, with `keep`, of the
 /// images that its present directory keeps. Once it is there, a line tells of each file that gets no row,
 /// and why; then of each double; then how many records there are. A directory that is not built leaves an
@@ -162,26 +246,12 @@ pub fn index_dir<R: Files<File = File> + Alloc<A = Global> + Clone + Drop, O: Wr
     settings: &Index,
     out: &mut O,
 ) -> Result<Outcome, ProgramError> {
-    let ids = if settings.keep {
-        match kept_files(rt, settings.dir)? {
-            Ok(ids) => ids,
-            Err(fault) => return tell_fault(fault, out),
+    match files_of(rt, settings)? {
+        Ok(ids) => {
+            let contents = read_rows(rt, settings.dir, ids.as_slice())?;
+            index_files(rt, settings, &contents, out)
         }
-    } else {
-        received_files(rt, settings.dir)?
-    };
-    let Contents { rows, skipped } = read_rows(rt, settings.dir, ids.as_slice())?;
-    match build(rt.alloc(), rows.as_slice(), settings.uid.copied()) {
-        Ok(built) => {
-            put_directory(rt, settings.dir, &built)?;
-            tell_skipped(skipped.as_slice(), out).map_err(ProgramError::Write)?;
-            tell_built(&built, out).map_err(ProgramError::Write)?;
-            Ok(Outcome::Good)
-        }
-        Err(fault) => {
-            tell_skipped(skipped.as_slice(), out).map_err(ProgramError::Write)?;
-            tell_fault(fault, out)
-        }
+        Err(fault) => tell_fault(fault, out),
     }
 }
 
@@ -190,8 +260,5 @@ pub fn index_dir<R: Files<File = File> + Alloc<A = Global> + Clone + Drop, O: Wr
 pub fn index(rt: &HostRuntime, settings: &Index) -> Result<Outcome, ProgramError> {
     let mut out = BufWriter::new(rt.alloc(), io::writer(rt)).map_err(ProgramError::Write)?;
     let outcome = index_dir(rt, settings, &mut out);
-    let flushed = out.flush();
-    let outcome = outcome?;
-    flushed.map_err(ProgramError::Write)?;
-    Ok(outcome)
+    flushed(outcome, &mut out)
 }

@@ -2,9 +2,10 @@
 use crate::check::check_over;
 use crate::checkdir::checkdir_over;
 use crate::error::ProgramError;
-use crate::outcome::Outcome;
+use crate::outcome::{Outcome, flushed};
 use crate::show::show_over;
-use std::io::{BufWriter, Write};
+use std::alloc::Global;
+use std::io::{BufWriter, Read, Write};
 use std::{fs, io};
 
 /// What is printed of a file.
@@ -15,6 +16,20 @@ pub enum Inspection {
     Directory,
 }
 
+/// Writes what is asked for of a file that the reader gives.
+fn inspect_over<R: Read, O: Write>(
+    alloc: Global,
+    inspection: Inspection,
+    input: &mut R,
+    out: &mut O,
+) -> Result<Outcome, ProgramError> {
+    match inspection {
+        Inspection::Show => show_over(input, out),
+        Inspection::Check => check_over(input, out),
+        Inspection::Directory => checkdir_over(alloc, input, out),
+    }
+}
+
 /// Prints what is asked for of a file. What was written before an error is printed, too.
 pub fn inspect(
     rt: &HostRuntime,
@@ -23,13 +38,6 @@ pub fn inspect(
 ) -> Result<Outcome, ProgramError> {
     let mut input = fs::open(rt, file).map_err(ProgramError::Open)?;
     let mut out = BufWriter::new(rt.alloc(), io::writer(rt)).map_err(ProgramError::Write)?;
-    let outcome = match inspection {
-        Inspection::Show => show_over(&mut input, &mut out),
-        Inspection::Check => check_over(&mut input, &mut out),
-        Inspection::Directory => checkdir_over(rt.alloc(), &mut input, &mut out),
-    };
-    let flushed = out.flush();
-    let outcome = outcome?;
-    flushed.map_err(ProgramError::Write)?;
-    Ok(outcome)
+    let outcome = inspect_over(rt.alloc(), inspection, &mut input, &mut out);
+    flushed(outcome, &mut out)
 }

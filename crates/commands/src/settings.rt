@@ -1,9 +1,9 @@
 //! What the values of arguments mean.
-ghost use Rattle.std.specs.Prelude.{◌<◌, ◌≤◌, IfOk};
+ghost use Rattle.std.specs.Prelude.{◌<◌, ◌≤◌, ◌^◌, IfOk};
 
 use crate::limits::MOST_DATA;
 use crate::timer::Timeouts;
-use arguments::{IndexArguments, ReplayArguments, ServeArguments, WordsError};
+use arguments::{IndexArguments, MOST_VALUES, ReplayArguments, ServeArguments, WordsError};
 use arrayvec::ArrayVec;
 use element::{AeTitle, Uid};
 use negotiate::Config;
@@ -118,25 +118,57 @@ pub fn serve_settings<'a>(
 ) -> Result<Serve<'a>, WordsError> {
     let port = number(alloc, "port", arguments.port, 1, 65535)?;
     let ae = title(alloc, "ae", arguments.ae)?;
-    let mut callers = ArrayVec::new();
-    for caller in arguments.callers.as_slice() {
-        callers.push(title(alloc, "caller", *caller)?);
+    let callers = callers_of(alloc, &arguments.callers)?;
+    let limits = limits_of(alloc, arguments)?;
+    Ok(Serve {
+        bind: arguments.bind,
+        port: port as u16,
+        out: arguments.out,
+        config: Config::new(ae, callers, limits.max_pdu, limits.max_data),
+        timeouts: limits.timeouts,
+        layout: limits.layout,
+        sync: !arguments.no_sync,
+        once: arguments.once,
+    })
+}
+
+/// Reads the titles of the callers that are taken.
+fn callers_of(
+    alloc: Global,
+    callers: &ArrayVec<&str, MOST_VALUES>,
+) -> Result<ArrayVec<AeTitle, MOST_VALUES>, WordsError> {
+    let mut titles = ArrayVec::new();
+    for caller in callers.as_slice() {
+        titles.push(title(alloc, "caller", *caller)?);
     }
+    Ok(titles)
+}
+
+/// The limits of `serve`, and how it lays out files.
+#[derive(Clone, Copy)]
+struct Limits {
+    timeouts: Timeouts,
+    max_pdu: u32,
+    max_data: u64,
+    layout: Layout,
+    ghost least_pdu: { 1024 ≤ max_pdu },
+    ghost least_data: { 1024 ≤ max_data },
+    ghost most_data: { max_data ≤ 2 ^ 48 },
+}
+
+/// Reads the limits of `serve`, and how it lays out files.
+fn limits_of(alloc: Global, arguments: &ServeArguments) -> Result<Limits, WordsError> {
     let timeouts = Timeouts {
         artim: seconds(alloc, "timeout", arguments.timeout)?,
         idle: seconds(alloc, "idle", arguments.idle)?,
     };
     let max_pdu = number(alloc, "max-pdu", arguments.max_pdu, 1024, 131_072)?;
     let max_data = number(alloc, "max-data", arguments.max_data, 1024, MOST_DATA)?;
-    Ok(Serve {
-        bind: arguments.bind,
-        port: port as u16,
-        out: arguments.out,
-        config: Config::new(ae, callers, max_pdu as u32, max_data),
+    Ok(Limits {
         timeouts,
+        max_pdu: max_pdu as u32,
+        max_data,
         layout: layout_of(alloc, arguments.per)?,
-        sync: !arguments.no_sync,
-        once: arguments.once,
     })
 }
 

@@ -2,7 +2,7 @@
 use crate::error::ProgramError;
 use crate::faults::write_dir_fault;
 use crate::outcome::Outcome;
-use dicomdir::{DirFault, FileId, TreeRecord, check};
+use dicomdir::{DirFault, FileId, Tree, TreeRecord, check};
 use std::alloc::{AllocError, Allocator};
 use std::io;
 use std::io::{ErrorKind, Read, Write};
@@ -43,6 +43,15 @@ fn write_record<O: Write>(record: &TreeRecord<'_>, out: &mut O) -> io::Result<()
     writeln!(out)
 }
 
+/// Writes a line for each record, and then how many records there are.
+fn write_tree<A: Allocator + Copy, O: Write>(tree: &Tree<'_, A>, out: &mut O) -> io::Result<()> {
+    for record in tree.records() {
+        write_record(record, out)?;
+    }
+    let count = tree.records().len();
+    writeln!(out, "records {count}")
+}
+
 /// Reads a directory whole.
 pub fn read_directory<A: Allocator + Copy, R: Read>(
     alloc: A,
@@ -77,14 +86,11 @@ pub fn checkdir_over<A: Allocator + Copy, R: Read, O: Write>(
     out: &mut O,
 ) -> Result<Outcome, ProgramError> {
     let bytes = read_directory(alloc, input)?;
-    let tree = match check(alloc, bytes.as_slice()) {
-        Ok(tree) => tree,
-        Err(fault) => return tell_fault(fault, out),
-    };
-    for record in tree.records() {
-        write_record(record, out).map_err(ProgramError::Write)?;
+    match check(alloc, bytes.as_slice()) {
+        Ok(tree) => match write_tree(&tree, out) {
+            Ok(()) => Ok(Outcome::Good),
+            Err(error) => Err(ProgramError::Write(error)),
+        },
+        Err(fault) => tell_fault(fault, out),
     }
-    let count = tree.records().len();
-    writeln!(out, "records {count}").map_err(ProgramError::Write)?;
-    Ok(Outcome::Good)
 }

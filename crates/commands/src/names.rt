@@ -46,6 +46,34 @@ fn push_name<R: Files + Drop, A: Allocator + Clone>(
     Ok(())
 }
 
+/// Adds the name of what was read of a folder, if it is of this kind.
+fn push_read<R: Files + Drop, A: Allocator + Clone>(
+    names: &mut Vec<String<A>, A>,
+    kind: Kind,
+    alloc: A,
+    entry: io::Result<DirEntry<R, A>>,
+) -> Result<(), ProgramError> {
+    match entry {
+        Ok(entry) => push_name(names, kind, alloc, &entry),
+        // A name that is not UTF-8 is no name of a received file.
+        Err(error) if error.kind() == ErrorKind::InvalidFilename => Ok(()),
+        Err(error) => Err(ProgramError::Folder(error)),
+    }
+}
+
+/// Adds the names of this kind in a folder.
+fn push_names<R: Files + Alloc + Clone + Drop>(
+    rt: &R,
+    names: &mut Vec<String<R::A>, R::A>,
+    dir: &str,
+    kind: Kind,
+) -> Result<(), ProgramError> {
+    for entry in fs::read_dir(rt, dir).map_err(ProgramError::Folder)? {
+        push_read(names, kind, rt.alloc(), entry)?;
+    }
+    Ok(())
+}
+
 /// Returns the names of this kind in a folder, rising.
 fn names_in<R: Files + Alloc + Clone + Drop>(
     rt: &R,
@@ -53,14 +81,7 @@ fn names_in<R: Files + Alloc + Clone + Drop>(
     kind: Kind,
 ) -> Result<Vec<String<R::A>, R::A>, ProgramError> {
     let mut names = Vec::new(rt.alloc());
-    for entry in fs::read_dir(rt, dir).map_err(ProgramError::Folder)? {
-        match entry {
-            Ok(entry) => push_name(&mut names, kind, rt.alloc(), &entry)?,
-            // A name that is not UTF-8 is no name of a received file.
-            Err(error) if error.kind() == ErrorKind::InvalidFilename => {}
-            Err(error) => return Err(ProgramError::Folder(error)),
-        }
-    }
+    push_names(rt, &mut names, dir, kind)?;
     names.sort()?;
     Ok(names)
 }
@@ -73,6 +94,17 @@ fn push_id<A: Allocator>(ids: &mut Vec<FileId, A>, text: &str) -> Result<(), All
     Ok(())
 }
 
+/// Adds the file ID of a file of this name; it begins with `above`.
+fn push_file<A: Allocator + Clone>(
+    ids: &mut Vec<FileId, A>,
+    alloc: A,
+    above: &str,
+    name: &str,
+) -> Result<(), AllocError> {
+    let text = format!(in alloc; "{above}{name}")?;
+    push_id(ids, text.as_str())
+}
+
 /// Adds the file IDs of the files in a folder, by name; each begins with `above`.
 fn push_files<R: Files + Alloc + Clone + Drop>(
     rt: &R,
@@ -81,8 +113,7 @@ fn push_files<R: Files + Alloc + Clone + Drop>(
     above: &str,
 ) -> Result<(), ProgramError> {
     for name in &names_in(rt, dir, Kind::File)? {
-        let text = format!(in rt.alloc(); "{above}{name}")?;
-        push_id(ids, text.as_str())?;
+        push_file(ids, rt.alloc(), above, name.as_str())?;
     }
     Ok(())
 }
@@ -99,6 +130,18 @@ fn push_folder<R: Files + Alloc + Clone + Drop>(
     push_files(rt, ids, path.as_str(), above.as_str())
 }
 
+/// Adds the file IDs of the files in each folder of files, by its name and theirs.
+fn push_folders<R: Files + Alloc + Clone + Drop>(
+    rt: &R,
+    ids: &mut Vec<FileId, R::A>,
+    dir: &str,
+) -> Result<(), ProgramError> {
+    for folder in &names_in(rt, dir, Kind::Folder)? {
+        push_folder(rt, ids, dir, folder.as_str())?;
+    }
+    Ok(())
+}
+
 /// Returns the file IDs of the received files of a folder: first those in the folder itself, by name,
 /// and then those of each folder of files, by its name and theirs.
 pub fn received_files<R: Files + Alloc + Clone + Drop>(
@@ -107,9 +150,7 @@ pub fn received_files<R: Files + Alloc + Clone + Drop>(
 ) -> Result<Vec<FileId, R::A>, ProgramError> {
     let mut ids = Vec::new(rt.alloc());
     push_files(rt, &mut ids, dir, "")?;
-    for folder in &names_in(rt, dir, Kind::Folder)? {
-        push_folder(rt, &mut ids, dir, folder.as_str())?;
-    }
+    push_folders(rt, &mut ids, dir)?;
     Ok(ids)
 }
 

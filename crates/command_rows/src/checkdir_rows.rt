@@ -1,9 +1,8 @@
 //! What `checkdir` prints of a directory: a worked example, and every front of it.
-use super::devices::{Torn, Trickle};
-use crate::checkdir::checkdir_over;
-use crate::error::ProgramError;
-use crate::outcome::Outcome;
+use crate::devices::{Torn, Trickle};
+use commands::{Outcome, ProgramError, checkdir_over};
 use std::alloc::{AllocError, Global};
+use std::io::Read;
 use std::test::Fail;
 
 /// A directory of one image after its preamble: the file header, the root, and the records of a patient,
@@ -58,22 +57,33 @@ fn fault_of_front(alloc: Global, length: usize) -> Result<String, AllocError> {
     format!(in alloc; "fault 20 Truncated at {length} tag ")
 }
 
+/// Returns whether the records of the directory are listed, with these lines.
+fn lists<R: Read>(alloc: Global, input: &mut R, lines: &[u8]) -> Result<bool, ProgramError> {
+    let mut out = Vec::new(alloc);
+    let outcome = checkdir_over(alloc, input, &mut out)?;
+    Ok(outcome == Outcome::Good && out.as_slice() == lines)
+}
+
+/// Returns whether the front is refused with the line that is due.
+fn refuses(alloc: Global, front: &[u8]) -> Result<bool, ProgramError> {
+    let mut out = Vec::new(alloc);
+    let mut input = front;
+    let outcome = checkdir_over(alloc, &mut input, &mut out)?;
+    let want = fault_of_front(alloc, front.len())?;
+    Ok(outcome == Outcome::Faulty && out.as_slice().starts_with(want.as_bytes()))
+}
+
 #[test]
 fn records_are_listed(rt: HostRuntime) -> Result<(), Fail> {
     let alloc = rt.alloc();
     let file = one_image(alloc)?;
-    assert_eq!(rt; file.len(), 788);
-    let mut out = Vec::new(alloc);
-    let outcome = checkdir_over(alloc, &mut file.as_slice(), &mut out)?;
-    assert_eq!(rt; outcome, Outcome::Good);
-    assert_eq!(rt; out.as_slice(), LISTED);
-    let mut out = Vec::new(alloc);
     let bytes = file.as_slice();
-    let outcome = checkdir_over(alloc, &mut Trickle { bytes }, &mut out)?;
-    assert_eq!(rt; outcome, Outcome::Good);
-    assert_eq!(rt; out.as_slice(), LISTED);
-    let answer = checkdir_over(alloc, &mut Torn { bytes }, &mut out);
-    assert!(rt; matches!(answer, Err(ProgramError::Read(_))));
+    assert_eq!(rt; bytes.len(), 788);
+    let mut whole = bytes;
+    assert!(rt; lists(alloc, &mut whole, LISTED)?);
+    assert!(rt; lists(alloc, &mut Trickle { bytes }, LISTED)?);
+    let torn = lists(alloc, &mut Torn { bytes }, LISTED);
+    assert!(rt; matches!(torn, Err(ProgramError::Read(_))));
     Ok(())
 }
 
@@ -82,12 +92,8 @@ fn every_front_of_a_directory_has_a_fault(rt: HostRuntime) -> Result<(), Fail> {
     let alloc = rt.alloc();
     let file = one_image(alloc)?;
     for length in 0..788usize {
-        let mut out = Vec::new(alloc);
-        let mut front = file.as_slice().get(..length).ok_or("no front")?;
-        let outcome = checkdir_over(alloc, &mut front, &mut out)?;
-        assert_eq!(rt; outcome, Outcome::Faulty);
-        let want = fault_of_front(alloc, length)?;
-        assert!(rt; out.as_slice().starts_with(want.as_bytes()));
+        let front = file.as_slice().get(..length).ok_or("no front")?;
+        assert!(rt; refuses(alloc, front)?);
     }
     Ok(())
 }

@@ -1,5 +1,5 @@
 //! The ARTIM timer runs from its start, and starts anew with the answer that ends a request.
-use crate::timer::{Timeouts, Timer};
+use commands::{Timeouts, Timer};
 use std::cell::Cell;
 use std::io;
 use std::process::Abort;

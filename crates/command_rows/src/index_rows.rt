@@ -1,0 +1,268 @@
+//! What `index` prints of a folder, and the directory that it leaves there.
+use crate::devices::Broken;
+use crate::files::header;
+use commands::{Index, Outcome, ProgramError, checkdir_over, index_dir};
+use element::{Syntax, Uid};
+use fixtures::folders::{fresh, holds};
+use std::alloc::{AllocError, Global};
+use std::fs;
+use std::test::Fail;
+
+/// An image of these tests: its instance, its series and its number, each of which has an even length.
+#[derive(Clone, Copy)]
+struct Image<'a> {
+    instance: &'a [u8],
+    series: &'a [u8],
+    number: &'a [u8],
+    /// Empty for an image without one.
+    study_id: &'a [u8],
+}
+
+const FIRST: Image = Image {
+    instance: b"1.2.3.1.1",
+    series: b"1.2.3.1\0",
+    number: b"1 ",
+    study_id: b"S1",
+};
+
+const SECOND: Image = Image {
+    instance: b"1.2.3.1.2",
+    number: b"2 ",
+    ..FIRST
+};
+
+/// In another series of the same study.
+const THIRD: Image = Image {
+    instance: b"1.2.3.2.1",
+    series: b"1.2.3.2\0",
+    ..FIRST
+};
+
+const WITHOUT_STUDY_ID: Image = Image {
+    instance: b"1.2.3.1.3",
+    study_id: b"",
+    ..FIRST
+};
+
+/// Appends an element in Explicit VR Little Endian of at most 255 bytes.
+fn put(
+    out: &mut Vec<u8, Global>,
+    tag: [u8; 4],
+    vr: &[u8; 2],
+    value: &[u8],
+) -> Result<(), AllocError> {
+    out.extend_from_slice(&tag)?;
+    out.extend_from_slice(vr)?;
+    out.push(u8::try_from(value.len()).unwrap_or(u8::MAX))?;
+    out.push(0)?;
+    out.extend_from_slice(value)
+}
+
+/// Appends the elements of an image that say where it belongs.
+fn put_image(file: &mut Vec<u8, Global>, image: Image) -> Result<(), AllocError> {
+    put(file, [8, 0, 0x20, 0], b"DA", b"20260101")?;
+    put(file, [8, 0, 0x30, 0], b"TM", b"120000")?;
+    put(file, [8, 0, 0x60, 0], b"CS", b"CT")?;
+    put(file, [8, 0, 0x30, 0x10], b"LO", b"HEAD")?;
+    put(file, [0x10, 0, 0x10, 0], b"PN", b"DOE^JANE")?;
+    put(file, [0x10, 0, 0x20, 0], b"LO", b"P1")?;
+    put(file, [0x20, 0, 0x0d, 0], b"UI", b"1.2.3\0")?;
+    put(file, [0x20, 0, 0x0e, 0], b"UI", image.series)?;
+    put(file, [0x20, 0, 0x10, 0], b"SH", image.study_id)?;
+    put(file, [0x20, 0, 0x11, 0], b"IS", b"1 ")?;
+    put(file, [0x20, 0, 0x13, 0], b"IS", image.number)
+}
+
+/// Writes the file of an image.
+fn file(rt: &HostRuntime, path: &str, image: Image) -> Result<(), Fail> {
+    let mut file = header(rt.alloc(), Syntax::Explicit, image.instance)?;
+    put_image(&mut file, image)?;
+    fs::write(rt, path, file.as_slice())?;
+    Ok(())
+}
+
+/// Returns the settings of `index` for the folder.
+fn settings(dir: &str, keep: bool) -> Result<Index<'_>, Fail> {
+    let uid = Uid::read(b"2.25.1").ok_or("no UID")?;
+    Ok(Index { dir, uid, keep })
+}
+
+/// Runs `index` over the folder; returns whether it succeeds and prints these lines.
+fn prints(rt: &HostRuntime, dir: &str, keep: bool, lines: &[u8]) -> Result<bool, Fail> {
+    let mut out = Vec::new(rt.alloc());
+    let outcome = index_dir(rt, &settings(dir, keep)?, &mut out)?;
+    Ok(outcome == Outcome::Good && out.as_slice() == lines)
+}
+
+/// Runs `index` with `keep` over the folder; returns whether it prints these lines, with a fault or without.
+fn keeps(rt: &HostRuntime, dir: &str, lines: &[u8]) -> Result<bool, Fail> {
+    let mut out = Vec::new(rt.alloc());
+    index_dir(rt, &settings(dir, true)?, &mut out)?;
+    Ok(out.as_slice() == lines)
+}
+
+/// Runs `index` over the folder, and returns how it failed, if it did.
+fn failure(rt: &HostRuntime, dir: &str) -> Result<Option<ProgramError>, Fail> {
+    let mut out = Vec::new(rt.alloc());
+    Ok(index_dir(rt, &settings(dir, false)?, &mut out).err())
+}
+
+/// Returns whether the file has so many bytes.
+fn has_size(rt: &HostRuntime, path: &str, size: usize) -> Result<bool, Fail> {
+    let bytes = fs::read(rt, path)?;
+    Ok(bytes.len() == size)
+}
+
+/// Returns what `checkdir` prints of a directory.
+fn listed(rt: &HostRuntime, path: &str) -> Result<Vec<u8, Global>, Fail> {
+    let bytes = fs::read(rt, path)?;
+    let mut out = Vec::new(rt.alloc());
+    let mut input = bytes.as_slice();
+    checkdir_over(rt.alloc(), &mut input, &mut out)?;
+    Ok(out)
+}
+
+/// Writes five files: two images of a series, one of another series of that study, a double and one without
+/// Study ID.
+fn put_five(rt: &HostRuntime) -> Result<(), Fail> {
+    fresh(rt, "five")?;
+    file(rt, "five/I0000001", FIRST)?;
+    file(rt, "five/I0000002", SECOND)?;
+    file(rt, "five/I0000003", THIRD)?;
+    file(rt, "five/I0000004", FIRST)?;
+    file(rt, "five/I0000005", WITHOUT_STUDY_ID)?;
+    fs::write(rt, "five/readme.txt", b"none of them")?;
+    Ok(())
+}
+
+#[test]
+fn a_folder_of_five(rt: HostRuntime) -> Result<(), Fail> {
+    put_five(&rt)?;
+    let lines = b"skipped I0000005 missing 0020,0010\ndouble I0000004\nrecords 7\n".as_slice();
+    assert!(rt; prints(&rt, "five", false, lines)?);
+    assert!(rt;
+        listed(&rt, "five/DICOMDIR")?
+            .as_slice()
+            .ends_with(b"records 7\n")
+    );
+    assert!(rt; fs::read(&rt, "five/DIRDRAFT").is_err());
+    Ok(())
+}
+
+/// What `checkdir` lists of a directory of one image in a folder of files.
+const LISTED: &[u8] = b"0000000320 PATIENT
+0000000404   STUDY
+0000000534     SERIES
+0000000626       IMAGE S0000001/I0000001
+records 4
+";
+
+/// Files in the folder itself come first, by name, and then those of its folders.
+#[test]
+fn a_folder_of_two_levels(rt: HostRuntime) -> Result<(), Fail> {
+    fresh(&rt, "levels")?;
+    fs::create_dir(&rt, "levels/S0000001")?;
+    file(&rt, "levels/S0000001/I0000001", FIRST)?;
+    assert!(rt; prints(&rt, "levels", false, b"records 4\n")?);
+    assert!(rt; has_size(&rt, "levels/DICOMDIR", 798)?);
+    assert_eq!(rt; listed(&rt, "levels/DICOMDIR")?.as_slice(), LISTED);
+    Ok(())
+}
+
+/// Writes the directory with the two bytes of the flag at this place changed.
+fn put_flag(
+    rt: &HostRuntime,
+    path: &str,
+    whole: &[u8],
+    place: usize,
+    flag: u8,
+) -> Result<(), Fail> {
+    let mut changed = Vec::from_slice(rt.alloc(), whole)?;
+    if let Some(bytes) = changed
+        .as_mut_slice()
+        .get_mut(place..place.saturating_add(2))
+    {
+        bytes.copy_from_slice(&[flag, 0]);
+    }
+    fs::write(rt, path, changed.as_slice())?;
+    Ok(())
+}
+
+/// Of a directory with two images the files are kept whose records are in use, with all above them.
+#[test]
+fn inactive_records_are_not_kept(rt: HostRuntime) -> Result<(), Fail> {
+    fresh(&rt, "kept")?;
+    file(&rt, "kept/I0000001", FIRST)?;
+    file(&rt, "kept/I0000002", SECOND)?;
+    assert!(rt; prints(&rt, "kept", false, b"records 5\n")?);
+    let whole = fs::read(&rt, "kept/DICOMDIR")?;
+    assert_eq!(rt; whole.len(), 950);
+    for (place, flag, printed, size) in [
+        (654usize, 0u8, b"records 4\n".as_slice(), 788usize),
+        (562, 0, b"records 0\n", 320),
+        (654, 1, b"fault 68 BadRecord at 626\n", 950),
+    ] {
+        put_flag(&rt, "kept/DICOMDIR", whole.as_slice(), place, flag)?;
+        assert!(rt; keeps(&rt, "kept", printed)?);
+        assert!(rt; has_size(&rt, "kept/DICOMDIR", size)?);
+    }
+    Ok(())
+}
+
+/// A file that a kept record names and that is not there is skipped.
+#[test]
+fn a_missing_file_is_skipped(rt: HostRuntime) -> Result<(), Fail> {
+    fresh(&rt, "missing")?;
+    file(&rt, "missing/I0000001", FIRST)?;
+    file(&rt, "missing/I0000002", SECOND)?;
+    assert!(rt; prints(&rt, "missing", false, b"records 5\n")?);
+    fs::remove_file(&rt, "missing/I0000001")?;
+    assert!(rt;
+        prints(
+            &rt,
+            "missing",
+            true,
+            b"skipped I0000001 fault 54\nrecords 4\n"
+        )?
+    );
+    Ok(())
+}
+
+/// Where the new directory can't be written, the old one stays as it is.
+#[test]
+fn a_directory_that_is_not_written(rt: HostRuntime) -> Result<(), Fail> {
+    fresh(&rt, "unwritten")?;
+    file(&rt, "unwritten/I0000001", FIRST)?;
+    fs::write(&rt, "unwritten/DICOMDIR", b"as it was")?;
+    fs::create_dir(&rt, "unwritten/DIRDRAFT")?;
+    assert!(rt; matches!(failure(&rt, "unwritten")?, Some(ProgramError::Directory(_))));
+    assert!(rt; holds(&rt, "unwritten", "DICOMDIR", b"as it was")?);
+    Ok(())
+}
+
+/// A reader that closes the output loses what is printed, and the directory is there.
+#[test]
+fn the_output_fails(rt: HostRuntime) -> Result<(), Fail> {
+    fresh(&rt, "unread")?;
+    file(&rt, "unread/I0000001", FIRST)?;
+    file(&rt, "unread/I0000002", WITHOUT_STUDY_ID)?;
+    let outcome = index_dir(&rt, &settings("unread", false)?, &mut Broken);
+    assert!(rt; matches!(outcome, Err(ProgramError::Write(_))));
+    assert!(rt; has_size(&rt, "unread/DICOMDIR", 788)?);
+    Ok(())
+}
+
+/// A folder without files has a directory without records, and one that is not there has none.
+#[test]
+fn an_empty_folder(rt: HostRuntime) -> Result<(), Fail> {
+    fresh(&rt, "empty")?;
+    assert!(rt; prints(&rt, "empty", false, b"records 0\n")?);
+    assert!(rt; has_size(&rt, "empty/DICOMDIR", 320)?);
+    assert!(rt;
+        matches!(
+            failure(&rt, "no_such_folder")?,
+            Some(ProgramError::Folder(_))
+        )
+    );
+    Ok(())
+}

@@ -1,0 +1,96 @@
+//! Associations over TCP in one process: the log, and what a peer can't do to the box.
+use crate::files::config;
+use commands::{Layout, Serve, Timeouts, open_folder, serve_one};
+use fixtures::bytes::joined;
+use fixtures::echo;
+use fixtures::folders::fresh;
+use log::sink::Memory;
+use log::{Level, Logged};
+use std::alloc::Global;
+use std::fs;
+use std::io::{Read, Write};
+use std::net::{Shutdown, TcpListener, TcpStream};
+use std::test::Fail;
+use std::time::Duration;
+
+/// A second for the ARTIM timer, and a minute of silence in an association.
+fn settings() -> Serve<'static> {
+    Serve {
+        bind: "127.0.0.1",
+        port: 104,
+        out: ".",
+        config: config(),
+        timeouts: Timeouts {
+            artim: Duration::from_secs(1),
+            idle: Duration::from_secs(60),
+        },
+        layout: Layout::Flat,
+        sync: true,
+        once: true,
+    }
+}
+
+/// Serves one association into a new folder of this name, which is removed again; returns the line of the log.
+fn served(rt: &HostRuntime, listener: &TcpListener, dir: &str) -> Result<String, Fail> {
+    let sink = Memory::new(rt.alloc());
+    serve_logged(rt, listener, dir, &sink)?;
+    fs::remove_dir_all(rt, dir)?;
+    let lines = sink.into_lines();
+    match lines.as_slice() {
+        [line] => Ok(String::from_str(rt.alloc(), line.as_str())?),
+        _ => Err(Fail::from("not one line")),
+    }
+}
+
+/// Serves one association into a new folder of this name, and logs into the sink.
+fn serve_logged(
+    rt: &HostRuntime,
+    listener: &TcpListener,
+    dir: &str,
+    sink: &Memory<Global>,
+) -> Result<(), Fail> {
+    fresh(rt, dir)?;
+    let mut filing = open_folder(*rt, dir, Layout::Flat, true)?;
+    let logged = Logged::new(*rt, Level::Info, sink);
+    serve_one(&logged, listener, &settings(), &mut filing)?;
+    Ok(())
+}
+
+/// Sends the recorded echo, and closes the sending side.
+fn send_echo(alloc: Global, peer: &mut TcpStream) -> Result<(), Fail> {
+    let whole = joined(alloc, &[echo::REQUEST, echo::ECHO, echo::RELEASE])?;
+    peer.write_all(whole.as_slice())?;
+    peer.shutdown(Shutdown::Write)?;
+    Ok(())
+}
+
+/// Returns whether the peer gets the recorded answer, and then the end of the connection.
+fn is_answered(alloc: Global, peer: &mut TcpStream) -> Result<bool, Fail> {
+    let mut answer = Vec::new(alloc);
+    peer.read_to_end(&mut answer)?;
+    let whole = joined(alloc, &[echo::ACCEPT, echo::REPLY, echo::RELEASED])?;
+    Ok(answer.as_slice() == whole.as_slice())
+}
+
+#[test]
+fn the_recorded_echo_is_served(rt: HostRuntime) -> Result<(), Fail> {
+    let alloc = rt.alloc();
+    let listener = TcpListener::bind(&rt, "127.0.0.1:0")?;
+    let mut peer = TcpStream::connect(&rt, listener.local_addr()?)?;
+    let address = peer.local_addr()?;
+    send_echo(alloc, &mut peer)?;
+    let line = served(&rt, &listener, "echo_is_served")?;
+    assert!(rt; is_answered(alloc, &mut peer)?);
+    let end = format!(in alloc; "Z {address} Ended held 0 files 0 dropped 0 received 260 in 0 s")?;
+    assert!(rt; line.starts_with("[INFO  cli::serve] 20") && line.ends_with(end.as_str()));
+    Ok(())
+}
+
+#[test]
+fn a_silent_peer_expires(rt: HostRuntime) -> Result<(), Fail> {
+    let listener = TcpListener::bind(&rt, "127.0.0.1:0")?;
+    let _peer = TcpStream::connect(&rt, listener.local_addr()?)?;
+    let line = served(&rt, &listener, "silent_peer")?;
+    assert!(rt; line.contains("Ended held 0"));
+    Ok(())
+}

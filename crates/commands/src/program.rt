@@ -1,0 +1,116 @@
+//! The program: it reads its arguments, does what they say, and reports what went wrong.
+use crate::error::ProgramError;
+use crate::outcome::Outcome;
+use crate::perform::perform;
+use arguments::{Job, WordsError, read_words};
+use std::alloc::{AllocError, Global};
+use std::env;
+use std::io::ErrorKind;
+use std::process::ExitCode;
+
+/// The status where a fault was found.
+const FAULTY: u8 = 1;
+
+/// The status where the arguments are invalid.
+const REFUSED: u8 = 2;
+
+/// The status where a device failed or memory ran out.
+const FAILED: u8 = 3;
+
+/// Returns what an error is about: a file, a folder or a port.
+fn subject<'a>(job: &Job<'a>, error: &ProgramError) -> &'a str {
+    match (job, error) {
+        (Job::Serve(arguments), ProgramError::Folder(_)) => arguments.out,
+        (Job::Serve(arguments), ProgramError::Listen(_)) => arguments.port,
+        (Job::Replay(arguments), ProgramError::Folder(_)) => arguments.out,
+        (Job::Replay(arguments), _) => arguments.file,
+        (Job::Show(arguments), _) => arguments.file,
+        (Job::Check(arguments), _) => arguments.file,
+        (Job::Index(arguments), _) => arguments.dir,
+        (Job::CheckDir(arguments), _) => arguments.file,
+        _ => "",
+    }
+}
+
+/// Prints help or the version, and returns the status.
+fn show(rt: &HostRuntime, text: &str) -> ExitCode {
+    match print!(rt; "{text}") {
+        Ok(()) => ExitCode::SUCCESS,
+        Err(error) if error.kind() == ErrorKind::BrokenPipe => ExitCode::SUCCESS,
+        Err(_) => ExitCode::from(FAILED),
+    }
+}
+
+/// Tells that the program failed, and returns the status.
+fn fail(rt: &HostRuntime, subject: &str, error: &ProgramError) -> ExitCode {
+    let _ = if subject.is_empty() {
+        eprintln!(rt; "dcmbox: {error}")
+    } else {
+        eprintln!(rt; "dcmbox: {subject}: {error}")
+    };
+    ExitCode::from(FAILED)
+}
+
+/// Tells of an error, and returns the status. A reader that closed the output has read enough.
+fn report(rt: &HostRuntime, subject: &str, error: &ProgramError) -> ExitCode {
+    match error {
+        ProgramError::Words(WordsError::Shown(text)) => show(rt, text.as_str()),
+        ProgramError::Words(WordsError::Refused(text)) => {
+            let _ = eprint!(rt; "{text}");
+            ExitCode::from(REFUSED)
+        }
+        ProgramError::Arguments(error) if error.kind() == ErrorKind::InvalidData => {
+            let _ = eprintln!(rt; "error: an argument is not UTF-8");
+            ExitCode::from(REFUSED)
+        }
+        ProgramError::Write(error) if error.kind() == ErrorKind::BrokenPipe => ExitCode::SUCCESS,
+        _ => fail(rt, subject, error),
+    }
+}
+
+/// Returns the program's arguments.
+fn owned_words(rt: &HostRuntime) -> Result<Vec<String, Global>, ProgramError> {
+    let mut owned = Vec::new(rt.alloc());
+    for word in env::args(rt).map_err(ProgramError::Arguments)? {
+        owned.push(word)?;
+    }
+    Ok(owned)
+}
+
+/// Returns the arguments as borrowed texts.
+fn words_of<'a>(alloc: Global, owned: &'a [String]) -> Result<Vec<&'a str, Global>, AllocError> {
+    let mut words = Vec::new(alloc);
+    for word in owned {
+        words.push(word.as_str())?;
+    }
+    Ok(words)
+}
+
+/// Does what the arguments say, and returns the status.
+fn status_of(rt: &HostRuntime, job: &Job) -> ExitCode {
+    match perform(rt, job) {
+        Ok(Outcome::Good) => ExitCode::SUCCESS,
+        Ok(Outcome::Faulty) => ExitCode::from(FAULTY),
+        Err(error) => report(rt, subject(job, &error), &error),
+    }
+}
+
+/// Reads the arguments and does what they say.
+fn run_words(rt: &HostRuntime, owned: &[String]) -> Result<ExitCode, ProgramError> {
+    let words = words_of(rt.alloc(), owned)?;
+    let job = read_words(rt.alloc(), words.as_slice())?;
+    Ok(status_of(rt, &job))
+}
+
+/// Runs the program: does what its arguments say, tells of an error on standard error, and returns the
+/// status: 0, 1 where a fault was found, 2 for invalid arguments, 3 where a device failed or memory ran out.
+pub fn run_program(rt: &HostRuntime) -> ExitCode {
+    let ran = match owned_words(rt) {
+        Ok(owned) => run_words(rt, owned.as_slice()),
+        Err(error) => Err(error),
+    };
+    match ran {
+        Ok(status) => status,
+        Err(error) => report(rt, "", &error),
+    }
+}

@@ -1,0 +1,127 @@
+//! `dcmbox replay`: a recorded association runs again.
+ghost use Rattle.std.specs.Prelude.{◌<◌};
+
+use crate::error::ProgramError;
+use crate::folder::open_folder;
+use crate::hexadecimal;
+use crate::limits::{COMMAND, DEPTH, REQUEST, VALUES};
+use crate::settings::Replay;
+use engine::{ListSource, ListedInput, Report, run};
+use negotiate::Config;
+use part10::{Filing, FolderFiling};
+use pdu::MemoryWire;
+use std::alloc::{AllocError, Allocator, Global};
+use std::fs::File;
+use std::io::{BufWriter, Read, Write};
+use std::{fs, io};
+
+/// The recording in pieces of `cut` bytes, and then the transport's close.
+fn inputs_of<'a, A: Allocator>(
+    alloc: A,
+    recording: &'a [u8],
+    cut: usize,
+) -> Result<Vec<ListedInput<'a>, A>, AllocError>
+    requires { 0 < cut }
+{
+    let mut inputs = Vec::new(alloc);
+    for piece in recording.chunks(cut) {
+        inputs.push(ListedInput::Piece(piece))?;
+    }
+    inputs.push(ListedInput::Closed)?;
+    Ok(inputs)
+}
+
+/// Runs the inputs over a wire in memory and the filing; writes what was sent in hexadecimal, and returns
+/// how the association ended.
+fn replay_inputs<A: Allocator + Copy, F: Filing, O: Write>(
+    alloc: A,
+    inputs: &[ListedInput<'_>],
+    config: &Config,
+    filing: &mut F,
+    out: &mut O,
+) -> Result<Report, ProgramError> {
+    let mut source = ListSource::new(inputs);
+    let mut wire = MemoryWire::new(alloc);
+    let turns = inputs.len() as u64;
+    let report = run::<REQUEST, COMMAND, VALUES, DEPTH, _, _, _>(
+        &mut source,
+        config,
+        &mut wire,
+        filing,
+        turns,
+    );
+    if wire.failed() {
+        return Err(ProgramError::Wire);
+    }
+    hexadecimal::write_lines(wire.sent(), out).map_err(ProgramError::Write)?;
+    Ok(report)
+}
+
+/// Runs a recording in pieces of `cut` bytes, as `replay_inputs` does.
+fn replay_recording<A: Allocator + Copy, F: Filing, O: Write>(
+    alloc: A,
+    recording: &[u8],
+    cut: usize,
+    config: &Config,
+    filing: &mut F,
+    out: &mut O,
+) -> Result<Report, ProgramError>
+    requires { 0 < cut }
+{
+    let inputs = inputs_of(alloc, recording, cut)?;
+    replay_inputs(alloc, inputs.as_slice(), config, filing, out)
+}
+
+/// Runs the recording that the reader gives, in pieces of `cut` bytes, over a wire in memory and the
+/// filing; writes what was sent in hexadecimal, and returns how the association ended.
+///
+/// Fails if the recording can't be read, the output can't be written, or memory runs out. If the wire
+/// failed, nothing is written.
+pub fn replay_over<A: Allocator + Copy, R: Read, F: Filing, O: Write>(
+    alloc: A,
+    input: &mut R,
+    cut: usize,
+    config: &Config,
+    filing: &mut F,
+    out: &mut O,
+) -> Result<Report, ProgramError>
+    requires { 0 < cut }
+{
+    let mut recording = Vec::new(alloc);
+    input
+        .read_to_end(&mut recording)
+        .map_err(ProgramError::Read)?;
+    replay_recording(alloc, recording.as_slice(), cut, config, filing, out)
+}
+
+/// Writes what the recording's association sent, and how it ended.
+fn write_replay<O: Write>(
+    alloc: Global,
+    settings: &Replay,
+    input: &mut File,
+    filing: &mut FolderFiling<HostRuntime>,
+    out: &mut O,
+) -> Result<(), ProgramError> {
+    let report = replay_over(alloc, input, settings.cut, &settings.config, filing, out)?;
+    let (standing, held, files) = (report.standing, report.held, filing.committed());
+    writeln!(out, "{standing} held {held} files {files}").map_err(ProgramError::Write)
+}
+
+/// Prints what the recording's association sent, and how it ended.
+fn print_replay(
+    rt: &HostRuntime,
+    settings: &Replay,
+    input: &mut File,
+    filing: &mut FolderFiling<HostRuntime>,
+) -> Result<(), ProgramError> {
+    let mut out = BufWriter::new(rt.alloc(), io::writer(rt)).map_err(ProgramError::Write)?;
+    write_replay(rt.alloc(), settings, input, filing, &mut out)?;
+    out.flush().map_err(ProgramError::Write)
+}
+
+/// Runs the recording of a file, and prints what was sent and how it ended.
+pub fn replay(rt: &HostRuntime, settings: &Replay) -> Result<(), ProgramError> {
+    let mut input = fs::open(rt, settings.file).map_err(ProgramError::Open)?;
+    let mut filing = open_folder(*rt, settings.out, settings.layout, true)?;
+    print_replay(rt, settings, &mut input, &mut filing)
+}
