@@ -15,3 +15,5 @@ mod part10_rows;
 mod sequence_faults;
 #[cfg(test)]
 mod sequence_rows;
+#[cfg(test)]
+mod walks;

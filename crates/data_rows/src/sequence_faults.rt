@@ -1,6 +1,7 @@
 //! For each fault of a data set a text that has it, beside a good one that differs little; the shapes of elements in
 //! Implicit that no other row has; and how faults are named and printed.
 
+use crate::walks::{ends_at, take, take_cut};
 use element::{Syntax, Tag};
 use sequence::{Fault, Step, Walker, Want, Wanted};
 use std::alloc::AllocError;
@@ -11,6 +12,8 @@ struct Case {
     limit: u64,
     bad: &'static [u8],
     fault: Fault,
+    /// What is printed of the fault.
+    shown: &'static str,
     good: &'static [u8],
 }
 
@@ -27,6 +30,7 @@ const CASES: [Case; 12] = [
             place: 0,
             tag: Tag(0x0008, 0x0060),
         },
+        shown: "10 BadVr at 0 tag 0008,0060",
         good: b"\x08\x00\x60\x00CS\x02\x00CT",
     },
     Case {
@@ -37,6 +41,7 @@ const CASES: [Case; 12] = [
             place: 0,
             tag: Tag(0x0008, 0x0060),
         },
+        shown: "11 OddLength at 0 tag 0008,0060",
         good: b"\x08\x00\x60\x00CS\x04\x00CT  ",
     },
     Case {
@@ -47,6 +52,7 @@ const CASES: [Case; 12] = [
             place: 10,
             tag: Tag(0x0008, 0x0060),
         },
+        shown: "12 Order at 10 tag 0008,0060",
         good: b"\x08\x00\x60\x00CS\x02\x00CT\x08\x00\x61\x00CS\x02\x00CT",
     },
     Case {
@@ -57,6 +63,7 @@ const CASES: [Case; 12] = [
             place: 0,
             tag: Tag(0x0002, 0x0010),
         },
+        shown: "13 BadGroup at 0 tag 0002,0010",
         good: b"\x04\x00\x10\x00UI\x00\x00",
     },
     Case {
@@ -67,6 +74,7 @@ const CASES: [Case; 12] = [
             place: 0,
             tag: Tag(0x7fe0, 0x0010),
         },
+        shown: "14 UndefinedLength at 0 tag 7fe0,0010",
         good: b"\xe0\x7f\x10\x00OB\x00\x00\x00\x00\x00\x00",
     },
     Case {
@@ -77,6 +85,7 @@ const CASES: [Case; 12] = [
             place: 0,
             tag: Tag(0xfffe, 0xe000),
         },
+        shown: "15 UnexpectedTag at 0 tag fffe,e000",
         good: b"\x08\x00\x40\x11SQ\x00\x00\x08\x00\x00\x00\xfe\xff\x00\xe0\x00\x00\x00\x00",
     },
     Case {
@@ -87,6 +96,7 @@ const CASES: [Case; 12] = [
             place: 12,
             tag: Tag(0xfffe, 0xe0dd),
         },
+        shown: "16 DelimiterLength at 12 tag fffe,e0dd",
         good: b"\x08\x00\x40\x11SQ\x00\x00\xff\xff\xff\xff\xfe\xff\xdd\xe0\x00\x00\x00\x00",
     },
     Case {
@@ -97,6 +107,7 @@ const CASES: [Case; 12] = [
             place: 12,
             tag: Tag(0xfffe, 0xe000),
         },
+        shown: "17 Overrun at 12 tag fffe,e000",
         good: b"\x08\x00\x40\x11SQ\x00\x00\x10\x00\x00\x00\xfe\xff\x00\xe0\x08\x00\x00\x00\x08\x00\x50\x11UI\x00\x00",
     },
     Case {
@@ -107,6 +118,7 @@ const CASES: [Case; 12] = [
             place: 20,
             tag: Tag(0x0008, 0x1140),
         },
+        shown: "18 TooDeep at 20 tag 0008,1140",
         good: b"\x08\x00\x40\x11SQ\x00\x00\xff\xff\xff\xff\xfe\xff\x00\xe0\xff\xff\xff\xff\x08\x00\x40\x11SQ\x00\x00\x00\x00\x00\x00\xfe\xff\x0d\xe0\x00\x00\x00\x00\xfe\xff\xdd\xe0\x00\x00\x00\x00",
     },
     Case {
@@ -117,6 +129,7 @@ const CASES: [Case; 12] = [
             place: 0,
             tag: Tag(0x0008, 0x0060),
         },
+        shown: "19 TooLong at 0 tag 0008,0060",
         good: b"\x08\x00\x60\x00CS\x08\x00CT      ",
     },
     Case {
@@ -127,6 +140,7 @@ const CASES: [Case; 12] = [
             place: 9,
             tag: Tag(0x0008, 0x0060),
         },
+        shown: "20 Truncated at 9 tag 0008,0060",
         good: b"\x08\x00\x60\x00CS\x02\x00CT",
     },
     Case {
@@ -137,20 +151,10 @@ const CASES: [Case; 12] = [
             place: 0,
             tag: Tag(0x0008, 0x0018),
         },
+        shown: "21 KeptTooLong at 0 tag 0008,0018",
         good: b"\x08\x00\x18\x00UI\x04\x001.2\0",
     },
 ];
-
-fn take<const D: usize>(walker: &mut Walker<140, D>, piece: &[u8]) {
-    let mut rest = piece;
-    for _ in 0..piece.len() {
-        if rest.is_empty() {
-            break;
-        }
-        let (taken, _step) = walker.step(rest);
-        rest = &rest[taken..];
-    }
-}
 
 /// Whether the text ends like this in two pieces, or byte by byte where the cut is behind its end.
 fn ends(syntax: Syntax, limit: u64, text: &[u8], cut: usize, fault: Option<Fault>) -> bool {
@@ -162,18 +166,8 @@ fn ends(syntax: Syntax, limit: u64, text: &[u8], cut: usize, fault: Option<Fault
         None => false,
         Some(wanted) => {
             let mut w: Walker<140, 2> = Walker::new(syntax, wanted, limit.min(1 << 40));
-            if cut <= text.len() {
-                take(&mut w, &text[..cut]);
-                take(&mut w, &text[cut..]);
-            } else {
-                for byte in text {
-                    take(&mut w, &[*byte]);
-                }
-            }
-            match w.finish() {
-                Ok(()) => fault.is_none(),
-                Err(found) => fault == Some(found),
-            }
+            take_cut(&mut w, text, cut);
+            w.finish().err() == fault
         }
     }
 }
@@ -256,40 +250,14 @@ fn nested_past_the_limit_at_every_cut(rt: HostRuntime) {
         text[at] = PAIR[at % 16];
     }
     let refused = fault(18, 512, Tag(0x0040, 0xa730));
-    for cut in 0..text.len() + 2 {
-        let mut w: Walker<140, 64> = Walker::new(Syntax::Implicit, Wanted::none(), 1 << 40);
-        if cut <= text.len() {
-            take(&mut w, &text[..cut]);
-            take(&mut w, &text[cut..]);
-        } else {
-            for byte in &text {
-                take(&mut w, &[*byte]);
-            }
-        }
-        assert!(rt; w.finish() == Err(refused));
-        assert_eq!(rt; (w.levels(), w.place(), w.held()), (64, 520, 1024));
-    }
+    ends_at(&rt, Syntax::Implicit, &text, (64, 520, 1024, Some(refused)));
 }
 
 #[test]
 fn names_of_faults(rt: HostRuntime) -> Result<(), AllocError> {
-    let printed = [
-        "10 BadVr at 0 tag 0008,0060",
-        "11 OddLength at 0 tag 0008,0060",
-        "12 Order at 10 tag 0008,0060",
-        "13 BadGroup at 0 tag 0002,0010",
-        "14 UndefinedLength at 0 tag 7fe0,0010",
-        "15 UnexpectedTag at 0 tag fffe,e000",
-        "16 DelimiterLength at 12 tag fffe,e0dd",
-        "17 Overrun at 12 tag fffe,e000",
-        "18 TooDeep at 20 tag 0008,1140",
-        "19 TooLong at 0 tag 0008,0060",
-        "20 Truncated at 9 tag 0008,0060",
-        "21 KeptTooLong at 0 tag 0008,0018",
-    ];
-    for (case, text) in CASES.iter().zip(printed) {
+    for case in &CASES {
         let fault = case.fault;
-        assert_eq!(rt; format!(in rt.alloc(); "{fault}")?.as_str(), text);
+        assert_eq!(rt; format!(in rt.alloc(); "{fault}")?.as_str(), case.shown);
     }
     assert_eq!(rt; fault(22, 0, Tag(0, 0)).name(), "Unknown");
     Ok(())

@@ -1,47 +1,12 @@
 //! The worked rows of the walk, and a large value.
 
+use crate::walks::{ends_at, is_at, new_shallow_walker, new_walker, take, take_cut};
 use element::{Header, Syntax, Tag, Vr};
 use sequence::{Fault, Step, Walker, Want, Wanted};
+use std::process::Abort;
 
-/// Takes the piece, stepping on by what each step took; returns the number of steps.
-fn take<const D: usize>(walker: &mut Walker<140, D>, piece: &[u8]) -> u32 {
-    let mut rest = piece;
-    let mut steps = 0u32;
-    for _ in 0..piece.len() {
-        if rest.is_empty() {
-            break;
-        }
-        let (taken, _step) = walker.step(rest);
-        rest = &rest[taken..];
-        steps = steps.saturating_add(1);
-    }
-    steps
-}
-
-/// Takes the text in two pieces.
-fn take_cut<const D: usize>(walker: &mut Walker<140, D>, text: &[u8], cut: usize) {
-    if cut <= text.len() {
-        take(walker, &text[..cut]);
-        take(walker, &text[cut..]);
-    }
-}
-
-/// Takes the text byte by byte.
-fn take_bytes<const D: usize>(walker: &mut Walker<140, D>, text: &[u8]) {
-    for byte in text {
-        take(walker, &[*byte]);
-    }
-}
-
-fn fault_of<const D: usize>(walker: &Walker<140, D>) -> Option<Fault> {
-    match walker.finish() {
-        Ok(()) => None,
-        Err(fault) => Some(fault),
-    }
-}
-
-fn new_walker(syntax: Syntax) -> Walker<140, 64> {
-    Walker::new(syntax, Wanted::none(), 1 << 40)
+fn fault(number: u8, place: u64, tag: Tag) -> Fault {
+    Fault { number, place, tag }
 }
 
 const TWO_OPEN_LEVELS: [u8; 19] = [
@@ -94,23 +59,9 @@ const ONE_CT_STORE: [u8; 48] = [
 
 #[test]
 fn two_open_levels(rt: HostRuntime) {
-    let truncated = Fault {
-        number: 20,
-        place: 19,
-        tag: Tag(0, 0),
-    };
-    for cut in 0..TWO_OPEN_LEVELS.len() + 2 {
-        let mut w = new_walker(Syntax::Implicit);
-        if cut <= TWO_OPEN_LEVELS.len() {
-            take_cut(&mut w, &TWO_OPEN_LEVELS, cut);
-        } else {
-            take_bytes(&mut w, &TWO_OPEN_LEVELS);
-        }
-        assert_eq!(rt; w.levels(), 2);
-        assert_eq!(rt; w.held(), 35);
-        assert_eq!(rt; w.place(), 19);
-        assert_eq!(rt; fault_of(&w), Some(truncated));
-    }
+    let truncated = fault(20, 19, Tag(0, 0));
+    let end = (2, 19, 35, Some(truncated));
+    ends_at(&rt, Syntax::Implicit, &TWO_OPEN_LEVELS, end);
 }
 
 #[test]
@@ -120,144 +71,114 @@ fn four_levels_that_end_together(rt: HostRuntime) {
     assert_eq!(rt; w.levels(), 4);
     take(&mut w, &FOUR_LEVELS[41..42]);
     assert_eq!(rt; w.levels(), 1);
-    for cut in 0..FOUR_LEVELS.len() + 2 {
-        let mut w = new_walker(Syntax::Implicit);
-        if cut <= FOUR_LEVELS.len() {
-            take_cut(&mut w, &FOUR_LEVELS, cut);
-        } else {
-            take_bytes(&mut w, &FOUR_LEVELS);
-        }
-        assert_eq!(rt; w.levels(), 0);
-        assert_eq!(rt; w.place(), 60);
-        assert_eq!(rt; w.held(), 0);
-        assert_eq!(rt; fault_of(&w), None);
+    ends_at(&rt, Syntax::Implicit, &FOUR_LEVELS, (0, 60, 0, None));
+}
+
+/// Whether both report the same.
+fn is_same(step: &Step, other: &Step) -> bool {
+    match step {
+        Step::More => matches!(other, Step::More),
+        Step::Element(header) => matches!(other, Step::Element(found) if *found == *header),
+        Step::Run(run) => matches!(other, Step::Run(found) if *found == *run),
+        Step::Opened(header) => matches!(other, Step::Opened(found) if *found == *header),
+        Step::Closed(header) => matches!(other, Step::Closed(found) if *found == *header),
+        Step::Refused(fault) => matches!(other, Step::Refused(found) if *found == *fault),
+    }
+}
+
+/// Steps along the piece, and checks how many bytes each step takes and what it reports.
+fn steps<const D: usize>(
+    rt: &impl Abort,
+    walker: &mut Walker<140, D>,
+    piece: &[u8],
+    wanted: &[(usize, Step)],
+) {
+    let mut rest = piece;
+    for (size, report) in wanted {
+        let (taken, step) = walker.step(rest);
+        assert!(rt; taken == *size && is_same(&step, report), "{step:?}");
+        rest = &rest[taken..];
+    }
+}
+
+/// A header in Implicit VR Little Endian, or of group FFFE.
+fn header(tag: Tag, length: u32) -> Header {
+    Header {
+        tag,
+        vr: None,
+        length,
     }
 }
 
 #[test]
 fn steps_along_four_levels(rt: HostRuntime) {
     let mut w = new_walker(Syntax::Implicit);
-    let (taken, step) = w.step(&FOUR_LEVELS);
-    assert_eq!(rt; taken, 8);
-    assert!(rt; matches!(step, Step::Element(header) if header.tag == Tag(0x40, 0x0275)));
-    let (taken, step) = w.step(&FOUR_LEVELS[8..]);
-    assert_eq!(rt; taken, 8);
-    assert!(rt; matches!(step, Step::Opened(header) if header.length == 26));
-    let (taken, step) = w.step(&FOUR_LEVELS[16..]);
-    assert_eq!(rt; taken, 8);
-    assert!(rt; matches!(step, Step::Element(header) if header.tag == Tag(0x40, 0xa730)));
-    let (taken, step) = w.step(&FOUR_LEVELS[24..]);
-    assert_eq!(rt; taken, 8);
-    assert!(rt; matches!(step, Step::Opened(header) if header.length == 10));
-    let (taken, step) = w.step(&FOUR_LEVELS[32..]);
-    assert_eq!(rt; taken, 8);
-    assert!(rt; matches!(step, Step::Element(header) if header.tag == Tag(0x08, 0x0104)));
+    let headers = [
+        (8, Step::Element(header(Tag(0x40, 0x0275), u32::MAX))),
+        (8, Step::Opened(header(Tag(0xfffe, 0xe000), 26))),
+        (8, Step::Element(header(Tag(0x40, 0xa730), 18))),
+        (8, Step::Opened(header(Tag(0xfffe, 0xe000), 10))),
+        (8, Step::Element(header(Tag(0x08, 0x0104), 2))),
+    ];
+    steps(&rt, &mut w, &FOUR_LEVELS, &headers);
     assert_eq!(rt; w.levels(), 4);
-    let (taken, step) = w.step(&FOUR_LEVELS[40..]);
-    assert_eq!(rt; taken, 2);
-    assert!(rt; matches!(step, Step::Run(run) if run == b"AB".as_slice()));
+    steps(&rt, &mut w, &FOUR_LEVELS[40..], &[(2, Step::Run(b"AB"))]);
     assert_eq!(rt; w.levels(), 1);
-    let (taken, step) = w.step(&FOUR_LEVELS[42..]);
-    assert_eq!(rt; taken, 8);
-    assert!(rt; matches!(step, Step::Closed(header) if header.tag == Tag(0xfffe, 0xe0dd)));
+    let delimiter = header(Tag(0xfffe, 0xe0dd), 0);
+    steps(
+        &rt,
+        &mut w,
+        &FOUR_LEVELS[42..],
+        &[(8, Step::Closed(delimiter))],
+    );
     assert_eq!(rt; w.levels(), 0);
-    let (taken, step) = w.step(&FOUR_LEVELS[50..53]);
-    assert_eq!(rt; taken, 3);
-    assert!(rt; matches!(step, Step::More));
+    steps(&rt, &mut w, &FOUR_LEVELS[50..53], &[(3, Step::More)]);
 }
 
 #[test]
 fn a_header_past_its_item(rt: HostRuntime) {
-    for cut in 0..PAST_ITS_ITEM.len() + 2 {
-        let mut w = new_walker(Syntax::Implicit);
-        if cut <= PAST_ITS_ITEM.len() {
-            take_cut(&mut w, &PAST_ITS_ITEM, cut);
-        } else {
-            take_bytes(&mut w, &PAST_ITS_ITEM);
-        }
-        let overrun = Fault {
-            number: 17,
-            place: 26,
-            tag: Tag(0, 0),
-        };
-        assert_eq!(rt; fault_of(&w), Some(overrun));
-        assert_eq!(rt; w.place(), 26);
-    }
-    for cut in 0..LEVEL_PAST_ITS_ITEM.len() + 2 {
-        let mut w = new_walker(Syntax::Implicit);
-        if cut <= LEVEL_PAST_ITS_ITEM.len() {
-            take_cut(&mut w, &LEVEL_PAST_ITS_ITEM, cut);
-        } else {
-            take_bytes(&mut w, &LEVEL_PAST_ITS_ITEM);
-        }
-        let overrun = Fault {
-            number: 17,
-            place: 24,
-            tag: Tag(0, 0),
-        };
-        assert_eq!(rt; fault_of(&w), Some(overrun));
-        assert_eq!(rt; w.held(), 48);
-    }
+    let overrun = fault(17, 26, Tag(0, 0));
+    ends_at(
+        &rt,
+        Syntax::Implicit,
+        &PAST_ITS_ITEM,
+        (2, 26, 32, Some(overrun)),
+    );
+    let overrun = fault(17, 24, Tag(0, 0));
+    let end = (3, 24, 48, Some(overrun));
+    ends_at(&rt, Syntax::Implicit, &LEVEL_PAST_ITS_ITEM, end);
+}
+
+/// A walk that is refused at the limit refuses what comes then.
+fn is_refused_at(rt: &impl Abort, cut: usize, refused: Fault) {
+    let mut w = new_shallow_walker(Syntax::Implicit);
+    take_cut(&mut w, &TOO_DEEP, cut);
+    steps(rt, &mut w, &TOO_DEEP, &[(0, Step::Refused(refused))]);
+    is_at(rt, &w, (2, 24, 32, Some(refused)));
 }
 
 #[test]
 fn deeper_than_the_limit(rt: HostRuntime) {
-    let refused = Fault {
-        number: 18,
-        place: 16,
-        tag: Tag(0x40, 0xa730),
-    };
     for cut in 0..TOO_DEEP.len() + 2 {
-        let mut w: Walker<140, 2> = Walker::new(Syntax::Implicit, Wanted::none(), 1 << 40);
-        if cut <= TOO_DEEP.len() {
-            take_cut(&mut w, &TOO_DEEP, cut);
-        } else {
-            take_bytes(&mut w, &TOO_DEEP);
-        }
-        let (taken, step) = w.step(&TOO_DEEP);
-        assert_eq!(rt; taken, 0);
-        assert!(rt; matches!(step, Step::Refused(fault) if fault == refused));
-        assert_eq!(rt; w.levels(), 2);
-        assert_eq!(rt; w.place(), 24);
+        is_refused_at(&rt, cut, fault(18, 16, Tag(0x40, 0xa730)));
     }
     for cut in 0..DEEP_ENOUGH.len() + 2 {
-        let mut w: Walker<140, 2> = Walker::new(Syntax::Implicit, Wanted::none(), 1 << 40);
-        if cut <= DEEP_ENOUGH.len() {
-            take_cut(&mut w, &DEEP_ENOUGH, cut);
-        } else {
-            take_bytes(&mut w, &DEEP_ENOUGH);
-        }
-        assert_eq!(rt; w.levels(), 2);
-        assert_eq!(rt; w.place(), 24);
+        let mut w = new_shallow_walker(Syntax::Implicit);
+        take_cut(&mut w, &DEEP_ENOUGH, cut);
+        assert_eq!(rt; (w.levels(), w.place()), (2, 24));
     }
 }
 
 #[test]
 fn unknown_content(rt: HostRuntime) {
-    for cut in 0..UNKNOWN_CONTENT.len() + 2 {
-        let mut w = new_walker(Syntax::Explicit);
-        if cut <= UNKNOWN_CONTENT.len() {
-            take_cut(&mut w, &UNKNOWN_CONTENT, cut);
-        } else {
-            take_bytes(&mut w, &UNKNOWN_CONTENT);
-        }
-        assert_eq!(rt; fault_of(&w), None);
-        assert_eq!(rt; w.place(), 38);
-    }
-    for cut in 0..NOT_ALLOWED.len() + 2 {
-        let mut w = new_walker(Syntax::Explicit);
-        if cut <= NOT_ALLOWED.len() {
-            take_cut(&mut w, &NOT_ALLOWED, cut);
-        } else {
-            take_bytes(&mut w, &NOT_ALLOWED);
-        }
-        let refused = Fault {
-            number: 14,
-            place: 0,
-            tag: Tag(0x7fe0, 0x10),
-        };
-        assert_eq!(rt; fault_of(&w), Some(refused));
-    }
+    ends_at(&rt, Syntax::Explicit, &UNKNOWN_CONTENT, (0, 38, 0, None));
+    let refused = fault(14, 0, Tag(0x7fe0, 0x10));
+    ends_at(
+        &rt,
+        Syntax::Explicit,
+        &NOT_ALLOWED,
+        (0, 12, 0, Some(refused)),
+    );
 }
 
 /// The steps that one store's data set takes in two pieces, and whether its values are kept then.
@@ -277,7 +198,7 @@ fn store_steps(cut: usize) -> (u32, u32, bool) {
         Some(wanted) => {
             let mut w: Walker<140, 64> = Walker::new(Syntax::Explicit, wanted, 1 << 40);
             if cut > ONE_CT_STORE.len() {
-                take_bytes(&mut w, &ONE_CT_STORE);
+                take_cut(&mut w, &ONE_CT_STORE, cut);
                 return (48, 0, is_store(&w));
             }
             let before = take(&mut w, &ONE_CT_STORE[..cut]);
@@ -310,36 +231,43 @@ fn one_ct_store(rt: HostRuntime) {
     }
 }
 
+/// A header of a UID in Explicit VR Little Endian.
+fn uid_header(tag: Tag, length: u32) -> Header {
+    Header {
+        tag,
+        vr: Some(Vr::UI),
+        length,
+    }
+}
+
 #[test]
 fn steps_along_one_ct_store(rt: HostRuntime) {
     let mut w = new_walker(Syntax::Explicit);
-    let class = Header {
-        tag: Tag(0x0008, 0x0016),
-        vr: Some(Vr::UI),
-        length: 26,
-    };
-    let (taken, step) = w.step(&ONE_CT_STORE);
-    assert_eq!(rt; taken, 8);
-    assert!(rt; matches!(step, Step::Element(header) if header == class));
-    let (taken, step) = w.step(&ONE_CT_STORE[8..]);
-    assert_eq!(rt; taken, 26);
-    assert!(rt; matches!(step, Step::Run(run) if run == &ONE_CT_STORE[8..34]));
-    let (taken, step) = w.step(&ONE_CT_STORE[34..40]);
-    assert_eq!(rt; taken, 6);
-    assert!(rt; matches!(step, Step::More));
-    let (taken, step) = w.step(&ONE_CT_STORE[40..]);
-    assert_eq!(rt; taken, 2);
-    assert!(rt; matches!(step, Step::Element(header) if header.tag == Tag(0x0008, 0x0018)));
-    let (taken, step) = w.step(&[]);
-    assert_eq!(rt; taken, 0);
-    assert!(rt; matches!(step, Step::More));
-    let (taken, step) = w.step(&ONE_CT_STORE[42..45]);
-    assert_eq!(rt; taken, 3);
-    assert!(rt; matches!(step, Step::Run(run) if run == b"1.2".as_slice()));
-    let (taken, step) = w.step(&ONE_CT_STORE[45..]);
-    assert_eq!(rt; taken, 3);
-    assert!(rt; matches!(step, Step::Run(run) if run == b".3\0".as_slice()));
-    assert_eq!(rt; fault_of(&w), None);
+    let class = uid_header(Tag(0x0008, 0x0016), 26);
+    let value = Step::Run(&ONE_CT_STORE[8..34]);
+    steps(
+        &rt,
+        &mut w,
+        &ONE_CT_STORE,
+        &[(8, Step::Element(class)), (26, value)],
+    );
+    steps(&rt, &mut w, &ONE_CT_STORE[34..40], &[(6, Step::More)]);
+    let instance = uid_header(Tag(0x0008, 0x0018), 6);
+    steps(
+        &rt,
+        &mut w,
+        &ONE_CT_STORE[40..],
+        &[(2, Step::Element(instance))],
+    );
+    steps(&rt, &mut w, &[], &[(0, Step::More)]);
+    steps(
+        &rt,
+        &mut w,
+        &ONE_CT_STORE[42..45],
+        &[(3, Step::Run(b"1.2"))],
+    );
+    steps(&rt, &mut w, &ONE_CT_STORE[45..], &[(3, Step::Run(b".3\0"))]);
+    assert!(rt; w.finish().is_ok());
 }
 
 /// A sequence and an item, both of undefined length.
@@ -353,21 +281,13 @@ fn nested_past_the_limit(rt: HostRuntime) {
     for _ in 0..32 {
         take(&mut w, &PAIR);
     }
-    assert_eq!(rt; w.levels(), 64);
-    assert_eq!(rt; w.place(), 512);
-    assert_eq!(rt; w.held(), 1024);
+    let truncated = fault(20, 512, Tag(0, 0));
+    is_at(&rt, &w, (64, 512, 1024, Some(truncated)));
     for _ in 0..1_000_000 {
         take(&mut w, &PAIR);
     }
-    let refused = Fault {
-        number: 18,
-        place: 512,
-        tag: Tag(0x40, 0xa730),
-    };
-    assert_eq!(rt; fault_of(&w), Some(refused));
-    assert_eq!(rt; w.levels(), 64);
-    assert_eq!(rt; w.place(), 520);
-    assert_eq!(rt; w.held(), 1024);
+    let refused = fault(18, 512, Tag(0x40, 0xa730));
+    is_at(&rt, &w, (64, 520, 1024, Some(refused)));
 }
 
 /// The header of 64 MiB of pixel data.
@@ -385,7 +305,5 @@ fn a_large_value(rt: HostRuntime) {
         steps = steps.saturating_add(take(&mut w, &PIECE));
     }
     assert_eq!(rt; steps, 1025);
-    assert_eq!(rt; w.place(), 12 + (64 << 20));
-    assert_eq!(rt; w.held(), 0);
-    assert_eq!(rt; fault_of(&w), None);
+    is_at(&rt, &w, (0, 12 + (64 << 20), 0, None));
 }

@@ -1,5 +1,5 @@
 //! Directories that are checked, by the public calls of `dicomdir` alone.
-use crate::files::{one_image, push_all, two_images, with_header, write};
+use crate::files::{Change, ONE_IMAGE, Record, change, has, one_image, two_images, with_header};
 use dicomdir::{DirFault, FileId, Tree, check, kept_of};
 use linked_list_allocator::LocalHeap;
 use std::alloc::Allocator;
@@ -38,48 +38,47 @@ fn refusal(rt: HostRuntime, file: &[u8]) -> (u8, u64) {
     }
 }
 
-/// What the directory of one image is refused with where these bytes are changed.
-fn changed(rt: HostRuntime, at: usize, bytes: &[u8]) -> Result<(u8, u64), Fail> {
-    let mut file = one_image(rt.alloc())?;
-    write(file.as_mut_slice(), at, bytes);
-    Ok(refusal(rt, file.as_slice()))
-}
-
-/// Whether the tree has these records: place, level and type.
-fn has<A: Allocator + Copy>(tree: &Tree<A>, records: &[(u64, u8, &[u8])]) -> bool {
-    if tree.records().len() != records.len() {
+/// Whether these are the texts of the file IDs.
+fn are_ids(file_ids: &[FileId], texts: &[&[u8]]) -> bool {
+    if file_ids.len() != texts.len() {
         return false;
     }
-    for (record, wanted) in tree.records().iter().zip(records) {
-        let (place, level, kind) = *wanted;
-        if record.place() != place || record.level() != level || record.kind() != kind {
+    for (file_id, text) in file_ids.iter().zip(texts) {
+        if file_id.text() != *text {
             return false;
         }
     }
     true
 }
 
-fn is_id(file_id: Option<FileId>, text: &[u8]) -> bool {
-    match file_id {
-        Some(file_id) => file_id.text() == text,
-        None => false,
-    }
-}
-
 fn keeps<A: Allocator + Copy>(alloc: A, tree: &Tree<A>, texts: &[&[u8]]) -> bool {
     match kept_of(alloc, tree) {
         Err(_) => false,
-        Ok(kept) => {
-            if kept.len() != texts.len() {
-                return false;
-            }
-            for (file_id, text) in kept.as_slice().iter().zip(texts) {
-                if file_id.text() != *text {
-                    return false;
-                }
-            }
-            true
-        }
+        Ok(kept) => are_ids(kept.as_slice(), texts),
+    }
+}
+
+/// Whether a directory is accepted with these records, and keeps these files.
+fn accepts(rt: HostRuntime, file: &[u8], records: &[Record], kept: &[&[u8]]) -> bool {
+    match check(rt.alloc(), file) {
+        Err(_) => false,
+        Ok(tree) => has(&tree, records) && keeps(rt.alloc(), &tree, kept),
+    }
+}
+
+/// The file ID of the record with this index.
+fn file_id_of<A: Allocator + Copy>(tree: &Tree<A>, index: usize) -> Option<FileId> {
+    tree.records().get(index)?.file_id()
+}
+
+/// Whether, of the records of a directory, the first has no file ID, and the fourth has this one.
+fn has_file_id(rt: HostRuntime, file: &[u8], text: &[u8]) -> bool {
+    match check(rt.alloc(), file) {
+        Err(_) => false,
+        Ok(tree) => match (file_id_of(&tree, 0), file_id_of(&tree, 3)) {
+            (None, Some(file_id)) => file_id.text() == text,
+            _ => false,
+        },
     }
 }
 
@@ -87,168 +86,207 @@ fn keeps<A: Allocator + Copy>(alloc: A, tree: &Tree<A>, texts: &[&[u8]]) -> bool
 fn a_directory_of_one_image(rt: HostRuntime) -> Result<(), Fail> {
     let file = one_image(rt.alloc())?;
     assert!(rt; file.len() == 788);
-    let Ok(tree) = check(rt.alloc(), file.as_slice()) else {
-        assert!(rt; false);
-        return Ok(());
-    };
-    assert!(rt;
-        has(
-            &tree,
-            &[
-                (320, 1, b"PATIENT"),
-                (404, 2, b"STUDY"),
-                (534, 3, b"SERIES"),
-                (626, 4, b"IMAGE")
-            ]
-        )
-    );
-    let records = tree.records();
-    assert!(rt; records.len() == 4);
-    assert!(rt; is_id(records[3].file_id(), b"I0000001"));
-    assert!(rt; records[0].file_id().is_none());
-    assert!(rt; keeps(rt.alloc(), &tree, &[b"I0000001"]));
+    assert!(rt; accepts(rt, file.as_slice(), &ONE_IMAGE, &[b"I0000001"]));
+    assert!(rt; has_file_id(rt, file.as_slice(), b"I0000001"));
     Ok(())
 }
+
+/// A change of the directory of one image, and the number and the place that it is refused with.
+type Refused<'a> = (usize, &'a [u8], (u8, u64));
+
+/// Makes each of the changes alone. Returns where the first is made after which the directory is not refused
+/// so, if there is one.
+fn other_refusal(rt: HostRuntime, rows: &[Refused]) -> Result<Option<usize>, Fail> {
+    for row in rows {
+        let (at, bytes, wanted) = *row;
+        let mut file = one_image(rt.alloc())?;
+        change(file.as_mut_slice(), &[(at, bytes)]);
+        if refusal(rt, file.as_slice()) != wanted {
+            return Ok(Some(at));
+        }
+    }
+    Ok(None)
+}
+
+const OFFSETS: [Refused<'static>; 11] = [
+    (0, &[1], (0, 0)),
+    (336, &[0x40, 1, 0, 0], (DirFault::CYCLE, 320)),
+    (336, &[0x94, 1, 0, 0], (DirFault::TWICE_REACHED, 320)),
+    (358, &[0x95, 1, 0, 0], (DirFault::BAD_OFFSET, 320)),
+    (358, &[0, 0, 0, 0], (DirFault::UNREACHED, 404)),
+    (294, &[0x94, 1, 0, 0], (DirFault::BAD_OFFSET, 286)),
+    // the image names its patient, and the series the study
+    (664, &[0x40, 1, 0, 0], (DirFault::CYCLE, 626)),
+    (550, &[0x94, 1, 0, 0], (DirFault::CYCLE, 534)),
+    // the root names no record
+    (282, &[0, 0, 0, 0], (DirFault::BAD_OFFSET, 286)),
+    (282, &[1, 0, 0, 0], (DirFault::BAD_OFFSET, 274)),
+    // counted from behind the preamble
+    (282, &[0xc0, 0, 0, 0], (DirFault::BAD_OFFSET, 274)),
+];
 
 #[test]
 fn offsets_that_are_changed(rt: HostRuntime) -> Result<(), Fail> {
-    assert!(rt; changed(rt, 0, &[1])? == (0, 0));
-    assert!(rt; changed(rt, 336, &[0x40, 1, 0, 0])? == (DirFault::CYCLE, 320));
-    assert!(rt; changed(rt, 336, &[0x94, 1, 0, 0])? == (DirFault::TWICE_REACHED, 320));
-    assert!(rt; changed(rt, 358, &[0x95, 1, 0, 0])? == (DirFault::BAD_OFFSET, 320));
-    assert!(rt; changed(rt, 358, &[0, 0, 0, 0])? == (DirFault::UNREACHED, 404));
-    assert!(rt; changed(rt, 294, &[0x94, 1, 0, 0])? == (DirFault::BAD_OFFSET, 286));
-    // the image names its patient, and the series the study
-    assert!(rt; changed(rt, 664, &[0x40, 1, 0, 0])? == (DirFault::CYCLE, 626));
-    assert!(rt; changed(rt, 550, &[0x94, 1, 0, 0])? == (DirFault::CYCLE, 534));
-    // the root names no record
-    assert!(rt; changed(rt, 282, &[0, 0, 0, 0])? == (DirFault::BAD_OFFSET, 286));
-    assert!(rt; changed(rt, 282, &[1, 0, 0, 0])? == (DirFault::BAD_OFFSET, 274));
-    // counted from behind the preamble
-    assert!(rt; changed(rt, 282, &[0xc0, 0, 0, 0])? == (DirFault::BAD_OFFSET, 274));
+    assert_eq!(rt; other_refusal(rt, &OFFSETS)?, None);
     Ok(())
 }
+
+const LACKING: [Refused<'static>; 12] = [
+    // another tag in the place of 1200, 1202, 1220 and of a record's elements
+    (276, &[1], (DirFault::BAD_RECORD, 266)),
+    (288, &[3], (DirFault::BAD_RECORD, 266)),
+    (310, &[0x21], (DirFault::BAD_RECORD, 266)),
+    (330, &[1], (DirFault::BAD_RECORD, 320)),
+    (342, &[0x11], (DirFault::BAD_RECORD, 320)),
+    (352, &[0x21], (DirFault::BAD_RECORD, 320)),
+    (364, &[0x31], (DirFault::BAD_RECORD, 320)),
+    // a type of spaces alone, a file ID in small letters, another flag
+    (370, b"        ", (DirFault::BAD_RECORD, 320)),
+    (690, b"i", (DirFault::BAD_FILE_ID, 626)),
+    (684, &[1, 0x15], (DirFault::BAD_FILE_ID, 626)),
+    (654, &[1, 0], (DirFault::BAD_RECORD, 626)),
+    // a study at the root
+    (370, b"STUDY   ", (DirFault::WRONG_LEVEL, 320)),
+];
 
 #[test]
 fn records_and_roots_that_lack_something(rt: HostRuntime) -> Result<(), Fail> {
-    // another tag in the place of 1200, 1202, 1220 and of a record's elements
-    assert!(rt; changed(rt, 276, &[1])? == (DirFault::BAD_RECORD, 266));
-    assert!(rt; changed(rt, 288, &[3])? == (DirFault::BAD_RECORD, 266));
-    assert!(rt; changed(rt, 310, &[0x21])? == (DirFault::BAD_RECORD, 266));
-    assert!(rt; changed(rt, 330, &[1])? == (DirFault::BAD_RECORD, 320));
-    assert!(rt; changed(rt, 342, &[0x11])? == (DirFault::BAD_RECORD, 320));
-    assert!(rt; changed(rt, 352, &[0x21])? == (DirFault::BAD_RECORD, 320));
-    assert!(rt; changed(rt, 364, &[0x31])? == (DirFault::BAD_RECORD, 320));
-    // a type of spaces alone, a file ID in small letters, another flag
-    assert!(rt; changed(rt, 370, b"        ")? == (DirFault::BAD_RECORD, 320));
-    assert!(rt; changed(rt, 690, b"i")? == (DirFault::BAD_FILE_ID, 626));
-    assert!(rt; changed(rt, 684, &[1, 0x15])? == (DirFault::BAD_FILE_ID, 626));
-    assert!(rt; changed(rt, 654, &[1, 0])? == (DirFault::BAD_RECORD, 626));
-    // a study at the root
-    assert!(rt; changed(rt, 370, b"STUDY   ")? == (DirFault::WRONG_LEVEL, 320));
+    assert_eq!(rt; other_refusal(rt, &LACKING)?, None);
     Ok(())
 }
 
+const HEADERS: [Refused<'static>; 5] = [
+    (128, b"d", (50, 128)),
+    (132, &[3], (51, 132)),
+    // Implicit VR Little Endian
+    (225, &[0, 0], (53, 132)),
+    (278, b"ul", (10, 274)),
+    (280, &[3], (11, 274)),
+];
+
 #[test]
 fn headers_and_data_sets_that_are_refused(rt: HostRuntime) -> Result<(), Fail> {
-    assert!(rt; changed(rt, 128, b"d")? == (50, 128));
-    assert!(rt; changed(rt, 132, &[3])? == (51, 132));
-    // Implicit VR Little Endian
-    assert!(rt; changed(rt, 225, &[0, 0])? == (53, 132));
-    assert!(rt; changed(rt, 278, b"ul")? == (10, 274));
-    assert!(rt; changed(rt, 280, &[3])? == (11, 274));
+    assert_eq!(rt; other_refusal(rt, &HEADERS)?, None);
     let mut file = one_image(rt.alloc())?;
     file.truncate(787);
     assert!(rt; refusal(rt, file.as_slice()) == (20, 787));
     Ok(())
 }
 
+/// Whether each front of a directory is refused, and not for want of memory.
+fn refuses_each_front(rt: HostRuntime, file: &[u8]) -> bool {
+    for length in 0..file.len() {
+        let (number, _) = refusal(rt, &file[..length]);
+        if number == 0 || number == DirFault::OUT_OF_MEMORY {
+            return false;
+        }
+    }
+    true
+}
+
 #[test]
 fn every_front_is_refused(rt: HostRuntime) -> Result<(), Fail> {
     let file = one_image(rt.alloc())?;
     assert!(rt; file.len() == 788);
-    for length in 0..file.len() {
-        let (number, _) = refusal(rt, &file.as_slice()[..length]);
-        assert!(rt; number != 0 && number != DirFault::OUT_OF_MEMORY);
-    }
+    assert!(rt; refuses_each_front(rt, file.as_slice()));
     Ok(())
 }
 
-/// Whether a directory is accepted with these records, and keeps these files.
-fn accepts(rt: HostRuntime, file: &[u8], records: &[(u64, u8, &[u8])], kept: &[&[u8]]) -> bool {
-    match check(rt.alloc(), file) {
-        Err(_) => false,
-        Ok(tree) => has(&tree, records) && keeps(rt.alloc(), &tree, kept),
-    }
+/// Changes of the directory of two images, and the records and the files that it is accepted with.
+type Accepted<'a> = (&'a [Change<'a>], &'a [Record<'a>], &'a [&'a [u8]]);
+
+const INACTIVE: [Accepted<'static>; 4] = [
+    (
+        &[],
+        &[
+            (320, 1, b"PATIENT"),
+            (404, 2, b"STUDY"),
+            (534, 3, b"SERIES"),
+            (626, 4, b"IMAGE"),
+            (788, 4, b"IMAGE"),
+        ],
+        &[b"I0000001", b"I0000002"],
+    ),
+    // the first image
+    (
+        &[(654, &[0, 0])],
+        &[
+            (320, 1, b"PATIENT"),
+            (404, 2, b"STUDY"),
+            (534, 3, b"SERIES"),
+            (788, 4, b"IMAGE"),
+        ],
+        &[b"I0000002"],
+    ),
+    // the series instead
+    (
+        &[(562, &[0, 0])],
+        &[(320, 1, b"PATIENT"), (404, 2, b"STUDY")],
+        &[],
+    ),
+    // the second image, which no record names
+    (
+        &[(642, &[0, 0, 0, 0]), (816, &[0, 0])],
+        &ONE_IMAGE,
+        &[b"I0000001"],
+    ),
+];
+
+/// Changes of the directory of two images, and the number and the place that it is refused with.
+type RefusedOfTwo<'a> = (&'a [Change<'a>], (u8, u64));
+
+const REFUSED_OF_TWO: [RefusedOfTwo<'static>; 3] = [
+    // another flag, and an offset of an inactive record that leads nowhere
+    (&[(654, &[1, 0])], (DirFault::BAD_RECORD, 626)),
+    (
+        &[(654, &[0, 0]), (642, &[0x13, 3, 0, 0])],
+        (DirFault::BAD_OFFSET, 626),
+    ),
+    // an image in use that no record names
+    (&[(642, &[0, 0, 0, 0])], (DirFault::UNREACHED, 788)),
+];
+
+/// The directory of two images with these changes.
+fn changed_of_two(rt: HostRuntime, changes: &[Change]) -> Result<Vec<u8>, Fail> {
+    let mut file = two_images(rt.alloc())?;
+    change(file.as_mut_slice(), changes);
+    Ok(file)
 }
 
 #[test]
 fn inactive_records(rt: HostRuntime) -> Result<(), Fail> {
-    let mut file = two_images(rt.alloc())?;
-    assert!(rt; file.len() == 950);
-    let all: [(u64, u8, &[u8]); 5] = [
-        (320, 1, b"PATIENT"),
-        (404, 2, b"STUDY"),
-        (534, 3, b"SERIES"),
-        (626, 4, b"IMAGE"),
-        (788, 4, b"IMAGE"),
-    ];
-    assert!(rt; accepts(rt, file.as_slice(), &all, &[b"I0000001", b"I0000002"]));
-    // the first image
-    write(file.as_mut_slice(), 654, &[0, 0]);
-    let without_first: [(u64, u8, &[u8]); 4] = [
-        (320, 1, b"PATIENT"),
-        (404, 2, b"STUDY"),
-        (534, 3, b"SERIES"),
-        (788, 4, b"IMAGE"),
-    ];
-    assert!(rt; accepts(rt, file.as_slice(), &without_first, &[b"I0000002"]));
-    // the series instead
-    write(file.as_mut_slice(), 654, &[0xff, 0xff]);
-    write(file.as_mut_slice(), 562, &[0, 0]);
-    assert!(rt; accepts(rt, file.as_slice(), &all[..2], &[]));
-    // another flag, and an offset of an inactive record that leads nowhere
-    write(file.as_mut_slice(), 562, &[0xff, 0xff]);
-    write(file.as_mut_slice(), 654, &[1, 0]);
-    assert!(rt; refusal(rt, file.as_slice()) == (DirFault::BAD_RECORD, 626));
-    write(file.as_mut_slice(), 654, &[0, 0]);
-    write(file.as_mut_slice(), 642, &[0x13, 3, 0, 0]);
-    assert!(rt; refusal(rt, file.as_slice()) == (DirFault::BAD_OFFSET, 626));
-    // an image in use that no record names is a fault, an inactive one is none
-    write(file.as_mut_slice(), 642, &[0, 0, 0, 0]);
-    write(file.as_mut_slice(), 654, &[0xff, 0xff]);
-    assert!(rt; refusal(rt, file.as_slice()) == (DirFault::UNREACHED, 788));
-    write(file.as_mut_slice(), 816, &[0, 0]);
-    assert!(rt; accepts(rt, file.as_slice(), &all[..4], &[b"I0000001"]));
+    assert!(rt; two_images(rt.alloc())?.len() == 950);
+    for (row, (changes, records, kept)) in INACTIVE.iter().enumerate() {
+        let file = changed_of_two(rt, changes)?;
+        assert!(rt; accepts(rt, file.as_slice(), records, kept), "row {row}");
+    }
+    for (row, (changes, wanted)) in REFUSED_OF_TWO.iter().enumerate() {
+        let file = changed_of_two(rt, changes)?;
+        assert!(rt; refusal(rt, file.as_slice()) == *wanted, "row {row}");
+    }
     Ok(())
 }
+
+const UNDEFINED_RECORDS: [Record<'static>; 4] = [
+    (320, 1, b"PATIENT"),
+    (504, 2, b"STUDY"),
+    (642, 3, b"SERIES"),
+    (742, 4, b"IMAGE"),
+];
 
 /// Its records are found behind sequences and items of any length.
 #[test]
 fn undefined_lengths(rt: HostRuntime) -> Result<(), Fail> {
-    let mut file = with_header(rt.alloc())?;
-    push_all(&mut file, &UNDEFINED)?;
-    let Ok(tree) = check(rt.alloc(), file.as_slice()) else {
-        assert!(rt; false);
-        return Ok(());
-    };
-    assert!(rt;
-        has(
-            &tree,
-            &[
-                (320, 1, b"PATIENT"),
-                (504, 2, b"STUDY"),
-                (642, 3, b"SERIES"),
-                (742, 4, b"IMAGE")
-            ]
-        )
-    );
-    assert!(rt; keeps(rt.alloc(), &tree, &[b"I0000001"]));
-    for length in 0..file.len() {
-        let (number, _) = refusal(rt, &file.as_slice()[..length]);
-        assert!(rt; number != 0 && number != DirFault::OUT_OF_MEMORY);
-    }
+    let file = with_header(rt.alloc(), &UNDEFINED)?;
+    assert!(rt; accepts(rt, file.as_slice(), &UNDEFINED_RECORDS, &[b"I0000001"]));
+    assert!(rt; refuses_each_front(rt, file.as_slice()));
     Ok(())
+}
+
+/// How many files a directory keeps.
+fn count_kept<A: Allocator + Copy>(alloc: A, file: &[u8]) -> Result<usize, DirFault> {
+    let tree = check(alloc, file)?;
+    Ok(kept_of(alloc, &tree)?.len())
 }
 
 /// Each growth fails in turn: then it is said so, and else the tree comes and keeps its files.
@@ -258,21 +296,15 @@ fn each_growth_of_memory_is_refused(rt: HostRuntime) -> Result<(), Fail> {
     let mut has_failed = false;
     for size in 0..256usize {
         let heap = LocalHeap::new(rt.alloc(), 64 + 32 * size)?;
-        match check(&heap, file.as_slice()) {
+        match count_kept(&heap, file.as_slice()) {
             Err(fault) => {
                 assert!(rt; fault.number == DirFault::OUT_OF_MEMORY && fault.place == 0);
                 has_failed = true;
             }
-            Ok(tree) => match kept_of(&heap, &tree) {
-                Err(fault) => {
-                    assert!(rt; fault.number == DirFault::OUT_OF_MEMORY);
-                    has_failed = true;
-                }
-                Ok(kept) => {
-                    assert!(rt; kept.len() == 2 && has_failed);
-                    return Ok(());
-                }
-            },
+            Ok(kept) => {
+                assert!(rt; kept == 2 && has_failed);
+                return Ok(());
+            }
         }
     }
     assert!(rt; false);

@@ -1,6 +1,10 @@
-//! The directories of one image and of two, byte by byte.
-use std::alloc::Allocator;
+//! The directories of one image and of two, byte by byte, and what a directory has.
+use dicomdir::Tree;
+use std::alloc::{Allocator, Global};
 use std::test::Fail;
+
+/// The preamble.
+const PREAMBLE: [&[u8]; 1] = [&[0; 128]];
 
 /// The file header after its preamble, up to the data set at byte 266.
 const HEADER: [&[u8]; 3] = [
@@ -35,45 +39,75 @@ const IMAGES: [&[u8]; 8] = [
     b".1.2\0\x04\0\x12\x15UI\x14\01.2.840.10008.1.2.1\0 \0\x13\0IS\x02\02 ",
 ];
 
-/// Appends the parts.
-pub(crate) fn push_all<A: Allocator + Copy>(
-    file: &mut Vec<u8, A>,
-    parts: &[&[u8]],
-) -> Result<(), Fail> {
+/// The records of the directory of one image: place, level and type.
+pub(crate) const ONE_IMAGE: [Record<'static>; 4] = [
+    (320, 1, b"PATIENT"),
+    (404, 2, b"STUDY"),
+    (534, 3, b"SERIES"),
+    (626, 4, b"IMAGE"),
+];
+
+/// A record of a directory: place, level and type.
+pub(crate) type Record<'a> = (u64, u8, &'a [u8]);
+
+/// Whether the tree has these records.
+pub(crate) fn has<A: Allocator + Copy>(tree: &Tree<A>, records: &[Record]) -> bool {
+    if tree.records().len() != records.len() {
+        return false;
+    }
+    for (record, wanted) in tree.records().iter().zip(records) {
+        let (place, level, kind) = *wanted;
+        if record.place() != place || record.level() != level || record.kind() != kind {
+            return false;
+        }
+    }
+    true
+}
+
+/// Returns these groups of parts put together.
+fn joined(alloc: Global, groups: &[&[&[u8]]]) -> Result<Vec<u8>, Fail> {
+    let mut file = Vec::new(alloc);
+    for parts in groups {
+        for part in *parts {
+            file.extend_from_slice(part)?;
+        }
+    }
+    Ok(file)
+}
+
+/// Returns a file of these parts after its preamble and its file header.
+pub(crate) fn with_header(alloc: Global, parts: &[&[u8]]) -> Result<Vec<u8>, Fail> {
+    let mut file = joined(alloc, &[&PREAMBLE, &HEADER])?;
     for part in parts {
         file.extend_from_slice(part)?;
     }
-    Ok(())
-}
-
-/// The preamble and the file header.
-pub(crate) fn with_header<A: Allocator + Copy>(alloc: A) -> Result<Vec<u8, A>, Fail> {
-    let mut file = Vec::new(alloc);
-    file.extend_from_slice(&[0; 128])?;
-    push_all(&mut file, &HEADER)?;
     Ok(file)
 }
 
 /// The directory of two images, 950 bytes.
-pub(crate) fn two_images<A: Allocator + Copy>(alloc: A) -> Result<Vec<u8, A>, Fail> {
-    let mut file = with_header(alloc)?;
-    push_all(&mut file, &UPPER)?;
-    push_all(&mut file, &IMAGES)?;
-    Ok(file)
+pub(crate) fn two_images(alloc: Global) -> Result<Vec<u8>, Fail> {
+    joined(alloc, &[&PREAMBLE, &HEADER, &UPPER, &IMAGES])
 }
 
-/// Writes over the bytes at a place.
-pub(crate) fn write(file: &mut [u8], at: usize, bytes: &[u8]) {
-    for (place, byte) in file.iter_mut().skip(at).zip(bytes) {
-        *place = *byte;
+/// Bytes that are written over those at a place.
+pub(crate) type Change<'a> = (usize, &'a [u8]);
+
+/// Makes these changes, one after another.
+pub(crate) fn change(file: &mut [u8], changes: &[Change]) {
+    for (at, bytes) in changes {
+        for (place, byte) in file.iter_mut().skip(*at).zip(*bytes) {
+            *place = *byte;
+        }
     }
 }
 
 /// The directory of one image, 788 bytes: the first image names no next one, and the sequence is shorter.
-pub(crate) fn one_image<A: Allocator + Copy>(alloc: A) -> Result<Vec<u8, A>, Fail> {
+pub(crate) fn one_image(alloc: Global) -> Result<Vec<u8>, Fail> {
     let mut file = two_images(alloc)?;
     file.truncate(788);
-    write(file.as_mut_slice(), 316, &[0xd4, 1, 0, 0]);
-    write(file.as_mut_slice(), 642, &[0, 0, 0, 0]);
+    change(
+        file.as_mut_slice(),
+        &[(316, &[0xd4, 1, 0, 0]), (642, &[0, 0, 0, 0])],
+    );
     Ok(file)
 }

@@ -84,8 +84,6 @@ fn timers(rt: HostRuntime) {
     ] {
         assert_eq!(rt; action.timer(next), timer);
     }
-    assert!(rt; Timer::GoesOn.after(true));
-    assert!(rt; !Timer::Stops.after(true));
-    assert!(rt; Sta13.timer_runs());
-    assert!(rt; !Sta6.timer_runs());
+    assert!(rt; Timer::GoesOn.after(true) && !Timer::Stops.after(true));
+    assert!(rt; Sta13.timer_runs() && !Sta6.timer_runs());
 }

@@ -3,6 +3,7 @@ ghost use Rattle.pdu.specs.Sent.{line_of};
 
 use pdu::{MemoryWire, Wire, WireFailed};
 use std::alloc::Global;
+use std::process::Abort;
 
 #[derive(Drop)]
 pub(crate) struct CountingWire {
@@ -16,6 +17,12 @@ impl CountingWire {
             wire: MemoryWire::new(alloc),
             sends: 0,
         }
+    }
+
+    /// Checks what was sent, and in how many sends.
+    pub(crate) fn has_sent(&self, rt: &impl Abort, bytes: &[u8], sends: usize) {
+        assert_eq!(rt; self.wire.sent(), bytes);
+        assert_eq!(rt; self.sends, sends);
     }
 }
 

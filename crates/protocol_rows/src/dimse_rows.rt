@@ -6,8 +6,9 @@ use dimse::{
     CLASS_MISMATCH, Command, Detail, DimseFault, INSTANCE_MISMATCH, cause_name, read_command,
     status, write_response,
 };
-use element::Tag;
+use element::{Tag, Uid};
 use std::alloc::{AllocError, Global};
+use std::process::Abort;
 use std::test::Fail;
 
 /// The command of the recorded echo.
@@ -74,28 +75,42 @@ fn refusal(edits: &[(usize, u8)]) -> Option<u8> {
     }
 }
 
-#[test]
-fn the_echo_is_read(rt: HostRuntime) -> Result<(), Fail> {
-    let echo = read_command(&ECHO).ok().ok_or("an echo")?;
-    let read = (echo.field(), echo.message(), echo.with_data());
-    assert_eq!(rt; read, (Command::C_ECHO, 1, false));
-    assert_eq!(rt; echo.class().as_bytes(), b"1.2.840.10008.1.1".as_slice());
-    assert!(rt; echo.instance().is_none());
-    Ok(())
+/// Checks what a command set is read as: its field, its message ID and whether a data set follows; its
+/// class; and its instance, if it has one.
+fn reads(
+    rt: &impl Abort,
+    bytes: &[u8],
+    read: (u16, u16, bool),
+    class: &[u8],
+    instance: Option<&[u8]>,
+) {
+    match read_command(bytes) {
+        Ok(command) => {
+            let found = (command.field(), command.message(), command.with_data());
+            assert_eq!(rt; found, read);
+            assert_eq!(rt; command.class().as_bytes(), class);
+            assert_eq!(rt; command.instance().map(Uid::as_bytes), instance);
+        }
+        Err(fault) => assert!(rt; false, "{fault}"),
+    }
 }
 
 #[test]
-fn a_store_is_read(rt: HostRuntime) -> Result<(), Fail> {
-    let store = read_command(&STORE).ok().ok_or("a store")?;
-    let read = (store.field(), store.message(), store.with_data());
-    assert_eq!(rt; read, (Command::C_STORE, 7, true));
-    assert_eq!(rt;
-        store.class().as_bytes(),
-        b"1.2.840.10008.5.1.4.1.1.2".as_slice()
+fn the_echo_is_read(rt: HostRuntime) {
+    let read = (Command::C_ECHO, 1, false);
+    reads(&rt, &ECHO, read, b"1.2.840.10008.1.1", None);
+}
+
+#[test]
+fn a_store_is_read(rt: HostRuntime) {
+    let read = (Command::C_STORE, 7, true);
+    reads(
+        &rt,
+        &STORE,
+        read,
+        b"1.2.840.10008.5.1.4.1.1.2",
+        Some(b"1.2.3"),
     );
-    let instance = store.instance().ok_or("an instance")?;
-    assert_eq!(rt; instance.as_bytes(), b"1.2.3".as_slice());
-    Ok(())
 }
 
 #[test]
@@ -104,10 +119,16 @@ fn the_echo_is_answered_in_one_send(rt: HostRuntime) -> Result<(), Fail> {
     for peer_max in [0, 84, 85, 16384, 0xffff_ffff] {
         let mut wire = CountingWire::new(rt.alloc());
         assert!(rt; write_response(&echo, status::SUCCESS, None, 1, peer_max, &mut wire).is_ok());
-        assert_eq!(rt; wire.wire.sent(), ECHO_REPLY.as_slice());
-        assert_eq!(rt; wire.sends, 1);
+        wire.has_sent(&rt, &ECHO_REPLY, 1);
     }
     Ok(())
+}
+
+/// Checks that these are 39 PDUs of 14 bytes, the first and the last as they should be.
+fn are_pairs(rt: &impl Abort, sent: &[u8]) {
+    assert_eq!(rt; sent.len(), 39 * 14);
+    assert!(rt; sent.starts_with(&[4, 0, 0, 0, 0, 8, 0, 0, 0, 4, 1, 1, 0, 0]));
+    assert!(rt; sent.ends_with(&[4, 0, 0, 0, 0, 8, 0, 0, 0, 4, 1, 3, 0, 0]));
 }
 
 #[test]
@@ -116,18 +137,8 @@ fn a_peer_that_takes_eight_or_nine_bytes(rt: HostRuntime) -> Result<(), Fail> {
     for peer_max in [8, 9] {
         let mut wire = CountingWire::new(rt.alloc());
         assert!(rt; write_response(&echo, status::SUCCESS, None, 1, peer_max, &mut wire).is_ok());
-        assert_eq!(rt; wire.wire.sent().len(), 39 * 14);
         assert_eq!(rt; wire.sends, 39);
-        for (i, pdu) in wire.wire.sent().chunks(14).enumerate() {
-            let expected: Option<[u8; 14]> = match i {
-                0 => Some([4, 0, 0, 0, 0, 8, 0, 0, 0, 4, 1, 1, 0, 0]),
-                38 => Some([4, 0, 0, 0, 0, 8, 0, 0, 0, 4, 1, 3, 0, 0]),
-                _ => None,
-            };
-            if let Some(expected) = expected {
-                assert_eq!(rt; pdu, expected.as_slice());
-            }
-        }
+        are_pairs(&rt, wire.wire.sent());
     }
     Ok(())
 }
@@ -209,57 +220,71 @@ const CASES: [Case; 8] = [
     (status::CANNOT_UNDERSTAND, 18, Tag(0x0008, 0x0016), 88, b""),
 ];
 
-#[test]
-fn a_failure_names_its_cause(rt: HostRuntime) -> Result<(), Fail> {
-    let store = read_command(&STORE).ok().ok_or("a store")?;
-    for (status, number, tag, group_length, cause) in CASES {
-        let mut wire = CountingWire::new(rt.alloc());
-        let detail = Some(Detail { number, tag });
-        assert!(rt; write_response(&store, status, detail, 3, 16384, &mut wire).is_ok());
-        let expected = store_reply(rt.alloc(), group_length, status, cause)?;
-        assert_eq!(rt; wire.wire.sent(), expected.as_slice());
-        assert_eq!(rt; wire.sends, 1);
-    }
+/// Checks the reply to the store in a case.
+fn replies<R: Abort + AllocGlobal>(rt: &R, store: &Command, case: Case) -> Result<(), AllocError> {
+    let (status, number, tag, group_length, cause) = case;
+    let mut wire = CountingWire::new(rt.alloc());
+    let detail = Some(Detail { number, tag });
+    assert!(rt; write_response(store, status, detail, 3, 16384, &mut wire).is_ok());
+    let expected = store_reply(rt.alloc(), group_length, status, cause)?;
+    wire.has_sent(rt, expected.as_slice(), 1);
     Ok(())
 }
 
 #[test]
-fn the_first_broken_rule_of_a_command(rt: HostRuntime) -> Result<(), Fail> {
-    let cases: [(&[(usize, u8)], Option<u8>); 14] = [
-        (&[], None),
-        (&[(COUNT, 0x36)], Some(41)),
-        (&[(FIELD_LENGTH, 1)], Some(41)),
-        (&[(CLASS_NUMBER, 0)], Some(41)),
-        (&[(CLASS_NUMBER, 1)], Some(41)),
-        (&[(CLASS_TEXT, 0x41)], Some(41)),
-        (&[(MESSAGE_NUMBER, 0x11)], Some(41)),
-        (&[(FIELD, 0x20)], Some(42)),
-        (&[(FIELD, 0x20), (COUNT, 0x36)], Some(41)),
-        (&[(FIELD, 0x20), (MESSAGE_NUMBER, 0x11)], Some(41)),
-        (&[(FIELD, 0x20), (KIND, 2)], Some(42)),
-        (&[(KIND, 2)], Some(43)),
-        (&[(FIELD, 1)], Some(43)),
-        (&[(FIELD, 1), (KIND, 2)], Some(41)),
-    ];
-    for (edits, expected) in cases {
+fn a_failure_names_its_cause(rt: HostRuntime) -> Result<(), Fail> {
+    let store = read_command(&STORE).ok().ok_or("a store")?;
+    for case in CASES {
+        replies(&rt, &store, case)?;
+    }
+    Ok(())
+}
+
+/// Bytes that are written into the echo's command, and the number of the fault that it has then.
+const REFUSALS: [(&[(usize, u8)], Option<u8>); 14] = [
+    (&[], None),
+    (&[(COUNT, 0x36)], Some(41)),
+    (&[(FIELD_LENGTH, 1)], Some(41)),
+    (&[(CLASS_NUMBER, 0)], Some(41)),
+    (&[(CLASS_NUMBER, 1)], Some(41)),
+    (&[(CLASS_TEXT, 0x41)], Some(41)),
+    (&[(MESSAGE_NUMBER, 0x11)], Some(41)),
+    (&[(FIELD, 0x20)], Some(42)),
+    (&[(FIELD, 0x20), (COUNT, 0x36)], Some(41)),
+    (&[(FIELD, 0x20), (MESSAGE_NUMBER, 0x11)], Some(41)),
+    (&[(FIELD, 0x20), (KIND, 2)], Some(42)),
+    (&[(KIND, 2)], Some(43)),
+    (&[(FIELD, 1)], Some(43)),
+    (&[(FIELD, 1), (KIND, 2)], Some(41)),
+];
+
+#[test]
+fn the_first_broken_rule_of_a_command(rt: HostRuntime) {
+    for (edits, expected) in REFUSALS {
         assert_eq!(rt; refusal(edits), expected, "{edits:?}");
     }
+}
+
+/// Checks the number of a fault, and what is printed of it.
+fn is_shown<R: Abort + AllocGlobal>(
+    rt: &R,
+    fault: DimseFault,
+    number: u8,
+    shown: &str,
+) -> Result<(), AllocError> {
+    assert_eq!(rt; fault.number(), number);
+    let text = format!(in rt.alloc(); "{fault}")?;
+    assert_eq!(rt; text.as_str(), shown);
     Ok(())
 }
 
 #[test]
 fn faults_have_numbers_and_names(rt: HostRuntime) -> Result<(), Fail> {
-    let faults = [
-        (DimseFault::CommandTooLong, 40, "40 CommandTooLong"),
-        (DimseFault::BadCommand, 41, "41 BadCommand"),
-        (DimseFault::UnknownField, 42, "42 UnknownField"),
-        (DimseFault::WrongKind, 43, "43 WrongKind"),
-        (DimseFault::OtherContext, 44, "44 OtherContext"),
-    ];
-    for (fault, number, shown) in faults {
-        assert_eq!(rt; fault.number(), number);
-        assert_eq!(rt; format!(in rt.alloc(); "{fault}")?.as_str(), shown);
-    }
+    is_shown(&rt, DimseFault::CommandTooLong, 40, "40 CommandTooLong")?;
+    is_shown(&rt, DimseFault::BadCommand, 41, "41 BadCommand")?;
+    is_shown(&rt, DimseFault::UnknownField, 42, "42 UnknownField")?;
+    is_shown(&rt, DimseFault::WrongKind, 43, "43 WrongKind")?;
+    is_shown(&rt, DimseFault::OtherContext, 44, "44 OtherContext")?;
     let causes = [
         (17, Some("Overrun")),
         (CLASS_MISMATCH, Some("ClassMismatch")),

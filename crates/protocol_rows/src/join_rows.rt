@@ -3,6 +3,7 @@
 use crate::dimse_rows::{ECHO, STORE};
 use dimse::{DimseFault, Join, Joined};
 use pdu::PdvHead;
+use std::process::Abort;
 
 /// A presentation data value: its context, whether it is of a command set, whether it is the last
 /// fragment, and the fragment; and what its end makes of the message, or the number of the fault.
@@ -44,6 +45,12 @@ fn are_joined(join: &mut Join<256>, steps: &[Step]) -> bool {
     true
 }
 
+/// Checks that each step has the result that it names, and what is held of the command set then.
+fn joins(rt: &impl Abort, join: &mut Join<256>, steps: &[Step], held: &[u8]) {
+    assert!(rt; are_joined(join, steps));
+    assert_eq!(rt; join.command(), held);
+}
+
 #[test]
 fn an_echo_in_two_fragments(rt: HostRuntime) {
     let mut join = Join::<256>::new();
@@ -54,10 +61,9 @@ fn an_echo_in_two_fragments(rt: HostRuntime) {
         (1, false, true, back, Err(43)),
         (1, true, true, &[0; 247], Err(40)),
     ];
-    assert!(rt; are_joined(&mut join, &steps));
-    assert_eq!(rt; join.command(), front);
-    assert!(rt; are_joined(&mut join, &[(1, true, true, back, Ok(Joined::Message))]));
-    assert_eq!(rt; join.command(), ECHO.as_slice());
+    joins(&rt, &mut join, &steps, front);
+    let last = (1, true, true, back, Ok(Joined::Message));
+    joins(&rt, &mut join, &[last], &ECHO);
     join.clear();
     assert!(rt; join.command().is_empty());
 }
@@ -75,11 +81,10 @@ fn a_store_with_its_data_set(rt: HostRuntime) {
         (5, false, false, &[], Ok(Joined::More)),
         (5, false, true, &[0, 24], Ok(Joined::Message)),
     ];
-    assert!(rt; are_joined(&mut join, &steps));
-    assert_eq!(rt; join.command(), STORE.as_slice());
+    joins(&rt, &mut join, &steps, &STORE);
     // The next message begins without `clear`, in another context.
-    assert!(rt; are_joined(&mut join, &[(9, true, true, &ECHO, Ok(Joined::Message))]));
-    assert_eq!(rt; join.command(), ECHO.as_slice());
+    let next: Step = (9, true, true, &ECHO, Ok(Joined::Message));
+    joins(&rt, &mut join, &[next], &ECHO);
 }
 
 #[test]
@@ -91,7 +96,5 @@ fn a_command_set_that_is_no_command(rt: HostRuntime) {
         (1, true, true, front, Err(41)),
         (3, true, true, &ECHO, Err(44)),
     ];
-    let mut join = Join::<256>::new();
-    assert!(rt; are_joined(&mut join, &steps));
-    assert_eq!(rt; join.command(), front);
+    joins(&rt, &mut Join::<256>::new(), &steps, front);
 }

@@ -10,6 +10,7 @@ use negotiate::{
 };
 use pdu::{MemoryWire, PduFault, read_request};
 use std::alloc::Global;
+use std::process::Abort;
 use std::test::Fail;
 
 const OURS: &[u8] = b"DCMBOX          ";
@@ -118,18 +119,31 @@ fn answered(alloc: Global, config: &Config, body: &[u8]) -> Result<MemoryWire<Gl
     }
 }
 
+/// Checks what a request with this body proposes that is accepted, under each of these IDs.
+fn accepts(rt: &impl Abort, body: &[u8], rows: &[(u8, Option<Context>)]) -> Result<(), PduFault> {
+    let request = read_request(body)?;
+    for (id, accepted) in rows {
+        assert_eq!(rt; context(&request, *id), *accepted, "at {id}");
+    }
+    Ok(())
+}
+
 #[test]
 fn contexts_of_the_recorded_echo(rt: HostRuntime) -> Result<(), Fail> {
     let body = echo(rt.alloc(), 1, OURS, APPLICATION, [0, 0, 0x40, 0])?;
-    let request = read_request(body.as_slice())?;
     let verification = Context {
         class: Class::Verification,
         syntax: Syntax::Implicit,
     };
-    assert_eq!(rt; context(&request, 1), Some(verification));
-    assert_eq!(rt; context(&request, 3), None);
+    accepts(&rt, body.as_slice(), &[(1, Some(verification)), (3, None)])?;
     Ok(())
 }
+
+/// The context that is accepted of them.
+const EXPLICIT_CT: Context = Context {
+    class: Class::Ct,
+    syntax: Syntax::Explicit,
+};
 
 /// Contexts of which the third alone is accepted.
 fn refused_contexts(alloc: Global) -> Result<Vec<u8>, Fail> {
@@ -145,14 +159,8 @@ fn refused_contexts(alloc: Global) -> Result<Vec<u8>, Fail> {
 #[test]
 fn contexts_that_cannot_be_had(rt: HostRuntime) -> Result<(), Fail> {
     let body = refused_contexts(rt.alloc())?;
-    let request = read_request(body.as_slice())?;
-    let ct = Context {
-        class: Class::Ct,
-        syntax: Syntax::Explicit,
-    };
-    assert_eq!(rt; context(&request, 3), None);
-    assert_eq!(rt; context(&request, 5), Some(ct));
-    assert_eq!(rt; context(&request, 7), None);
+    let rows = [(3, None), (5, Some(EXPLICIT_CT)), (7, None)];
+    accepts(&rt, body.as_slice(), &rows)?;
     Ok(())
 }
 
@@ -169,31 +177,36 @@ fn judged(
     Ok(judge(config, &read_request(body.as_slice())?))
 }
 
+/// Checks the answer to a request for Verification by `SCANNER1`, where this title alone may call.
+fn rejects<R: Abort + AllocGlobal>(
+    rt: &R,
+    caller: &str,
+    version: u8,
+    called: &[u8],
+    application: &[u8],
+    maximum: u8,
+    reason: (u8, u8, u8),
+) -> Result<(), Fail> {
+    let (a, b, c) = reason;
+    let answer = judged(
+        &config(caller)?,
+        rt.alloc(),
+        version,
+        called,
+        application,
+        [0, 0, 0, maximum],
+    )?;
+    assert_eq!(rt; answer, Answer::Reject(a, b, c));
+    Ok(())
+}
+
 #[test]
 fn other_rejections(rt: HostRuntime) -> Result<(), Fail> {
-    let alloc = rt.alloc();
-    let known = config("SCANNER1")?;
-    let unknown = config("SCANNER2")?;
-    assert_eq!(rt;
-        judged(&known, alloc, 2, OTHERS, VERIFICATION, [0, 0, 0, 1])?,
-        Answer::Reject(1, 2, 2)
-    );
-    assert_eq!(rt;
-        judged(&known, alloc, 1, OTHERS, VERIFICATION, [0, 0, 0, 1])?,
-        Answer::Reject(1, 1, 2)
-    );
-    assert_eq!(rt;
-        judged(&unknown, alloc, 1, OURS, APPLICATION, [0, 0, 0, 1])?,
-        Answer::Reject(1, 1, 3)
-    );
-    assert_eq!(rt;
-        judged(&known, alloc, 1, OURS, APPLICATION, [0, 0, 0, 1])?,
-        Answer::Reject(1, 1, 1)
-    );
-    assert_eq!(rt;
-        judged(&known, alloc, 1, OURS, APPLICATION, [0, 0, 0, 7])?,
-        Answer::Reject(1, 1, 1)
-    );
+    rejects(&rt, "SCANNER1", 2, OTHERS, VERIFICATION, 1, (1, 2, 2))?;
+    rejects(&rt, "SCANNER1", 1, OTHERS, VERIFICATION, 1, (1, 1, 2))?;
+    rejects(&rt, "SCANNER2", 1, OURS, APPLICATION, 1, (1, 1, 3))?;
+    rejects(&rt, "SCANNER1", 1, OURS, APPLICATION, 1, (1, 1, 1))?;
+    rejects(&rt, "SCANNER1", 1, OURS, APPLICATION, 7, (1, 1, 1))?;
     Ok(())
 }
 
@@ -229,13 +242,10 @@ fn many_contexts(rt: HostRuntime) -> Result<(), Fail> {
     let alloc = rt.alloc();
     let body = many(alloc)?;
     let wire = answered(alloc, &config("SCANNER1")?, body.as_slice())?;
-    let sent = wire.sent();
-    assert_eq!(rt; sent.len(), 4108);
-    assert_eq!(rt; &sent[..6], [2, 0, 0, 0, 0x10, 6].as_slice());
-    assert_eq!(rt;
-        &sent[4036..4044],
-        [0x21, 0, 0, 0x1b, 255, 0, 0, 0].as_slice()
-    );
+    assert_eq!(rt; wire.sent().len(), 4108);
+    assert!(rt; wire.sent().starts_with(&[2, 0, 0, 0, 0x10, 6]));
+    let last = wire.sent().get(4036..).unwrap_or(&[]);
+    assert!(rt; last.starts_with(&[0x21, 0, 0, 0x1b, 255, 0, 0, 0]));
     Ok(())
 }
 
@@ -244,6 +254,14 @@ fn filled(body: &[u8], config: &Config) -> Result<ArrayVec<ContextRow, 128>, Pdu
     let mut table = ArrayVec::new();
     compact(config, &request, &mut table);
     Ok(table)
+}
+
+/// Checks that of the IDs below 10, this one alone is accepted, for this context.
+fn accepts_only(rt: &impl Abort, table: &[ContextRow], id: u8, accepted: Context) {
+    for other in 0..10u8 {
+        let expected = if other == id { Some(accepted) } else { None };
+        assert_eq!(rt; context_of(table, other), expected, "at {other}");
+    }
 }
 
 #[test]
@@ -257,14 +275,7 @@ fn table_of_one_context(rt: HostRuntime) -> Result<(), Fail> {
         spare: 0,
     };
     assert_eq!(rt; table.as_slice(), [row].as_slice());
-    let ct = Context {
-        class: Class::Ct,
-        syntax: Syntax::Explicit,
-    };
-    assert_eq!(rt; context_of(table.as_slice(), 5), Some(ct));
-    for id in [0, 1, 3, 7, 9] {
-        assert_eq!(rt; context_of(table.as_slice(), id), None);
-    }
+    accepts_only(&rt, table.as_slice(), 5, EXPLICIT_CT);
     Ok(())
 }
 

@@ -1,9 +1,11 @@
 //! The worked rows of `pdu`, by its public calls alone: requests and PDUs as recorded, one refusal of
 //! each kind, and the wire over memory.
 use pdu::{
-    MemoryWire, Wire, read_pdu_head, read_pdv_head, read_request, write_abort, write_data,
-    write_reject, write_release,
+    MemoryWire, Proposal, Request, Wire, read_pdu_head, read_pdv_head, read_request, write_abort,
+    write_data, write_reject, write_release,
 };
+use std::alloc::{AllocError, Global};
+use std::process::Abort;
 use std::test::Fail;
 
 /// The body of the recorded echo's request.
@@ -30,8 +32,8 @@ fn refusal(body: &[u8]) -> u8 {
 }
 
 /// A body of the fixed part and these items.
-fn with_items(rt: &HostRuntime, items: &[&[u8]]) -> Result<Vec<u8>, Fail> {
-    let mut body = Vec::from_slice(rt.alloc(), &ECHO[..68])?;
+fn with_items(alloc: Global, items: &[&[u8]]) -> Result<Vec<u8>, AllocError> {
+    let mut body = Vec::from_slice(alloc, &ECHO[..68])?;
     for item in items {
         body.extend_from_slice(item)?;
     }
@@ -47,35 +49,51 @@ const CONTEXT: &[u8] = &[
 
 const INFORMATION: &[u8] = &[0x50, 0, 0, 8, 0x51, 0, 0, 4, 0, 0, 0x40, 0];
 
-#[test]
-fn the_recorded_request(rt: HostRuntime) -> Result<(), Fail> {
-    let request = read_request(ECHO).ok().ok_or("refused")?;
-    assert_eq!(rt; (request.version(), request.maximum()), (1, 16384));
-    assert!(rt; request.called().0 == *b"DCMBOX          ");
-    assert!(rt; request.calling().0 == *b"SCANNER1        ");
-    request.keeps();
-    assert_eq!(rt; request.reserved().len(), 32);
-    assert!(rt; request.application_context() == b"1.2.840.10008.3.1.1.1".as_slice());
-    let mut contexts = request.contexts();
-    let proposal = contexts.next().ok_or("no context")?;
+/// Checks the one presentation context of the recorded request.
+fn is_recorded(rt: &impl Abort, proposal: &Proposal) -> Result<(), Fail> {
     assert_eq!(rt; proposal.id(), 1);
     assert!(rt; proposal.abstract_syntax() == b"1.2.840.10008.1.1".as_slice());
     let mut syntaxes = proposal.transfer_syntaxes();
     let syntax = syntaxes.next().ok_or("no transfer syntax")?;
     assert!(rt; syntax == b"1.2.840.10008.1.2".as_slice());
     assert!(rt; syntaxes.next().is_none());
+    Ok(())
+}
+
+/// Checks the fields of the recorded request.
+fn has_recorded_fields(rt: &impl Abort, request: &Request) {
+    assert_eq!(rt; (request.version(), request.maximum()), (1, 16384));
+    assert!(rt; request.called().0 == *b"DCMBOX          ");
+    assert!(rt; request.calling().0 == *b"SCANNER1        ");
+    request.keeps();
+    assert_eq!(rt; request.reserved().len(), 32);
+    assert!(rt; request.application_context() == b"1.2.840.10008.3.1.1.1".as_slice());
+}
+
+#[test]
+fn the_recorded_request(rt: HostRuntime) -> Result<(), Fail> {
+    let request = read_request(ECHO).ok().ok_or("refused")?;
+    has_recorded_fields(&rt, &request);
+    let mut contexts = request.contexts();
+    let proposal = contexts.next().ok_or("no context")?;
+    is_recorded(&rt, &proposal)?;
     assert!(rt; contexts.next().is_none());
     Ok(())
 }
 
+/// Checks the number of the refusal of a body.
+fn refuses(rt: &impl Abort, body: &[u8], number: u8) {
+    assert_eq!(rt; refusal(body), number);
+}
+
 #[test]
-fn its_neighbours_are_refused(rt: HostRuntime) -> Result<(), Fail> {
+fn its_neighbours_are_refused(rt: HostRuntime) -> Result<(), AllocError> {
     let mut even = Vec::from_slice(rt.alloc(), ECHO)?;
     even[97] = 2;
-    assert_eq!(rt; refusal(&even), 33);
-    assert_eq!(rt; refusal(&ECHO[..163]), 31);
-    assert_eq!(rt; refusal(&ECHO[..143]), 35);
-    assert_eq!(rt; refusal(&ECHO[..67]), 31);
+    refuses(&rt, even.as_slice(), 33);
+    refuses(&rt, &ECHO[..163], 31);
+    refuses(&rt, &ECHO[..143], 35);
+    refuses(&rt, &ECHO[..67], 31);
     Ok(())
 }
 
@@ -96,41 +114,51 @@ const CUT_MAXIMUM: &[u8] = &[0x50, 0, 0, 8, 0x51, 0, 0, 5, 0, 0, 0x40, 0];
 
 const UNKNOWN: &[u8] = &[0x21, 0, 0, 1, 0xFF];
 
+/// The items of a body, and the number of its refusal.
+const REFUSALS: [(&[&[u8]], u8); 9] = [
+    (&[INFORMATION, UNKNOWN, CONTEXT, APPLICATION, OTHER], 0),
+    (&[APPLICATION, BARE, INFORMATION], 31),
+    (&[APPLICATION, CONTEXT, CUT_MAXIMUM], 31),
+    (&[APPLICATION, CONTEXT, INFORMATION, &[0x60]], 31),
+    (&[APPLICATION, CONTEXT, APPLICATION, INFORMATION], 32),
+    (&[APPLICATION, TWO_NAMES, INFORMATION], 32),
+    (&[APPLICATION, CONTEXT, LONG_MAXIMUM], 32),
+    (&[APPLICATION, CONTEXT, OTHER, CONTEXT, INFORMATION], 34),
+    (&[APPLICATION, CONTEXT], 35),
+];
+
 #[test]
-fn each_refusal_once(rt: HostRuntime) -> Result<(), Fail> {
-    let cases: [(&[&[u8]], u8); 9] = [
-        (&[INFORMATION, UNKNOWN, CONTEXT, APPLICATION, OTHER], 0),
-        (&[APPLICATION, BARE, INFORMATION], 31),
-        (&[APPLICATION, CONTEXT, CUT_MAXIMUM], 31),
-        (&[APPLICATION, CONTEXT, INFORMATION, &[0x60]], 31),
-        (&[APPLICATION, CONTEXT, APPLICATION, INFORMATION], 32),
-        (&[APPLICATION, TWO_NAMES, INFORMATION], 32),
-        (&[APPLICATION, CONTEXT, LONG_MAXIMUM], 32),
-        (&[APPLICATION, CONTEXT, OTHER, CONTEXT, INFORMATION], 34),
-        (&[APPLICATION, CONTEXT], 35),
-    ];
-    for (items, fault) in cases {
-        assert_eq!(rt; refusal(&with_items(&rt, items)?), fault);
+fn each_refusal_once(rt: HostRuntime) -> Result<(), AllocError> {
+    for (items, number) in REFUSALS {
+        let body = with_items(rt.alloc(), items)?;
+        refuses(&rt, body.as_slice(), number);
     }
     Ok(())
 }
 
 /// A body of the fixed part, this item, and one more as often as fits where 65,524 bytes are kept.
-fn full(rt: &HostRuntime, first: &[u8], again: &[u8; 4]) -> Result<Vec<u8>, Fail> {
-    let mut body = with_items(rt, &[first])?;
+fn full(alloc: Global, first: &[u8], again: &[u8; 4]) -> Result<Vec<u8>, AllocError> {
+    let mut body = with_items(alloc, &[first])?;
     for _ in 0..16364usize.saturating_sub(first.len() / 4) {
         body.extend_from_slice(again)?;
     }
     Ok(body)
 }
 
+/// Checks the number of the refusal of a body that is as large as can be.
+fn refuses_greatest(rt: &impl Abort, body: &[u8], number: u8) {
+    assert_eq!(rt; body.len(), 65524);
+    refuses(rt, body, number);
+}
+
 /// The greatest body that is kept, full of the smallest items, at the top and in a context.
 #[test]
-fn hostile_bodies(rt: HostRuntime) -> Result<(), Fail> {
-    let flat = full(&rt, &[], &[0x60, 0, 0, 0])?;
-    let nested = full(&rt, &[0x20, 0, 0xFF, 0xAC, 1, 0, 0, 0], &[0x40, 0, 0, 0])?;
-    assert_eq!(rt; (flat.len(), nested.len()), (65524, 65524));
-    assert_eq!(rt; (refusal(&flat), refusal(&nested)), (35, 32));
+fn hostile_bodies(rt: HostRuntime) -> Result<(), AllocError> {
+    let flat = full(rt.alloc(), &[], &[0x60, 0, 0, 0])?;
+    refuses_greatest(&rt, flat.as_slice(), 35);
+    let context = [0x20, 0, 0xFF, 0xAC, 1, 0, 0, 0];
+    let nested = full(rt.alloc(), &context, &[0x40, 0, 0, 0])?;
+    refuses_greatest(&rt, nested.as_slice(), 32);
     Ok(())
 }
 

@@ -1,12 +1,12 @@
 //! The draft of a store while its data come, and at an end in the middle of them.
 
-use crate::row::Row;
+use crate::row::{OverFolder, OverMemory, Row, Shown, fresh_folder};
 use dimse::status;
 use fixtures::bytes::{after_first, back, front};
-use fixtures::folders::{are_in, count, fresh};
+use fixtures::folders::{are_in, count};
 use fixtures::stores::{ACCEPT_SIZE, CT_SET, EXPLICIT, INSTANCE};
-use harness::{Driven, config};
-use part10::{Filing, FolderFiling, MemoryFiling};
+use harness::config;
+use part10::{FolderFiling, MemoryFiling};
 use pdu::MemoryWire;
 use std::alloc::{AllocError, Global};
 use std::fs;
@@ -17,42 +17,33 @@ fn ct_store(alloc: Global) -> Result<Row, AllocError> {
     Row::of(alloc, &(EXPLICIT, INSTANCE, &CT_SET, status::SUCCESS, None))
 }
 
-/// An association over memory.
-type OverMemory = Driven<MemoryWire<Global>, MemoryFiling<Global>, 64>;
-
 fn over_memory(alloc: Global) -> OverMemory {
-    Driven::open(&config(), MemoryWire::new(alloc), MemoryFiling::new(alloc))
+    OverMemory::open(&config(), MemoryWire::new(alloc), MemoryFiling::new(alloc))
 }
 
-/// An association over a folder, which is made anew.
-type OverFolder = Driven<MemoryWire<Global>, FolderFiling<HostRuntime>, 64>;
-
-fn over_folder(rt: &HostRuntime, dir: &str) -> Result<OverFolder, Fail> {
-    fresh(rt, dir)?;
-    let filing = FolderFiling::open(*rt, dir)?.without_sync();
-    Ok(Driven::open(&config(), MemoryWire::new(rt.alloc()), filing))
+fn over_folder(alloc: Global, filing: FolderFiling<HostRuntime>) -> OverFolder {
+    OverFolder::open(&config(), MemoryWire::new(alloc), filing)
 }
 
-/// Hands an association a row to 39 bytes of its data set, cut here; whether it has a draft, and holds
+/// Whether an association that was handed a row to 39 bytes of its data set, and shows this, has a draft, and holds
 /// 24 bytes of the request, 100 of the command, 26 of the class and 5 of a header. Heads that are whole
 /// are not held.
-fn is_held<F: Filing + Drop, const D: usize>(
-    driven: &mut Driven<MemoryWire<Global>, F, D>,
-    came: &[u8],
-    cut: usize,
-) -> bool {
-    driven.feed_cut(came, cut);
-    driven.drafting() && driven.held() == 155 && driven.wire().sent().len() == ACCEPT_SIZE
+fn is_held(shown: Shown, wire: &MemoryWire<Global>) -> bool {
+    let (_, drafting, held) = shown;
+    drafting && held == 155 && wire.sent().len() == ACCEPT_SIZE
 }
 
-/// Whether it is so over memory, and with the rest of the row there is a file.
+/// Whether it is so over memory, where the row is cut here, and with the rest of the row there is a file.
 fn is_held_over_memory(alloc: Global, row: &Row, came: &[u8], rest: &[u8], cut: usize) -> bool {
     let mut driven = over_memory(alloc);
-    if !is_held(&mut driven, came, cut) || !driven.filing().files().is_empty() {
+    driven.feed_cut(came, cut);
+    let shown = (driven.state(), driven.drafting(), driven.held());
+    if !is_held(shown, driven.wire()) || !driven.filing().files().is_empty() {
         return false;
     }
     driven.feed(rest);
-    row.is_shown(&driven) && driven.filing().files() == row.files.as_slice()
+    let shown = (driven.state(), driven.drafting(), driven.held());
+    row.is_shown(shown, driven.wire()) && driven.filing().files() == row.files.as_slice()
 }
 
 /// The same over a folder, which has the draft alone until then.
@@ -63,13 +54,34 @@ fn is_held_over_folder(
     rest: &[u8],
     cut: usize,
 ) -> Result<bool, Fail> {
-    let dir = "held_in_its_data";
-    let mut driven = over_folder(rt, dir)?;
-    if !is_held(&mut driven, came, cut) || count(rt, dir)? != 1 {
-        return Ok(false);
+    let filing = fresh_folder(rt, "held_in_its_data")?;
+    Ok(
+        is_held_over_filing(rt, filing, row, (came, rest), cut)
+            && are_in(rt, "held_in_its_data", row.files.as_slice())?,
+    )
+}
+
+fn is_held_over_filing(
+    rt: &HostRuntime,
+    filing: FolderFiling<HostRuntime>,
+    row: &Row,
+    pieces: (&[u8], &[u8]),
+    cut: usize,
+) -> bool {
+    let (came, rest) = pieces;
+    let mut driven = over_folder(rt.alloc(), filing);
+    driven.feed_cut(came, cut);
+    let shown = (driven.state(), driven.drafting(), driven.held());
+    if !is_held(shown, driven.wire()) || !has_one_entry(rt, "held_in_its_data") {
+        return false;
     }
     driven.feed(rest);
-    Ok(row.is_shown(&driven) && are_in(rt, dir, row.files.as_slice())?)
+    let shown = (driven.state(), driven.drafting(), driven.held());
+    row.is_shown(shown, driven.wire())
+}
+
+fn has_one_entry(rt: &HostRuntime, dir: &str) -> bool {
+    matches!(count(rt, dir), Ok(1))
 }
 
 /// In one piece, byte by byte and at each cut in two.
@@ -93,14 +105,32 @@ fn held_in_its_data(rt: HostRuntime) -> Result<(), Fail> {
     Ok(())
 }
 
-/// Hands an association a stream, cut here, and closes the transport connection; whether this leaves
-/// nothing held and no draft, and so many bytes were sent after the A-ASSOCIATE-AC.
-fn is_closed<F: Filing + Drop, const D: usize>(
-    driven: &mut Driven<MemoryWire<Global>, F, D>,
+/// Whether an association over memory to which a stream came, cut here, and whose transport connection was closed,
+/// has nothing held and no draft, has these files, and sent so many bytes after the A-ASSOCIATE-AC.
+fn closes_over_memory(
+    alloc: Global,
+    stream: &[u8],
+    cut: usize,
+    files: &[Vec<u8>],
+    sent: usize,
+) -> bool {
+    let mut driven = over_memory(alloc);
+    driven.feed_cut(stream, cut);
+    driven.close();
+    driven.is_ended()
+        && after_first(driven.wire().sent()).len() == sent
+        && driven.filing().files() == files
+}
+
+/// The same over the filing of a folder, without its files.
+fn closes_over_filing(
+    alloc: Global,
+    filing: FolderFiling<HostRuntime>,
     stream: &[u8],
     cut: usize,
     sent: usize,
 ) -> bool {
+    let mut driven = over_folder(alloc, filing);
     driven.feed_cut(stream, cut);
     driven.close();
     driven.is_ended() && after_first(driven.wire().sent()).len() == sent
@@ -112,12 +142,12 @@ fn closes(rt: &HostRuntime, dir: &str, row: &Row, came: &[u8], cut: usize) -> Re
     let is_whole = came.len() == row.stream.len();
     let files: &[Vec<u8>] = if is_whole { row.files.as_slice() } else { &[] };
     let sent = if is_whole { row.answer.len() } else { 0 };
-    let mut driven = over_memory(rt.alloc());
-    if !is_closed(&mut driven, came, cut, sent) || driven.filing().files() != files {
-        return Ok(false);
-    }
-    let mut driven = over_folder(rt, dir)?;
-    Ok(is_closed(&mut driven, came, cut, sent) && are_in(rt, dir, files)?)
+    let filing = fresh_folder(rt, dir)?;
+    Ok(
+        closes_over_filing(rt.alloc(), filing, came, cut, sent)
+            && closes_over_memory(rt.alloc(), came, cut, files, sent)
+            && are_in(rt, dir, files)?,
+    )
 }
 
 /// After each number of bytes, in one piece and byte by byte.

@@ -5,9 +5,7 @@ use acceptor::State;
 use dimse::status;
 use fixtures::folders::{are_in, count, fresh, holds, put};
 use fixtures::stores::{CT_SET, EXPLICIT, INSTANCE, reply, whole_store};
-use harness::{Driven, config};
 use part10::FolderFiling;
-use pdu::MemoryWire;
 use std::fs;
 use std::test::Fail;
 
@@ -17,11 +15,7 @@ fn a_store_in_a_folder_that_is_synced(rt: HostRuntime) -> Result<(), Fail> {
     fresh(&rt, dir)?;
     let store = (EXPLICIT, INSTANCE, CT_SET.as_slice(), status::SUCCESS, None);
     let row = Row::of(rt.alloc(), &store)?;
-    let filing = FolderFiling::open(rt, dir)?;
-    let wire = MemoryWire::new(rt.alloc());
-    let mut driven = Driven::<_, _, 64>::open(&config(), wire, filing);
-    driven.feed(row.stream.as_slice());
-    assert!(rt; row.is_shown(&driven));
+    assert!(rt; row.is_answered(rt.alloc(), FolderFiling::open(rt, dir)?, 0));
     assert!(rt; are_in(&rt, dir, row.files.as_slice())?);
     fs::remove_dir_all(&rt, dir)?;
     Ok(())
@@ -32,10 +26,11 @@ fn comes_in_full_folder(rt: &HostRuntime, dir: &str, row: &Row, cut: usize) -> R
     fresh(rt, dir)?;
     put(rt, dir, "I9999999", b"last")?;
     let filing = FolderFiling::open(*rt, dir)?.without_sync();
-    let wire = MemoryWire::new(rt.alloc());
-    let mut driven = Driven::<_, _, 64>::open(&config(), wire, filing);
-    driven.feed_cut(row.stream.as_slice(), cut);
-    Ok(row.is_shown(&driven) && count(rt, dir)? == 1 && holds(rt, dir, "I9999999", b"last")?)
+    Ok(
+        row.is_answered(rt.alloc(), filing, cut)
+            && count(rt, dir)? == 1
+            && holds(rt, dir, "I9999999", b"last")?,
+    )
 }
 
 /// Each of two stores is answered A700, in one piece, byte by byte and at each cut in two.

@@ -1,5 +1,4 @@
 //! What a peer sends, and what comes of it, in any pieces, over memory and over a folder.
-ghost use Rattle.std.specs.Prelude.{◌≤◌, ◌^◌};
 
 use acceptor::State;
 use dimse::status;
@@ -7,7 +6,7 @@ use fixtures::bytes::{after_first, joined};
 use fixtures::folders::{are_in, fresh};
 use fixtures::stores::{Cause, EXPLICIT, file, reply, request, whole_store};
 use harness::{Driven, config};
-use part10::{Filing, FolderFiling, MemoryFiling};
+use part10::{FolderFiling, MemoryFiling};
 use pdu::MemoryWire;
 use std::alloc::{AllocError, Global};
 use std::{fs, io};
@@ -15,6 +14,27 @@ use std::{fs, io};
 /// A store: the transfer syntax of its context, its instance and its data set; and the status and the
 /// cause of its reply. It is filed where the status is that of success.
 pub(crate) type Store<'a> = (&'a [u8], &'a [u8; 6], &'a [u8], u16, Option<Cause<'a>>);
+
+/// How many levels a walk may have open: as many as in the program, or two.
+#[derive(Clone, Copy)]
+pub(crate) enum Levels {
+    OfTheProgram,
+    Two,
+}
+
+/// What an association shows of itself: its state, whether a store has its draft, and how many bytes are held.
+pub(crate) type Shown = (State, bool, usize);
+
+/// An association over memory, and one over a folder.
+pub(crate) type OverMemory = Driven<MemoryWire<Global>, MemoryFiling<Global>, 64>;
+
+pub(crate) type OverFolder = Driven<MemoryWire<Global>, FolderFiling<HostRuntime>, 64>;
+
+/// Returns the filing of a folder that is made anew.
+pub(crate) fn fresh_folder(rt: &HostRuntime, dir: &str) -> io::Result<FolderFiling<HostRuntime>> {
+    fresh(rt, dir)?;
+    Ok(FolderFiling::open(*rt, dir)?.without_sync())
+}
 
 /// A stream, and what comes of it: what is sent after the A-ASSOCIATE-AC, the files, and the state.
 #[derive(Drop)]
@@ -64,80 +84,106 @@ impl Row {
         })
     }
 
-    /// Whether an association shows this. The one accepted context and the caller are held until it
-    /// is left.
-    pub(crate) fn is_shown<F: Filing + Drop, const D: usize>(
-        &self,
-        driven: &Driven<MemoryWire<Global>, F, D>,
-    ) -> bool {
-        let held = if self.state == State::Sta6 { 24 } else { 0 };
-        after_first(driven.wire().sent()) == self.answer.as_slice()
-            && !driven.wire().failed()
-            && driven.state() == self.state
-            && !driven.drafting()
-            && driven.held() == held
+    /// Whether an association that shows this, over this wire, is as the row has it. The one accepted context and
+    /// the caller are held until it is left.
+    pub(crate) fn is_shown(&self, shown: Shown, wire: &MemoryWire<Global>) -> bool {
+        let (state, drafting, held) = shown;
+        let due = if self.state == State::Sta6 { 24 } else { 0 };
+        after_first(wire.sent()) == self.answer.as_slice()
+            && !wire.failed()
+            && state == self.state
+            && !drafting
+            && held == due
     }
 
     /// Whether it comes so over memory in two pieces, of which the first has `cut` bytes; byte by byte,
     /// if the stream has fewer.
-    fn comes_at<const D: usize>(&self, alloc: Global, cut: usize) -> bool
-        requires least { 2 ≤ D }
-        requires greatest { D ≤ 2 ^ 24 }
-    {
-        let mut driven = Driven::<_, _, D>::open(
-            &config(),
-            MemoryWire::new(alloc),
-            MemoryFiling::new(alloc),
-        );
+    fn comes_at(&self, alloc: Global, cut: usize) -> bool {
+        let wire = MemoryWire::new(alloc);
+        let mut driven = OverMemory::open(&config(), wire, MemoryFiling::new(alloc));
         driven.feed_cut(self.stream.as_slice(), cut);
-        self.is_shown(&driven) && driven.filing().files() == self.files.as_slice()
+        let shown = (driven.state(), driven.drafting(), driven.held());
+        self.is_shown(shown, driven.wire()) && driven.filing().files() == self.files.as_slice()
+    }
+
+    /// The same where two levels may be open.
+    fn comes_in_two_levels_at(&self, alloc: Global, cut: usize) -> bool {
+        let wire = MemoryWire::new(alloc);
+        let mut driven = Driven::<_, _, 2>::open(&config(), wire, MemoryFiling::new(alloc));
+        driven.feed_cut(self.stream.as_slice(), cut);
+        let shown = (driven.state(), driven.drafting(), driven.held());
+        self.is_shown(shown, driven.wire()) && driven.filing().files() == self.files.as_slice()
     }
 
     /// Whether it comes so over memory in one piece, at each cut in two, and byte by byte.
-    pub(crate) fn comes<const D: usize>(&self, alloc: Global) -> bool
-        requires least { 2 ≤ D }
-        requires greatest { D ≤ 2 ^ 24 }
-    {
+    pub(crate) fn comes(&self, alloc: Global, levels: Levels) -> bool {
         for cut in 0..self.stream.len() + 2 {
-            if !self.comes_at::<D>(alloc, cut) {
+            let comes = match levels {
+                Levels::OfTheProgram => self.comes_at(alloc, cut),
+                Levels::Two => self.comes_in_two_levels_at(alloc, cut),
+            };
+            if !comes {
                 return false;
             }
         }
         true
     }
 
-    /// The same over a folder of this name, which is made anew for each cut.
-    pub(crate) fn comes_in_folder<const D: usize>(
+    /// Whether it is answered so over the filing of a folder, in two pieces.
+    pub(crate) fn is_answered(
+        &self,
+        alloc: Global,
+        filing: FolderFiling<HostRuntime>,
+        cut: usize,
+    ) -> bool {
+        let mut driven = OverFolder::open(&config(), MemoryWire::new(alloc), filing);
+        driven.feed_cut(self.stream.as_slice(), cut);
+        let shown = (driven.state(), driven.drafting(), driven.held());
+        self.is_shown(shown, driven.wire())
+    }
+
+    /// The same where two levels may be open.
+    fn is_answered_in_two_levels(
+        &self,
+        alloc: Global,
+        filing: FolderFiling<HostRuntime>,
+        cut: usize,
+    ) -> bool {
+        let mut driven = Driven::<_, _, 2>::open(&config(), MemoryWire::new(alloc), filing);
+        driven.feed_cut(self.stream.as_slice(), cut);
+        let shown = (driven.state(), driven.drafting(), driven.held());
+        self.is_shown(shown, driven.wire())
+    }
+
+    /// Whether it comes so over a folder of this name, which is made anew, in two pieces.
+    fn comes_in_folder_at(
         &self,
         rt: &HostRuntime,
         dir: &str,
-    ) -> io::Result<bool>
-        requires least { 2 ≤ D }
-        requires greatest { D ≤ 2 ^ 24 }
-    {
+        levels: Levels,
+        cut: usize,
+    ) -> io::Result<bool> {
+        let filing = fresh_folder(rt, dir)?;
+        let is_answered = match levels {
+            Levels::OfTheProgram => self.is_answered(rt.alloc(), filing, cut),
+            Levels::Two => self.is_answered_in_two_levels(rt.alloc(), filing, cut),
+        };
+        Ok(is_answered && are_in(rt, dir, self.files.as_slice())?)
+    }
+
+    /// Whether it comes so over a folder of this name in one piece, at each cut in two, and byte by byte.
+    pub(crate) fn comes_in_folder(
+        &self,
+        rt: &HostRuntime,
+        dir: &str,
+        levels: Levels,
+    ) -> io::Result<bool> {
         for cut in 0..self.stream.len() + 2 {
-            if !self.comes_in_folder_at::<D>(rt, dir, cut)? {
+            if !self.comes_in_folder_at(rt, dir, levels, cut)? {
                 return Ok(false);
             }
         }
         fs::remove_dir_all(rt, dir)?;
         Ok(true)
-    }
-
-    fn comes_in_folder_at<const D: usize>(
-        &self,
-        rt: &HostRuntime,
-        dir: &str,
-        cut: usize,
-    ) -> io::Result<bool>
-        requires least { 2 ≤ D }
-        requires greatest { D ≤ 2 ^ 24 }
-    {
-        fresh(rt, dir)?;
-        let filing = FolderFiling::open(*rt, dir)?.without_sync();
-        let wire = MemoryWire::new(rt.alloc());
-        let mut driven = Driven::<_, _, D>::open(&config(), wire, filing);
-        driven.feed_cut(self.stream.as_slice(), cut);
-        Ok(self.is_shown(&driven) && are_in(rt, dir, self.files.as_slice())?)
     }
 }

@@ -1,7 +1,7 @@
 //! The worked rows of stores, over memory and over a folder: what is answered and what is filed, in one
 //! piece, byte by byte and at each cut in two.
 
-use crate::row::Row;
+use crate::row::{Levels, Row, Store};
 use crate::sets::{OTHER_INSTANCE, STORES, STORES_OF_TWO_LEVELS};
 use acceptor::State;
 use dimse::status;
@@ -13,52 +13,75 @@ use fixtures::stores::{
 use std::alloc::{AllocError, Global};
 use std::test::Fail;
 
+/// Returns which of these stores is the first that does not come over memory, if there is one.
+fn other(alloc: Global, stores: &[Store], levels: Levels) -> Result<Option<usize>, AllocError> {
+    for (at, store) in stores.iter().enumerate() {
+        if !Row::of(alloc, store)?.comes(alloc, levels) {
+            return Ok(Some(at));
+        }
+    }
+    Ok(None)
+}
+
 #[test]
 fn stores_over_memory(rt: HostRuntime) -> Result<(), Fail> {
-    for (at, store) in STORES.iter().enumerate() {
-        let row = Row::of(rt.alloc(), store)?;
-        assert!(rt; row.comes::<64>(rt.alloc()), "store {at}");
-    }
-    for (at, store) in STORES_OF_TWO_LEVELS.iter().enumerate() {
-        let row = Row::of(rt.alloc(), store)?;
-        assert!(rt; row.comes::<2>(rt.alloc()), "store {at} of two levels");
-    }
+    assert_eq!(rt; other(rt.alloc(), &STORES, Levels::OfTheProgram)?, None);
+    assert_eq!(rt;
+        other(rt.alloc(), &STORES_OF_TWO_LEVELS, Levels::Two)?,
+        None
+    );
     Ok(())
+}
+
+/// The same over a folder.
+fn other_in_folder(
+    rt: &HostRuntime,
+    stores: &[Store],
+    levels: Levels,
+) -> Result<Option<usize>, Fail> {
+    for (at, store) in stores.iter().enumerate() {
+        let row = Row::of(rt.alloc(), store)?;
+        if !row.comes_in_folder(rt, "stores_over_a_folder", levels)? {
+            return Ok(Some(at));
+        }
+    }
+    Ok(None)
 }
 
 #[test]
 fn stores_over_a_folder(rt: HostRuntime) -> Result<(), Fail> {
-    let dir = "stores_over_a_folder";
-    for (at, store) in STORES.iter().enumerate() {
-        let row = Row::of(rt.alloc(), store)?;
-        assert!(rt; row.comes_in_folder::<64>(&rt, dir)?, "store {at}");
-    }
-    for (at, store) in STORES_OF_TWO_LEVELS.iter().enumerate() {
-        let row = Row::of(rt.alloc(), store)?;
-        assert!(rt;
-            row.comes_in_folder::<2>(&rt, dir)?,
-            "store {at} of two levels"
-        );
-    }
+    assert_eq!(rt; other_in_folder(&rt, &STORES, Levels::OfTheProgram)?, None);
+    assert_eq!(rt;
+        other_in_folder(&rt, &STORES_OF_TWO_LEVELS, Levels::Two)?,
+        None
+    );
     Ok(())
 }
 
 /// Whether a row comes over memory and over a folder of this name.
 fn comes(rt: &HostRuntime, dir: &str, row: &Row) -> Result<bool, Fail> {
-    Ok(row.comes::<64>(rt.alloc()) && row.comes_in_folder::<64>(rt, dir)?)
+    Ok(
+        row.comes(rt.alloc(), Levels::OfTheProgram)
+            && row.comes_in_folder(rt, dir, Levels::OfTheProgram)?,
+    )
+}
+
+/// The sizes of the messages of a CT store: the request, the command, the whole store and the reply.
+fn sizes(alloc: Global) -> Result<[usize; 4], AllocError> {
+    Ok([
+        request(alloc, EXPLICIT)?.len(),
+        store(alloc, INSTANCE)?.len(),
+        whole_store(alloc, INSTANCE, &CT_SET)?.len(),
+        reply(alloc, INSTANCE, status::SUCCESS, None)?.len(),
+    ])
 }
 
 #[test]
 fn sizes_of_a_ct_store(rt: HostRuntime) -> Result<(), Fail> {
-    let alloc = rt.alloc();
-    assert_eq!(rt; request(alloc, EXPLICIT)?.len(), 180);
-    assert_eq!(rt; store(alloc, INSTANCE)?.len(), 100);
-    assert_eq!(rt; whole_store(alloc, INSTANCE, &CT_SET)?.len(), 172);
-    assert_eq!(rt; reply(alloc, INSTANCE, status::SUCCESS, None)?.len(), 112);
-    let file = file(alloc, EXPLICIT, INSTANCE, &CT_SET)?;
+    assert!(rt; sizes(rt.alloc())? == [180, 100, 172, 112]);
+    let file = file(rt.alloc(), EXPLICIT, INSTANCE, &CT_SET)?;
     assert_eq!(rt; file.len(), 336);
-    assert_eq!(rt; front(file.as_slice(), 144).last(), Some(&0));
-    assert_eq!(rt; file.as_slice().get(140), Some(&144));
+    assert!(rt; file.as_slice().get(140..144) == Some(&[144, 0, 0, 0][..]));
     Ok(())
 }
 

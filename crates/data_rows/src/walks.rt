@@ -1,0 +1,66 @@
+//! Walks of a text in any pieces, and what they come to.
+
+use element::Syntax;
+use sequence::{Fault, Walker, Wanted};
+use std::process::Abort;
+
+/// Takes the piece, stepping on by what each step took; returns the number of steps.
+pub(crate) fn take<const D: usize>(walker: &mut Walker<140, D>, piece: &[u8]) -> u32 {
+    let mut rest = piece;
+    let mut steps = 0u32;
+    for _ in 0..piece.len() {
+        if rest.is_empty() {
+            break;
+        }
+        let (taken, _step) = walker.step(rest);
+        rest = &rest[taken..];
+        steps = steps.saturating_add(1);
+    }
+    steps
+}
+
+/// Takes the text in two pieces, of which the first has `cut` bytes; byte by byte, if the text has fewer.
+pub(crate) fn take_cut<const D: usize>(walker: &mut Walker<140, D>, text: &[u8], cut: usize) {
+    match text.split_at_checked(cut) {
+        Some((front, back)) => {
+            take(walker, front);
+            take(walker, back);
+        }
+        None => {
+            for byte in text {
+                take(walker, &[*byte]);
+            }
+        }
+    }
+}
+
+/// What a walk has come to: the open levels, the place, the bytes held, and the fault.
+pub(crate) type End = (usize, u64, usize, Option<Fault>);
+
+pub(crate) fn end<const D: usize>(walker: &Walker<140, D>) -> End {
+    let fault = walker.finish().err();
+    (walker.levels(), walker.place(), walker.held(), fault)
+}
+
+/// Checks what a walk has come to.
+pub(crate) fn is_at<const D: usize>(rt: &impl Abort, walker: &Walker<140, D>, wanted: End) {
+    assert_eq!(rt; end(walker), wanted);
+}
+
+pub(crate) fn new_walker(syntax: Syntax) -> Walker<140, 64> {
+    Walker::new(syntax, Wanted::none(), 1 << 40)
+}
+
+/// A walker with a limit of two levels.
+pub(crate) fn new_shallow_walker(syntax: Syntax) -> Walker<140, 2> {
+    Walker::new(syntax, Wanted::none(), 1 << 40)
+}
+
+/// Checks what the walk of a text comes to in one piece, at each cut in two, and byte by byte.
+pub(crate) fn ends_at(rt: &impl Abort, syntax: Syntax, text: &[u8], wanted: End) {
+    for cut in 0..text.len() + 2 {
+        let mut walker = new_walker(syntax);
+        take_cut(&mut walker, text, cut);
+        is_at(rt, &walker, wanted);
+    }
+}
