@@ -1,4 +1,4 @@
--- The bytes of a directory record, element_text after element_text (PS3.5 section 7.1.2, PS3.3 section F.5).
+-- The bytes of a directory record, element after element (PS3.5 section 7.1.2, PS3.3 section F.5).
 use Rattle.std.specs.Prelude.{ℕ, List, [], ◌++◌, length, Option, Some, None, codes}
 use Rattle.element.specs.declared.tag.Tag.{Tag}
 use Rattle.element.specs.Header.{header_bytes}

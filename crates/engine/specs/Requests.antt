@@ -19,7 +19,7 @@ use Rattle.engine.specs.Heads.{invalid_parameter}
 abbrev pub keeping : List ℕ → Progress → Progress
 keeping body p = record p { request = body }
 
--- the request is accepting, and the local user accepts or refuses it, sending these bytes
+-- the request is accepted, and the local user accepts or refuses it, sending these bytes
 abbrev pub accepting : Progress → List ℕ → Advance
 accepting p answer = followed_by (done [] 0 p (event.Request true)) (λ q. done answer 0 q event.UserAccepts)
 

@@ -7,7 +7,7 @@ use Rattle.pdu.specs.Types.{application_context_item, proposed_context_item, abs
 use Rattle.pdu.specs.Pieces.{Layout, pieces_of}
 use Rattle.pdu.specs.Record.{Proposal, RequestRecord}
 
--- type 1, reserved 1, length 2 of the item_content that follows
+-- type 1, reserved 1, length 2 of the content that follows
 abbrev pub item : Layout
 item = record { head = 4; body = λ text. big_number 2 (drop 2 text) }
 
@@ -46,7 +46,7 @@ abbrev pub first_or_none : List (List ℕ) → List ℕ
 first_or_none [] = []
 first_or_none (i ∷ is) = i
 
--- the item_content of the first item of this type; none where there is no such item
+-- the content of the first item of this type; none where there is no such item
 abbrev pub content_in : ℕ → List (List ℕ) → List ℕ
 content_in k items = item_content (first_or_none (of_kind k items))
 
