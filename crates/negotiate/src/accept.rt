@@ -67,15 +67,16 @@ fn front(request: &Request, length: u32) -> ArrayVec<u8, LONGEST>
     front
 }
 
-/// Appends the answer to each proposed context, in their order.
-fn put_contexts(request: &Request, pdu: &mut ArrayVec<u8, LONGEST>)
-    requires { array_vec_len pdu.old + 31 * length request.now.contexts ≤ 4067 }
-    ensures items { pdu.new.items ≡ pdu.old.items ++ flat_map context_text request.now.contexts }
-    ensures room { array_vec_len pdu.new ≤ 4067 }
+/// Returns the PDU with the answer to each proposed context after it, in their order.
+fn with_contexts(mut pdu: ArrayVec<u8, LONGEST>, request: &Request) -> ArrayVec<u8, LONGEST>
+    requires { array_vec_len pdu + 31 * length request.now.contexts ≤ 4067 }
+    ensures items { result.items ≡ pdu.items ++ flat_map context_text request.now.contexts }
+    ensures room { array_vec_len result ≤ 4067 }
 {
     for proposal in request.contexts() {
-        extend(pdu, context_item(&proposal).as_slice());
+        extend(&mut pdu, context_item(&proposal).as_slice());
     }
+    pdu
 }
 
 /// Returns the A-ASSOCIATE-AC that answers the request.
@@ -84,8 +85,7 @@ pub(crate) fn accept_pdu(config: &Config, request: &Request) -> ArrayVec<u8, LON
 {
     request.keeps();
     let size = accept_size(config, request);
-    let mut pdu = front(request, (size - 6) as u32);
-    put_contexts(request, &mut pdu);
+    let mut pdu = with_contexts(front(request, (size - 6) as u32), request);
     extend(&mut pdu, user_item(config.max_pdu).as_slice());
     pdu
 }

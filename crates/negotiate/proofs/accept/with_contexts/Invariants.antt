@@ -2,7 +2,7 @@ use Rattle.std.proofs.Common.{◌≡◌, ◌+◌, ◌*◌, ◌≤◌, ◌++◌, 
 use Rattle.std.specs.List.{flat_map}
 use Rattle.pdu.specs.Left.{proposals_left}
 use Rattle.negotiate.specs.Accept.{context_text}
-use Rattle.negotiate.proofs.accept.put_contexts.Given as goal
+use Rattle.negotiate.proofs.accept.with_contexts.Given as goal
 
 abbrev pub invariant-loop-proposal : goal.invariant-loop-proposal
 invariant-loop-proposal l = record {
