@@ -1,8 +1,8 @@
 -- A subcommand by its name and its rows.
-use Rattle.std.proofs.Common.{◌≡◌, List, [], Option, Some, None, option_map, unwrap_or, map, Bor, refl, ap, ap₂, sym, Box, Bool, true, false, ◌||◌, ◌∙◌}
+use Rattle.std.proofs.Common.{◌≡◌, List, [], Option, Some, None, option_map, unwrap_or, map, Bor, refl, ap₂, sym, Box}
 use Rattle.std.specs.Box.{box_value}
 use Rattle.clap.specs.Walk.{Row, Text}
-use Rattle.clap.specs.Simple.{App, subcommand_rows, with_subcommand}
+use Rattle.clap.specs.Simple.{subcommand_rows}
 use Rattle.clap.specs.declared.parser.matches.SubCommand.{SubCommand}
 use Rattle.clap.specs.declared.parser.matches.ArgMatches.TheViews.{out-SubCommand}
 
@@ -19,12 +19,3 @@ pub values_by : (o : Option (Bor (List (Bor Text)))) (d : Bor (List (Bor Text)))
     → map (λ w. w.now) (unwrap_or o d).now ≡ unwrap_or r []
 values_by None d r e h = rw (← h, e) refl
 values_by (Some s) d r e h = rw (← h) refl
-
--- a flag that one more adds nothing to
-pub kept_by_none : (new old other : Bool) → new ≡ (old || other) → other ≡ false → new ≡ old
-kept_by_none new true other e h = e
-kept_by_none new false other e h = e ∙ h
-
--- a subcommand that is added, by what it is
-pub added : (new old sub app : App) → new ≡ with_subcommand old sub.top → sub ≡ app → new ≡ with_subcommand old app.top
-added new old sub app e h = e ∙ ap (λ (a : App). with_subcommand old a.top) h

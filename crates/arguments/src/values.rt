@@ -1,8 +1,8 @@
 //! The values of a command's arguments, as they were given or by default.
-ghost use Rattle.std.specs.Prelude.{◌≡◌, IfSome, true, map};
+ghost use Rattle.std.specs.Prelude.{◌≡◌, ◌<◌, ◌≤◌, ◌&&◌, IfSome, IfNone, Some, false, length, map, take};
 ghost use Rattle.clap.specs.Matches.{found_of};
-ghost use Rattle.clap.specs.Walk.{rows_of};
-ghost use Rattle.arguments.specs.CommandLine.{IsFile, IsReplay, IsIndex, IsServe, IsFlag, values_of};
+ghost use Rattle.clap.specs.Walk.{rows_of, first_of};
+ghost use Rattle.arguments.specs.CommandLine.{IsFile, IsReplay, IsIndex, IsServe, values_of, has_all, file_needs, replay_needs, index_needs, serve_needs, callers_fit};
 
 use arrayvec::ArrayVec;
 use clap::ArgMatches;
@@ -52,9 +52,27 @@ pub struct ServeArguments<'a> {
     pub once: bool,
 }
 
+/// The values of up to eight arguments, in order.
+#[derive(Drop)]
+struct Texts<'a>([&'a str; 8]);
+
+/// Returns the first value of each argument, or `None` where one has none.
+fn texts_of<'a>(matches: &ArgMatches<'a>, ids: &[&str]) -> Option<Texts<'a>>
+    requires { length ids.now ≤ 8 }
+    ensures some { IfSome result (λ t. map (λ id. first_of id.now (rows_of (found_of matches.now))) ids.now ≡ map (λ v. Some v.now) (take (length ids.now) t.0)) }
+    ensures none { IfNone result (has_all (rows_of (found_of matches.now)) (map (λ id. id.now) ids.now) ≡ false) }
+{
+    let mut found = Texts([""; 8]);
+    for place in 0..ids.len() {
+        found.0[place] = matches.get_str(ids[place])?;
+    }
+    Some(found)
+}
+
 /// Returns the arguments of a command that takes one file.
 pub fn file_arguments<'a>(matches: &ArgMatches<'a>) -> Option<FileArguments<'a>>
-    ensures { IfSome result (λ a. IsFile a (rows_of (found_of matches.now))) }
+    ensures some { IfSome result (λ a. IsFile a (rows_of (found_of matches.now))) }
+    ensures none { IfNone result (has_all (rows_of (found_of matches.now)) file_needs ≡ false) }
 {
     let file = matches.get_str("FILE")?;
     Some(FileArguments { file })
@@ -62,20 +80,24 @@ pub fn file_arguments<'a>(matches: &ArgMatches<'a>) -> Option<FileArguments<'a>>
 
 /// Returns the arguments of `replay`, where each has its value.
 pub fn replay_arguments<'a>(matches: &ArgMatches<'a>) -> Option<ReplayArguments<'a>>
-    ensures { IfSome result (λ a. IsReplay a (rows_of (found_of matches.now))) }
+    ensures some { IfSome result (λ a. IsReplay a (rows_of (found_of matches.now))) }
+    ensures none { IfNone result (has_all (rows_of (found_of matches.now)) replay_needs ≡ false) }
 {
+    let Texts([file, out, ae, cut, ..]) = texts_of(matches, &["FILE", "out", "ae", "cut"])?;
+    let per = matches.get_str("per");
     Some(ReplayArguments {
-        file: matches.get_str("FILE")?,
-        out: matches.get_str("out")?,
-        ae: matches.get_str("ae")?,
-        cut: matches.get_str("cut")?,
-        per: matches.get_str("per"),
+        file,
+        out,
+        ae,
+        cut,
+        per,
     })
 }
 
 /// Returns the arguments of `index`, where each has its value.
 pub fn index_arguments<'a>(matches: &ArgMatches<'a>) -> Option<IndexArguments<'a>>
-    ensures { IfSome result (λ a. IsIndex a (rows_of (found_of matches.now))) }
+    ensures some { IfSome result (λ a. IsIndex a (rows_of (found_of matches.now))) }
+    ensures none { IfNone result (has_all (rows_of (found_of matches.now)) index_needs ≡ false) }
 {
     Some(IndexArguments {
         dir: matches.get_str("DIR")?,
@@ -86,7 +108,8 @@ pub fn index_arguments<'a>(matches: &ArgMatches<'a>) -> Option<IndexArguments<'a
 
 /// Returns the values of an argument that may be given more than once, or `None` for more than 16.
 fn values<'a>(matches: &ArgMatches<'a>, id: &str) -> Option<ArrayVec<&'a str, MOST_VALUES>>
-    ensures { IfSome result (λ v. map (λ w. w.now) v.items ≡ values_of (rows_of (found_of matches.now)) id.now) }
+    ensures some { IfSome result (λ v. map (λ w. w.now) v.items ≡ values_of (rows_of (found_of matches.now)) id.now) }
+    ensures none { IfNone result (16 < length (values_of (rows_of (found_of matches.now)) id.now)) }
 {
     let given = matches.get_strs(id).unwrap_or(&[]);
     let mut values = ArrayVec::new();
@@ -99,19 +122,26 @@ fn values<'a>(matches: &ArgMatches<'a>, id: &str) -> Option<ArrayVec<&'a str, MO
     Some(values)
 }
 
-/// Returns the arguments of `serve`, where each has its value.
+/// Returns the arguments of `serve`, where each has its value and at most 16 titles may call.
 pub fn serve_arguments<'a>(matches: &ArgMatches<'a>) -> Option<ServeArguments<'a>>
-    ensures { IfSome result (λ a. IsServe a (rows_of (found_of matches.now))) }
+    ensures some { IfSome result (λ a. IsServe a (rows_of (found_of matches.now))) }
+    ensures none { IfNone result ((has_all (rows_of (found_of matches.now)) serve_needs && callers_fit (rows_of (found_of matches.now))) ≡ false) }
 {
+    let Texts([port, out, bind, ae, timeout, idle, max_pdu, max_data]) = texts_of(
+        matches,
+        &[
+            "port", "out", "bind", "ae", "timeout", "idle", "max-pdu", "max-data",
+        ],
+    )?;
     Some(ServeArguments {
-        port: matches.get_str("port")?,
-        out: matches.get_str("out")?,
-        bind: matches.get_str("bind")?,
-        ae: matches.get_str("ae")?,
-        timeout: matches.get_str("timeout")?,
-        idle: matches.get_str("idle")?,
-        max_pdu: matches.get_str("max-pdu")?,
-        max_data: matches.get_str("max-data")?,
+        port,
+        out,
+        bind,
+        ae,
+        timeout,
+        idle,
+        max_pdu,
+        max_data,
         per: matches.get_str("per"),
         no_sync: matches.get_flag("no-sync"),
         once: matches.get_flag("once"),

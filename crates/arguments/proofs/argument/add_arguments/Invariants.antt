@@ -1,12 +1,9 @@
 use Rattle.std.proofs.Common.{◌≡◌, drop, map}
 use Rattle.clap.specs.Simple.{app_of}
-use Rattle.clap.specs.declared.builder.command.Command.TheViews.{out-Command}
 use Rattle.arguments.specs.CommandLine.{with_rules}
 use Rattle.arguments.specs.Tables.{rule_for}
 use Rattle.arguments.proofs.argument.add_arguments.Given as goal
 
 abbrev pub invariant-loop-argument : goal.invariant-loop-argument
-invariant-loop-argument l = record {
-  app : with_rules (app_of l.command) (map rule_for (drop l.argument-index l.arguments)) ≡ with_rules (app_of l.fn.command) (map rule_for l.arguments);
-  local : (out-Command l.command).has_globals ≡ (out-Command l.fn.command).has_globals;
-}
+invariant-loop-argument l =
+    with_rules (app_of l.command) (map rule_for (drop l.argument-index l.arguments)) ≡ with_rules (app_of l.fn.command) (map rule_for l.arguments)

@@ -1,10 +1,23 @@
-use Rattle.std.proofs.Common.{sym, ◌∙◌, codes}
+use Rattle.std.proofs.Common.{sym, ◌∙◌, codes, arith}
 use Rattle.clap.specs.Matches.{found_of}
+use Rattle.clap.specs.Walk.{rows_of}
 use Rattle.clap.proofs.WalkLemmas.{first_value-rows, one_text-rows}
+use Rattle.arguments.specs.CommandLine.{index_needs}
+use Rattle.arguments.proofs.ValuesLemmas.{if_none, missing}
 use Rattle.arguments.proofs.values.index_arguments.Goals as goal
 
-pub returns : goal.returns
-returns c =
+pub returns-in_err-get_str-clause-none : goal.returns-in_err-get_str-clause-none
+returns-in_err-get_str-clause-none c =
+    let found = found_of c.args.matches.now in
+    if_none c.from_residual.result _ (missing (rows_of found) index_needs 0 (omega arith) (c.in_err-get_str.ensures ∙ first_value-rows found (codes "DIR")))
+
+pub returns-in_err-get_str-2-clause-none : goal.returns-in_err-get_str-2-clause-none
+returns-in_err-get_str-2-clause-none c =
+    let found = found_of c.args.matches.now in
+    if_none c.from_residual-in_err-get_str-2.result _ (missing (rows_of found) index_needs 1 (omega arith) (c.in_err-get_str-2.ensures ∙ first_value-rows found (codes "uid")))
+
+pub returns-clause-some : goal.returns-clause-some
+returns-clause-some c =
     let found = found_of c.args.matches.now in
     record {
       dir = sym (c.in_ok-get_str.ensures ∙ first_value-rows found (codes "DIR"));

@@ -1,15 +1,17 @@
-use Rattle.std.proofs.Common.{sym, ◌∙◌, codes}
+use Rattle.std.proofs.Common.{sym, ◌∙◌, codes, arith}
 use Rattle.clap.specs.Matches.{found_of}
 use Rattle.clap.proofs.WalkLemmas.{first_value-rows}
+use Rattle.arguments.proofs.ValuesLemmas.{text_at}
 use Rattle.arguments.proofs.values.replay_arguments.Goals as goal
 
-pub returns : goal.returns
-returns c =
-    let found = found_of c.args.matches.now in
+pub returns-clause-some : goal.returns-clause-some
+returns-clause-some c =
+    let is = c.in_ok-file.ensures.some in
+    let vs = c.in_ok-file.field-0.0 in
     record {
-      file = sym (c.in_ok-get_str.ensures ∙ first_value-rows found (codes "FILE"));
-      out = sym (c.in_ok-get_str-2.ensures ∙ first_value-rows found (codes "out"));
-      ae = sym (c.in_ok-get_str-3.ensures ∙ first_value-rows found (codes "ae"));
-      cut = sym (c.in_ok-get_str-4.ensures ∙ first_value-rows found (codes "cut"));
-      per = sym (c.get_str-5.ensures ∙ first_value-rows found (codes "per"));
+      file = text_at _ vs 4 0 _ is (omega arith) (omega arith);
+      out = text_at _ vs 4 1 _ is (omega arith) (omega arith);
+      ae = text_at _ vs 4 2 _ is (omega arith) (omega arith);
+      cut = text_at _ vs 4 3 _ is (omega arith) (omega arith);
+      per = sym (c.get_str-per.ensures ∙ first_value-rows (found_of c.args.matches.now) (codes "per"));
     }

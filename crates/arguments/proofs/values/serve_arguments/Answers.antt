@@ -1,22 +1,25 @@
-use Rattle.std.proofs.Common.{sym, ◌∙◌, codes}
+use Rattle.std.proofs.Common.{sym, ◌∙◌, codes, arith}
 use Rattle.clap.specs.Matches.{found_of}
 use Rattle.clap.proofs.WalkLemmas.{first_value-rows, one_text-rows}
+use Rattle.arguments.proofs.ValuesLemmas.{text_at}
 use Rattle.arguments.proofs.values.serve_arguments.Goals as goal
 
-pub returns : goal.returns
-returns c =
+pub returns-clause-some : goal.returns-clause-some
+returns-clause-some c =
     let found = found_of c.args.matches.now in
+    let is = c.in_ok-port.ensures.some in
+    let vs = c.in_ok-port.field-0.0 in
     record {
-      port = sym (c.in_ok-get_str.ensures ∙ first_value-rows found (codes "port"));
-      out = sym (c.in_ok-get_str-2.ensures ∙ first_value-rows found (codes "out"));
-      bind = sym (c.in_ok-get_str-3.ensures ∙ first_value-rows found (codes "bind"));
-      ae = sym (c.in_ok-get_str-4.ensures ∙ first_value-rows found (codes "ae"));
-      callers = c.in_ok-values.ensures;
-      timeout = sym (c.in_ok-get_str-5.ensures ∙ first_value-rows found (codes "timeout"));
-      idle = sym (c.in_ok-get_str-6.ensures ∙ first_value-rows found (codes "idle"));
-      max_pdu = sym (c.in_ok-get_str-7.ensures ∙ first_value-rows found (codes "max-pdu"));
-      max_data = sym (c.in_ok-get_str-8.ensures ∙ first_value-rows found (codes "max-data"));
-      per = sym (c.get_str-9.ensures ∙ first_value-rows found (codes "per"));
+      port = text_at _ vs 8 0 _ is (omega arith) (omega arith);
+      out = text_at _ vs 8 1 _ is (omega arith) (omega arith);
+      bind = text_at _ vs 8 2 _ is (omega arith) (omega arith);
+      ae = text_at _ vs 8 3 _ is (omega arith) (omega arith);
+      callers = c.in_ok-values.ensures.some;
+      timeout = text_at _ vs 8 4 _ is (omega arith) (omega arith);
+      idle = text_at _ vs 8 5 _ is (omega arith) (omega arith);
+      max_pdu = text_at _ vs 8 6 _ is (omega arith) (omega arith);
+      max_data = text_at _ vs 8 7 _ is (omega arith) (omega arith);
+      per = sym (c.get_str.ensures ∙ first_value-rows found (codes "per"));
       no_sync = record {
         none = λ e. c.get_flag.ensures.none (one_text-rows found (codes "no-sync") ∙ e);
         on = λ e. c.get_flag.ensures.value (one_text-rows found (codes "no-sync") ∙ e);
