@@ -1,11 +1,11 @@
 //! `dcmbox check`: the first fault of a file, and the values that break the rules of their VR.
 use crate::error::ProgramError;
-use crate::faults::TagText;
 use crate::outcome::Outcome;
+use crate::texts::{TagText, VrText};
 use crate::walk::{Listing, list};
 use arrayvec::ArrayVec;
 use dictionary::vr_of;
-use element::{Header, Tag, Vr, check_value};
+use element::{Header, Tag, ValueFault, Vr, check_value};
 use part10::Meta;
 use std::io;
 use std::io::{Read, Write};
@@ -45,17 +45,11 @@ struct Values {
     value: ArrayVec<u8, LONGEST>,
 }
 
-/// Writes what is wrong with a value, if anything is.
-fn write_note<O: Write>(due: Due, value: &[u8], out: &mut O) -> io::Result<()> {
-    let Err(fault) = check_value(due.vr, value) else {
-        return Ok(());
-    };
-    let place = due.place;
-    let tag = TagText(due.tag);
-    write!(out, "note {place:010} {tag} ")?;
-    out.write_all(&due.vr.letters())?;
-    let number = fault.number();
-    writeln!(out, " {number} {fault}")
+/// Writes the line of a value that breaks a rule of its VR.
+fn write_note<O: Write>(due: Due, fault: ValueFault, out: &mut O) -> io::Result<()> {
+    let Due { place, tag, vr, .. } = due;
+    let (tag, vr, number) = (TagText(tag), VrText(Some(vr)), fault.number());
+    writeln!(out, "note {place:010} {tag} {vr} {number} {fault}")
 }
 
 impl<O: Write> Listing<O> for Values {
@@ -84,7 +78,10 @@ impl<O: Write> Listing<O> for Values {
             return Ok(());
         }
         self.due = None;
-        write_note(due, self.value.as_slice(), out)
+        match check_value(due.vr, self.value.as_slice()) {
+            Ok(()) => Ok(()),
+            Err(fault) => write_note(due, fault, out),
+        }
     }
 
     fn on_end(&mut self, length: u64, out: &mut O) -> io::Result<()> {

@@ -2,45 +2,23 @@
 use crate::error::ProgramError;
 use crate::faults::write_dir_fault;
 use crate::outcome::Outcome;
-use dicomdir::{DirFault, FileId, Tree, TreeRecord, check};
+use crate::texts::{Indent, PathText, Printable};
+use dicomdir::{DirFault, Tree, TreeRecord, check};
 use std::alloc::{AllocError, Allocator};
 use std::io;
 use std::io::{ErrorKind, Read, Write};
 
-/// Writes the components of a file ID with `/` between them, as in a path.
-pub fn write_file_id<O: Write>(file_id: &FileId, out: &mut O) -> io::Result<()> {
-    for byte in file_id.text() {
-        let byte = if *byte == b'\\' { b'/' } else { *byte };
-        out.write_all(&[byte])?;
-    }
-    Ok(())
-}
-
-/// Writes a text of the file, with `?` for each byte that is not a printable character.
-fn write_printable<O: Write>(text: &[u8], out: &mut O) -> io::Result<()> {
-    for byte in text {
-        let byte = if byte.is_ascii_graphic() || *byte == b' ' {
-            *byte
-        } else {
-            b'?'
-        };
-        out.write_all(&[byte])?;
-    }
-    Ok(())
-}
-
+/// Writes the line of a record.
 fn write_record<O: Write>(record: &TreeRecord<'_>, out: &mut O) -> io::Result<()> {
-    let place = record.place();
-    write!(out, "{place:010} ")?;
-    for _ in 1..record.level() {
-        write!(out, "  ")?;
+    let (place, kind) = (record.place(), Printable(record.kind()));
+    let indent = Indent(usize::from(record.level().saturating_sub(1)));
+    match record.file_id() {
+        Some(file_id) => {
+            let path = PathText(file_id);
+            writeln!(out, "{place:010} {indent}{kind} {path}")
+        }
+        None => writeln!(out, "{place:010} {indent}{kind}"),
     }
-    write_printable(record.kind(), out)?;
-    if let Some(file_id) = record.file_id() {
-        write!(out, " ")?;
-        write_file_id(&file_id, out)?;
-    }
-    writeln!(out)
 }
 
 /// Writes a line for each record, and then how many records there are.
@@ -56,15 +34,10 @@ fn write_tree<A: Allocator + Copy, O: Write>(tree: &Tree<'_, A>, out: &mut O) ->
 pub fn read_directory<A: Allocator + Copy, R: Read>(
     alloc: A,
     input: &mut R,
-) -> Result<Vec<u8, A>, ProgramError> {
+) -> io::Result<Vec<u8, A>> {
     let mut bytes = Vec::new(alloc);
-    match input.read_to_end(&mut bytes) {
-        Ok(_) => Ok(bytes),
-        Err(error) if error.kind() == ErrorKind::OutOfMemory => {
-            Err(ProgramError::Memory(AllocError))
-        }
-        Err(error) => Err(ProgramError::Read(error)),
-    }
+    input.read_to_end(&mut bytes)?;
+    Ok(bytes)
 }
 
 /// Writes the line of a fault; fails where it is that memory ran out.
@@ -76,6 +49,21 @@ pub fn tell_fault<O: Write>(fault: DirFault, out: &mut O) -> Result<Outcome, Pro
     Ok(Outcome::Faulty)
 }
 
+/// Lists the records of a directory, or writes its first fault.
+fn list_records<A: Allocator + Copy, O: Write>(
+    alloc: A,
+    bytes: &[u8],
+    out: &mut O,
+) -> Result<Outcome, ProgramError> {
+    match check(alloc, bytes) {
+        Ok(tree) => match write_tree(&tree, out) {
+            Ok(()) => Ok(Outcome::Good),
+            Err(error) => Err(ProgramError::Write(error)),
+        },
+        Err(fault) => tell_fault(fault, out),
+    }
+}
+
 /// Checks the directory that the reader gives: lists its records depth first, each with its place,
 /// its type and the file that it names, and counts them; or writes its first fault.
 ///
@@ -85,12 +73,11 @@ pub fn checkdir_over<A: Allocator + Copy, R: Read, O: Write>(
     input: &mut R,
     out: &mut O,
 ) -> Result<Outcome, ProgramError> {
-    let bytes = read_directory(alloc, input)?;
-    match check(alloc, bytes.as_slice()) {
-        Ok(tree) => match write_tree(&tree, out) {
-            Ok(()) => Ok(Outcome::Good),
-            Err(error) => Err(ProgramError::Write(error)),
-        },
-        Err(fault) => tell_fault(fault, out),
+    match read_directory(alloc, input) {
+        Ok(bytes) => list_records(alloc, bytes.as_slice(), out),
+        Err(error) if error.kind() == ErrorKind::OutOfMemory => {
+            Err(ProgramError::Memory(AllocError))
+        }
+        Err(error) => Err(ProgramError::Read(error)),
     }
 }

@@ -1,21 +1,10 @@
 //! The line that ends an inspection which found a fault.
+use crate::texts::TagText;
 use dicomdir::DirFault;
-use element::Tag;
 use part10::MetaFault;
 use sequence::Fault;
+use std::io;
 use std::io::Write;
-use std::{fmt, io};
-
-/// A tag as it is printed: group and element in hexadecimal.
-#[derive(Clone, Copy)]
-pub struct TagText(pub Tag);
-
-impl fmt::Display for TagText {
-    fn fmt<W: fmt::Write>(&self, f: &mut fmt::Formatter<W>) -> fmt::Result {
-        let TagText(Tag(group, element)) = *self;
-        write!(f, "{group:04x},{element:04x}")
-    }
-}
 
 /// Writes the line of a fault in the header of a file: at the letters, or after them.
 pub fn write_meta_fault<O: Write>(fault: MetaFault, out: &mut O) -> io::Result<()> {
@@ -41,10 +30,10 @@ pub fn write_fault<O: Write>(fault: Fault, start: u64, out: &mut O) -> io::Resul
 pub fn write_dir_fault<O: Write>(fault: DirFault, out: &mut O) -> io::Result<()> {
     let DirFault { number, place, tag } = fault;
     let name = fault.name();
-    write!(out, "fault {number} {name} at {place}")?;
     if 10 <= number && number <= 21 {
         let tag = TagText(tag);
-        write!(out, " tag {tag}")?;
+        writeln!(out, "fault {number} {name} at {place} tag {tag}")
+    } else {
+        writeln!(out, "fault {number} {name} at {place}")
     }
-    writeln!(out)
 }

@@ -17,6 +17,8 @@ pub fn open_folder<R: Files<File = File> + Alloc + Clone + Drop>(
         Layout::Flat => FolderFiling::open(rt, dir),
         Layout::Levels(per) => FolderFiling::open_levels(rt, dir, per.files),
     };
-    let filing = opened.map_err(ProgramError::Folder)?;
-    Ok(if sync { filing } else { filing.without_sync() })
+    match opened {
+        Ok(filing) => Ok(if sync { filing } else { filing.without_sync() }),
+        Err(error) => Err(ProgramError::Folder(error)),
+    }
 }

@@ -1,14 +1,14 @@
 //! `dcmbox index`: the directory of a folder of received files.
-use crate::checkdir::{read_directory, tell_fault, write_file_id};
+use crate::checkdir::{read_directory, tell_fault};
 use crate::error::ProgramError;
-use crate::faults::TagText;
 use crate::names::{path_of, received_files};
 use crate::outcome::{Outcome, flushed};
 use crate::settings::Index;
+use crate::texts::{PathText, TagText};
 use dicomdir::{Built, DirFault, FileId, Row, Skip, build, check, kept_of, rows_of, write_dir};
 use std::alloc::{AllocError, Global};
 use std::fs::File;
-use std::io::{BufWriter, Write};
+use std::io::{BufWriter, ErrorKind, Read, Write};
 use std::rt::Files;
 use std::{fs, io};
 
@@ -81,18 +81,29 @@ fn read_rows<R: Files<File = File> + Alloc<A = Global>>(
 /// Writes a line for each file that has no row.
 fn tell_skipped<O: Write>(skipped: &[Skipped], out: &mut O) -> io::Result<()> {
     for Skipped { id, reason } in skipped {
-        write!(out, "skipped ")?;
-        write_file_id(id, out)?;
-        match reason {
-            Skip::Fault(number) => writeln!(out, " fault {number}")?,
+        let path = PathText(*id);
+        let told = match reason {
+            Skip::Fault(number) => writeln!(out, "skipped {path} fault {number}"),
             Skip::Missing(tag) => {
                 let tag = TagText(*tag);
-                writeln!(out, " missing {tag}")?;
+                writeln!(out, "skipped {path} missing {tag}")
             }
-            Skip::OutOfMemory => writeln!(out)?,
-        }
+            Skip::OutOfMemory => writeln!(out, "skipped {path}"),
+        };
+        told?;
     }
     Ok(())
+}
+
+/// Reads the folder's directory, which is open.
+fn read_present<R: Read>(alloc: Global, file: &mut R) -> Result<Vec<u8, Global>, ProgramError> {
+    match read_directory(alloc, file) {
+        Ok(bytes) => Ok(bytes),
+        Err(error) if error.kind() == ErrorKind::OutOfMemory => {
+            Err(ProgramError::Memory(AllocError))
+        }
+        Err(error) => Err(ProgramError::NoDirectory(error)),
+    }
 }
 
 /// Reads the folder's directory whole.
@@ -101,10 +112,9 @@ fn present_directory<R: Files<File = File> + Alloc<A = Global>>(
     dir: &str,
 ) -> Result<Vec<u8, Global>, ProgramError> {
     let path = format!(in rt.alloc(); "{dir}/{DIRECTORY}")?;
-    let mut file = fs::open(rt, path.as_str()).map_err(ProgramError::NoDirectory)?;
-    match read_directory(rt.alloc(), &mut file) {
-        Err(ProgramError::Read(error)) => Err(ProgramError::NoDirectory(error)),
-        read => read,
+    match fs::open(rt, path.as_str()) {
+        Ok(mut file) => read_present(rt.alloc(), &mut file),
+        Err(error) => Err(ProgramError::NoDirectory(error)),
     }
 }
 
@@ -185,18 +195,24 @@ fn put_directory<R: Files<File = File> + Alloc<A = Global>>(
 ) -> Result<(), ProgramError> {
     let draft = format!(in rt.alloc(); "{dir}/{DRAFT}")?;
     let path = format!(in rt.alloc(); "{dir}/{DIRECTORY}")?;
-    replace(rt, draft.as_str(), path.as_str(), built).map_err(ProgramError::Directory)?;
-    sync(rt, dir).map_err(ProgramError::Directory)
+    match replace(rt, draft.as_str(), path.as_str(), built) {
+        Ok(()) => sync(rt, dir).map_err(ProgramError::Directory),
+        Err(error) => Err(ProgramError::Directory(error)),
+    }
 }
 
-/// Writes a line for each row that is left out because an earlier one has the same instance, and the
-/// number of records.
-fn tell_built<O: Write>(built: &Built<'_, Global>, out: &mut O) -> io::Result<()> {
+/// Writes a line for each file that has no row, a line for each row that is left out because an earlier one
+/// has the same instance, and the number of records.
+fn tell_built<O: Write>(
+    built: &Built<'_, Global>,
+    skipped: &[Skipped],
+    out: &mut O,
+) -> io::Result<()> {
+    tell_skipped(skipped, out)?;
     for place in built.doubles() {
         if let Some(row) = built.rows().get(*place) {
-            write!(out, "double ")?;
-            write_file_id(&row.file_id(), out)?;
-            writeln!(out)?;
+            let path = PathText(row.file_id());
+            writeln!(out, "double {path}")?;
         }
     }
     let records = built.records();
@@ -212,9 +228,10 @@ fn put_and_tell<R: Files<File = File> + Alloc<A = Global>, O: Write>(
     out: &mut O,
 ) -> Result<Outcome, ProgramError> {
     put_directory(rt, dir, built)?;
-    tell_skipped(skipped, out).map_err(ProgramError::Write)?;
-    tell_built(built, out).map_err(ProgramError::Write)?;
-    Ok(Outcome::Good)
+    match tell_built(built, skipped, out) {
+        Ok(()) => Ok(Outcome::Good),
+        Err(error) => Err(ProgramError::Write(error)),
+    }
 }
 
 /// Writes the directory of these files, and tells what it left out, or its fault.

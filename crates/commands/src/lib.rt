@@ -20,6 +20,7 @@ mod serve;
 mod settings;
 mod show;
 mod socket;
+mod texts;
 mod timer;
 mod walk;
 

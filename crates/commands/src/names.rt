@@ -1,6 +1,7 @@
 //! The received files of a folder: `I` and seven digits, in the folder itself and in folders named
 //! `S` and seven digits.
 use crate::error::ProgramError;
+use crate::texts::PathText;
 use dicomdir::FileId;
 use std::alloc::{AllocError, Allocator};
 use std::fs::DirEntry;
@@ -86,15 +87,8 @@ fn names_in<R: Files + Alloc + Clone + Drop>(
     Ok(names)
 }
 
-/// Adds the file with this file ID, which a name of a received file always is.
-fn push_id<A: Allocator>(ids: &mut Vec<FileId, A>, text: &str) -> Result<(), AllocError> {
-    if let Some(id) = FileId::read(text.as_bytes()) {
-        ids.push(id)?;
-    }
-    Ok(())
-}
-
-/// Adds the file ID of a file of this name; it begins with `above`.
+/// Adds the file ID of a file of this name, which a name of a received file always has; it begins with
+/// `above`.
 fn push_file<A: Allocator + Clone>(
     ids: &mut Vec<FileId, A>,
     alloc: A,
@@ -102,7 +96,10 @@ fn push_file<A: Allocator + Clone>(
     name: &str,
 ) -> Result<(), AllocError> {
     let text = format!(in alloc; "{above}{name}")?;
-    push_id(ids, text.as_str())
+    if let Some(id) = FileId::read(text.as_bytes()) {
+        ids.push(id)?;
+    }
+    Ok(())
 }
 
 /// Adds the file IDs of the files in a folder, by name; each begins with `above`.
@@ -156,14 +153,6 @@ pub fn received_files<R: Files + Alloc + Clone + Drop>(
 
 /// Returns the path of a file below a folder, from its file ID.
 pub fn path_of<A: Allocator>(alloc: A, dir: &str, id: &FileId) -> Result<String<A>, AllocError> {
-    let mut path = String::from_str(alloc, dir)?;
-    path.push('/')?;
-    for byte in id.text() {
-        path.push(if *byte == b'\\' {
-            '/'
-        } else {
-            char::from(*byte)
-        })?;
-    }
-    Ok(path)
+    let path = PathText(*id);
+    format!(in alloc; "{dir}/{path}")
 }

@@ -33,26 +33,45 @@ struct Served {
 
 impl fmt::Display for Served {
     fn fmt<W: fmt::Write>(&self, f: &mut fmt::Formatter<W>) -> fmt::Result {
-        let Served { peer, report, .. } = *self;
-        let (standing, held) = (report.standing, report.held);
-        write!(f, "{peer} {standing} held {held} ")?;
-        let Served { files, dropped, .. } = *self;
-        write!(f, "files {files} dropped {dropped} ")?;
         let Served {
+            peer,
+            report: Report { standing, held, .. },
+            files,
+            dropped,
             received,
             seconds,
-            ..
         } = *self;
-        write!(f, "received {received} in {seconds} s")
+        write!(
+            f,
+            "{peer} {standing} held {held} files {files} dropped {dropped} received {received} in {seconds} s"
+        )
+    }
+}
+
+/// How an association ended, and when.
+#[derive(Clone, Copy)]
+struct Line {
+    time: Option<Timestamp>,
+    served: Served,
+}
+
+impl fmt::Display for Line {
+    fn fmt<W: fmt::Write>(&self, f: &mut fmt::Formatter<W>) -> fmt::Result {
+        let Line { time, served } = *self;
+        match time {
+            Some(time) => write!(f, "{time} {served}"),
+            None => write!(f, "{served}"),
+        }
     }
 }
 
 /// Logs how an association ended, and when, if the clock can be read.
 fn log_served<R: Log + Clock>(rt: &R, served: Served) {
-    match Timestamp::now(rt) {
-        Ok(time) => info!(rt; target: TARGET, "{time} {served}"),
-        Err(_) => info!(rt; target: TARGET, "{served}"),
-    }
+    let line = Line {
+        time: Timestamp::now(rt).ok(),
+        served,
+    };
+    info!(rt; target: TARGET, "{line}");
 }
 
 /// Runs the association of a connection; returns how it ended, and how many bytes it received.
@@ -75,6 +94,12 @@ fn run_over<R: Clock, S: Files<File = File> + Alloc + Clone + Drop>(
     (report, source.received())
 }
 
+/// Has a connection send what is written at once, and fail where its peer takes nothing for so long.
+fn set_up(stream: &TcpStream, idle: Duration) -> io::Result<()> {
+    stream.set_nodelay(true)?;
+    stream.set_write_timeout(Some(idle))
+}
+
 /// Serves the association of one connection, and logs when it ended, its peer, how it stands, how
 /// many bytes it holds, how many files it put and drafts it dropped, how many bytes it received and
 /// how long it took.
@@ -85,8 +110,7 @@ fn associate<R: Log + Clock, S: Files<File = File> + Alloc + Clone + Drop>(
     settings: &Serve,
     filing: &mut FolderFiling<S>,
 ) -> io::Result<()> {
-    stream.set_nodelay(true)?;
-    stream.set_write_timeout(Some(settings.timeouts.idle))?;
+    set_up(stream, settings.timeouts.idle)?;
     let started = Instant::now(rt)?;
     let (committed, dropped) = (filing.committed(), filing.dropped());
     let (report, received) = run_over(rt, stream, settings, filing);
@@ -102,6 +126,11 @@ fn associate<R: Log + Clock, S: Files<File = File> + Alloc + Clone + Drop>(
     Ok(())
 }
 
+/// Logs a connection that failed.
+fn log_failed<R: Log>(rt: &R, peer: SocketAddr, failure: &io::Error) {
+    error!(rt; target: TARGET, "{peer} the connection failed: {failure}");
+}
+
 /// Waits for the next connection and serves its association. A connection that fails is logged.
 ///
 /// Fails if no connection could be accepted.
@@ -113,7 +142,7 @@ pub fn serve_one<R: Log + Clock, S: Files<File = File> + Alloc + Clone + Drop>(
 ) -> io::Result<()> {
     let (stream, peer) = listener.accept()?;
     if let Err(failure) = associate(rt, &stream, peer, settings, filing) {
-        error!(rt; target: TARGET, "{peer} the connection failed: {failure}");
+        log_failed(rt, peer, &failure);
     }
     Ok(())
 }
@@ -121,6 +150,12 @@ pub fn serve_one<R: Log + Clock, S: Files<File = File> + Alloc + Clone + Drop>(
 /// How long the box waits after a connection that could not be accepted, so that a lasting failure
 /// does not keep it busy.
 const PAUSE_MILLISECONDS: u64 = 100;
+
+/// Logs that a connection could not be accepted, and waits.
+fn pause<R: Log + Clock>(rt: &R, failure: &io::Error) {
+    error!(rt; target: TARGET, "a connection could not be accepted: {failure}");
+    rt.sleep(Duration::from_millis(PAUSE_MILLISECONDS));
+}
 
 /// Serves associations until the program is ended, or only one where that was asked for. A
 /// connection that could not be accepted is logged.
@@ -134,10 +169,7 @@ fn serve_each<R: Log + Clock, S: Files<File = File> + Alloc + Clone + Drop>(
         match serve_one(rt, listener, settings, filing) {
             Ok(()) if settings.once => return,
             Ok(()) => {}
-            Err(failure) => {
-                error!(rt; target: TARGET, "a connection could not be accepted: {failure}");
-                rt.sleep(Duration::from_millis(PAUSE_MILLISECONDS));
-            }
+            Err(failure) => pause(rt, &failure),
         }
     }
 }
@@ -151,7 +183,11 @@ pub fn serve<
     S: Files<File = File> + Alloc + Clone + Drop,
 >(rt: &R, settings: &Serve, filing: &mut FolderFiling<S>) -> Result<(), ProgramError> {
     let address = (settings.bind, settings.port);
-    let listener = TcpListener::bind(rt, address).map_err(ProgramError::Listen)?;
-    serve_each(rt, &listener, settings, filing);
-    Ok(())
+    match TcpListener::bind(rt, address) {
+        Ok(listener) => {
+            serve_each(rt, &listener, settings, filing);
+            Ok(())
+        }
+        Err(error) => Err(ProgramError::Listen(error)),
+    }
 }

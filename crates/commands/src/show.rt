@@ -1,13 +1,13 @@
 //! `dcmbox show`: the elements of a file, without their values.
 use crate::error::ProgramError;
-use crate::faults::TagText;
 use crate::outcome::Outcome;
+use crate::texts::{Indent, Printable, TagText, VrText};
 use crate::walk::{Listing, list};
 use dictionary::{name_of, syntax_uid, vr_of};
 use element::{Header, Tag};
 use part10::Meta;
-use std::io;
 use std::io::{Read, Write};
+use std::{fmt, io};
 
 /// The length that stands for an undefined one.
 const UNDEFINED: u32 = 0xffff_ffff;
@@ -27,34 +27,26 @@ fn keyword(tag: Tag) -> &'static str {
 #[derive(Drop)]
 struct Elements;
 
-/// Writes the VR of a header, or that of the dictionary where it has none.
-fn write_vr<O: Write>(header: Header, out: &mut O) -> io::Result<()> {
-    match header.vr.or(vr_of(header.tag)) {
-        Some(vr) => out.write_all(&vr.letters()),
-        None => out.write_all(b"--"),
-    }
-}
+/// The length of a value, which may be undefined.
+#[derive(Clone, Copy)]
+struct LengthText(u32);
 
-fn write_length<O: Write>(length: u32, out: &mut O) -> io::Result<()> {
-    if length == UNDEFINED {
-        write!(out, "undefined")
-    } else {
-        write!(out, "{length}")
+impl fmt::Display for LengthText {
+    fn fmt<W: fmt::Write>(&self, f: &mut fmt::Formatter<W>) -> fmt::Result {
+        let LengthText(length) = *self;
+        match length {
+            UNDEFINED => f.write_str("undefined"),
+            _ => write!(f, "{length}"),
+        }
     }
-}
-
-/// Writes a name of a unique identifier and its digits and dots.
-fn write_uid<O: Write>(name: &str, uid: &[u8], out: &mut O) -> io::Result<()> {
-    write!(out, "{name} ")?;
-    out.write_all(uid)?;
-    writeln!(out)
 }
 
 impl<O: Write> Listing<O> for Elements {
     fn on_meta(&mut self, meta: &Meta, out: &mut O) -> io::Result<()> {
-        write_uid("class", meta.class.as_bytes(), out)?;
-        write_uid("instance", meta.instance.as_bytes(), out)?;
-        write_uid("syntax", syntax_uid(meta.syntax), out)
+        let class = Printable(meta.class.as_bytes());
+        let instance = Printable(meta.instance.as_bytes());
+        let syntax = Printable(syntax_uid(meta.syntax));
+        writeln!(out, "class {class}\ninstance {instance}\nsyntax {syntax}")
     }
 
     fn on_header(
@@ -65,18 +57,12 @@ impl<O: Write> Listing<O> for Elements {
         out: &mut O,
     ) -> io::Result<()> {
         let header = *header;
-        write!(out, "{place:010} ")?;
-        for _ in 0..levels {
-            write!(out, "  ")?;
-        }
-        let Header { tag, length, .. } = header;
-        let tag_text = TagText(tag);
-        write!(out, "{tag_text} ")?;
-        write_vr(header, out)?;
-        write!(out, " ")?;
-        write_length(length, out)?;
-        let keyword = keyword(tag);
-        writeln!(out, " {keyword}")
+        let Header { tag, length, vr } = header;
+        // The dictionary's VR, where the header has none.
+        let vr = VrText(vr.or(vr_of(tag)));
+        let (indent, length, keyword) = (Indent(levels), LengthText(length), keyword(tag));
+        let tag = TagText(tag);
+        writeln!(out, "{place:010} {indent}{tag} {vr} {length} {keyword}")
     }
 
     fn on_bytes(&mut self, _bytes: &[u8], _out: &mut O) -> io::Result<()> {

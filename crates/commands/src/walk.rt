@@ -73,9 +73,9 @@ fn walk_piece<L: Listing<O>, O: Write>(
         let end = start.saturating_add(walker.place());
         match step {
             Step::More => {}
-            Step::Element(header) => tell_header(end, levels, &header, listing, out)?,
-            Step::Opened(header) => tell_header(end, levels, &header, listing, out)?,
-            Step::Closed(header) => tell_header(end, levels, &header, listing, out)?,
+            Step::Element(header) | Step::Opened(header) | Step::Closed(header) => {
+                tell_header(end, levels, &header, listing, out)?;
+            }
             Step::Run(bytes) => listing.on_bytes(bytes, out)?,
             Step::Refused(fault) => return Ok(Some(fault)),
         }
@@ -98,12 +98,33 @@ fn walk_data_set<R: Read, L: Listing<O>, O: Write>(
         if len == 0 {
             break;
         }
-        let found = walk_piece(&mut walker, &room[..len], start, listing, out);
-        if let Some(fault) = found.map_err(ProgramError::Write)? {
-            return Ok(Some(fault));
+        match walk_piece(&mut walker, &room[..len], start, listing, out) {
+            Ok(None) => {}
+            Ok(found) => return Ok(found),
+            Err(error) => return Err(ProgramError::Write(error)),
         }
     }
     Ok(walker.finish().err())
+}
+
+/// Tells how the walk of a file ended: with its first fault, or at its end.
+fn tell_end<L: Listing<O>, O: Write>(
+    found: Option<Fault>,
+    start: u64,
+    end: u64,
+    listing: &mut L,
+    out: &mut O,
+) -> io::Result<Outcome> {
+    match found {
+        Some(fault) => {
+            write_fault(fault, start, out)?;
+            Ok(Outcome::Faulty)
+        }
+        None => {
+            listing.on_end(end, out)?;
+            Ok(Outcome::Good)
+        }
+    }
 }
 
 /// Lists the rest of a file after its header, up to its first fault.
@@ -115,17 +136,8 @@ fn list_data_set<R: Read, L: Listing<O>, O: Write>(
 ) -> Result<Outcome, ProgramError> {
     listing.on_meta(meta, out).map_err(ProgramError::Write)?;
     let start = input.count();
-    match walk_data_set(input, meta.syntax, listing, out)? {
-        Some(fault) => {
-            write_fault(fault, start, out).map_err(ProgramError::Write)?;
-            Ok(Outcome::Faulty)
-        }
-        None => {
-            let end = listing.on_end(input.count(), out);
-            end.map_err(ProgramError::Write)?;
-            Ok(Outcome::Good)
-        }
-    }
+    let found = walk_data_set(input, meta.syntax, listing, out)?;
+    tell_end(found, start, input.count(), listing, out).map_err(ProgramError::Write)
 }
 
 /// Lists a file that the reader gives, up to its first fault, which has a line of its own.
