@@ -1,8 +1,7 @@
 //! What `checkdir` prints of a directory: a worked example, and every front of it.
-use crate::devices::{Torn, Trickle};
+use crate::devices::{Device, Gives};
 use commands::{Outcome, ProgramError, checkdir_over};
 use std::alloc::{AllocError, Global};
-use std::io::Read;
 use std::test::Fail;
 
 /// A directory of one image after its preamble: the file header, the root, and the records of a patient,
@@ -57,17 +56,20 @@ fn fault_of_front(alloc: Global, length: usize) -> Result<String, AllocError> {
     format!(in alloc; "fault 20 Truncated at {length} tag ")
 }
 
-/// Returns whether the records of the directory are listed, with these lines.
-fn lists<R: Read>(alloc: Global, input: &mut R, lines: &[u8]) -> Result<bool, ProgramError> {
+/// Returns whether the records of the directory are listed.
+fn lists(alloc: Global, bytes: &[u8], gives: Gives) -> Result<bool, ProgramError> {
     let mut out = Vec::new(alloc);
-    let outcome = checkdir_over(alloc, input, &mut out)?;
-    Ok(outcome == Outcome::Good && out.as_slice() == lines)
+    let outcome = checkdir_over(alloc, &mut Device { bytes, gives }, &mut out)?;
+    Ok(outcome == Outcome::Good && out.as_slice() == LISTED)
 }
 
 /// Returns whether the front is refused with the line that is due.
 fn refuses(alloc: Global, front: &[u8]) -> Result<bool, ProgramError> {
     let mut out = Vec::new(alloc);
-    let mut input = front;
+    let mut input = Device {
+        bytes: front,
+        gives: Gives::All,
+    };
     let outcome = checkdir_over(alloc, &mut input, &mut out)?;
     let want = fault_of_front(alloc, front.len())?;
     Ok(outcome == Outcome::Faulty && out.as_slice().starts_with(want.as_bytes()))
@@ -78,12 +80,10 @@ fn records_are_listed(rt: HostRuntime) -> Result<(), Fail> {
     let alloc = rt.alloc();
     let file = one_image(alloc)?;
     let bytes = file.as_slice();
-    assert_eq!(rt; bytes.len(), 788);
-    let mut whole = bytes;
-    assert!(rt; lists(alloc, &mut whole, LISTED)?);
-    assert!(rt; lists(alloc, &mut Trickle { bytes }, LISTED)?);
-    let torn = lists(alloc, &mut Torn { bytes }, LISTED);
-    assert!(rt; matches!(torn, Err(ProgramError::Read(_))));
+    assert!(rt; bytes.len() == 788);
+    assert!(rt; lists(alloc, bytes, Gives::All)?);
+    assert!(rt; lists(alloc, bytes, Gives::One)?);
+    assert!(rt; matches!(lists(alloc, bytes, Gives::Torn), Err(ProgramError::Read(_))));
     Ok(())
 }
 

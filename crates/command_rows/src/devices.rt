@@ -2,15 +2,9 @@
 use std::io;
 use std::io::{ErrorKind, Read, Write};
 
-/// A device that fails.
+/// A writer that fails.
 #[derive(Drop)]
 pub struct Broken;
-
-impl Read for Broken {
-    fn read(&mut self, _room: &mut [u8]) -> io::Result<usize> {
-        Err(io::Error::from(ErrorKind::Other))
-    }
-}
 
 impl Write for Broken {
     fn write(&mut self, _bytes: &[u8]) -> io::Result<usize> {
@@ -22,32 +16,30 @@ impl Write for Broken {
     }
 }
 
-/// A reader that gives one byte a call.
+/// How a device gives its bytes.
+#[derive(Clone, Copy)]
+pub enum Gives {
+    /// As many as are asked for.
+    All,
+    /// One a call.
+    One,
+    /// As many as are asked for, and then it fails.
+    Torn,
+}
+
+/// A reader of these bytes.
 #[derive(Drop)]
-pub struct Trickle<'a> {
+pub struct Device<'a> {
     pub bytes: &'a [u8],
+    pub gives: Gives,
 }
 
-impl Read for Trickle<'_> {
+impl Read for Device<'_> {
     fn read(&mut self, room: &mut [u8]) -> io::Result<usize> {
-        if room.is_empty() {
-            return Ok(0);
+        match self.gives {
+            Gives::One if !room.is_empty() => self.bytes.read(&mut room[..1]),
+            Gives::Torn if self.bytes.is_empty() => Err(io::Error::from(ErrorKind::Other)),
+            _ => self.bytes.read(room),
         }
-        self.bytes.read(&mut room[..1])
-    }
-}
-
-/// A reader that gives its bytes, and then fails.
-#[derive(Drop)]
-pub struct Torn<'a> {
-    pub bytes: &'a [u8],
-}
-
-impl Read for Torn<'_> {
-    fn read(&mut self, room: &mut [u8]) -> io::Result<usize> {
-        if self.bytes.is_empty() {
-            return Err(io::Error::from(ErrorKind::Other));
-        }
-        self.bytes.read(room)
     }
 }

@@ -60,17 +60,22 @@ fn put(
 
 /// Appends the elements of an image that say where it belongs.
 fn put_image(file: &mut Vec<u8, Global>, image: Image) -> Result<(), AllocError> {
-    put(file, [8, 0, 0x20, 0], b"DA", b"20260101")?;
-    put(file, [8, 0, 0x30, 0], b"TM", b"120000")?;
-    put(file, [8, 0, 0x60, 0], b"CS", b"CT")?;
-    put(file, [8, 0, 0x30, 0x10], b"LO", b"HEAD")?;
-    put(file, [0x10, 0, 0x10, 0], b"PN", b"DOE^JANE")?;
-    put(file, [0x10, 0, 0x20, 0], b"LO", b"P1")?;
-    put(file, [0x20, 0, 0x0d, 0], b"UI", b"1.2.3\0")?;
-    put(file, [0x20, 0, 0x0e, 0], b"UI", image.series)?;
-    put(file, [0x20, 0, 0x10, 0], b"SH", image.study_id)?;
-    put(file, [0x20, 0, 0x11, 0], b"IS", b"1 ")?;
-    put(file, [0x20, 0, 0x13, 0], b"IS", image.number)
+    for (tag, vr, value) in [
+        ([8, 0, 0x20, 0], b"DA", b"20260101".as_slice()),
+        ([8, 0, 0x30, 0], b"TM", b"120000"),
+        ([8, 0, 0x60, 0], b"CS", b"CT"),
+        ([8, 0, 0x30, 0x10], b"LO", b"HEAD"),
+        ([0x10, 0, 0x10, 0], b"PN", b"DOE^JANE"),
+        ([0x10, 0, 0x20, 0], b"LO", b"P1"),
+        ([0x20, 0, 0x0d, 0], b"UI", b"1.2.3\0"),
+        ([0x20, 0, 0x0e, 0], b"UI", image.series),
+        ([0x20, 0, 0x10, 0], b"SH", image.study_id),
+        ([0x20, 0, 0x11, 0], b"IS", b"1 "),
+        ([0x20, 0, 0x13, 0], b"IS", image.number),
+    ] {
+        put(file, tag, vr, value)?;
+    }
+    Ok(())
 }
 
 /// Writes the file of an image.
@@ -78,6 +83,15 @@ fn file(rt: &HostRuntime, path: &str, image: Image) -> Result<(), Fail> {
     let mut file = header(rt.alloc(), Syntax::Explicit, image.instance)?;
     put_image(&mut file, image)?;
     fs::write(rt, path, file.as_slice())?;
+    Ok(())
+}
+
+/// Makes the folder anew, with the files of these images.
+fn put_images(rt: &HostRuntime, dir: &str, images: &[(&str, Image)]) -> Result<(), Fail> {
+    fresh(rt, dir)?;
+    for (path, image) in images {
+        file(rt, path, *image)?;
+    }
     Ok(())
 }
 
@@ -122,23 +136,19 @@ fn listed(rt: &HostRuntime, path: &str) -> Result<Vec<u8, Global>, Fail> {
     Ok(out)
 }
 
-/// Writes five files: two images of a series, one of another series of that study, a double and one without
-/// Study ID.
-fn put_five(rt: &HostRuntime) -> Result<(), Fail> {
-    fresh(rt, "five")?;
-    file(rt, "five/I0000001", FIRST)?;
-    file(rt, "five/I0000002", SECOND)?;
-    file(rt, "five/I0000003", THIRD)?;
-    file(rt, "five/I0000004", FIRST)?;
-    file(rt, "five/I0000005", WITHOUT_STUDY_ID)?;
-    fs::write(rt, "five/readme.txt", b"none of them")?;
-    Ok(())
-}
-
+/// Two images of a series, one of another series of that study, a double and one without Study ID.
 #[test]
 fn a_folder_of_five(rt: HostRuntime) -> Result<(), Fail> {
-    put_five(&rt)?;
-    let lines = b"skipped I0000005 missing 0020,0010\ndouble I0000004\nrecords 7\n".as_slice();
+    let images = [
+        ("five/I0000001", FIRST),
+        ("five/I0000002", SECOND),
+        ("five/I0000003", THIRD),
+        ("five/I0000004", FIRST),
+        ("five/I0000005", WITHOUT_STUDY_ID),
+    ];
+    put_images(&rt, "five", &images)?;
+    fs::write(&rt, "five/readme.txt", b"none of them")?;
+    let lines = b"skipped I0000005 missing 0020,0010\ndouble I0000004\nrecords 7\n";
     assert!(rt; prints(&rt, "five", false, lines)?);
     assert!(rt;
         listed(&rt, "five/DICOMDIR")?
@@ -163,9 +173,10 @@ fn a_folder_of_two_levels(rt: HostRuntime) -> Result<(), Fail> {
     fresh(&rt, "levels")?;
     fs::create_dir(&rt, "levels/S0000001")?;
     file(&rt, "levels/S0000001/I0000001", FIRST)?;
-    assert!(rt; prints(&rt, "levels", false, b"records 4\n")?);
-    assert!(rt; has_size(&rt, "levels/DICOMDIR", 798)?);
-    assert_eq!(rt; listed(&rt, "levels/DICOMDIR")?.as_slice(), LISTED);
+    assert!(rt;
+        prints(&rt, "levels", false, b"records 4\n")? && has_size(&rt, "levels/DICOMDIR", 798)?
+    );
+    assert!(rt; listed(&rt, "levels/DICOMDIR")?.as_slice() == LISTED);
     Ok(())
 }
 
@@ -178,11 +189,10 @@ fn put_flag(
     flag: u8,
 ) -> Result<(), Fail> {
     let mut changed = Vec::from_slice(rt.alloc(), whole)?;
-    if let Some(bytes) = changed
-        .as_mut_slice()
-        .get_mut(place..place.saturating_add(2))
-    {
-        bytes.copy_from_slice(&[flag, 0]);
+    for (at, byte) in [(place, flag), (place.saturating_add(1), 0)] {
+        if let Some(old) = changed.get_mut(at) {
+            *old = byte;
+        }
     }
     fs::write(rt, path, changed.as_slice())?;
     Ok(())
@@ -191,20 +201,18 @@ fn put_flag(
 /// Of a directory with two images the files are kept whose records are in use, with all above them.
 #[test]
 fn inactive_records_are_not_kept(rt: HostRuntime) -> Result<(), Fail> {
-    fresh(&rt, "kept")?;
-    file(&rt, "kept/I0000001", FIRST)?;
-    file(&rt, "kept/I0000002", SECOND)?;
+    let images = [("kept/I0000001", FIRST), ("kept/I0000002", SECOND)];
+    put_images(&rt, "kept", &images)?;
     assert!(rt; prints(&rt, "kept", false, b"records 5\n")?);
     let whole = fs::read(&rt, "kept/DICOMDIR")?;
-    assert_eq!(rt; whole.len(), 950);
+    assert!(rt; whole.len() == 950);
     for (place, flag, printed, size) in [
         (654usize, 0u8, b"records 4\n".as_slice(), 788usize),
         (562, 0, b"records 0\n", 320),
         (654, 1, b"fault 68 BadRecord at 626\n", 950),
     ] {
         put_flag(&rt, "kept/DICOMDIR", whole.as_slice(), place, flag)?;
-        assert!(rt; keeps(&rt, "kept", printed)?);
-        assert!(rt; has_size(&rt, "kept/DICOMDIR", size)?);
+        assert!(rt; keeps(&rt, "kept", printed)? && has_size(&rt, "kept/DICOMDIR", size)?);
     }
     Ok(())
 }
@@ -212,9 +220,8 @@ fn inactive_records_are_not_kept(rt: HostRuntime) -> Result<(), Fail> {
 /// A file that a kept record names and that is not there is skipped.
 #[test]
 fn a_missing_file_is_skipped(rt: HostRuntime) -> Result<(), Fail> {
-    fresh(&rt, "missing")?;
-    file(&rt, "missing/I0000001", FIRST)?;
-    file(&rt, "missing/I0000002", SECOND)?;
+    let images = [("missing/I0000001", FIRST), ("missing/I0000002", SECOND)];
+    put_images(&rt, "missing", &images)?;
     assert!(rt; prints(&rt, "missing", false, b"records 5\n")?);
     fs::remove_file(&rt, "missing/I0000001")?;
     assert!(rt;
@@ -231,8 +238,7 @@ fn a_missing_file_is_skipped(rt: HostRuntime) -> Result<(), Fail> {
 /// Where the new directory can't be written, the old one stays as it is.
 #[test]
 fn a_directory_that_is_not_written(rt: HostRuntime) -> Result<(), Fail> {
-    fresh(&rt, "unwritten")?;
-    file(&rt, "unwritten/I0000001", FIRST)?;
+    put_images(&rt, "unwritten", &[("unwritten/I0000001", FIRST)])?;
     fs::write(&rt, "unwritten/DICOMDIR", b"as it was")?;
     fs::create_dir(&rt, "unwritten/DIRDRAFT")?;
     assert!(rt; matches!(failure(&rt, "unwritten")?, Some(ProgramError::Directory(_))));
@@ -243,9 +249,11 @@ fn a_directory_that_is_not_written(rt: HostRuntime) -> Result<(), Fail> {
 /// A reader that closes the output loses what is printed, and the directory is there.
 #[test]
 fn the_output_fails(rt: HostRuntime) -> Result<(), Fail> {
-    fresh(&rt, "unread")?;
-    file(&rt, "unread/I0000001", FIRST)?;
-    file(&rt, "unread/I0000002", WITHOUT_STUDY_ID)?;
+    let images = [
+        ("unread/I0000001", FIRST),
+        ("unread/I0000002", WITHOUT_STUDY_ID),
+    ];
+    put_images(&rt, "unread", &images)?;
     let outcome = index_dir(&rt, &settings("unread", false)?, &mut Broken);
     assert!(rt; matches!(outcome, Err(ProgramError::Write(_))));
     assert!(rt; has_size(&rt, "unread/DICOMDIR", 788)?);
@@ -256,8 +264,9 @@ fn the_output_fails(rt: HostRuntime) -> Result<(), Fail> {
 #[test]
 fn an_empty_folder(rt: HostRuntime) -> Result<(), Fail> {
     fresh(&rt, "empty")?;
-    assert!(rt; prints(&rt, "empty", false, b"records 0\n")?);
-    assert!(rt; has_size(&rt, "empty/DICOMDIR", 320)?);
+    assert!(rt;
+        prints(&rt, "empty", false, b"records 0\n")? && has_size(&rt, "empty/DICOMDIR", 320)?
+    );
     assert!(rt;
         matches!(
             failure(&rt, "no_such_folder")?,

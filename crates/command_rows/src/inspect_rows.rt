@@ -1,10 +1,9 @@
 //! What is printed of a file: worked examples, and every front of one.
-use crate::devices::{Broken, Torn, Trickle};
+use crate::devices::{Broken, Device, Gives};
 use crate::files::header;
 use commands::{Outcome, ProgramError, check_over, show_over};
 use element::Syntax;
 use std::alloc::{AllocError, Global};
-use std::io::{Read, Write};
 use std::test::Fail;
 
 /// The data set of a CT image `1.2.3` in Explicit VR Little Endian: its class and its instance.
@@ -93,11 +92,11 @@ enum Command {
     Check,
 }
 
-/// Runs a command over the file that the reader gives.
-fn run<I: Read, O: Write>(
+/// Runs a command over the file that the device gives.
+fn run(
     command: Command,
-    input: &mut I,
-    out: &mut O,
+    input: &mut Device<'_>,
+    out: &mut Vec<u8>,
 ) -> Result<Outcome, ProgramError> {
     match command {
         Command::Show => show_over(input, out),
@@ -105,17 +104,19 @@ fn run<I: Read, O: Write>(
     }
 }
 
-/// Returns whether a command has this outcome and writes these lines for what the reader gives.
-fn writes<I: Read>(
+/// Returns whether a command has this outcome and writes these lines and the last one for the bytes that are
+/// so given.
+fn writes(
     alloc: Global,
     command: Command,
-    input: &mut I,
-    lines: &str,
+    mut input: Device<'_>,
+    (lines, last): (&str, &str),
     outcome: Outcome,
 ) -> Result<bool, ProgramError> {
     let mut out = Vec::new(alloc);
-    let found = run(command, input, &mut out)?;
-    Ok(found == outcome && out.as_slice() == lines.as_bytes())
+    let found = run(command, &mut input, &mut out)?;
+    let rest = out.as_slice().strip_prefix(lines.as_bytes());
+    Ok(found == outcome && rest == Some(last.as_bytes()))
 }
 
 /// Returns whether a command has this outcome and writes these lines, for the file in one piece and byte by
@@ -123,16 +124,16 @@ fn writes<I: Read>(
 fn tells(
     alloc: Global,
     command: Command,
-    file: &[u8],
-    lines: &str,
+    bytes: &[u8],
+    lines: (&str, &str),
     outcome: Outcome,
 ) -> Result<bool, ProgramError> {
-    let mut whole = file;
-    let mut trickle = Trickle { bytes: file };
-    Ok(
-        writes(alloc, command, &mut whole, lines, outcome)?
-            && writes(alloc, command, &mut trickle, lines, outcome)?,
-    )
+    for gives in [Gives::All, Gives::One] {
+        if !writes(alloc, command, Device { bytes, gives }, lines, outcome)? {
+            return Ok(false);
+        }
+    }
+    Ok(true)
 }
 
 /// Returns whether a command has this outcome and writes these lines for a file of this data set.
@@ -141,7 +142,7 @@ fn tells_of(
     command: Command,
     syntax: Syntax,
     data: &[u8],
-    lines: &str,
+    lines: (&str, &str),
     outcome: Outcome,
 ) -> Result<bool, Fail> {
     let file = file(alloc, syntax, data)?;
@@ -150,15 +151,27 @@ fn tells_of(
 
 #[test]
 fn elements_are_shown(rt: HostRuntime) -> Result<(), Fail> {
-    let (alloc, show) = (rt.alloc(), Command::Show);
-    let (explicit, implicit) = (Syntax::Explicit, Syntax::Implicit);
-    let (good, faulty) = (Outcome::Good, Outcome::Faulty);
-    let whole = format!(in alloc; "{SHOWN}end 336\n")?;
-    assert!(rt; tells_of(alloc, show, explicit, CT, whole.as_str(), good)?);
-    let cut = format!(in alloc; "{SHOWN}fault 20 Truncated at 330 tag 0008,0018\n")?;
-    assert!(rt; tells_of(alloc, show, explicit, front(CT, 42), cut.as_str(), faulty)?);
-    assert!(rt; tells_of(alloc, show, implicit, NESTED, NESTED_SHOWN, good)?);
-    assert!(rt; tells_of(alloc, show, explicit, UNKNOWN, UNKNOWN_SHOWN, faulty)?);
+    for (syntax, data, lines, last, outcome) in [
+        (Syntax::Explicit, CT, SHOWN, "end 336\n", Outcome::Good),
+        (
+            Syntax::Explicit,
+            front(CT, 42),
+            SHOWN,
+            "fault 20 Truncated at 330 tag 0008,0018\n",
+            Outcome::Faulty,
+        ),
+        (Syntax::Implicit, NESTED, NESTED_SHOWN, "", Outcome::Good),
+        (
+            Syntax::Explicit,
+            UNKNOWN,
+            UNKNOWN_SHOWN,
+            "",
+            Outcome::Faulty,
+        ),
+    ] {
+        let show = Command::Show;
+        assert!(rt; tells_of(rt.alloc(), show, syntax, data, (lines, last), outcome)?);
+    }
     Ok(())
 }
 
@@ -181,35 +194,21 @@ fn checks_code(alloc: Global, length: u16, lines: &str) -> Result<bool, Fail> {
         Command::Check,
         Syntax::Explicit,
         data,
-        lines,
+        (lines, ""),
         Outcome::Good,
     )
 }
 
 #[test]
 fn values_are_checked(rt: HostRuntime) -> Result<(), Fail> {
-    let (alloc, check, good) = (rt.alloc(), Command::Check, Outcome::Good);
-    let (explicit, implicit) = (Syntax::Explicit, Syntax::Implicit);
-    assert!(rt;
-        tells_of(
-            alloc,
-            check,
-            explicit,
-            EXPLICIT_VALUES,
-            EXPLICIT_NOTES,
-            good
-        )?
-    );
-    assert!(rt;
-        tells_of(
-            alloc,
-            check,
-            implicit,
-            IMPLICIT_VALUES,
-            IMPLICIT_NOTES,
-            good
-        )?
-    );
+    let alloc = rt.alloc();
+    for (syntax, data, notes) in [
+        (Syntax::Explicit, EXPLICIT_VALUES, EXPLICIT_NOTES),
+        (Syntax::Implicit, IMPLICIT_VALUES, IMPLICIT_NOTES),
+    ] {
+        let (check, good) = (Command::Check, Outcome::Good);
+        assert!(rt; tells_of(alloc, check, syntax, data, (notes, ""), good)?);
+    }
     let note = "note 0000000288 0008,0008 CS 3 TooLongValue\ngood 1320\n";
     assert!(rt; checks_code(alloc, 1024, note)?);
     assert!(rt; checks_code(alloc, 1026, "good 1322\n")?);
@@ -239,8 +238,11 @@ fn is_judged(alloc: Global, front: &[u8]) -> Result<bool, ProgramError> {
         Outcome::Faulty
     };
     let line = judgement(alloc, length)?;
-    let mut input = front;
-    writes(alloc, Command::Check, &mut input, line.as_str(), outcome)
+    let input = Device {
+        bytes: front,
+        gives: Gives::All,
+    };
+    writes(alloc, Command::Check, input, ("", line.as_str()), outcome)
 }
 
 /// The fronts that are whole are those that end before a header.
@@ -248,7 +250,7 @@ fn is_judged(alloc: Global, front: &[u8]) -> Result<bool, ProgramError> {
 fn every_front_of_a_file_is_judged(rt: HostRuntime) -> Result<(), Fail> {
     let alloc = rt.alloc();
     let ct = file(alloc, Syntax::Explicit, CT)?;
-    assert_eq!(rt; ct.len(), 336);
+    assert!(rt; ct.len() == 336);
     for length in 0..=336usize {
         assert!(rt; is_judged(alloc, front(ct.as_slice(), length))?);
     }
@@ -263,7 +265,7 @@ fn another_transfer_syntax_is_a_fault(rt: HostRuntime) -> Result<(), Fail> {
     if let Some(last) = big.get_mut(at) {
         *last = b'2';
     }
-    let line = "fault 53 OtherSyntax at 132\n";
+    let line = ("", "fault 53 OtherSyntax at 132\n");
     assert!(rt; tells(alloc, Command::Show, big.as_slice(), line, Outcome::Faulty)?);
     assert!(rt; tells(alloc, Command::Check, big.as_slice(), line, Outcome::Faulty)?);
     Ok(())
@@ -272,7 +274,11 @@ fn another_transfer_syntax_is_a_fault(rt: HostRuntime) -> Result<(), Fail> {
 /// Returns whether a read that fails after these bytes is told, once these lines are written.
 fn tells_of_a_read(alloc: Global, command: Command, bytes: &[u8], lines: &str) -> bool {
     let mut out = Vec::new(alloc);
-    match run(command, &mut Torn { bytes }, &mut out) {
+    let mut input = Device {
+        bytes,
+        gives: Gives::Torn,
+    };
+    match run(command, &mut input, &mut out) {
         Err(ProgramError::Read(_)) => out.as_slice() == lines.as_bytes(),
         _ => false,
     }
@@ -280,11 +286,15 @@ fn tells_of_a_read(alloc: Global, command: Command, bytes: &[u8], lines: &str) -
 
 /// Returns whether a write that fails is told.
 fn tells_of_a_write(command: Command, bytes: &[u8]) -> bool {
-    let mut input = bytes;
-    matches!(
-        run(command, &mut input, &mut Broken),
-        Err(ProgramError::Write(_))
-    )
+    let mut input = Device {
+        bytes,
+        gives: Gives::All,
+    };
+    let outcome = match command {
+        Command::Show => show_over(&mut input, &mut Broken),
+        Command::Check => check_over(&mut input, &mut Broken),
+    };
+    matches!(outcome, Err(ProgramError::Write(_)))
 }
 
 /// The lines before a read that fails are written; a write that fails ends the listing.

@@ -1,12 +1,11 @@
 //! What no contract says of a replay: that each failure is told, and as which one.
-use crate::devices::Broken;
+use crate::devices::{Broken, Device, Gives};
 use crate::files::config;
 use commands::{ProgramError, replay_over};
-use engine::{Report, Standing};
+use engine::Standing;
 use linked_list_allocator::LocalHeap;
 use part10::MemoryFiling;
-use std::alloc::{Allocator, Global};
-use std::io::{Read, Write};
+use std::alloc::Global;
 use std::test::Fail;
 
 /// Bytes that are no PDU.
@@ -15,24 +14,21 @@ const TEXT: &[u8] = b"GET / HTTP/1.0\r\n\r\n";
 /// What is printed for them: an A-ABORT.
 const PRINTED: &[u8] = b"07000000000400000000\n";
 
-/// Replays the recording in pieces of 7 bytes, with this memory, over a filing of its own.
-fn replays<A: Allocator + Copy, I: Read, O: Write>(
-    alloc: A,
-    global: Global,
-    input: &mut I,
-    out: &mut O,
-) -> Result<Report, ProgramError> {
-    let mut filing = MemoryFiling::new(global);
-    replay_over(alloc, input, 7, &config(), &mut filing, out)
-}
+/// How many bytes a piece has.
+const CUT: usize = 7;
 
 #[test]
 fn a_failed_read_is_told(rt: HostRuntime) -> Result<(), Fail> {
     let alloc = rt.alloc();
     let mut out = Vec::new(alloc);
-    let answer = replays(alloc, alloc, &mut Broken, &mut out);
+    let mut filing = MemoryFiling::new(alloc);
+    let mut input = Device {
+        bytes: &[],
+        gives: Gives::Torn,
+    };
+    let answer = replay_over(alloc, &mut input, CUT, &config(), &mut filing, &mut out);
     assert!(rt; matches!(answer, Err(ProgramError::Read(_))));
-    assert_eq!(rt; out.len(), 0);
+    assert!(rt; out.is_empty());
     Ok(())
 }
 
@@ -40,7 +36,15 @@ fn a_failed_read_is_told(rt: HostRuntime) -> Result<(), Fail> {
 fn a_failed_write_is_told(rt: HostRuntime) -> Result<(), Fail> {
     let alloc = rt.alloc();
     let mut recording = TEXT;
-    let answer = replays(alloc, alloc, &mut recording, &mut Broken);
+    let mut filing = MemoryFiling::new(alloc);
+    let answer = replay_over(
+        alloc,
+        &mut recording,
+        CUT,
+        &config(),
+        &mut filing,
+        &mut Broken,
+    );
     assert!(rt; matches!(answer, Err(ProgramError::Write(_))));
     Ok(())
 }
@@ -61,7 +65,9 @@ fn replay_in(alloc: Global, size: usize) -> Result<Replayed, Fail> {
     let heap = LocalHeap::new(alloc, size)?;
     let mut out = Vec::new(alloc);
     let mut recording = TEXT;
-    Ok(match replays(&heap, alloc, &mut recording, &mut out) {
+    let mut filing = MemoryFiling::new(alloc);
+    let answer = replay_over(&heap, &mut recording, CUT, &config(), &mut filing, &mut out);
+    Ok(match answer {
         Ok(report) if report.standing == Standing::Ended && report.held == 0 => {
             if out.as_slice() == PRINTED {
                 Replayed::Whole

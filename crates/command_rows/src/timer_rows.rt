@@ -36,7 +36,7 @@ fn follows<R: Abort>(rt: &R, moments: &[Moment]) {
     for Moment(seconds, runs, has_sent, left) in moments {
         clock.seconds.set(*seconds);
         let answer = timer.time_left(&clock, *runs, *has_sent);
-        assert_eq!(rt; answer, left.map(Duration::from_secs), "at {seconds}");
+        assert!(rt; answer == left.map(Duration::from_secs), "at {seconds}");
     }
 }
 
