@@ -13,7 +13,7 @@ use arrayvec::ArrayVec;
 use element::{Header, Need, Tag, need, read_header};
 
 /// Where a header ends in some bytes.
-#[derive(Clone, Copy, Debug)]
+#[derive(Clone, Copy)]
 pub enum End {
     /// After so many bytes a rule is broken: its number, and the tag of the fault.
     Refused(usize, u8, Tag),

@@ -4,7 +4,7 @@ ghost use Rattle.std.specs.Prelude.{◌≡◌, ℕ, ◌<◌, ◌≤◌, ◌^◌,
 use element::Syntax;
 
 /// A level, or the data set itself, which has no end.
-#[derive(Clone, Copy, Debug)]
+#[derive(Clone, Copy)]
 pub struct Scope {
     pub in_sequence: bool,
     pub syntax: Syntax,
@@ -14,7 +14,7 @@ pub struct Scope {
 
 /// An open level: where it ends (`u64::MAX` if its length is undefined), the last tag that began in it,
 /// whether it is a sequence, and whether it is in Implicit.
-#[derive(Clone, Copy, Debug, Default)]
+#[derive(Clone, Copy, Default)]
 pub struct Level {
     end: u64,
     last: u32,

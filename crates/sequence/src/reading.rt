@@ -31,7 +31,7 @@ pub fn is_whole(syntax: Syntax, bytes: &[u8]) -> bool
 }
 
 /// A whole header.
-#[derive(Clone, Copy, Debug)]
+#[derive(Clone, Copy)]
 pub struct Front {
     /// How many bytes it takes.
     pub size: usize,
@@ -76,7 +76,6 @@ fn named_front(size: usize, tag: Tag, vr: Vr, length: u32) -> Front
 }
 
 /// Reads the header at the front of the bytes, where it is whole.
-#[tactic(auto, unfolding(element::specs::Header::need, element::specs::Header::header_at))]
 pub fn read_front(syntax: Syntax, bytes: &[u8]) -> Option<Front>
     ensures { IfSome result (λ front. IsFront syntax bytes.now front) }
 {

@@ -2,7 +2,7 @@
 use element::Syntax;
 
 /// Where a header is due: what decides whether it is allowed there.
-#[derive(Clone, Copy, Debug)]
+#[derive(Clone, Copy)]
 pub struct Spot {
     pub syntax: Syntax,
     /// An item is due, and else an element.
@@ -20,7 +20,7 @@ pub struct Spot {
 }
 
 /// What a walk is held to: so many open levels, and so many bytes.
-#[derive(Clone, Copy, Debug)]
+#[derive(Clone, Copy)]
 pub struct Bounds {
     pub depth: usize,
     pub bytes: u64,

@@ -6,7 +6,7 @@ use crate::fault::Fault;
 use element::Tag;
 
 /// What a walk is in the middle of.
-#[derive(Clone, Copy, Debug)]
+#[derive(Clone, Copy)]
 pub enum Stage {
     /// A header, of which the kept bytes came.
     Heading,

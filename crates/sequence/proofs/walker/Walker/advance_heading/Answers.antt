@@ -23,13 +23,19 @@ use Rattle.sequence.proofs.walker.Walker.advance_heading.Given as given
 use Rattle.sequence.proofs.walker.Walker.advance_heading.Goals as goal
 use Rattle.sequence.proofs.walker.Walker.advance_heading.Goals.{After-header_end}
 
-pub returns-then-is_empty-clause-state : goal.returns-then-is_empty-clause-state
-unfolding run
-returns-then-is_empty-clause-state g c = refl
-
-pub returns-then-is_empty-clause-values : goal.returns-then-is_empty-clause-values
-unfolding keeps
-returns-then-is_empty-clause-values g c = refl
+pub returns-then-is_empty : goal.returns-then-is_empty
+unfolding run keeps
+returns-then-is_empty g c =
+    let empty = eqb-true (length c.args.piece.now) 0 (sym c.is_empty.ensures ∙ c.if-is_empty.true) in
+    record {
+      taken = omega arith;
+      some = λ some. absurd (omega (arith, some, empty));
+      state = refl;
+      same = record { syntax = refl; limit = refl; wanted = refl };
+      values = refl;
+      place = omega arith;
+      told = none_told (limits_of c.args.self.now) (top c.args.self.now) (below c.args.self.now) c.args.self.now.place c.args.self.now.header.items c.args.piece.now c.args.self.now.stage c.args.self.now.begun c.requires (no_items c.args.piece.now (eqb-true (length c.args.piece.now) 0 (sym c.is_empty.ensures ∙ c.if-is_empty.true)));
+    }
 
 -- where the header ends, in the walker's words
 ended : (g : given.Over) (c : After-header_end g) → IsEnd (limits_of c.args.self.now) (spot_of (top c.args.self.now) (below c.args.self.now) (c.args.self.now.place - length c.args.self.now.header.items)) (c.args.self.now.header.items ++ c.args.piece.now) (length c.args.self.now.header.items) c.header_end.result
@@ -47,13 +53,48 @@ end-is g c e is = subst (λ z. IsEnd (limits_of c.args.self.now) (spot_of (top c
 some-piece : (g : given.Over) (c : After-header_end g) → 0 < length c.args.piece.now
 some-piece g c = let some = false-eqb (length c.args.piece.now) 0 (sym (sym c.is_empty.ensures ∙ c.if-is_empty.false)) in omega (arith, some)
 
-pub returns-in-Refused-clause-state : goal.returns-in-Refused-clause-state
-returns-in-Refused-clause-state g c =
-    refused_run (limits_of c.args.self.now) (top c.args.self.now) (below c.args.self.now) c.args.self.now.place c.args.self.now.header.items c.args.piece.now c.args.self.now.behind c.args.self.now.stage c.requires c.len-begun.result c.len-begun.ensures.value c.in-Refused.count c.in-Refused.number c.in-Refused.tag (end-is g (goal.at.returns-in-Refused-clause-state g c).After-header_end (ends.Refused c.in-Refused.count c.in-Refused.number c.in-Refused.tag) c.in-Refused.is)
+pub returns-in-Refused : goal.returns-in-Refused
+returns-in-Refused g c =
+    let begun = c.len-begun.ensures.value in
+    let k = end-is g (goal.at.returns-in-Refused g c).After-header_end (ends.Refused c.in-Refused.count c.in-Refused.number c.in-Refused.tag) c.in-Refused.is in
+    let size = length-append c.args.self.now.header.items c.args.piece.now in
+    record {
+      taken = omega (arith, k.0.some, size, begun);
+      some = λ some. omega (arith, k.0.more, begun);
+      state = refused_run (limits_of c.args.self.now) (top c.args.self.now) (below c.args.self.now) c.args.self.now.place c.args.self.now.header.items c.args.piece.now c.args.self.now.behind c.args.self.now.stage c.requires c.len-begun.result c.len-begun.ensures.value c.in-Refused.count c.in-Refused.number c.in-Refused.tag (end-is g (goal.at.returns-in-Refused g c).After-header_end (ends.Refused c.in-Refused.count c.in-Refused.number c.in-Refused.tag) c.in-Refused.is);
+      same = record { syntax = refl; limit = refl; wanted = refl };
+      values = refused_kept (limits_of c.args.self.now) (top c.args.self.now) (below c.args.self.now) c.args.self.now.place c.args.self.now.header.items c.args.piece.now c.args.self.now.behind c.args.self.now.stage c.requires c.len-begun.result c.len-begun.ensures.value (kept_values c.args.self.now) c.in-Refused.count c.in-Refused.number c.in-Refused.tag (end-is g (goal.at.returns-in-Refused g c).After-header_end (ends.Refused c.in-Refused.count c.in-Refused.number c.in-Refused.tag) c.in-Refused.is);
+      place = omega (arith, begun, k.0.more, c.args.self.now.behind);
+      told = refused_told (limits_of c.args.self.now) (top c.args.self.now) (below c.args.self.now) c.args.self.now.place c.args.self.now.header.items c.args.piece.now c.args.self.now.behind c.args.self.now.stage c.requires c.len-begun.result c.len-begun.ensures.value c.in-Refused.count c.in-Refused.number c.in-Refused.tag c.header_end.new.header.items (end-is g (goal.at.returns-in-Refused g c).After-header_end (ends.Refused c.in-Refused.count c.in-Refused.number c.in-Refused.tag) c.in-Refused.is);
+    }
 
-pub returns-in-Refused-clause-values : goal.returns-in-Refused-clause-values
-returns-in-Refused-clause-values g c =
-    refused_kept (limits_of c.args.self.now) (top c.args.self.now) (below c.args.self.now) c.args.self.now.place c.args.self.now.header.items c.args.piece.now c.args.self.now.behind c.args.self.now.stage c.requires c.len-begun.result c.len-begun.ensures.value (kept_values c.args.self.now) c.in-Refused.count c.in-Refused.number c.in-Refused.tag (end-is g (goal.at.returns-in-Refused-clause-values g c).After-header_end (ends.Refused c.in-Refused.count c.in-Refused.number c.in-Refused.tag) c.in-Refused.is)
+-- no byte of a header that is refused or whole is kept
+emptied : (g : given.Over) (c : After-header_end g) (e : End) → c.header_end.result ≡ e → kept_by e (c.args.self.now.header.items ++ c.args.piece.now) ≡ [] → c.header_end.new.header.items ≡ []
+emptied g c e is none = c.header_end.ensures.kept ∙ (ap (λ z. kept_by z (c.args.self.now.header.items ++ c.args.piece.now)) is ∙ none)
+
+pub invariant_of-self : goal.invariant_of-self
+invariant_of-self g c =
+    let b = (goal.at.invariant_of-self g c).After-header_end in
+    let w = c.args.self.now in
+    let begun = c.len-begun.ensures.value in
+    let k = end-is g b (ends.Refused c.in-Refused.count c.in-Refused.number c.in-Refused.tag) c.in-Refused.is in
+    let empty = emptied g b (ends.Refused c.in-Refused.count c.in-Refused.number c.in-Refused.tag) c.in-Refused.is refl in
+    let none = ap length empty in
+    record {
+      greatest_v = w.greatest_v;
+      greatest_d = w.greatest_d;
+      no_end = w.no_end;
+      few = omega (arith, none);
+      together = omega (arith, none, w.together);
+      begun = ap (is_begun (limits_of w) (top w) (below w) (w.place - c.len-begun.result + c.in-Refused.count)) empty;
+      behind = omega (arith, none);
+      due = omega arith;
+      small = w.small;
+      within = omega (arith, k.0.short, begun, w.behind, ap (λ z. spare z (length c.args.self.now.header.items)) c.requires, ap owed c.requires, w.within);
+      flag = refl;
+      room = omega arith;
+      order = w.order;
+    }
 
 -- the header's end is within the limit
 fits_limit : (g : given.Over) (c : After-header_end g) (n : ℕ) (h : Header) (sh : Shape) → c.header_end.result ≡ ends.Whole n h sh → c.args.self.now.place - c.len-begun.result + n + counted_length h.length ≤ c.args.self.now.limit
@@ -64,10 +105,28 @@ fits_limit g c n h sh is =
     let same = ap (λ (z : Header). counted_length z.length) k.1.read in
     omega (arith, fits, size, same, c.len-begun.ensures.value)
 
-pub invariant_of-self-in-Whole-clause-within : goal.invariant_of-self-in-Whole-clause-within
-invariant_of-self-in-Whole-clause-within g c =
-    let fits = fits_limit g (goal.at.invariant_of-self-in-Whole-clause-within g c).After-header_end c.in-Whole.count c.in-Whole.header c.in-Whole.shape c.in-Whole.is in
-    rw c.requires (omega (arith, fits))
+pub invariant_of-self-in-Whole : goal.invariant_of-self-in-Whole
+invariant_of-self-in-Whole g c =
+    let b = (goal.at.invariant_of-self-in-Whole g c).After-header_end in
+    let w = c.args.self.now in
+    let fits = fits_limit g b c.in-Whole.count c.in-Whole.header c.in-Whole.shape c.in-Whole.is in
+    let empty = emptied g b (ends.Whole c.in-Whole.count c.in-Whole.header c.in-Whole.shape) c.in-Whole.is refl in
+    let none = ap length empty in
+    record {
+      greatest_v = w.greatest_v;
+      greatest_d = w.greatest_d;
+      no_end = w.no_end;
+      few = omega (arith, none);
+      together = omega (arith, none, w.together);
+      begun = ap (is_begun (limits_of w) (top w) (below w) (w.place - c.len-begun.result + c.in-Whole.count)) empty;
+      behind = omega (arith, none);
+      due = w.due;
+      small = w.small;
+      within = rw c.requires (omega (arith, fits));
+      flag = w.flag;
+      room = w.room;
+      order = w.order;
+    }
 
 pub take_header-requires : goal.take_header-requires
 take_header-requires g c =
@@ -86,37 +145,28 @@ take_header-requires g c =
     ap (λ z. fits_wanted (limits_of c.args.self.now).wanted z (top c.args.self.now).syntax c.in-Whole.header) (sym depth-is) ∙ ap (fits_wanted (limits_of c.args.self.now).wanted (length (below c.args.self.now)) (top c.args.self.now).syntax) k.1.read ∙ fit in
     (search rules, (k.1.shaped, (c.header_end.ensures.kept ∙ ap (λ z. kept_by z (c.args.self.now.header.items ++ c.args.piece.now)) c.in-Whole.is, (c.requires, (fits, (room, (keeps, λ m. let lt = up (ap (λ (z : Header). is_marker z.tag) (sym k.1.read) ∙ m) in let n = ap (λ (z : Header). number z.tag) k.1.read in omega (arith, lt, n))))))))
 
-pub returns-in-Whole-clause-state : goal.returns-in-Whole-clause-state
-returns-in-Whole-clause-state g c =
-    c.take_header.ensures.state
-    ∙ whole_run (limits_of c.args.self.now) (top c.args.self.now) (below c.args.self.now) c.args.self.now.place c.args.self.now.header.items c.args.piece.now c.args.self.now.behind c.args.self.now.stage c.requires c.len-begun.result c.len-begun.ensures.value c.in-Whole.count c.in-Whole.header c.in-Whole.shape (end-is g (goal.at.returns-in-Whole-clause-state g c).After-header_end (ends.Whole c.in-Whole.count c.in-Whole.header c.in-Whole.shape) c.in-Whole.is)
-
-pub returns-in-Whole-clause-values : goal.returns-in-Whole-clause-values
-returns-in-Whole-clause-values g c =
-    c.take_header.ensures.values
-    ∙ whole_kept (limits_of c.args.self.now) (top c.args.self.now) (below c.args.self.now) c.args.self.now.place c.args.self.now.header.items c.args.piece.now c.args.self.now.behind c.args.self.now.stage c.requires c.len-begun.result c.len-begun.ensures.value (kept_values c.args.self.now) c.in-Whole.count c.in-Whole.header c.in-Whole.shape (end-is g (goal.at.returns-in-Whole-clause-values g c).After-header_end (ends.Whole c.in-Whole.count c.in-Whole.header c.in-Whole.shape) c.in-Whole.is)
-
-pub returns-in-Whole-clause-place : goal.returns-in-Whole-clause-place
-returns-in-Whole-clause-place g c =
-    let k = (end-is g (goal.at.returns-in-Whole-clause-place g c).After-header_end (ends.Whole c.in-Whole.count c.in-Whole.header c.in-Whole.shape) c.in-Whole.is) in
+pub returns-in-Whole : goal.returns-in-Whole
+returns-in-Whole g c =
+    let begun = c.len-begun.ensures.value in
+    let k = end-is g (goal.at.returns-in-Whole g c).After-header_end (ends.Whole c.in-Whole.count c.in-Whole.header c.in-Whole.shape) c.in-Whole.is in
+    let size = length-append c.args.self.now.header.items c.args.piece.now in
+    let same = c.take_header.ensures.same in
     let place : c.take_header.new.self.place ≡ c.args.self.now.place - c.len-begun.result + c.in-Whole.count = ap (λ (z : State). z.place) c.take_header.ensures.state ∙ take_place _ (top c.args.self.now) (below c.args.self.now) c.in-Whole.header in
-    omega (arith, place, c.len-begun.ensures.value, k.0.more, c.args.self.now.behind)
-
-pub returns-in-Whole-clause-told : goal.returns-in-Whole-clause-told
-returns-in-Whole-clause-told g c =
     let w = c.args.self.now in
     let new = c.take_header.new.self in
     let arrives : ArrivesAt (mode_of new.stage new.place new.header.items) (c.args.self.now.place - c.len-begun.result + c.in-Whole.count) = subst (λ (z : State). ArrivesAt z.mode (c.args.self.now.place - c.len-begun.result + c.in-Whole.count)) (sym c.take_header.ensures.state) (take_arrives (c.args.self.now.place - c.len-begun.result + c.in-Whole.count) (top c.args.self.now) (below c.args.self.now) c.in-Whole.header) in
-    whole_told (limits_of c.args.self.now) (top c.args.self.now) (below c.args.self.now) c.args.self.now.place c.args.self.now.header.items c.args.piece.now c.args.self.now.behind c.args.self.now.stage c.requires c.len-begun.result c.len-begun.ensures.value c.take_header.new.self.stage c.take_header.new.self.place c.take_header.new.self.header.items c.in-Whole.count c.in-Whole.header c.in-Whole.shape (end-is g (goal.at.returns-in-Whole-clause-told g c).After-header_end (ends.Whole c.in-Whole.count c.in-Whole.header c.in-Whole.shape) c.in-Whole.is)
-    (begun_tail (limits_of c.args.self.now) (top c.args.self.now) (below c.args.self.now) c.args.self.now.place c.args.self.now.header.items c.args.self.now.begun) arrives
-
-pub returns-in-Refused-clause-told : goal.returns-in-Refused-clause-told
-returns-in-Refused-clause-told g c =
-    refused_told (limits_of c.args.self.now) (top c.args.self.now) (below c.args.self.now) c.args.self.now.place c.args.self.now.header.items c.args.piece.now c.args.self.now.behind c.args.self.now.stage c.requires c.len-begun.result c.len-begun.ensures.value c.in-Refused.count c.in-Refused.number c.in-Refused.tag c.header_end.new.header.items (end-is g (goal.at.returns-in-Refused-clause-told g c).After-header_end (ends.Refused c.in-Refused.count c.in-Refused.number c.in-Refused.tag) c.in-Refused.is)
-
-pub returns-then-is_empty-clause-told : goal.returns-then-is_empty-clause-told
-returns-then-is_empty-clause-told g c =
-    none_told (limits_of c.args.self.now) (top c.args.self.now) (below c.args.self.now) c.args.self.now.place c.args.self.now.header.items c.args.piece.now c.args.self.now.stage c.args.self.now.begun c.requires (no_items c.args.piece.now (eqb-true (length c.args.piece.now) 0 (sym c.is_empty.ensures ∙ c.if-is_empty.true)))
+    record {
+      taken = omega (arith, k.0.some, size, begun);
+      some = λ some. omega (arith, k.0.more, begun);
+      state = c.take_header.ensures.state
+          ∙ whole_run (limits_of c.args.self.now) (top c.args.self.now) (below c.args.self.now) c.args.self.now.place c.args.self.now.header.items c.args.piece.now c.args.self.now.behind c.args.self.now.stage c.requires c.len-begun.result c.len-begun.ensures.value c.in-Whole.count c.in-Whole.header c.in-Whole.shape (end-is g (goal.at.returns-in-Whole g c).After-header_end (ends.Whole c.in-Whole.count c.in-Whole.header c.in-Whole.shape) c.in-Whole.is);
+      same = record { syntax = same.syntax; limit = same.limit; wanted = same.wanted };
+      values = c.take_header.ensures.values
+          ∙ whole_kept (limits_of c.args.self.now) (top c.args.self.now) (below c.args.self.now) c.args.self.now.place c.args.self.now.header.items c.args.piece.now c.args.self.now.behind c.args.self.now.stage c.requires c.len-begun.result c.len-begun.ensures.value (kept_values c.args.self.now) c.in-Whole.count c.in-Whole.header c.in-Whole.shape (end-is g (goal.at.returns-in-Whole g c).After-header_end (ends.Whole c.in-Whole.count c.in-Whole.header c.in-Whole.shape) c.in-Whole.is);
+      place = omega (arith, place, begun, k.0.more, c.args.self.now.behind);
+      told = whole_told (limits_of c.args.self.now) (top c.args.self.now) (below c.args.self.now) c.args.self.now.place c.args.self.now.header.items c.args.piece.now c.args.self.now.behind c.args.self.now.stage c.requires c.len-begun.result c.len-begun.ensures.value c.take_header.new.self.stage c.take_header.new.self.place c.take_header.new.self.header.items c.in-Whole.count c.in-Whole.header c.in-Whole.shape (end-is g (goal.at.returns-in-Whole g c).After-header_end (ends.Whole c.in-Whole.count c.in-Whole.header c.in-Whole.shape) c.in-Whole.is)
+          (begun_tail (limits_of c.args.self.now) (top c.args.self.now) (below c.args.self.now) c.args.self.now.place c.args.self.now.header.items c.args.self.now.begun) arrives;
+    }
 
 -- the header goes on
 
@@ -127,51 +177,42 @@ module _ (g : given.Over) (c : After-header_end g) (is : c.header_end.result ≡
   part-items : c.header_end.new.header.items ≡ c.args.self.now.header.items ++ c.args.piece.now
   part-items = c.header_end.ensures.kept ∙ ap (λ z. kept_by z (c.args.self.now.header.items ++ c.args.piece.now)) is
 
-pub returns-in-Part-clause-state : goal.returns-in-Part-clause-state
-returns-in-Part-clause-state g c =
-    let b = (goal.at.returns-in-Part-clause-state g c).After-header_end in
-    part_run (limits_of c.args.self.now) (top c.args.self.now) (below c.args.self.now) c.args.self.now.place c.args.self.now.header.items c.args.piece.now c.args.self.now.behind c.args.self.now.stage c.requires c.len-begun.result c.len-begun.ensures.value c.header_end.new.header.items (part-items g b c.in-Part.is) (some-piece g b) (end-is g b ends.Part c.in-Part.is)
+pub returns-in-Part : goal.returns-in-Part
+returns-in-Part g c =
+    let b = (goal.at.returns-in-Part g c).After-header_end in
+    record {
+      taken = omega arith;
+      some = λ some. some;
+      state = part_run (limits_of c.args.self.now) (top c.args.self.now) (below c.args.self.now) c.args.self.now.place c.args.self.now.header.items c.args.piece.now c.args.self.now.behind c.args.self.now.stage c.requires c.len-begun.result c.len-begun.ensures.value c.header_end.new.header.items (part-items g b c.in-Part.is) (some-piece g b) (end-is g b ends.Part c.in-Part.is);
+      same = record { syntax = refl; limit = refl; wanted = refl };
+      values = part_kept (limits_of c.args.self.now) (top c.args.self.now) (below c.args.self.now) c.args.self.now.place c.args.self.now.header.items c.args.piece.now c.args.self.now.behind c.args.self.now.stage c.requires c.len-begun.result c.len-begun.ensures.value (kept_values c.args.self.now) (some-piece g b) (end-is g b ends.Part c.in-Part.is);
+      place = omega arith;
+      told = part_told (limits_of c.args.self.now) (top c.args.self.now) (below c.args.self.now) c.args.self.now.place c.args.self.now.header.items c.args.piece.now c.args.self.now.behind c.args.self.now.stage c.requires c.len-begun.result c.len-begun.ensures.value c.header_end.new.header.items (part-items g b c.in-Part.is) (some-piece g b) (end-is g b ends.Part c.in-Part.is);
+    }
 
-pub returns-in-Part-clause-values : goal.returns-in-Part-clause-values
-returns-in-Part-clause-values g c =
-    let b = (goal.at.returns-in-Part-clause-values g c).After-header_end in
-    part_kept (limits_of c.args.self.now) (top c.args.self.now) (below c.args.self.now) c.args.self.now.place c.args.self.now.header.items c.args.piece.now c.args.self.now.behind c.args.self.now.stage c.requires c.len-begun.result c.len-begun.ensures.value (kept_values c.args.self.now) (some-piece g b) (end-is g b ends.Part c.in-Part.is)
-
-pub returns-in-Part-clause-told : goal.returns-in-Part-clause-told
-returns-in-Part-clause-told g c =
-    let b = (goal.at.returns-in-Part-clause-told g c).After-header_end in
-    part_told (limits_of c.args.self.now) (top c.args.self.now) (below c.args.self.now) c.args.self.now.place c.args.self.now.header.items c.args.piece.now c.args.self.now.behind c.args.self.now.stage c.requires c.len-begun.result c.len-begun.ensures.value c.header_end.new.header.items (part-items g b c.in-Part.is) (some-piece g b) (end-is g b ends.Part c.in-Part.is)
-
-pub invariant_of-self-in-Part-clause-few : goal.invariant_of-self-in-Part-clause-few
-invariant_of-self-in-Part-clause-few g c =
-    let b = (goal.at.invariant_of-self-in-Part-clause-few g c).After-header_end in
-    let short = part-short g b c.in-Part.is in
-    rw c.requires (omega (arith, short, ap length (part-items g b c.in-Part.is), length-append c.args.self.now.header.items c.args.piece.now))
-
-pub invariant_of-self-in-Part-clause-together : goal.invariant_of-self-in-Part-clause-together
-invariant_of-self-in-Part-clause-together g c =
-    let b = (goal.at.invariant_of-self-in-Part-clause-together g c).After-header_end in
-    let short = part-short g b c.in-Part.is in
-    omega (arith, short, ap length (part-items g b c.in-Part.is), length-append c.args.self.now.header.items c.args.piece.now, c.args.self.now.kept.short)
-
-pub invariant_of-self-in-Part-clause-begun : goal.invariant_of-self-in-Part-clause-begun
-invariant_of-self-in-Part-clause-begun g c =
-    let b = (goal.at.invariant_of-self-in-Part-clause-begun g c).After-header_end in
+pub invariant_of-self-in-Part : goal.invariant_of-self-in-Part
+invariant_of-self-in-Part g c =
+    let b = (goal.at.invariant_of-self-in-Part g c).After-header_end in
     let w = c.args.self.now in
+    let short = part-short g b c.in-Part.is in
     let items = part-items g b c.in-Part.is in
     let size = length-append w.header.items c.args.piece.now in
     let place : c.args.self.now.place + length c.args.piece.now - length (c.args.self.now.header.items ++ c.args.piece.now) ≡ c.args.self.now.place - length c.args.self.now.header.items = omega (arith, size, w.behind) in
     let quiet = all_quiet (limits_of w) (top w) (below w) w.place w.header.items c.args.piece.now w.behind w.stage c.requires c.len-begun.result c.len-begun.ensures.value (some-piece g b) (end-is g b ends.Part c.in-Part.is) in
-    ap (is_begun (limits_of w) (top w) (below w) (w.place + length c.args.piece.now)) items
-    ∙ quiet_begun (limits_of w) (top w) (below w) (w.place + length c.args.piece.now) (w.header.items ++ c.args.piece.now)
-    (subst (λ z. IsQuiet (limits_of c.args.self.now) (spot_of (top c.args.self.now) (below c.args.self.now) z) (c.args.self.now.header.items ++ c.args.piece.now)) (sym place) quiet)
-
-pub invariant_of-self-in-Part-clause-behind : goal.invariant_of-self-in-Part-clause-behind
-invariant_of-self-in-Part-clause-behind g c =
-    let b = (goal.at.invariant_of-self-in-Part-clause-behind g c).After-header_end in
-    omega (arith, ap length (part-items g b c.in-Part.is), length-append c.args.self.now.header.items c.args.piece.now, c.args.self.now.behind)
-
-pub invariant_of-self-in-Part-clause-within : goal.invariant_of-self-in-Part-clause-within
-invariant_of-self-in-Part-clause-within g c =
-    let b = (goal.at.invariant_of-self-in-Part-clause-within g c).After-header_end in
-    rw c.requires (omega (arith, ap length (part-items g b c.in-Part.is), length-append c.args.self.now.header.items c.args.piece.now, c.args.self.now.behind, ap (λ z. spare z (length c.args.self.now.header.items)) c.requires, ap owed c.requires, c.args.self.now.within))
+    record {
+      greatest_v = w.greatest_v;
+      greatest_d = w.greatest_d;
+      no_end = w.no_end;
+      few = rw c.requires (omega (arith, short, ap length (part-items g b c.in-Part.is), length-append c.args.self.now.header.items c.args.piece.now));
+      together = omega (arith, short, ap length (part-items g b c.in-Part.is), length-append c.args.self.now.header.items c.args.piece.now, c.args.self.now.kept.short);
+      begun = ap (is_begun (limits_of w) (top w) (below w) (w.place + length c.args.piece.now)) items
+          ∙ quiet_begun (limits_of w) (top w) (below w) (w.place + length c.args.piece.now) (w.header.items ++ c.args.piece.now)
+          (subst (λ z. IsQuiet (limits_of c.args.self.now) (spot_of (top c.args.self.now) (below c.args.self.now) z) (c.args.self.now.header.items ++ c.args.piece.now)) (sym place) quiet);
+      behind = omega (arith, ap length (part-items g b c.in-Part.is), length-append c.args.self.now.header.items c.args.piece.now, c.args.self.now.behind);
+      due = w.due;
+      small = w.small;
+      within = rw c.requires (omega (arith, ap length (part-items g b c.in-Part.is), length-append c.args.self.now.header.items c.args.piece.now, c.args.self.now.behind, ap (λ z. spare z (length c.args.self.now.header.items)) c.requires, ap owed c.requires, c.args.self.now.within));
+      flag = w.flag;
+      room = w.room;
+      order = w.order;
+    }

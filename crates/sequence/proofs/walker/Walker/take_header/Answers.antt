@@ -6,41 +6,46 @@ use Rattle.sequence.specs.machine.State.{top, below, limits_of, kept_values}
 use Rattle.sequence.proofs.Walks.{item_header, mark_header, value_header, sequence_header, no_header, keep_marker, keep_value, keep_sequence, keep_none}
 use Rattle.sequence.proofs.walker.Walker.take_header.Goals as goal
 
-pub returns-then-same_tag-clause-state : goal.returns-then-same_tag-clause-state
-returns-then-same_tag-clause-state g c =
-    c.begin_level.ensures.state ∙ item_header c.args.self.now.place (top c.args.self.now) (below c.args.self.now) c.args.header.now c.top_scope-top.result c.item_scope.result (sym c.is_marker.ensures ∙ c.if-is_marker.true) (sym c.same_tag.ensures ∙ c.if-same_tag.true) c.item_scope.ensures.scope
-    (c.top_scope-top.ensures ∙ ap (top_of c.args.self.now.root) c.as_slice.ensures.value)
+pub returns-then-same_tag : goal.returns-then-same_tag
+returns-then-same_tag g c =
+    record {
+      state = c.begin_level.ensures.state ∙ item_header c.args.self.now.place (top c.args.self.now) (below c.args.self.now) c.args.header.now c.top_scope-top.result c.item_scope.result (sym c.is_marker.ensures ∙ c.if-is_marker.true) (sym c.same_tag.ensures ∙ c.if-same_tag.true) c.item_scope.ensures.scope
+          (c.top_scope-top.ensures ∙ ap (top_of c.args.self.now.root) c.as_slice.ensures.value);
+      same = c.begin_level.ensures.same;
+      values = c.begin_level.ensures.values ∙ keep_marker (limits_of c.args.self.now) (top c.args.self.now) (below c.args.self.now) c.args.header.now (kept_values c.args.self.now) (sym c.is_marker.ensures ∙ c.if-is_marker.true);
+    }
 
-pub returns-else-same_tag-clause-state : goal.returns-else-same_tag-clause-state
-returns-else-same_tag-clause-state g c =
-    c.leave.ensures.state ∙ mark_header c.args.self.now.place (top c.args.self.now) (below c.args.self.now) c.args.header.now (sym c.is_marker.ensures ∙ c.if-is_marker.true) (sym c.same_tag.ensures ∙ c.if-same_tag.false)
+pub returns-else-same_tag : goal.returns-else-same_tag
+returns-else-same_tag g c =
+    record {
+      state = c.leave.ensures.state ∙ mark_header c.args.self.now.place (top c.args.self.now) (below c.args.self.now) c.args.header.now (sym c.is_marker.ensures ∙ c.if-is_marker.true) (sym c.same_tag.ensures ∙ c.if-same_tag.false);
+      same = c.leave.ensures.same;
+      values = c.leave.ensures.values ∙ keep_marker (limits_of c.args.self.now) (top c.args.self.now) (below c.args.self.now) c.args.header.now (kept_values c.args.self.now) (sym c.is_marker.ensures ∙ c.if-is_marker.true);
+    }
 
-pub returns-in-Value-clause-state : goal.returns-in-Value-clause-state
-returns-in-Value-clause-state g c =
-    c.begin_value.ensures.state ∙ value_header c.args.self.now.place (top c.args.self.now) (below c.args.self.now) c.args.header.now c.top_scope-top.result _ _ (sym c.is_marker.ensures ∙ c.if-is_marker.false) (sym c.in-Value.is ∙ c.requires.shape ∙ ap (λ (z : Scope). shape z.syntax c.args.header.now) (sym (c.top_scope-top.ensures ∙ ap (top_of c.args.self.now.root) c.as_slice.ensures.value)))
-    (c.top_scope-top.ensures ∙ ap (top_of c.args.self.now.root) c.as_slice.ensures.value) c.set_last.ensures.top c.set_last.ensures.below
+pub returns-in-Value : goal.returns-in-Value
+returns-in-Value g c =
+    record {
+      state = c.begin_value.ensures.state ∙ value_header c.args.self.now.place (top c.args.self.now) (below c.args.self.now) c.args.header.now c.top_scope-top.result _ _ (sym c.is_marker.ensures ∙ c.if-is_marker.false) (sym c.in-Value.is ∙ c.requires.shape ∙ ap (λ (z : Scope). shape z.syntax c.args.header.now) (sym (c.top_scope-top.ensures ∙ ap (top_of c.args.self.now.root) c.as_slice.ensures.value)))
+          (c.top_scope-top.ensures ∙ ap (top_of c.args.self.now.root) c.as_slice.ensures.value) c.set_last.ensures.top c.set_last.ensures.below;
+      same = record { syntax = c.begin_value.ensures.same.syntax ∙ c.set_last.ensures.syntax; limit = c.begin_value.ensures.same.limit; wanted = c.begin_value.ensures.same.wanted };
+      values = c.begin_value.ensures.values ∙ keep_value (limits_of c.args.self.now) (top c.args.self.now) (below c.args.self.now) c.args.header.now c.top_scope-top.result _ (kept_values c.args.self.now) (sym c.is_marker.ensures ∙ c.if-is_marker.false) (sym c.in-Value.is ∙ c.requires.shape ∙ ap (λ (z : Scope). shape z.syntax c.args.header.now) (sym (c.top_scope-top.ensures ∙ ap (top_of c.args.self.now.root) c.as_slice.ensures.value))) (c.top_scope-top.ensures ∙ ap (top_of c.args.self.now.root) c.as_slice.ensures.value) c.set_last.ensures.below;
+    }
 
-pub returns-in-Sequence-clause-state : goal.returns-in-Sequence-clause-state
-returns-in-Sequence-clause-state g c =
-    c.begin_level-in-Sequence.ensures.state ∙ sequence_header c.args.self.now.place (top c.args.self.now) (below c.args.self.now) c.args.header.now c.top_scope-top.result _ c.sequence_scope.result _ c.in-Sequence.inner (sym c.is_marker.ensures ∙ c.if-is_marker.false) (sym c.in-Sequence.is ∙ c.requires.shape ∙ ap (λ (z : Scope). shape z.syntax c.args.header.now) (sym (c.top_scope-top.ensures ∙ ap (top_of c.args.self.now.root) c.as_slice.ensures.value)))
-    (c.top_scope-top.ensures ∙ ap (top_of c.args.self.now.root) c.as_slice.ensures.value) c.set_last-in-Sequence.ensures.top c.set_last-in-Sequence.ensures.below c.sequence_scope.ensures.scope
+pub returns-in-Sequence : goal.returns-in-Sequence
+returns-in-Sequence g c =
+    record {
+      state = c.begin_level-in-Sequence.ensures.state ∙ sequence_header c.args.self.now.place (top c.args.self.now) (below c.args.self.now) c.args.header.now c.top_scope-top.result _ c.sequence_scope.result _ c.in-Sequence.inner (sym c.is_marker.ensures ∙ c.if-is_marker.false) (sym c.in-Sequence.is ∙ c.requires.shape ∙ ap (λ (z : Scope). shape z.syntax c.args.header.now) (sym (c.top_scope-top.ensures ∙ ap (top_of c.args.self.now.root) c.as_slice.ensures.value)))
+          (c.top_scope-top.ensures ∙ ap (top_of c.args.self.now.root) c.as_slice.ensures.value) c.set_last-in-Sequence.ensures.top c.set_last-in-Sequence.ensures.below c.sequence_scope.ensures.scope;
+      same = record { syntax = c.begin_level-in-Sequence.ensures.same.syntax ∙ c.set_last-in-Sequence.ensures.syntax; limit = c.begin_level-in-Sequence.ensures.same.limit; wanted = c.begin_level-in-Sequence.ensures.same.wanted };
+      values = c.begin_level-in-Sequence.ensures.values ∙ keep_sequence (limits_of c.args.self.now) (top c.args.self.now) (below c.args.self.now) c.args.header.now c.top_scope-top.result c.in-Sequence.inner (kept_values c.args.self.now) (sym c.is_marker.ensures ∙ c.if-is_marker.false) (sym c.in-Sequence.is ∙ c.requires.shape ∙ ap (λ (z : Scope). shape z.syntax c.args.header.now) (sym (c.top_scope-top.ensures ∙ ap (top_of c.args.self.now.root) c.as_slice.ensures.value))) (c.top_scope-top.ensures ∙ ap (top_of c.args.self.now.root) c.as_slice.ensures.value);
+    }
 
-pub returns-in-NotAllowed-clause-state : goal.returns-in-NotAllowed-clause-state
-returns-in-NotAllowed-clause-state g c =
-    c.arrive.ensures.state ∙ no_header c.args.self.now.place (top c.args.self.now) (below c.args.self.now) c.args.header.now c.top_scope-top.result (sym c.is_marker.ensures ∙ c.if-is_marker.false) (sym c.in-NotAllowed.is ∙ c.requires.shape ∙ ap (λ (z : Scope). shape z.syntax c.args.header.now) (sym (c.top_scope-top.ensures ∙ ap (top_of c.args.self.now.root) c.as_slice.ensures.value)))
-    (c.top_scope-top.ensures ∙ ap (top_of c.args.self.now.root) c.as_slice.ensures.value)
-
-pub returns-then-same_tag-clause-values : goal.returns-then-same_tag-clause-values
-returns-then-same_tag-clause-values g c = c.begin_level.ensures.values ∙ keep_marker (limits_of c.args.self.now) (top c.args.self.now) (below c.args.self.now) c.args.header.now (kept_values c.args.self.now) (sym c.is_marker.ensures ∙ c.if-is_marker.true)
-
-pub returns-else-same_tag-clause-values : goal.returns-else-same_tag-clause-values
-returns-else-same_tag-clause-values g c = c.leave.ensures.values ∙ keep_marker (limits_of c.args.self.now) (top c.args.self.now) (below c.args.self.now) c.args.header.now (kept_values c.args.self.now) (sym c.is_marker.ensures ∙ c.if-is_marker.true)
-
-pub returns-in-Value-clause-values : goal.returns-in-Value-clause-values
-returns-in-Value-clause-values g c = c.begin_value.ensures.values ∙ keep_value (limits_of c.args.self.now) (top c.args.self.now) (below c.args.self.now) c.args.header.now c.top_scope-top.result _ (kept_values c.args.self.now) (sym c.is_marker.ensures ∙ c.if-is_marker.false) (sym c.in-Value.is ∙ c.requires.shape ∙ ap (λ (z : Scope). shape z.syntax c.args.header.now) (sym (c.top_scope-top.ensures ∙ ap (top_of c.args.self.now.root) c.as_slice.ensures.value))) (c.top_scope-top.ensures ∙ ap (top_of c.args.self.now.root) c.as_slice.ensures.value) c.set_last.ensures.below
-
-pub returns-in-Sequence-clause-values : goal.returns-in-Sequence-clause-values
-returns-in-Sequence-clause-values g c = c.begin_level-in-Sequence.ensures.values ∙ keep_sequence (limits_of c.args.self.now) (top c.args.self.now) (below c.args.self.now) c.args.header.now c.top_scope-top.result c.in-Sequence.inner (kept_values c.args.self.now) (sym c.is_marker.ensures ∙ c.if-is_marker.false) (sym c.in-Sequence.is ∙ c.requires.shape ∙ ap (λ (z : Scope). shape z.syntax c.args.header.now) (sym (c.top_scope-top.ensures ∙ ap (top_of c.args.self.now.root) c.as_slice.ensures.value))) (c.top_scope-top.ensures ∙ ap (top_of c.args.self.now.root) c.as_slice.ensures.value)
-
-pub returns-in-NotAllowed-clause-values : goal.returns-in-NotAllowed-clause-values
-returns-in-NotAllowed-clause-values g c = c.arrive.ensures.values ∙ keep_none (limits_of c.args.self.now) (top c.args.self.now) (below c.args.self.now) c.args.header.now c.top_scope-top.result (kept_values c.args.self.now) (sym c.is_marker.ensures ∙ c.if-is_marker.false) (sym c.in-NotAllowed.is ∙ c.requires.shape ∙ ap (λ (z : Scope). shape z.syntax c.args.header.now) (sym (c.top_scope-top.ensures ∙ ap (top_of c.args.self.now.root) c.as_slice.ensures.value))) (c.top_scope-top.ensures ∙ ap (top_of c.args.self.now.root) c.as_slice.ensures.value)
+pub returns-in-NotAllowed : goal.returns-in-NotAllowed
+returns-in-NotAllowed g c =
+    record {
+      state = c.arrive.ensures.state ∙ no_header c.args.self.now.place (top c.args.self.now) (below c.args.self.now) c.args.header.now c.top_scope-top.result (sym c.is_marker.ensures ∙ c.if-is_marker.false) (sym c.in-NotAllowed.is ∙ c.requires.shape ∙ ap (λ (z : Scope). shape z.syntax c.args.header.now) (sym (c.top_scope-top.ensures ∙ ap (top_of c.args.self.now.root) c.as_slice.ensures.value)))
+          (c.top_scope-top.ensures ∙ ap (top_of c.args.self.now.root) c.as_slice.ensures.value);
+      same = c.arrive.ensures.same;
+      values = c.arrive.ensures.values ∙ keep_none (limits_of c.args.self.now) (top c.args.self.now) (below c.args.self.now) c.args.header.now c.top_scope-top.result (kept_values c.args.self.now) (sym c.is_marker.ensures ∙ c.if-is_marker.false) (sym c.in-NotAllowed.is ∙ c.requires.shape ∙ ap (λ (z : Scope). shape z.syntax c.args.header.now) (sym (c.top_scope-top.ensures ∙ ap (top_of c.args.self.now.root) c.as_slice.ensures.value))) (c.top_scope-top.ensures ∙ ap (top_of c.args.self.now.root) c.as_slice.ensures.value);
+    }
