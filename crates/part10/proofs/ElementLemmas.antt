@@ -1,6 +1,7 @@
 -- Headers after which no element of the group stands.
-use Rattle.std.proofs.Common.{◌≡◌, ℕ, ◌+◌, ◌%◌, ◌<◌, true, false, List, ◌++◌, length, refl, sym, ap, ◌∙◌, arith, append_assoc, length-append, nat_eq, nat_lt}
+use Rattle.std.proofs.Common.{◌≡◌, ℕ, ◌+◌, ◌%◌, ◌<◌, Bool, true, false, ◌&&◌, eqb-true, List, ◌++◌, length, refl, sym, ap, ◌∙◌, arith, append_assoc, length-append, nat_eq, nat_lt}
 use Rattle.std.proofs.lemmas.Bool.Decides.{nat_tests}
+use Rattle.std.proofs.lemmas.Bool.{ltb-true}
 use Rattle.element.specs.declared.syntax.Syntax.TheVariants.{Explicit}
 use Rattle.element.specs.declared.header.Header.{Header}
 use Rattle.element.specs.Header.{SpellsHeader}
@@ -13,6 +14,16 @@ next_is last h bytes value is =
     let rises : nat_lt last h.tag.1 ≡ true = let e = is.rises in grind (arith, nat_tests) in
     let even : nat_eq (h.length % 2) 0 ≡ true = let e = is.even in grind (arith, nat_tests) in
     rw (group, rises, even) refl
+
+-- what it says of a header that it is the next
+pub next_parts : (last : ℕ) (h : Header) → true ≡ is_next h last → (h.tag.0 ≡ 2) × (last < h.tag.1) × (h.length % 2 ≡ 0)
+next_parts last h e = by (nat_eq h.tag.0 2) (nat_lt last h.tag.1) (nat_eq (h.length % 2) 0) refl refl refl e
+  where
+    by : (a b c : Bool) → nat_eq h.tag.0 2 ≡ a → nat_lt last h.tag.1 ≡ b → nat_eq (h.length % 2) 0 ≡ c → true ≡ (a && b && c) → (h.tag.0 ≡ 2) × (last < h.tag.1) × (h.length % 2 ≡ 0)
+    by true true true p q r e = (eqb-true h.tag.0 2 p, ltb-true last h.tag.1 q, eqb-true (h.length % 2) 0 r)
+    by true true false p q r e = absurd cc
+    by true false c p q r e = absurd cc
+    by false b c p q r e = absurd cc
 
 same_header : (last : ℕ) (header h : Header) (bytes front value rest back : List ℕ) → SpellsHeader Explicit header bytes → IsElement last h front value → bytes ++ rest ≡ (front ++ value) ++ back
     → (header ≡ h) × (length bytes ≡ length front)

@@ -232,7 +232,7 @@ impl<R: Files<File = File> + Alloc + Clone + Drop> FolderFiling<R> {
         if !self.has_sync {
             return Ok(());
         }
-        if self.layout == Layout::Flat {
+        if matches!(self.layout, Layout::Flat) {
             return self.folder.sync_all();
         }
         let path = folder_path(self.rt.alloc(), self.dir.as_str(), place.folder)?;

@@ -6,7 +6,7 @@ ghost use Rattle.part10.specs.machine.Places.{next_place};
 const GREATEST: u32 = 9_999_999;
 
 /// How a folder keeps its files.
-#[derive(Clone, Copy, Debug, PartialEq, Eq)]
+#[derive(Clone, Copy)]
 pub enum Layout {
     /// All files stand in the folder itself.
     Flat,
@@ -15,7 +15,7 @@ pub enum Layout {
 }
 
 /// Where a file stands.
-#[derive(Clone, Copy, Debug, PartialEq, Eq)]
+#[derive(Clone, Copy)]
 pub struct Place {
     /// The number of its folder; 0 in a flat layout.
     pub folder: u32,
@@ -39,7 +39,7 @@ impl Place {
                 file: file + 1,
             });
         }
-        if layout == Layout::Flat || folder >= GREATEST {
+        if matches!(layout, Layout::Flat) || folder >= GREATEST {
             return None;
         }
         Some(Place {

@@ -20,13 +20,31 @@ loop-left-init g c =
       is = record { class = ap (λ z. z.class) none; instance = ap (λ z. z.instance) none; syntax = ap (λ z. z.syntax) none };
     }
 
-pub returns-in_err-element-clause-none : goal.returns-in_err-element-clause-none
-returns-in_err-element-clause-none g c =
-    let p = err_from_is_err_and c.from_residual.result c.from_residual.ensures.1 in
-    rw (p.1, p.2) (breaks_after _ _ _ _ _ (NoGroup c.args.size) c.loop-left.invariant.taken c.in_err-element.ensures.none
-    (λ rest none. no_group c.args.size c.loop-left.left c.loop-left.last c.loop-left.found _ _ c.loop-left.invariant rest c.loop-left-test.true none))
+pub returns-in_err-element : goal.returns-in_err-element
+returns-in_err-element g c =
+    record {
+      read = rw (err_from_is_err_and c.from_residual.result c.from_residual.ensures.1).1 tt;
+      none = let p = err_from_is_err_and c.from_residual.result c.from_residual.ensures.1 in
+          rw (p.1, p.2) (breaks_after _ _ _ _ _ (NoGroup c.args.size) c.loop-left.invariant.taken c.in_err-element.ensures.none
+          (λ rest none. no_group c.args.size c.loop-left.left c.loop-left.last c.loop-left.found _ _ c.loop-left.invariant rest c.loop-left-test.true none));
+    }
 
 pub loop-left-preserved : goal.loop-left-preserved
 loop-left-preserved g c =
     let more = grouped_then c.args.size c.loop-left.left c.loop-left.last c.loop-left.found c.in_ok-element.element _ _ _ c.loop-left.invariant c.in_ok-element.ensures.read in
     subst (λ z. Grouped c.args.size (c.loop-left.left - c.in_ok-element.element.size) c.in_ok-element.element.number z (g.R.Read.remaining c.args.input.now) (g.R.Read.remaining c.read_element.new.input)) (sym c.note.ensures) more
+
+pub returns : goal.returns
+returns g c =
+    let all = c.loop-left.invariant in
+    record {
+      read = record {
+        group = all.text;
+        elements = all.elements;
+        taken = all.taken;
+        counted = omega (arith, all.counted, c.loop-left-test.false);
+        spelled = all.spelled;
+        is = all.is;
+      };
+      none = tt;
+    }

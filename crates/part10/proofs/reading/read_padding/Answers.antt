@@ -13,3 +13,11 @@ loop-left-preserved g c =
       counted = rw length-append (omega (arith, filled.size, length-take c.min-part.result c.loop-left.room, c.min-part.array_long, c.min-part.ensures, so_far.counted));
       is = rw (so_far.is, c.are_padding-is_padding.ensures) (sym (both_padding so_far.text c.read_whole.new.room));
     }
+
+pub returns : goal.returns
+returns g c =
+    let all = c.loop-left.invariant in
+    record {
+      read = (all.text, all.taken, (omega (arith, all.counted, c.loop-left-test.false), all.is));
+      short = tt;
+    }
