@@ -4,7 +4,7 @@ use Rattle.std.proofs.lemmas.Bool.{cases_Bool}
 use Rattle.std.proofs.lemmas.Bool.Decides.{nat_tests}
 use Rattle.std.proofs.lemmas.List.{length-append, drop_all, take_all, take-append-le}
 use Rattle.pdu.specs.Frames.{IsFrame, IsRest}
-use Rattle.pdu.specs.Marks.{Head, PdvHead, frame_kind, frame_length}
+use Rattle.pdu.specs.Marks.{Head, frame_kind, frame_length}
 use Rattle.pdu.proofs.Public.{same_frame}
 use Rattle.engine.specs.declared.framing.Framing.TheVariants as framing
 use Rattle.pdu.specs.Spot.{Spot, Opening, Plain, InPdv, spot, room_left}

@@ -92,36 +92,36 @@ module _ (rooms : Rooms) (set : Settings) where
       pdv_head_bad r c v rest shows.spot_is lt (omega (arith, ap length e)) why_too
 
   pub found_bad : (l l2 n : ℕ) (h v v2 : List ℕ) (k : Kept) (p : Progress) (r c : List ℕ) (t u : Devices) → IsRest r → InPdvHead l h v r (spot r) → v2 ≡ v ++ c → length v < 6 → length v2 ≡ 6
-      → n ≡ big_number 4 v2 → (n < 2) ⊎ (l - length c < n - 2) → Does rooms set p (At BadPdv) k [] [] t u → length c < l → l2 ≡ l - length c
+      → n ≡ big_number 4 v2 → (n < 2) ⊎ (l2 < n - 2) → Does rooms set p (At BadPdv) k [] [] t u → length c ≤ l → l2 ≡ l - length c → 0 < l2
       → Found rooms set (record { framing = framing.Body l2; head = h; pdv = []; kept = k }) p r c None t u
-  found_bad l l2 n h v v2 k p r c t u rest shows e lt six n_is why did more_left l2_is =
+  found_bad l l2 n h v v2 k p r c t u rest shows e lt six n_is why did fits l2_is more_left =
       let m = more r c shows.headed in
       let left : l ≡ room_left r = shows.left_is in
       record {
         spot_then = Plain;
         marks = BadPdv ∷ [];
-        comes = bad_comes l n h v v2 r c rest shows e lt six (omega arith) n_is why;
+        comes = bad_comes l n h v v2 r c rest shows e lt six fits n_is (subst (λ (z : ℕ). (n < 2) ⊎ (z < n - 2)) l2_is why);
         does = rw (data_body r c v rest shows.spot_is) (does_one rooms set p _ k [] [] t u did);
         later = (m.goes (omega arith), record { headed = m.long; head_is = shows.head_is ∙ sym m.head; left_is = omega (arith, m.room); spot_is = refl });
       }
 
-  pub found_bad_end : (l n : ℕ) (h v v2 : List ℕ) (k : Kept) (p : Progress) (r c : List ℕ) (t u : Devices) → IsRest r → InPdvHead l h v r (spot r) → v2 ≡ v ++ c → length v < 6 → length v2 ≡ 6
-      → n ≡ big_number 4 v2 → (n < 2) ⊎ (l - length c < n - 2) → Does rooms set p (At BadPdv) k [] [] t u → length c ≡ l
+  pub found_bad_end : (l l2 n : ℕ) (h v v2 : List ℕ) (k : Kept) (p : Progress) (r c : List ℕ) (t u : Devices) → IsRest r → InPdvHead l h v r (spot r) → v2 ≡ v ++ c → length v < 6 → length v2 ≡ 6
+      → n ≡ big_number 4 v2 → (n < 2) ⊎ (l2 < n - 2) → Does rooms set p (At BadPdv) k [] [] t u → length c ≤ l → l2 ≡ l - length c → l2 ≡ 0
       → Found rooms set (record { framing = framing.Head; head = []; pdv = []; kept = k }) p r c (Some 4) t u
-  found_bad_end l n h v v2 k p r c t u rest shows e lt six n_is why did all =
+  found_bad_end l l2 n h v v2 k p r c t u rest shows e lt six n_is why did fits l2_is all =
       let m = more r c shows.headed in
       let left : l ≡ room_left r = shows.left_is in
       record {
         spot_then = Plain;
         marks = BadPdv ∷ [];
-        comes = bad_comes l n h v v2 r c rest shows e lt six (omega arith) n_is why;
+        comes = bad_comes l n h v v2 r c rest shows e lt six fits n_is (subst (λ (z : ℕ). (n < 2) ⊎ (z < n - 2)) l2_is why);
         does = rw (data_body r c v rest shows.spot_is) (does_one rooms set p _ k [] [] t u did);
         later = (m.ends rest (omega arith), omega arith, data_kind r c v rest shows.spot_is, record { short = omega arith; head_is = refl; pdv_is = refl });
       }
 
   -- a head, and a fragment to come
   pub found_pdv_head : (l l2 n f : ℕ) (h v v2 : List ℕ) (k : Kept) (p : Progress) (r c : List ℕ) (t u : Devices) → IsRest r → InPdvHead l h v r (spot r) → v2 ≡ v ++ c → length v < 6 → length v2 ≡ 6
-      → n ≡ big_number 4 v2 → n - 2 ≤ l - length c → f ≡ n - 2 → 0 < f → Does rooms set p (At (head_mark v2)) k [] v2 t u → length c ≤ l → l2 ≡ l - length c
+      → n ≡ big_number 4 v2 → n - 2 ≤ l2 → f ≡ n - 2 → 0 < f → Does rooms set p (At (head_mark v2)) k [] v2 t u → length c ≤ l → l2 ≡ l - length c
       → Found rooms set (record { framing = framing.Fragment l2 f; head = h; pdv = v2; kept = k }) p r c None t u
   found_pdv_head l l2 n f h v v2 k p r c t u rest shows e lt six n_is fits f_is some did within l2_is =
       let m = more r c shows.headed in

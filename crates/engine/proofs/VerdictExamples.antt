@@ -1,5 +1,5 @@
 -- Verdicts on data sets that break a rule.
-use Rattle.std.proofs.Common.{◌≡◌, ℕ, ◌^◌, Bool, List, length, Option, Some, None, refl, subst, nat_eq, codes}
+use Rattle.std.proofs.Common.{◌≡◌, ℕ, ◌^◌, Bool, List, length, Some, refl, subst, nat_eq}
 use Rattle.element.specs.declared.syntax.Syntax.{Syntax}
 use Rattle.element.specs.declared.syntax.Syntax.TheVariants.{Implicit, Explicit}
 use Rattle.element.specs.Header.{need, is_whole, header_at}

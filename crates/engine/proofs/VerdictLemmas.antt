@@ -1,5 +1,5 @@
 -- There is one verdict on each store.
-use Rattle.std.proofs.Common.{◌≡◌, ◌≢◌, ◌⊎◌, inl, inr, ℕ, Bool, true, false, List, [], ◌∷◌, ◌++◌, length, Option, Some, None, refl, sym, ap, subst, ◌∙◌, append-nil, length-append, arith, nat_eq, rules, if◌then◌else◌}
+use Rattle.std.proofs.Common.{◌≡◌, ◌≢◌, ◌⊎◌, inl, inr, ℕ, Bool, true, false, List, [], ◌∷◌, ◌++◌, Option, Some, None, refl, sym, ap, subst, ◌∙◌, append-nil, nat_eq}
 use Rattle.std.proofs.lemmas.Bool.Decides.{eqb_tells}
 use Rattle.element.specs.declared.syntax.Syntax.{Syntax}
 use Rattle.element.specs.declared.tag.Tag.{Tag}
@@ -17,14 +17,14 @@ use Rattle.sequence.specs.FirstFault.{IsUnbroken, FirstFault, EndFault, tag_of_t
 use Rattle.sequence.specs.Walk.{Told, Tells, going, refused}
 use Rattle.sequence.proofs.Public.{no_header}
 use Rattle.sequence.proofs.Public.{one_path}
-use Rattle.sequence.proofs.Public.{one_fault, some_telling}
+use Rattle.sequence.proofs.Public.{some_telling}
 use Rattle.dimse.specs.Command.{CommandRecord}
 use Rattle.dimse.specs.Status.{class_not_supported, data_set_mismatch, cannot_understand}
 use Rattle.negotiate.specs.declared.proposals.Context.{Context}
 use Rattle.engine.specs.Timeline.{Finding, good}
 use Rattle.dimse.specs.Detail.{class_mismatch, instance_mismatch}
-use Rattle.engine.specs.Stores.{IsOfContext, HasNoFault, NamesUid, NamesInstance, Verdict, other_class, no_room, faulty, cut, names_class, names_instance, unfiled, filed, wanted, limits, class_tag, instance_tag, cause}
-use Rattle.engine.specs.StoreLaws.{AVerdictIsThere, AVerdictIsOne}
+use Rattle.engine.specs.Stores.{IsOfContext, NamesUid, NamesInstance, Verdict, other_class, cut, names_class, names_instance, unfiled, filed, wanted, limits, class_tag, instance_tag, cause}
+use Rattle.engine.specs.StoreLaws.{AVerdictIsThere}
 use Rattle.engine.specs.machine.Verdicts.{no_resources, of_fault}
 use Rattle.engine.proofs.WalkVerdictLemmas.{rule_found}
 

@@ -2,13 +2,10 @@
 use Rattle.std.proofs.Common.{◌≡◌, ℕ, ◌<◌, List, [], ◌∷◌, ◌++◌, take, drop, length, Option, Some, None, suc, refl, sym, ap, subst, ◌∙◌, take-append-drop, append_assoc, append-nil, arith}
 use Rattle.element.specs.Numbers.{IsBytes}
 use Rattle.element.specs.declared.syntax.Syntax.{Syntax}
-use Rattle.element.specs.declared.tag.Tag.{Tag}
 use Rattle.sequence.specs.declared.fault.Fault.{Fault}
 use Rattle.sequence.specs.declared.walker.Walker.{Walker}
 use Rattle.sequence.specs.Rules.{Limits}
-use Rattle.sequence.specs.FirstFault.{FirstFault}
-use Rattle.sequence.specs.Walk.{Told, Tells, going, refused}
-use Rattle.sequence.specs.Taken.{StandsAt, walker_syntax, limits_of, fault_of, told_by}
+use Rattle.sequence.specs.Taken.{StandsAt, walker_syntax, limits_of, fault_of}
 use Rattle.sequence.proofs.Public.{refused_stands}
 use Rattle.engine.specs.machine.Storing.{HasWalked}
 

@@ -1,9 +1,8 @@
 -- The associations of which the whole is shown.
-use Rattle.std.proofs.Common.{◌≡◌, ℕ, ◌+◌, ◌^◌, Bool, List, [], ◌∷◌, ◌++◌, length, drop, eqb, false, Option, Some, None, Result, Ok, refl, ap, subst, arith, lit<, codes}
+use Rattle.std.proofs.Common.{◌≡◌, ℕ, ◌+◌, ◌^◌, Bool, List, [], ◌∷◌, ◌++◌, length, drop, eqb, false, Option, Some, None, Result, Ok, refl, ap, subst, arith, codes}
 use Rattle.element.specs.declared.syntax.Syntax.TheVariants.{Explicit}
 use Rattle.element.specs.Vr.{is_short}
 use Rattle.element.specs.Header.{need, is_whole}
-use Rattle.element.specs.declared.syntax.Syntax.{Syntax}
 use Rattle.element.specs.declared.size.Need.{Need}
 use Rattle.element.specs.declared.size.Need.TheVariants.{More, BadVr}
 use Rattle.dictionary.specs.declared.class.Class.{Class}
@@ -11,11 +10,7 @@ use Rattle.dictionary.specs.declared.class.Class.TheVariants.{Ct, Mr}
 use Rattle.dictionary.specs.Classes.{class_named}
 use Rattle.sequence.specs.Tree.{no_elements, nothing}
 use Rattle.sequence.specs.Open.{Open, in_header, at_elements, header_tail}
-use Rattle.sequence.specs.Rules.{Limits}
 use Rattle.sequence.specs.FirstFault.{IsUnbroken}
-use Rattle.sequence.specs.Walk.{Told, Tells, going, refused}
-use Rattle.sequence.specs.machine.Machine.{due, arrive, run}
-use Rattle.sequence.specs.machine.Keeping.{keeps}
 use Rattle.sequence.proofs.Public.{nothing_unbroken}
 use Rattle.dictionary.specs.Syntaxes.{syntax_named}
 use Rattle.dimse.specs.declared.fault.DimseFault.{DimseFault}

@@ -1,6 +1,6 @@
 -- What follows for stores: there is one verdict on each; no good image is refused; and what is filed for a store depends
 -- on nothing but itself and its sender's title.
-use Rattle.std.specs.Prelude.{◌≡◌, ℕ, Bool, false, List, [], ◌∷◌, Option, Some, None, Ok}
+use Rattle.std.specs.Prelude.{◌≡◌, ℕ, Bool, false, List, [], ◌∷◌, Some, None, Ok}
 use Rattle.element.specs.Numbers.{IsBytes}
 use Rattle.element.specs.declared.syntax.Syntax.{Syntax}
 use Rattle.pdu.specs.Items.{request_record}

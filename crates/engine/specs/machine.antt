@@ -9,6 +9,7 @@ pub mod DoesDue
 pub mod Messages
 pub mod Does
 pub mod Counts
+pub mod Counted
 pub mod Shows
 pub mod HeldHeads
 pub mod Running

@@ -8,6 +8,7 @@ ghost use Rattle.engine.specs.machine.Pends.{BodyFits, FragmentFits};
 
 mod fields;
 mod parts;
+mod pdvs;
 
 use crate::framing::Framing;
 use crate::provider::Provider;

@@ -28,7 +28,7 @@ const PDV_HEAD: u32 = 6;
 const HEADS: usize = 12;
 
 /// What the head of a PDU brings.
-#[derive(Clone, Copy, Debug, PartialEq, Eq)]
+#[derive(Clone, Copy)]
 pub(crate) enum HeadEvent {
     /// Nothing yet: the PDU is taken.
     Nothing,

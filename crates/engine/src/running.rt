@@ -1,8 +1,11 @@
 //! A run over a source of inputs.
-ghost use Rattle.std.specs.Prelude.{◌≤◌, ◌^◌, ◌+◌, ◌*◌};
+ghost use Rattle.std.specs.Prelude.{◌≡◌, ◌≤◌, ◌^◌, ◌+◌, ◌*◌};
 ghost use Rattle.negotiate.specs.Settings.{settings_of};
 ghost use Rattle.engine.specs.Devices.{devices};
+ghost use Rattle.engine.specs.Drafts.{IsThere};
+ghost use Rattle.engine.specs.Fields.{drafting_of, fields_of, settings_in};
 ghost use Rattle.engine.specs.machine.Kept.{rooms_of};
+ghost use Rattle.engine.specs.machine.Running.{TookInput};
 ghost use Rattle.engine.specs.Ran.{Ran};
 
 use crate::association::Association;
@@ -11,6 +14,30 @@ use crate::source::{Input, Source};
 use negotiate::Config;
 use part10::Filing;
 use pdu::Wire;
+
+/// Takes the next input of the source.
+fn take_input<
+    const A: usize,
+    const C: usize,
+    const V: usize,
+    const D: usize,
+    S: Source,
+    W: Wire,
+    F: Filing,
+>(association: &mut Association<A, C, V, D>, source: &mut S, wire: &mut W, filing: &mut F)
+    requires draft { IsThere (drafting_of association.old) (F.store filing.old) }
+    ensures draft { IsThere (drafting_of association.new) (F.store filing.new) }
+    ensures settings { settings_in association.new ≡ settings_in association.old }
+    ensures took { TookInput (rooms_of A C V D) (settings_in association.old) (S.to_come source.old) (S.to_come source.new) (fields_of association.old) (fields_of association.new)
+        (devices (W.line wire.old) (F.store filing.old)) (devices (W.line wire.new) (F.store filing.new)) }
+{
+    match source.next(association.artim()) {
+        Input::Piece => association.feed(source.piece(), wire, filing),
+        Input::Closed => association.closed(wire, filing),
+        Input::Expired => association.expired(wire, filing),
+        Input::LocalAbort => association.local_abort(wire, filing),
+    }
+}
 
 /// Opens an association and takes inputs until it has ended or `turns` were taken; then drops the
 /// draft that may be there. Returns how the association stands, and how many received bytes it holds.
@@ -46,12 +73,7 @@ pub fn run<
         if over {
             break;
         }
-        match source.next(association.artim()) {
-            Input::Piece => association.feed(source.piece(), wire, filing),
-            Input::Closed => association.closed(wire, filing),
-            Input::Expired => association.expired(wire, filing),
-            Input::LocalAbort => association.local_abort(wire, filing),
-        }
+        take_input(&mut association, source, wire, filing);
     }
     filing.discard();
     Report {

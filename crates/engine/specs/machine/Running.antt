@@ -2,7 +2,9 @@
 use Rattle.std.specs.Prelude.{◌≡◌, ℕ, Bool, false, List, length, Option, Some, None}
 use Rattle.negotiate.specs.Settings.{Settings}
 use Rattle.engine.specs.Devices.{Devices}
-use Rattle.engine.specs.Inputs.{Received, first_inputs}
+use Rattle.engine.specs.declared.source.Input.{Input}
+use Rattle.engine.specs.Inputs.{Received, Gives, first_inputs, input_of}
+use Rattle.engine.specs.Moves.{Moved}
 use Rattle.engine.specs.Gains.{Gains}
 use Rattle.engine.specs.Progress.{at_start}
 use Rattle.engine.specs.Ran.{inputs_after, EndsLast}
@@ -30,3 +32,11 @@ pub record Running (rooms : Rooms) (s : Settings) (turns : ℕ) (source_old sour
   pub number : length taken ≡ turns
   pub follows : Follows source_old source_now taken
   pub stood : Stood rooms s taken seen old new
+
+-- a source gave one more input, and this is what it did to an association and its devices
+pub record TookInput (rooms : Rooms) (s : Settings) (source_old source_now : Option (List Received)) (seen_old seen_new : Fields) (old new : Devices) : Type 0 where
+  pub bytes : List ℕ
+  pub kind : Input
+  pub gives : Gives source_old source_now bytes kind
+  pub moved : (inputs : List Received) (story : List Happened) (failed : Bool) → Stands rooms s inputs story failed seen_old old.store
+      → Moved rooms s inputs story failed (input_of kind bytes) seen_old seen_new old new

@@ -20,13 +20,27 @@ fn fields<const A: usize, const C: usize, const V: usize, const D: usize>(
         pdv,
         provider,
     } = association;
+    let Provider {
+        config,
+        state,
+        refused,
+        caller,
+        peer_max,
+        table,
+        body,
+        join,
+        storing,
+    } = provider;
     let _: &ArrayVec<u8, 6> = head;
     let _: &ArrayVec<u8, 6> = pdv;
-    framing_fields(framing);
-    provider_fields(provider);
-}
-
-fn framing_fields(framing: &Framing) {
+    let _: &Config = config;
+    let _: &State = state;
+    let _: &bool = refused;
+    let _: &[u8; 16] = caller;
+    let _: &u32 = peer_max;
+    let _: &ArrayVec<ContextRow, 128> = table;
+    let _: &ArrayVec<u8, A> = body;
+    let _: &Join<C> = join;
     match framing {
         Framing::Head => {}
         Framing::Body { left } => {
@@ -40,34 +54,6 @@ fn framing_fields(framing: &Framing) {
             let _: &u32 = more;
         }
     }
-}
-
-fn provider_fields<const A: usize, const C: usize, const V: usize, const D: usize>(
-    provider: &Provider<A, C, V, D>,
-) {
-    let Provider {
-        config,
-        state,
-        refused,
-        caller,
-        peer_max,
-        table,
-        body,
-        join,
-        storing,
-    } = provider;
-    let _: &Config = config;
-    let _: &State = state;
-    let _: &bool = refused;
-    let _: &[u8; 16] = caller;
-    let _: &u32 = peer_max;
-    let _: &ArrayVec<ContextRow, 128> = table;
-    let _: &ArrayVec<u8, A> = body;
-    let _: &Join<C> = join;
-    storing_fields(storing);
-}
-
-fn storing_fields<const V: usize, const D: usize>(storing: &Storing<V, D>) {
     match storing {
         Storing::Nothing => {}
         Storing::DataSet { walker, drafting } => {

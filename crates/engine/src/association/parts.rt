@@ -1,82 +1,60 @@
 //! Takes a piece of the stream, part by part.
-ghost use Rattle.std.specs.Prelude.{◌≡◌, ◌≤◌, ◌<◌, ◌∷◌, ◌-◌, [], ℕ, List, length, drop, take, get_or, map, false, IfSome, ◌+◌};
+ghost use Rattle.std.specs.Prelude.{◌≡◌, ◌≤◌, ◌<◌, ◌-◌, ◌++◌, [], ℕ, List, length, take, false, IfSome, MatchOption, ◌+◌};
 ghost use Rattle.arrayvec.specs.ArrayVec.{array_vec_len};
-ghost use Rattle.pdu.specs.Marks as spelling;
-ghost use Rattle.pdu.specs.Marks.{Pdv, frame_kind, pdv_size};
-ghost use Rattle.pdu.specs.Parts.{leftover_marks};
+ghost use Rattle.pdu.specs.Heads.{pdu_head_of, pdv_head_of};
+ghost use Rattle.pdu.specs.Marks.{frame_kind};
 ghost use Rattle.engine.specs.Devices.{Devices, devices};
 ghost use Rattle.engine.specs.Progress.{Progress};
 ghost use Rattle.engine.specs.Drafts.{IsThere, Drafts};
 ghost use Rattle.engine.specs.machine.Storing.{drafting_in};
-ghost use Rattle.engine.specs.Timeline.{At};
-ghost use Rattle.engine.specs.machine.Counts.{due, head_least, head_most, pdv_least, body_due, pdvs_due, fragment_due, ended_by, framing_after, head_after};
-ghost use Rattle.engine.specs.machine.Does.{DoesAll};
+ghost use Rattle.engine.specs.machine.Counts.{body_due, pdvs_due};
 ghost use Rattle.engine.specs.machine.Kept.{kept_of, settings_in, rooms_of};
 ghost use Rattle.engine.specs.machine.Pends.{Pends, BodyFits, FragmentFits};
 
 use super::Association;
+use super::pdvs::{DATA, add_part, begin_pdv};
 use crate::framing::Framing;
-use crate::provider::Provider;
 use arrayvec::ArrayVec;
 use part10::Filing;
-use pdu::{PdvHead, Wire, read_pdu_head, read_pdv_head};
+use pdu::{PduHead, PdvHead, Wire, read_pdu_head, read_pdv_head};
 
-/// The type of P-DATA-TF.
-const DATA: u8 = 0x04;
-
-/// Whether one to five bytes of a P-DATA-TF are left after a PDV.
-fn is_leftover(left: u32) -> bool
-    ensures { result ≡ spelling.is_leftover left }
+/// Appends bytes of a piece, at most `most`, to the beginning of a head of six bytes. Returns how many.
+fn fill(bytes: &mut ArrayVec<u8, 6>, most: usize, piece: &[u8]) -> usize
+    requires short { array_vec_len bytes.old < 6 }
+    requires some { 0 < length piece.now }
+    requires due { 0 < most }
+    ensures some { 0 < result }
+    ensures within { result ≤ length piece.now }
+    ensures fits { result ≤ most }
+    ensures fills { bytes.new.items ≡ bytes.old.items ++ take result piece.now }
 {
-    1 <= left && left <= 5
+    let count = piece.len().min(6 - bytes.len()).min(most);
+    bytes.try_extend_from_slice(&piece[..count]).unwrap();
+    count
 }
 
-/// A PDV is whole, and `left` bytes of its PDU are to come. Returns the PDU's type where none is.
-fn end_pdv<const A: usize, const C: usize, const V: usize, const D: usize, W: Wire, F: Filing>(
-    framing: &mut Framing,
-    head: &mut ArrayVec<u8, 6>,
-    provider: &mut Provider<A, C, V, D>,
-    context: u8,
-    left: u32,
-    wire: &mut W,
-    filing: &mut F,
-) -> Option<u8>
-    requires draft { IsThere (drafting_in (kept_of provider.old).storing) (F.store filing.old) }
-    requires headed { array_vec_len head.old ≡ 6 }
-    ensures some_due { 0 < due framing.new }
-    ensures head_least { head_least framing.new ≤ array_vec_len head.new }
-    ensures head_most { array_vec_len head.new ≤ head_most framing.new }
-    ensures pdv_least { pdv_least framing.new ≡ 0 }
-    ensures no_fragment { fragment_due framing.new ≡ 0 }
-    ensures kept { 0 < body_due framing.new + pdvs_due framing.new → head.new.items ≡ head.old.items }
-    ensures none_due { IfSome result (λ kind. body_due framing.new + pdvs_due framing.new ≡ 0) }
-    ensures ended { result ≡ ended_by left }
-    ensures framing { framing.new ≡ framing_after left }
-    ensures head { head.new.items ≡ head_after left head.old.items }
-    ensures settings { settings_in provider.new ≡ settings_in provider.old }
-    ensures drafts { Drafts (drafting_in (kept_of provider.old).storing) (F.store filing.old) (drafting_in (kept_of provider.new).storing) (F.store filing.new) }
-    ensures does { (p : Progress) (begun : List ℕ) → 6 ≤ length begun → length begun ≡ pdv_size begun → context ≡ get_or begun 4 0 → Pends (kept_of provider.old) (F.store filing.old) p [] begun
-        → DoesAll (rooms_of A C V D) (settings_in provider.old) p (At (Pdv (get_or begun 4 0) (get_or begun 5 0) (drop 6 begun)) ∷ map At (leftover_marks left)) (kept_of provider.new) [] []
-        (devices (W.line wire.old) (F.store filing.old)) (devices (W.line wire.new) (F.store filing.new)) }
+/// Reads the head of a PDU once its six bytes are there.
+fn pdu_head(bytes: &ArrayVec<u8, 6>) -> Option<PduHead>
+    ensures { MatchOption result (array_vec_len bytes.now < 6) (λ head. (array_vec_len bytes.now ≡ 6) × (head ≡ pdu_head_of bytes.now.items)) }
 {
-    provider.on_pdv(context, wire, filing);
-    if left == 0 {
-        head.clear();
-        *framing = Framing::Head;
-        return Some(DATA);
+    match bytes.first_chunk::<6>() {
+        Some(six) => Some(read_pdu_head(six)),
+        None => None,
     }
-    if is_leftover(left) {
-        *framing = Framing::Body { left };
-        provider.on_leftover(wire, filing);
-    } else {
-        *framing = Framing::PdvHead { left };
+}
+
+/// Reads the head of a PDV once its six bytes are there.
+fn pdv_head(bytes: &ArrayVec<u8, 6>) -> Option<PdvHead>
+    ensures { MatchOption result (array_vec_len bytes.now < 6) (λ head. (array_vec_len bytes.now ≡ 6) × (head ≡ pdv_head_of bytes.now.items)) }
+{
+    match bytes.first_chunk::<6>() {
+        Some(six) => Some(read_pdv_head(six)),
+        None => None,
     }
-    None
 }
 
 impl<const A: usize, const C: usize, const V: usize, const D: usize> Association<A, C, V, D> {
     ghost use Rattle.pdu.specs.Frames.{IsRest};
-    ghost use Rattle.pdu.specs.Marks.{new_marks};
     ghost use Rattle.pdu.specs.Spot.{Spot, spot};
     ghost use Rattle.engine.specs.Held.{is_ended};
     ghost use Rattle.engine.specs.machine.Shows.{InHead, InBody, InPdvHead, InFragment, ShowsFrame, Found, DoesPart, body_of};
@@ -102,13 +80,11 @@ impl<const A: usize, const C: usize, const V: usize, const D: usize> Association
             → Found (rooms_of A C V D) (settings_in self.old.provider) (fields_of self.new) p r (take result.0 piece.now) result.1
             (devices (W.line wire.old) (F.store filing.old)) (devices (W.line wire.new) (F.store filing.new)) }
     {
-        let count = piece.len().min(6 - self.head.len());
-        self.head.try_extend_from_slice(&piece[..count]).unwrap();
+        let count = fill(&mut self.head, 6, piece);
         self.framing = Framing::Head;
-        let Some(bytes) = self.head.first_chunk::<6>() else {
+        let Some(head) = pdu_head(&self.head) else {
             return (count, None);
         };
-        let head = read_pdu_head(bytes);
         self.provider.on_head(head.kind, head.length, wire, filing);
         if head.length == 0 {
             self.head.clear();
@@ -174,49 +150,29 @@ impl<const A: usize, const C: usize, const V: usize, const D: usize> Association
             → Found (rooms_of A C V D) (settings_in self.old.provider) (fields_of self.new) p r (take result.0 piece.now) result.1
             (devices (W.line wire.old) (F.store filing.old)) (devices (W.line wire.new) (F.store filing.new)) }
     {
-        let count = piece.len().min(6 - self.pdv.len()).min(left as usize);
-        self.pdv.try_extend_from_slice(&piece[..count]).unwrap();
+        let count = fill(&mut self.pdv, left as usize, piece);
         let left = left - count as u32;
-        let Some(bytes) = self.pdv.first_chunk::<6>() else {
-            if left == 0 {
-                self.head.clear();
-                self.pdv.clear();
-                self.framing = Framing::Head;
-                return (count, Some(DATA));
-            }
+        if let Some(begun) = pdv_head(&self.pdv) {
+            let ended = begin_pdv(
+                &mut self.framing,
+                &mut self.head,
+                &mut self.pdv,
+                &mut self.provider,
+                begun,
+                left,
+                wire,
+                filing,
+            );
+            return (count, ended);
+        }
+        if left > 0 {
             self.framing = Framing::PdvHead { left };
             return (count, None);
-        };
-        let head = read_pdv_head(bytes);
-        if head.length < 2 || head.length - 2 > left {
-            self.pdv.clear();
-            self.provider.on_bad(wire, filing);
-            if left == 0 {
-                self.head.clear();
-                self.framing = Framing::Head;
-                return (count, Some(DATA));
-            }
-            self.framing = Framing::Body { left };
-            return (count, None);
         }
-        self.provider.on_pdv_head(head, wire, filing);
-        let more = head.length - 2;
-        if more > 0 {
-            self.framing = Framing::Fragment { left, more };
-            return (count, None);
-        }
-        let context = self.pdv[4];
+        self.head.clear();
         self.pdv.clear();
-        let ended = end_pdv(
-            &mut self.framing,
-            &mut self.head,
-            &mut self.provider,
-            context,
-            left,
-            wire,
-            filing,
-        );
-        (count, ended)
+        self.framing = Framing::Head;
+        (count, Some(DATA))
     }
 
     /// Takes bytes of a fragment.
@@ -246,21 +202,14 @@ impl<const A: usize, const C: usize, const V: usize, const D: usize> Association
             (devices (W.line wire.old) (F.store filing.old)) (devices (W.line wire.new) (F.store filing.new)) }
     {
         let count = piece.len().min(more as usize);
-        self.provider.on_data(&piece[..count], wire, filing);
-        let left = left - count as u32;
-        let more = more - count as u32;
-        if more > 0 {
-            self.framing = Framing::Fragment { left, more };
-            return (count, None);
-        }
-        let context = self.pdv[4];
-        self.pdv.clear();
-        let ended = end_pdv(
+        let ended = add_part(
             &mut self.framing,
             &mut self.head,
+            &mut self.pdv,
             &mut self.provider,
-            context,
             left,
+            more,
+            &piece[..count],
             wire,
             filing,
         );

@@ -2,7 +2,6 @@
 use Rattle.std.proofs.Common.{◌≡◌, ◌≢◌, true, false, ◌∙◌, refl, arith, sym, ap, subst}
 use Rattle.negotiate.specs.Settings.{Settings, settings_of}
 use Rattle.part10.specs.Store.{Store}
-use Rattle.engine.specs.declared.source.Input.TheVariants.{Piece, Closed, Expired, LocalAbort}
 use Rattle.acceptor.specs.declared.state.State.TheVariants.{Sta1}
 use Rattle.engine.specs.Fields.{fields_of, state_of}
 use Rattle.engine.specs.machine.Kept.{rooms_of}
@@ -14,7 +13,7 @@ use Rattle.engine.proofs.StillLemmas.{ended_is}
 use Rattle.engine.proofs.RanLemmas.{running_start, running_more, follows_all, answered_by}
 use Rattle.engine.proofs.SizeLemmas.{association_small}
 use Rattle.engine.proofs.running.run.Goals as goal
-use Rattle.engine.proofs.running.run.Goals.{in-Piece, in-Closed, in-Expired, in-LocalAbort, else-loop-turn-test, then-loop-turn-test+then-over}
+use Rattle.engine.proofs.running.run.Goals.{else-loop-turn-test, then-loop-turn-test+then-over}
 
 pub loop-turn-init : goal.loop-turn-init
 loop-turn-init g c = record {
@@ -30,28 +29,12 @@ loop-turn-preserved g c =
     let i = c.loop-turn.invariant in
     let r = i.running in
     let open_still : state_of c.loop-turn.association ≢ Sta1 = λ e. absurd (let wrong : true ≡ false = sym (ap is_ended e) ∙ sym c.is_ended-over.ensures ∙ c.if-over.false in cc) in
-    elim c.match-next.branch [
-      | in-Piece w ↦ rw (w.association-is, w.wire-is, w.filing-is) (record {
-        settings = w.feed.ensures.settings ∙ i.settings;
-        there = w.feed.ensures.draft;
-        running = running_more rooms s _ _ _ _ _ _ _ _ _ _ Piece _ i.settings open_still r (w.in-Piece.ensures {u = tt}) (rw w.piece.ensures at w.feed.ensures.moved);
-      })
-      | in-Closed w ↦ rw (w.association-is, w.wire-is, w.filing-is) (record {
-        settings = w.closed.ensures.settings ∙ i.settings;
-        there = w.closed.ensures.draft;
-        running = running_more rooms s _ _ _ _ _ _ _ _ _ _ Closed _ i.settings open_still r (w.in-Closed.ensures {u = tt}) w.closed.ensures.moved;
-      })
-      | in-Expired w ↦ rw (w.association-is, w.wire-is, w.filing-is) (record {
-        settings = w.expired.ensures.settings ∙ i.settings;
-        there = w.expired.ensures.draft;
-        running = running_more rooms s _ _ _ _ _ _ _ _ _ _ Expired _ i.settings open_still r (w.in-Expired.ensures {u = tt}) w.expired.ensures.moved;
-      })
-      | in-LocalAbort w ↦ rw (w.association-is, w.wire-is, w.filing-is) (record {
-        settings = w.local_abort.ensures.settings ∙ i.settings;
-        there = w.local_abort.ensures.draft;
-        running = running_more rooms s _ _ _ _ _ _ _ _ _ _ LocalAbort _ i.settings open_still r (w.in-LocalAbort.ensures {u = tt}) w.local_abort.ensures.moved;
-      })
-    ]
+    let t = c.take_input.ensures.took in
+    record {
+      settings = c.take_input.ensures.settings ∙ i.settings;
+      there = c.take_input.ensures.draft;
+      running = running_more rooms s _ _ _ _ _ _ _ _ _ t.bytes t.kind _ i.settings open_still r t.gives t.moved;
+    }
 
 pub returns-clause-ran : goal.returns-clause-ran
 returns-clause-ran g c =
@@ -76,9 +59,6 @@ returns-clause-ran g c =
 
 pub is_ended-over-requires : goal.is_ended-over-requires
 is_ended-over-requires g c = association_small c.loop-turn.association.provider
-
-pub artim-requires : goal.artim-requires
-artim-requires g c = association_small c.loop-turn.association.provider
 
 pub state-requires : goal.state-requires
 state-requires g c = association_small c.loop-turn.association.provider

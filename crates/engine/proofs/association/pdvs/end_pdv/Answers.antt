@@ -1,21 +1,14 @@
-use Rattle.std.proofs.Common.{◌≡◌, ◌<◌, true, false, [], ◌∷◌, ◌∙◌, sym, refl, arith, rules}
+use Rattle.std.proofs.Common.{◌≡◌, ◌<◌, true, false, [], ◌∷◌, ◌∙◌, sym, refl, arith}
 use Rattle.pdu.specs.Marks.{is_leftover, Leftover}
 use Rattle.engine.specs.Timeline.{At}
 use Rattle.engine.specs.machine.Kept.{kept_of}
-use Rattle.engine.proofs.CountLemmas.{none_is_due, at_least, at_most, from_none, no_more, goes_on, keeps_head, left_over, next_head}
+use Rattle.engine.proofs.CountLemmas.{goes_on, keeps_head, left_over, next_head}
 use Rattle.engine.proofs.DoesLemmas.{does_one, does_more}
 use Rattle.engine.proofs.PartLemmas.{drafts_then}
-use Rattle.engine.proofs.association.parts.end_pdv.Goals as goal
+use Rattle.engine.proofs.association.pdvs.end_pdv.Goals as goal
 
 pub returns-then-left-eq0 : goal.returns-then-left-eq0
 returns-then-left-eq0 g c = record {
-  some_due = at_least 1 1 refl;
-  head_least = from_none _;
-  head_most = no_more 5 _ c.clear.ensures;
-  pdv_least = refl;
-  no_fragment = refl;
-  kept = λ some. none_is_due some;
-  none_due = refl;
   ended = rw c.if-left-eq0.true refl;
   framing = rw c.if-left-eq0.true refl;
   head = rw c.if-left-eq0.true c.clear.ensures;
@@ -29,13 +22,6 @@ returns-then-is_leftover g c =
     let more : 0 < c.args.left = omega (arith, c.if-left-eq0.false) in
     let is : is_leftover c.args.left ≡ true = sym c.is_leftover.ensures ∙ c.if-is_leftover.true in
     record {
-      some_due = more;
-      head_least = at_least 6 _ c.requires.headed;
-      head_most = at_most 6 _ c.requires.headed;
-      pdv_least = refl;
-      no_fragment = refl;
-      kept = λ some. refl;
-      none_due = search rules;
       ended = goes_on c.args.left more;
       framing = left_over c.args.left more is;
       head = keeps_head c.args.left _ more;
@@ -52,13 +38,6 @@ returns-else-is_leftover g c =
     let more : 0 < c.args.left = omega (arith, c.if-left-eq0.false) in
     let is : is_leftover c.args.left ≡ false = sym c.is_leftover.ensures ∙ c.if-is_leftover.false in
     record {
-      some_due = more;
-      head_least = at_least 6 _ c.requires.headed;
-      head_most = at_most 6 _ c.requires.headed;
-      pdv_least = refl;
-      no_fragment = refl;
-      kept = λ some. refl;
-      none_due = search rules;
       ended = goes_on c.args.left more;
       framing = next_head c.args.left more is;
       head = keeps_head c.args.left _ more;
