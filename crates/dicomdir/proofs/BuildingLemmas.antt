@@ -61,6 +61,12 @@ file_fits uid rows header records s small =
     let lt : length (directory_header uid) + root_size + forest_size (TreeOf rows) < 2 ^ 32 = omega (arith, small, a, b, root) in
     grind (arith, nat_tests)
 
+pub at_least : (n m : ℕ) → (n < m → ⊥) → m ≤ n
+at_least n m h = omega (arith, h)
+
+pub size_with : (uid : List ℕ) (header records size : ℕ) → header ≡ length (directory_header uid) → size ≡ records + (header + 54) → size ≡ length (directory_header uid) + root_size + records
+size_with uid header records size e s = let root = root_size_is in omega (arith, e, s, root)
+
 pub lays_tree : {A : Type 0} (rows kept : List Row) (e0 e1 : List (LaidRecord A)) (s0 s1 first last : ℕ) → kept ≡ without_doubles [] rows → e0 ≡ [] → s0 ≡ 0
     → Lays (forest_for Patient kept) e0 e1 s0 s1 first last → Lays (TreeOf rows) [] e1 0 s1 first last
 lays_tree rows kept e0 e1 s0 s1 first last e none zero_is lays = rw (← same_tree kept rows e, ← none, ← zero_is) lays

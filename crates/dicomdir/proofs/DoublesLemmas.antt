@@ -6,7 +6,7 @@ use Rattle.std.proofs.lemmas.List.{append-nil, drop_all, take_all}
 use Rattle.std.proofs.lemmas.List.Folds.{list_any-append}
 use Rattle.dicomdir.specs.Places.{doubles_of, doubles_after}
 use Rattle.dicomdir.specs.Row.{Row, without_doubles}
-use Rattle.dicomdir.specs.machine.FirstSeen.{is_seen, with_one, Sees, Takes}
+use Rattle.dicomdir.specs.machine.FirstSeen.{is_seen, with_one, Sees, TakesRow}
 
 abbrev pub newest_first : List (List ℕ) → List (List ℕ)
 newest_first [] = []
@@ -62,7 +62,7 @@ module _ (at : ℕ) (row : Row) (k : List ℕ) (keys new : List (List ℕ)) (n :
   sees_row : Sees row.instance keys new n is_new
   sees_row = subst (λ z. Sees z keys new n is_new) key s
 
-  pub takes_new : is_new ≡ true → after ≡ rows ++ row ∷ [] → Takes at row keys new rows after doubles doubles
+  pub takes_new : is_new ≡ true → after ≡ rows ++ row ∷ [] → TakesRow at row keys new rows after doubles doubles
   takes_new e put =
       let none = not_true (is_seen row.instance keys) is_new sees_row.newness e in
       record {
@@ -71,7 +71,7 @@ module _ (at : ℕ) (row : Row) (k : List ℕ) (keys new : List (List ℕ)) (n :
         doubles_are = sym (ap (λ (b : Bool). cond b (doubles ++ at ∷ []) doubles) none);
       }
 
-  pub takes_double : is_new ≡ false → more ≡ doubles ++ at ∷ [] → Takes at row keys new rows rows doubles more
+  pub takes_double : is_new ≡ false → more ≡ doubles ++ at ∷ [] → TakesRow at row keys new rows rows doubles more
   takes_double e put =
       let one = not_false (is_seen row.instance keys) is_new sees_row.newness e in
       record {
@@ -86,7 +86,7 @@ pub record Leaves (rows : List Row) (at : ℕ) (before : List (List ℕ)) (kept 
   pub doubles_are : doubles ++ doubles_after at before (drop at rows) ≡ doubles_of rows
 
 module _ (rows : List Row) (at : ℕ) (row : Row) (lt : at < length rows) (is : row ≡ get_or rows at row) (keys new : List (List ℕ)) (kept kept2 : List Row) (doubles doubles2 : List ℕ)
-    (l : Leaves rows at (newest_first keys) kept doubles) (t : Takes at row keys new kept kept2 doubles doubles2) where
+    (l : Leaves rows at (newest_first keys) kept doubles) (t : TakesRow at row keys new kept kept2 doubles doubles2) where
   next : at + 1 ≡ suc at
   next = omega arith
 

@@ -1,9 +1,10 @@
 -- A file ID is read from its end: the parts that were seen, and the room that it needs.
-use Rattle.std.proofs.Common.{◌≡◌, ℕ, suc, ◌+◌, ◌*◌, ◌<◌, ◌≤◌, Bool, true, false, ◌&&◌, List, [], ◌∷◌, ◌++◌, replicate, ◌-◌, length, get_or, take, drop, refl, sym, ap, ◌∙◌, add-one, drop-cons, arith, nat_eq, nat_le, if◌then◌else◌}
+use Rattle.std.proofs.Common.{◌≡◌, ℕ, suc, ◌+◌, ◌*◌, ◌<◌, ◌≤◌, Bool, true, false, ◌&&◌, List, [], ◌∷◌, replicate, ◌-◌, length, get_or, take, drop, refl, sym, ap, ◌∙◌, add-one, drop-cons, arith, nat_eq, nat_le, if◌then◌else◌}
 use Rattle.std.specs.List.{list_all}
 use Rattle.std.proofs.lemmas.Bool.{and_parts}
 use Rattle.std.proofs.lemmas.Bool.Decides.{nat_tests}
 use Rattle.std.proofs.lemmas.List.{drop-replicate}
+use Rattle.std.proofs.Math.Seq.{take-append_seam}
 use Rattle.dicomdir.specs.FileId.{is_id_character, is_file_id_component, before_parts, parts_of, is_file_id, filled}
 use Rattle.dicomdir.specs.FileIdRoom.{IsKept}
 
@@ -196,14 +197,10 @@ file_id_room xs e =
 pub zeros_after : (n : ℕ) → drop n (replicate {A = ℕ} 71 0) ≡ replicate {A = ℕ} (71 - n) 0
 zeros_after n = drop-replicate {X = ℕ} n 71 0
 
-front_of : (xs ys : List ℕ) → take (length xs) (xs ++ ys) ≡ xs
-front_of [] ys = refl
-front_of (x ∷ xs) ys = ap (λ zs. x ∷ zs) (front_of xs ys)
-
 pub kept_filled : (text : List ℕ) → is_file_id text ≡ true → IsKept (filled text) (length text)
 kept_filled text e =
-    let front : take (length text) (filled text) ≡ text = front_of text (replicate (71 - length text) 0) in
+    let front : take (length text) (filled text) ≡ text = take-append_seam text (replicate (71 - length text) 0) in
     record { rest_is_zero = ap filled front; size_fits = ap length front; is_one = ap is_file_id front ∙ e }
 
 pub shown_filled : (text : List ℕ) → take (length text) (filled text) ≡ text
-shown_filled text = front_of text (replicate (71 - length text) 0)
+shown_filled text = take-append_seam text (replicate (71 - length text) 0)

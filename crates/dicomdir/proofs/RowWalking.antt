@@ -1,5 +1,5 @@
 -- Walking the data set of a file for its row, piece by piece.
-use Rattle.std.proofs.Common.{◌≡◌, ℕ, zero, suc, ◌-◌, ◌≤◌, List, [], ◌∷◌, ◌++◌, length, take, drop, Option, Some, None, IfSome, refl, sym, ap, subst, ◌∙◌, arith, append_assoc}
+use Rattle.std.proofs.Common.{◌≡◌, ℕ, zero, suc, ◌-◌, ◌<◌, ◌≤◌, List, [], ◌∷◌, ◌++◌, length, take, drop, Option, Some, None, IfSome, refl, sym, ap, subst, ◌∙◌, arith, append_assoc}
 use Rattle.std.proofs.lemmas.List.{append-nil, take_rest}
 use Rattle.std.specs.Io.KnownBytes.{Consumes, IsAtEnd}
 use Rattle.std.proofs.KnownBytes.{Consumes-nil, Consumes-trans, Consumes-all}
@@ -121,6 +121,13 @@ reads_on w0 w v old mid new piece r more along good same = record {
   good = good;
   same = (same.0 ∙ r.same.0, same.1 ∙ r.same.1);
 }
+
+-- a read at the end takes nothing
+pub none_read : (mid new : Option (List ℕ)) (n : ℕ) (room : List ℕ) → n ≡ 0 → Consumes mid new (take n room) → Consumes mid new []
+none_read mid new n room none took = subst (λ k. Consumes mid new (take k room)) none took
+
+pub ended : (new : Option (List ℕ)) (n : ℕ) (old room : List ℕ) → n ≡ 0 → length room ≡ length old → length old ≡ 4096 → (n ≡ 0 → 0 < length room → IsAtEnd new) → IsAtEnd new
+ended new n old room none same size end = end none (omega (arith, same, size))
 
 -- the reader gave all, and it is what the walker took
 taken_all : {V D : ℕ} (w0 w : Walker V D) (old mid new : Option (List ℕ)) (r : Reads w0 w old mid) → Consumes mid new [] → IsAtEnd new → IfSome old (λ text. r.taken ≡ text)

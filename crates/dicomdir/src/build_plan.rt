@@ -13,7 +13,7 @@ use crate::record_bytes::record_bytes;
 use std::alloc::Allocator;
 
 /// Why no directory is laid down.
-#[derive(Clone, Copy, Debug, PartialEq, Eq)]
+#[derive(Clone, Copy)]
 pub(crate) enum Stop {
     /// The records have 2^32 bytes or more.
     TooLarge,
@@ -33,7 +33,7 @@ pub(crate) struct LaidRecord<'r, A: Allocator> {
 }
 
 /// The first and the last record of a chain, from the end of the file; 0 means none.
-#[derive(Clone, Copy, Debug)]
+#[derive(Clone, Copy)]
 pub(crate) struct Chain {
     pub(crate) first: u32,
     pub(crate) last: u32,

@@ -5,7 +5,7 @@ ghost use Rattle.dicomdir.specs.Keys.{IsRow};
 ghost use Rattle.dicomdir.specs.Grouping.{rows_at};
 ghost use Rattle.dicomdir.specs.Places.{doubles_of};
 ghost use Rattle.dicomdir.specs.Row.{without_doubles};
-ghost use Rattle.dicomdir.specs.machine.FirstSeen.{Takes, texts};
+ghost use Rattle.dicomdir.specs.machine.FirstSeen.{TakesRow, texts};
 
 use crate::Row;
 use crate::first_seen::{SeenKeys, see};
@@ -27,7 +27,7 @@ fn take_row<'r, A: Allocator + Copy>(
     at: usize,
     row: &'r Row<A>,
 ) -> Result<(), AllocError>
-    ensures { OnOk result (Takes at row.now (texts seen.old.keys) (texts seen.new.keys) (rows_at kept.old.rows.items) (rows_at kept.new.rows.items) kept.old.doubles.items kept.new.doubles.items) }
+    ensures { OnOk result (TakesRow at row.now (texts seen.old.keys) (texts seen.new.keys) (rows_at kept.old.rows.items) (rows_at kept.new.rows.items) kept.old.doubles.items kept.new.doubles.items) }
 {
     let (_, is_new) = see(alloc, seen, row.instance())?;
     if is_new {

@@ -4,7 +4,7 @@ ghost use Rattle.dicomdir.specs.Levels.{lower_level};
 ghost use Rattle.dicomdir.specs.Levels as levels;
 
 /// The level of a record: of a patient, of a study, of a series or of an image (PS3.3 section F.4).
-#[derive(Clone, Copy, Debug, PartialEq, Eq)]
+#[derive(Clone, Copy)]
 pub(crate) enum Level {
     Patient,
     Study,

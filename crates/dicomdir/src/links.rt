@@ -146,13 +146,10 @@ fn none_reached<A: Allocator + Copy>(alloc: A, count: usize) -> Result<Vec<bool,
     ensures flags { IfOk result (λ reached. reached.items ≡ replicate count false) }
     ensures memory { IfErr result (λ f. f ≡ record { number = 67; place = 0; tag = no_tag }) }
 {
-    let mut reached = Vec::new(alloc);
-    for _ in 0..count {
-        if reached.push(false).is_err() {
-            return Err(DirFault::out_of_memory());
-        }
+    match vec![in alloc; false; count] {
+        Ok(reached) => Ok(reached),
+        Err(_) => Err(DirFault::out_of_memory()),
     }
-    Ok(reached)
 }
 
 /// Returns where a fault of the next offset is reported.

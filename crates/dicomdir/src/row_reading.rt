@@ -93,7 +93,8 @@ fn walk<R: Read>(walker: &mut RowWalker, reader: &mut R) -> Result<(), Skip>
     // The walker refuses what passes its limit of bytes, so there are never so many pieces.
     for _ in 0..u64::MAX {
         let count = read_once(reader, &mut room)?;
-        if count == 0 {
+        let is_end = count == 0;
+        if is_end {
             return match walker.finish() {
                 Ok(()) => Ok(()),
                 Err(fault) => Err(Skip::Fault(fault.number)),

@@ -28,7 +28,7 @@ pub record Puts (key : List ℕ) (row : Row) (keys new : List (List ℕ)) (group
   pub groups_are : after ≡ put_in (cond (not (is_seen key keys)) (groups ++ [] ∷ []) groups) (position_or_len (bytes_eq key) keys) row
 
 -- the row is kept, or its place is one of the doubles where its instance was seen
-pub record Takes (at : ℕ) (row : Row) (keys new : List (List ℕ)) (rows after : List Row) (doubles more : List ℕ) : Type 0 where
+pub record TakesRow (at : ℕ) (row : Row) (keys new : List (List ℕ)) (rows after : List Row) (doubles more : List ℕ) : Type 0 where
   pub keys_are : new ≡ with_one (is_seen row.instance keys) row.instance keys
   pub rows_are : after ≡ cond (is_seen row.instance keys) rows (rows ++ row ∷ [])
   pub doubles_are : more ≡ cond (is_seen row.instance keys) (doubles ++ at ∷ []) doubles

@@ -1,7 +1,8 @@
-use Rattle.std.proofs.Common.{refl}
+use Rattle.std.proofs.Common.{refl, ◌-◌, length}
 use Rattle.std.proofs.lemmas.Result.{IfOk-weaker, IfErr-weaker}
 use Rattle.dicomdir.specs.TreeNodes.{tree_nodes}
 use Rattle.dicomdir.proofs.CheckLemmas.{file_fails, file_nodes}
+use Rattle.dicomdir.proofs.HeaderChecks.{data_set_check}
 use Rattle.dicomdir.proofs.checking.check.Goals as goal
 
 pub returns-clause-nodes : goal.returns-clause-nodes
@@ -18,3 +19,7 @@ pub returns-clause-memory : goal.returns-clause-memory
 returns-clause-memory g c =
     let whole = c.in_default.ensures.good refl in
     IfErr-weaker c.check_elements.result _ _ (λ f fails none. let told = fails whole.elements whole.text in (told.memory none, told.tag)) c.check_elements.ensures.fails
+
+pub returns-in-Err-walk-clause-fault : goal.returns-in-Err-walk-clause-fault
+returns-in-Err-walk-clause-fault g c other =
+    data_set_check c.in-Ok.ensures.read c.in-Err-walk.fault (length c.args.bytes.now - length c.in-Ok.text.now) refl c.in-Err-walk.ensures.fails

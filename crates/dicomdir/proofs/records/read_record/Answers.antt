@@ -1,4 +1,4 @@
-use Rattle.std.proofs.Common.{refl, sym, ap, ◌∙◌, arith}
+use Rattle.std.proofs.Common.{refl, sym, ◌∙◌, arith}
 use Rattle.dicomdir.specs.DirFault.{record_fault}
 use Rattle.dicomdir.proofs.CheckLemmas.{fails_at}
 use Rattle.dicomdir.proofs.ReadLemmas.{file_id_as, whole_entry}

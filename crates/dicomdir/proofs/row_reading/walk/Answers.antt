@@ -1,5 +1,5 @@
 use Rattle.std.proofs.Common.{refl}
-use Rattle.dicomdir.proofs.RowWalking.{reads_first, reads_fails}
+use Rattle.dicomdir.proofs.RowWalking.{reads_first, reads_fails, reads_whole, reads_short, none_read, ended}
 use Rattle.dicomdir.proofs.row_reading.walk.Goals as goal
 
 pub loop-init : goal.loop-init
@@ -11,3 +11,17 @@ loop-init g c = record {
 pub returns-in-Err-walk_piece-clause-fails : goal.returns-in-Err-walk_piece-clause-fails
 returns-in-Err-walk_piece-clause-fails g c =
     reads_fails c.args.walker.now c.loop.walker _ _ _ _ _ c.loop.invariant.reads c.in_ok-count.ensures.took c.in-Err-walk_piece.ensures.fails
+
+pub returns-in-Ok-clause-whole : goal.returns-in-Ok-clause-whole
+returns-in-Ok-clause-whole g c =
+    reads_whole c.args.walker.now c.loop.walker _ _ (g.R.Read.remaining c.read_once.new.reader) c.loop.invariant.reads
+    (none_read _ _ c.in_ok-count.count c.read_once.new.room c.if-is_end.true c.in_ok-count.ensures.took)
+    (ended _ c.in_ok-count.count c.loop.room c.read_once.new.room c.if-is_end.true c.in_ok-count.ensures.size c.loop.invariant.room c.in_ok-count.ensures.end)
+    (c.in-Ok.ensures.whole refl)
+
+pub returns-in-Err-clause-fails : goal.returns-in-Err-clause-fails
+returns-in-Err-clause-fails g c =
+    reads_short c.args.walker.now c.loop.walker _ _ (g.R.Read.remaining c.read_once.new.reader) c.in-Err.fault c.loop.invariant.reads
+    (none_read _ _ c.in_ok-count.count c.read_once.new.room c.if-is_end.true c.in_ok-count.ensures.took)
+    (ended _ c.in_ok-count.count c.loop.room c.read_once.new.room c.if-is_end.true c.in_ok-count.ensures.size c.loop.invariant.room c.in_ok-count.ensures.end)
+    c.in-Err.ensures.fails
