@@ -11,6 +11,4 @@ mod pieces;
 #[cfg(test)]
 mod readme_rows;
 #[cfg(test)]
-mod request_rows;
-#[cfg(test)]
 mod run_rows;

@@ -1,15 +1,17 @@
 //! Requests of many presentation contexts, with their answers.
 
-use crate::pieces::{Outcome, are_answered, is_answered_at_each, open};
+use crate::pieces::{Outcome, is_answered, is_answered_at_each};
 use acceptor::State;
 use fixtures::bytes::{back, front, joined, within};
 use fixtures::echo::{ACCEPT, ECHO, REPLY, REQUEST, USER_ABORT};
+use harness::{Step, holds_at_each, over_memory};
+use part10::MemoryFiling;
+use pdu::MemoryWire;
 use std::alloc::{AllocError, Global};
 use std::ops::Range;
-use std::test::Fail;
 
 /// A request or an answer with these contexts in the place of its one, which ends at `end`.
-pub(crate) fn with_contexts(
+fn with_contexts(
     alloc: Global,
     pdu: &[u8],
     end: usize,
@@ -73,56 +75,66 @@ fn are_128_answered(alloc: Global, cuts: Range<usize>) -> Result<bool, AllocErro
 // A test has a minute, which all cuts together pass where the build checks itself.
 
 #[test]
-fn a_request_of_128_contexts_cut_in_its_first_third(rt: HostRuntime) -> Result<(), Fail> {
+fn a_request_of_128_contexts_cut_in_its_first_third(rt: HostRuntime) -> Result<(), AllocError> {
     assert!(rt; are_128_answered(rt.alloc(), 0..2200)?);
     Ok(())
 }
 
 #[test]
-fn a_request_of_128_contexts_cut_in_its_second_third(rt: HostRuntime) -> Result<(), Fail> {
+fn a_request_of_128_contexts_cut_in_its_second_third(rt: HostRuntime) -> Result<(), AllocError> {
     assert!(rt; are_128_answered(rt.alloc(), 2200..4400)?);
     Ok(())
 }
 
 #[test]
-fn a_request_of_128_contexts_cut_in_its_last_third(rt: HostRuntime) -> Result<(), Fail> {
+fn a_request_of_128_contexts_cut_in_its_last_third(rt: HostRuntime) -> Result<(), AllocError> {
     assert!(rt; are_128_answered(rt.alloc(), 4400..6522)?);
     Ok(())
 }
 
-/// Whether each byte of the body but the last is held when it comes.
-fn is_held_byte_by_byte(alloc: Global, request: &[u8]) -> bool {
-    let mut tried = open(alloc);
-    let last = request.len().saturating_sub(1);
-    for (index, byte) in request.iter().enumerate() {
-        tried.feed(&[*byte]);
-        if 6 <= index && index < last && tried.held() != index - 5 {
-            return false;
-        }
+/// How many bytes are held after each of so many bytes of a request of which the whole is held as this many: those of its
+/// head while that comes, and then those of its body.
+fn held_while(alloc: Global, count: usize, whole: usize) -> Result<Vec<usize>, AllocError> {
+    let mut held = Vec::new(alloc);
+    for index in 1..count {
+        held.push(if index < 6 { index } else { index - 6 })?;
     }
-    true
+    held.push(whole)?;
+    Ok(held)
+}
+
+/// Whether a request holds so many bytes while it comes byte by byte.
+fn holds(alloc: Global, request: &[u8]) -> Result<bool, AllocError> {
+    let held = held_while(alloc, request.len(), 532)?;
+    let mut wire = MemoryWire::new(alloc);
+    let mut filing = MemoryFiling::new(alloc);
+    Ok(holds_at_each::<_, _, 64>(&mut wire, &mut filing, request, held.as_slice()))
+}
+
+/// Whether so many bytes are sent after these steps, of which the last are these.
+fn has_sent(alloc: Global, steps: &[Step], count: usize, last: &[u8]) -> bool {
+    let tried = over_memory(alloc, steps);
+    tried.wire.sent().len() == count && tried.wire.sent().ends_with(last)
+}
+
+/// Whether the echo is answered on the first and on the last of the contexts.
+fn are_echoed(alloc: Global, request: &[u8]) -> bool {
+    let steps = [
+        Step::Piece(request),
+        Step::Piece(ECHO),
+        Step::Piece(front(ECHO, 10)),
+        Step::Piece(&[255]),
+        Step::Piece(back(ECHO, 11)),
+    ];
+    has_sent(alloc, &steps[..2], 3852 + 90, REPLY)
+        && has_sent(alloc, &steps, 3852 + 2 * 90, back(REPLY, 11))
 }
 
 #[test]
-fn a_request_of_128_contexts_while_it_comes(rt: HostRuntime) -> Result<(), Fail> {
+fn a_request_of_128_contexts(rt: HostRuntime) -> Result<(), AllocError> {
     let request = request_of_128(rt.alloc())?;
-    assert!(rt; is_held_byte_by_byte(rt.alloc(), request.as_slice()));
-    Ok(())
-}
-
-/// The echo is answered on the first and on the last of the 128 contexts.
-#[test]
-fn an_echo_on_the_last_of_128_contexts(rt: HostRuntime) -> Result<(), Fail> {
-    let request = request_of_128(rt.alloc())?;
-    let mut tried = open(rt.alloc());
-    tried.feed(request.as_slice());
-    tried.feed(ECHO);
-    assert!(rt; tried.wire().sent().ends_with(REPLY));
-    tried.feed(front(ECHO, 10));
-    tried.feed(&[255]);
-    tried.feed(back(ECHO, 11));
-    assert!(rt; tried.wire().sent().ends_with(back(REPLY, 11)));
-    assert_eq!(rt; tried.wire().sent().len(), 3852 + 2 * 90);
+    assert!(rt; holds(rt.alloc(), request.as_slice())?);
+    assert!(rt; are_echoed(rt.alloc(), request.as_slice()));
     Ok(())
 }
 
@@ -134,10 +146,47 @@ fn request_of_129(alloc: Global) -> Result<Vec<u8>, AllocError> {
     with_contexts(alloc, REQUEST, 149, contexts.as_slice())
 }
 
+/// Whether it is refused at each of these cuts in two.
+fn are_129_refused(alloc: Global, cuts: Range<usize>) -> Result<bool, AllocError> {
+    let request = request_of_129(alloc)?;
+    let outcome = Outcome {
+        sent: USER_ABORT,
+        state: State::Sta13,
+        held: 0,
+    };
+    Ok(request.len() == 6570 && is_answered_at_each(alloc, request.as_slice(), cuts, outcome))
+}
+
 #[test]
-fn a_request_of_129_contexts(rt: HostRuntime) -> Result<(), Fail> {
-    let request = request_of_129(rt.alloc())?;
-    let parts = [request.as_slice()];
-    assert!(rt; are_answered(rt.alloc(), &parts, &[USER_ABORT], State::Sta13, 0)?);
+fn a_request_of_129_contexts_cut_in_its_first_half(rt: HostRuntime) -> Result<(), AllocError> {
+    assert!(rt; are_129_refused(rt.alloc(), 0..3286)?);
+    Ok(())
+}
+
+#[test]
+fn a_request_of_129_contexts_cut_in_its_last_half(rt: HostRuntime) -> Result<(), AllocError> {
+    assert!(rt; are_129_refused(rt.alloc(), 3286..6572)?);
+    Ok(())
+}
+
+/// CT image storage with JPEG Baseline alone; with Explicit VR Big Endian alone; with Implicit and
+/// then Explicit VR Little Endian; and mammography, which is not known, with Explicit.
+const CONTEXTS: &[u8] =
+    b"\x20\0\0\x3b\x01\0\0\0\x30\0\0\x191.2.840.10008.5.1.4.1.1.2\x40\0\0\x161.2.840.10008.1.2.4.50\x20\0\0\x38\x03\0\0\0\x30\0\0\x191.2.840.10008.5.1.4.1.1.2\x40\0\0\x131.2.840.10008.1.2.2\x20\0\0\x4d\x05\0\0\0\x30\0\0\x191.2.840.10008.5.1.4.1.1.2\x40\0\0\x111.2.840.10008.1.2\x40\0\0\x131.2.840.10008.1.2.1\x20\0\0\x3a\x07\0\0\0\x30\0\0\x1b1.2.840.10008.5.1.4.1.1.1.2\x40\0\0\x131.2.840.10008.1.2.1";
+
+/// The answers: 4, 4, 0 with Explicit VR Little Endian, and 3.
+const RESULTS: &[u8] =
+    b"\x21\0\0\x19\x01\0\x04\0\x40\0\0\x111.2.840.10008.1.2\x21\0\0\x19\x03\0\x04\0\x40\0\0\x111.2.840.10008.1.2\x21\0\0\x1b\x05\0\0\0\x40\0\0\x131.2.840.10008.1.2.1\x21\0\0\x19\x07\0\x03\0\x40\0\0\x111.2.840.10008.1.2";
+
+#[test]
+fn contexts_that_are_not_accepted(rt: HostRuntime) -> Result<(), AllocError> {
+    let request = with_contexts(rt.alloc(), REQUEST, 149, CONTEXTS)?;
+    let answer = with_contexts(rt.alloc(), ACCEPT, 128, RESULTS)?;
+    let outcome = Outcome {
+        sent: answer.as_slice(),
+        state: State::Sta6,
+        held: 24,
+    };
+    assert!(rt; answer.len() == 258 && is_answered(rt.alloc(), request.as_slice(), outcome));
     Ok(())
 }

@@ -1,17 +1,16 @@
 //! The recorded echo over a list of inputs, and an association that is driven by hand.
 
-use crate::pieces::open;
 use acceptor::State;
 use engine::{ListSource, ListedInput, Report, Standing, run};
+use fixtures::bytes::joined;
 use fixtures::echo::{ACCEPT, ECHO, RELEASE, RELEASED, REPLY, REQUEST, USER_ABORT};
-use harness::config;
+use harness::{Step, config, over_memory};
 use part10::MemoryFiling;
 use pdu::MemoryWire;
-use std::test::Fail;
+use std::alloc::{AllocError, Global};
 
 #[test]
-fn the_recorded_echo(rt: HostRuntime) -> Result<(), Fail> {
-    let alloc = rt.alloc();
+fn the_recorded_echo_over_a_list(rt: HostRuntime) -> Result<(), AllocError> {
     let inputs = [
         ListedInput::Piece(REQUEST),
         ListedInput::Piece(ECHO),
@@ -19,8 +18,9 @@ fn the_recorded_echo(rt: HostRuntime) -> Result<(), Fail> {
         ListedInput::Closed,
     ];
     let mut source = ListSource::new(&inputs);
-    let mut wire = MemoryWire::new(alloc);
-    let mut filing = MemoryFiling::new(alloc);
+    let mut wire = MemoryWire::new(rt.alloc());
+    let mut filing = MemoryFiling::new(rt.alloc());
+    let (held, standing) = (0, Standing::Ended);
     let report = run::<65536, 1024, 256, 64, _, _, _>(
         &mut source,
         &config(),
@@ -28,34 +28,32 @@ fn the_recorded_echo(rt: HostRuntime) -> Result<(), Fail> {
         &mut filing,
         9,
     );
-    assert!(rt;
-        report
-            == Report {
-                standing: Standing::Ended,
-                held: 0
-            }
-    );
-    assert_eq!(rt; filing.files().len(), 0);
-    let mut expected = Vec::new(alloc);
-    expected.extend_from_slice(ACCEPT)?;
-    expected.extend_from_slice(REPLY)?;
-    expected.extend_from_slice(RELEASED)?;
-    assert_eq!(rt; expected.len(), 269);
-    assert!(rt; wire.sent() == expected.as_slice());
+    assert!(rt; report == Report { standing, held } && filing.files().is_empty());
+    let expected = joined(rt.alloc(), &[ACCEPT, REPLY, RELEASED])?;
+    assert!(rt; expected.len() == 269 && wire.sent() == expected.as_slice());
     Ok(())
 }
 
+/// Whether so many of these inputs end in this state, and what is sent is the A-ASSOCIATE-AC and the A-ABORT alone: a
+/// request, a local abort, the expiry of the timer, and an echo.
+fn is_aborted(alloc: Global, count: usize, state: State) -> bool {
+    let steps = [
+        Step::Piece(REQUEST),
+        Step::LocalAbort,
+        Step::Expired,
+        Step::Piece(ECHO),
+    ];
+    let tried = over_memory(alloc, steps.get(..count).unwrap_or(&[]));
+    let sent = tried.wire.sent();
+    sent.len() == ACCEPT.len() + USER_ABORT.len()
+        && sent.ends_with(USER_ABORT)
+        && tried.shown.state == state
+        && tried.shown.is_ended() == (state == State::Sta1)
+}
+
 #[test]
-fn a_local_abort(rt: HostRuntime) -> Result<(), Fail> {
-    let mut tried = open(rt.alloc());
-    tried.feed(REQUEST);
-    tried.abort();
-    assert!(rt; tried.state() == State::Sta13);
-    assert_eq!(rt; tried.wire().sent().len(), ACCEPT.len() + USER_ABORT.len());
-    assert!(rt; tried.wire().sent().ends_with(USER_ABORT));
-    tried.expire();
-    assert!(rt; tried.is_ended());
-    tried.feed(ECHO);
-    assert_eq!(rt; tried.wire().sent().len(), ACCEPT.len() + USER_ABORT.len());
-    Ok(())
+fn a_local_abort(rt: HostRuntime) {
+    for (count, state) in [(2, State::Sta13), (3, State::Sta1), (4, State::Sta1)] {
+        assert!(rt; is_aborted(rt.alloc(), count, state));
+    }
 }

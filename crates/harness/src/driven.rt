@@ -1,106 +1,95 @@
-//! An association with its wire and its filing.
+//! An association that is opened over a wire and a filing, and takes steps.
 ghost use Rattle.std.specs.Prelude.{◌≤◌, ◌^◌};
 ghost use Rattle.engine.specs.Drafts.{IsThere};
 ghost use Rattle.engine.specs.Fields.{drafting_of};
 
-use acceptor::State;
+use crate::settings::config;
+use crate::step::{Shown, Step};
 use engine::Association;
-use negotiate::Config;
 use part10::Filing;
 use pdu::Wire;
 
-/// An association of the program's rooms, but with `D` levels, over this wire and this filing.
-#[derive(Drop)]
-pub struct Driven<W: Wire + Drop, F: Filing + Drop, const D: usize> {
-    association: Association<65536, 1024, 256, D>,
-    wire: W,
-    filing: F,
-    ghost there: { IsThere (drafting_of association) (F.store filing) },
+/// An association of the program's rooms, but with `D` levels.
+type Opened<const D: usize> = Association<65536, 1024, 256, D>;
+
+/// Opens an association over a wire and a filing, with `D` levels and else the program's rooms, and takes these steps.
+/// Returns what the association shows of itself after them.
+pub fn drive<W: Wire, F: Filing, const D: usize>(
+    wire: &mut W,
+    filing: &mut F,
+    steps: &[Step],
+) -> Shown
+    requires least { 2 ≤ D }
+    requires greatest { D ≤ 2 ^ 24 }
+{
+    let mut association = Opened::<D>::open(&config());
+    for step in steps {
+        take(&mut association, *step, wire, filing);
+    }
+    Shown {
+        state: association.state(),
+        artim: association.artim(),
+        drafting: association.drafting(),
+        held: association.held(),
+    }
 }
 
-impl<W: Wire + Drop, F: Filing + Drop, const D: usize> Driven<W, F, D> {
-    /// Opens the association.
-    pub fn open(config: &Config, wire: W, filing: F) -> Self
-        requires least { 2 ≤ D }
-        requires greatest { D ≤ 2 ^ 24 }
-    {
-        Driven {
-            association: Association::open(config),
-            wire,
-            filing,
+/// Returns whether an association so opened, which is handed a stream byte by byte, holds these numbers of bytes after
+/// one byte after the other.
+pub fn holds_at_each<W: Wire, F: Filing, const D: usize>(
+    wire: &mut W,
+    filing: &mut F,
+    stream: &[u8],
+    held: &[usize],
+) -> bool
+    requires least { 2 ≤ D }
+    requires greatest { D ≤ 2 ^ 24 }
+{
+    let mut association = Opened::<D>::open(&config());
+    for (byte, held) in stream.iter().zip(held) {
+        association.feed(&[*byte], wire, filing);
+        if association.held() != *held {
+            return false;
         }
     }
+    true
+}
 
-    /// Hands it a piece of the stream.
-    pub fn feed(&mut self, piece: &[u8]) {
-        self.association
-            .feed(piece, &mut self.wire, &mut self.filing);
-    }
-
-    /// Hands it a stream in two pieces, of which the first has `cut` bytes; if the stream has fewer,
-    /// byte by byte.
-    pub fn feed_cut(&mut self, stream: &[u8], cut: usize) {
-        match stream.split_at_checked(cut) {
+fn take<W: Wire, F: Filing, const D: usize>(
+    association: &mut Opened<D>,
+    step: Step,
+    wire: &mut W,
+    filing: &mut F,
+)
+    requires draft { IsThere (drafting_of association.old) (F.store filing.old) }
+    ensures draft { IsThere (drafting_of association.new) (F.store filing.new) }
+{
+    match step {
+        Step::Piece(piece) => association.feed(piece, wire, filing),
+        Step::Cut(stream, cut) => match stream.split_at_checked(cut) {
             Some((front, back)) => {
-                self.feed(front);
-                self.feed(back);
+                association.feed(front, wire, filing);
+                association.feed(back, wire, filing);
             }
-            None => {
-                for byte in stream {
-                    self.feed(&[*byte]);
-                }
-            }
-        }
+            None => feed_each(association, stream, wire, filing),
+        },
+        Step::Closed => association.closed(wire, filing),
+        Step::Expired => association.expired(wire, filing),
+        Step::LocalAbort => association.local_abort(wire, filing),
     }
+}
 
-    /// The peer closes the transport connection.
-    pub fn close(&mut self) {
-        self.association.closed(&mut self.wire, &mut self.filing);
-    }
-
-    /// The ARTIM timer runs out.
-    pub fn expire(&mut self) {
-        self.association.expired(&mut self.wire, &mut self.filing);
-    }
-
-    /// The local user aborts.
-    pub fn abort(&mut self) {
-        self.association
-            .local_abort(&mut self.wire, &mut self.filing);
-    }
-
-    /// Returns the state of the acceptor.
-    pub fn state(&self) -> State {
-        self.association.state()
-    }
-
-    /// Returns whether the ARTIM timer runs.
-    pub fn artim(&self) -> bool {
-        self.association.artim()
-    }
-
-    /// Returns whether a store has its draft in the filing.
-    pub fn drafting(&self) -> bool {
-        self.association.drafting()
-    }
-
-    /// Returns how many received bytes are held.
-    pub fn held(&self) -> usize {
-        self.association.held()
-    }
-
-    /// Returns whether the association has ended, and holds nothing.
-    pub fn is_ended(&self) -> bool {
-        self.state() == State::Sta1 && !self.artim() && !self.drafting() && self.held() == 0
-    }
-
-    /// Returns the wire.
-    pub fn wire(&self) -> &W {
-        &self.wire
-    }
-
-    /// Returns the filing.
-    pub fn filing(&self) -> &F {
-        &self.filing
+/// Hands it a stream byte by byte.
+fn feed_each<W: Wire, F: Filing, const D: usize>(
+    association: &mut Opened<D>,
+    stream: &[u8],
+    wire: &mut W,
+    filing: &mut F,
+)
+    requires draft { IsThere (drafting_of association.old) (F.store filing.old) }
+    ensures draft { IsThere (drafting_of association.new) (F.store filing.new) }
+{
+    for byte in stream {
+        association.feed(&[*byte], wire, filing);
     }
 }

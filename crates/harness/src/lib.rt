@@ -2,7 +2,11 @@
 #![tactic(auto)]
 
 mod driven;
+mod memory;
 mod settings;
+mod step;
 
-pub use driven::Driven;
+pub use driven::{drive, holds_at_each};
+pub use memory::{OverMemory, over_memory};
 pub use settings::config;
+pub use step::{Shown, Step};

@@ -9,10 +9,7 @@ use fixtures::bytes::{front, joined};
 use fixtures::stores::{CT_SET, EXPLICIT, INSTANCE, data, file, reply, request, store};
 use harness::config;
 use linked_list_allocator::LocalHeap;
-use part10::Filing;
-use pdu::Wire;
 use std::alloc::{AllocError, Global};
-use std::test::Fail;
 
 /// The bytes of a value of 16 MiB.
 const VALUE: usize = 16_777_216;
@@ -29,39 +26,54 @@ const LEFT: usize = VALUE - (PART - 60);
 /// How many bytes each device keeps.
 const ROOM: usize = 512;
 
-/// The pieces of the store, and its file as far as the first part of the data set.
+/// The pieces before the last ones, and the file as far as the first part of the data set.
 #[derive(Drop)]
-struct LargeStore {
+struct Opening {
     request: Vec<u8>,
     command: Vec<u8>,
     first: Vec<u8>,
-    again: Vec<u8>,
-    last: Vec<u8>,
     file: Vec<u8>,
 }
 
-fn large_store(alloc: Global) -> Result<LargeStore, AllocError> {
-    let zeros = [0u8; PART];
-    let first = joined(alloc, &[&CT_SET, &HEADER, &zeros[..PART - 60]])?;
-    Ok(LargeStore {
+/// The piece that comes again and again, and the last one.
+#[derive(Drop)]
+struct Rest {
+    again: Vec<u8>,
+    last: Vec<u8>,
+}
+
+fn make_opening(alloc: Global) -> Result<Opening, AllocError> {
+    let first = joined(alloc, &[&CT_SET, &HEADER, &[0; PART - 60]])?;
+    Ok(Opening {
         request: request(alloc, EXPLICIT)?,
         command: data(alloc, 3, store(alloc, INSTANCE)?.as_slice())?,
+        file: file(alloc, EXPLICIT, INSTANCE, first.as_slice())?,
         first: data(alloc, 0, first.as_slice())?,
+    })
+}
+
+fn make_rest(alloc: Global) -> Result<Rest, AllocError> {
+    let zeros = [0u8; PART];
+    Ok(Rest {
         again: data(alloc, 0, &zeros)?,
         last: data(alloc, 2, &zeros[..LEFT % PART])?,
-        file: file(alloc, EXPLICIT, INSTANCE, first.as_slice())?,
     })
 }
 
 /// Runs the store over these devices; whether the association is open after it, and holds what it keeps
 /// of its request.
-fn is_run<W: Wire, F: Filing>(store: &LargeStore, wire: &mut W, filing: &mut F) -> bool {
+fn is_run(
+    opening: &Opening,
+    rest: &Rest,
+    wire: &mut LastSend<&LocalHeap>,
+    filing: &mut CountedBytes<&LocalHeap>,
+) -> bool {
     let first = [
-        store.request.as_slice(),
-        store.command.as_slice(),
-        store.first.as_slice(),
+        opening.request.as_slice(),
+        opening.command.as_slice(),
+        opening.first.as_slice(),
     ];
-    let (again, last) = (store.again.as_slice(), store.last.as_slice());
+    let (again, last) = (rest.again.as_slice(), rest.last.as_slice());
     let mut source = Repeated::new(&first, again, LEFT / PART, last);
     let turns = 4 + (LEFT / PART) as u64;
     let report = run::<65536, 1024, 256, 64, _, _, _>(&mut source, &config(), wire, filing, turns);
@@ -69,23 +81,37 @@ fn is_run<W: Wire, F: Filing>(store: &LargeStore, wire: &mut W, filing: &mut F) 
     report == Report { standing, held }
 }
 
+/// Whether the store is taken, filed and answered where its devices have all of this heap.
+fn is_stored(
+    opening: &Opening,
+    rest: &Rest,
+    heap: &LocalHeap,
+    reply: &[u8],
+) -> Result<bool, AllocError> {
+    let mut wire = LastSend::new(heap, ROOM)?;
+    let mut filing = CountedBytes::new(heap, ROOM)?;
+    let is_taken = heap.free() == 0 && Vec::from_slice(heap, &[0u8]).is_err();
+    Ok(
+        is_taken
+            && is_run(opening, rest, &mut wire, &mut filing)
+            && (filing.files, filing.bytes) == (1, 288 + 60 + VALUE)
+            && filing.front() == front(opening.file.as_slice(), ROOM)
+            && wire.last().len() >= 100
+            && reply.ends_with(wire.last())
+            && heap.free() == 0,
+    )
+}
+
 /// The devices have taken all of their heap before the association is opened, and whatever asks it for
 /// memory from then on is refused. An association has no allocator in its type, and no call of it is
 /// passed another one: there is nothing else that could be refused.
 #[test]
-fn a_store_of_16_mib_without_memory(rt: HostRuntime) -> Result<(), Fail> {
-    let alloc = rt.alloc();
-    let store = large_store(alloc)?;
-    assert_eq!(rt; (store.first.len(), store.again.len()), (4096, 4096));
-    let heap = LocalHeap::new(alloc, 2 * ROOM)?;
-    let mut wire = LastSend::new(&heap, ROOM)?;
-    let mut filing = CountedBytes::new(&heap, ROOM)?;
-    assert!(rt; heap.free() == 0 && Vec::from_slice(&heap, &[0u8]).is_err());
-    assert!(rt; is_run(&store, &mut wire, &mut filing));
-    assert_eq!(rt; (filing.files, filing.bytes), (1, 288 + 60 + VALUE));
-    assert!(rt; filing.front() == front(store.file.as_slice(), ROOM));
-    let reply = reply(alloc, INSTANCE, status::SUCCESS, None)?;
-    assert!(rt; wire.last().len() >= 100 && reply.as_slice().ends_with(wire.last()));
-    assert_eq!(rt; heap.free(), 0);
+fn a_store_of_16_mib_without_memory(rt: HostRuntime) -> Result<(), AllocError> {
+    let opening = make_opening(rt.alloc())?;
+    let rest = make_rest(rt.alloc())?;
+    assert!(rt; opening.first.len() == 4096 && rest.again.len() == 4096);
+    let reply = reply(rt.alloc(), INSTANCE, status::SUCCESS, None)?;
+    let heap = LocalHeap::new(rt.alloc(), 2 * ROOM)?;
+    assert!(rt; is_stored(&opening, &rest, &heap, reply.as_slice())?);
     Ok(())
 }

@@ -5,47 +5,65 @@ use crate::filings::FailingFiling;
 use crate::two_stores::TwoStores;
 use acceptor::State;
 use fixtures::bytes::after_first;
-use harness::{Driven, config};
+use harness::{Shown, Step, drive};
 use part10::MemoryFiling;
 use pdu::MemoryWire;
 use std::alloc::{AllocError, Global};
 use std::ops::Range;
-use std::test::Fail;
+
+/// An association over memory after a filing that fails.
+#[derive(Drop)]
+struct Tried {
+    wire: MemoryWire<Global>,
+    filing: FailingFiling<MemoryFiling<Global>>,
+    shown: Shown,
+}
+
+/// Opens an association over a filing of which this call fails, and takes these steps.
+fn over_failing_filing(alloc: Global, at: usize, steps: &[Step]) -> Tried {
+    let mut wire = MemoryWire::new(alloc);
+    let mut filing = FailingFiling::new(MemoryFiling::new(alloc), at);
+    let shown = drive::<_, _, 64>(&mut wire, &mut filing, steps);
+    Tried {
+        wire,
+        filing,
+        shown,
+    }
+}
+
+/// Whether there are so many calls to begin, to append and to commit in these steps, and so many files.
+fn has_calls(alloc: Global, steps: &[Step], calls: (usize, usize, usize), files: usize) -> bool {
+    let tried = over_failing_filing(alloc, usize::MAX, steps);
+    let filing = &tried.filing;
+    (filing.begins, filing.appends, filing.commits) == calls && filing.kept().files().len() == files
+}
 
 #[test]
-fn calls_of_one_store(rt: HostRuntime) -> Result<(), Fail> {
-    let alloc = rt.alloc();
-    let stores = TwoStores::new(alloc)?;
-    let filing = FailingFiling::new(MemoryFiling::new(alloc), usize::MAX);
-    let mut driven = Driven::<_, _, 64>::open(&config(), MemoryWire::new(alloc), filing);
-    driven.feed(stores.request.as_slice());
-    assert_eq!(rt; driven.filing().calls(), 0);
-    driven.feed(stores.first.as_slice());
-    let filing = driven.filing();
-    assert_eq!(rt; (filing.begins, filing.appends, filing.commits), (1, 2, 1));
-    assert_eq!(rt; filing.kept().files().len(), 1);
+fn calls_of_one_store(rt: HostRuntime) -> Result<(), AllocError> {
+    let stores = TwoStores::new(rt.alloc())?;
+    assert!(rt; has_calls(rt.alloc(), &stores.pieces()[..1], (0, 0, 0), 0));
+    assert!(rt; has_calls(rt.alloc(), &stores.pieces()[..2], (1, 2, 1), 1));
     Ok(())
 }
 
-/// Lets each call to the filing fail in turn, where both stores come cut here; returns after how many
-/// none failed any more. The store in whose message the call failed is answered A700 and leaves no
-/// file, and the other one is filed; else it returns `None`.
+/// Lets this call to the filing fail, where both stores come cut here. Returns in which draft it failed, counted
+/// from 1, or 0 if none did, where the store of that draft is answered A700 and leaves no file, and the other one is
+/// filed; else it returns `None`.
+fn failed_draft(alloc: Global, stores: &TwoStores, cut: usize, at: usize) -> Option<usize> {
+    let tried = over_failing_filing(alloc, at, &stores.cut(cut));
+    let failed = tried.filing.failed_draft();
+    let due = stores.due(failed);
+    let is_due = after_first(tried.wire.sent()) == due.answer.as_slice()
+        && tried.filing.kept().files() == due.files.as_slice()
+        && tried.shown.state == State::Sta6
+        && !tried.shown.drafting;
+    if is_due { Some(failed) } else { None }
+}
+
+/// Lets each call to the filing fail in turn so; returns after how many none failed any more.
 fn failed_calls(alloc: Global, stores: &TwoStores, cut: usize) -> Option<usize> {
     for at in 0..200usize {
-        let filing = FailingFiling::new(MemoryFiling::new(alloc), at);
-        let mut driven = Driven::<_, _, 64>::open(&config(), MemoryWire::new(alloc), filing);
-        driven.feed(stores.request.as_slice());
-        driven.feed_cut(stores.messages.as_slice(), cut);
-        let failed = driven.filing().failed_draft();
-        let due = stores.due(failed);
-        if after_first(driven.wire().sent()) != due.answer.as_slice()
-            || driven.filing().kept().files() != due.files.as_slice()
-            || driven.state() != State::Sta6
-            || driven.drafting()
-        {
-            return None;
-        }
-        if failed == 0 {
+        if failed_draft(alloc, stores, cut, at)? == 0 {
             return Some(at);
         }
     }
@@ -64,25 +82,19 @@ fn are_failed(alloc: Global, cuts: Range<usize>, calls: Range<usize>) -> Result<
     Ok(true)
 }
 
-/// A store has four calls, and one more where it is cut in its data set.
+/// A store has four calls, and one more where it is cut in its data set; byte by byte it has 51.
 #[test]
-fn each_call_to_the_filing_fails_in_turn(rt: HostRuntime) -> Result<(), Fail> {
+fn each_call_to_the_filing_fails_in_turn(rt: HostRuntime) -> Result<(), AllocError> {
     assert!(rt; are_failed(rt.alloc(), 0..1, 8..9)?);
     assert!(rt; are_failed(rt.alloc(), 1..172, 8..10)?);
+    assert!(rt; are_failed(rt.alloc(), 345..346, 102..103)?);
     Ok(())
 }
 
 #[test]
 fn each_call_to_the_filing_fails_in_turn_where_the_second_store_is_cut(
     rt: HostRuntime,
-) -> Result<(), Fail> {
+) -> Result<(), AllocError> {
     assert!(rt; are_failed(rt.alloc(), 172..344, 8..10)?);
-    Ok(())
-}
-
-/// Byte by byte a store has 51 calls.
-#[test]
-fn each_call_to_the_filing_fails_in_turn_byte_by_byte(rt: HostRuntime) -> Result<(), Fail> {
-    assert!(rt; are_failed(rt.alloc(), 345..346, 102..103)?);
     Ok(())
 }

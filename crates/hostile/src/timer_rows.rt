@@ -8,11 +8,14 @@ use harness::config;
 use part10::MemoryFiling;
 use pdu::MemoryWire;
 use std::alloc::{AllocError, Global};
-use std::test::Fail;
+
+const ENDED: Report = Report {
+    standing: Standing::Ended,
+    held: 0,
+};
 
 #[test]
-fn the_source_is_handed_the_timer(rt: HostRuntime) -> Result<(), Fail> {
-    let alloc = rt.alloc();
+fn the_source_is_handed_the_timer(rt: HostRuntime) {
     let inputs = [
         ListedInput::Piece(REQUEST),
         ListedInput::Piece(ECHO),
@@ -21,8 +24,8 @@ fn the_source_is_handed_the_timer(rt: HostRuntime) -> Result<(), Fail> {
         ListedInput::Piece(REQUEST),
     ];
     let mut source = Witness::new(&inputs);
-    let mut wire = MemoryWire::new(alloc);
-    let mut filing = MemoryFiling::new(alloc);
+    let mut wire = MemoryWire::new(rt.alloc());
+    let mut filing = MemoryFiling::new(rt.alloc());
     let report = run::<65536, 1024, 256, 64, _, _, _>(
         &mut source,
         &config(),
@@ -30,16 +33,8 @@ fn the_source_is_handed_the_timer(rt: HostRuntime) -> Result<(), Fail> {
         &mut filing,
         9,
     );
-    assert!(rt;
-        report
-            == Report {
-                standing: Standing::Ended,
-                held: 0
-            }
-    );
+    assert!(rt; report == ENDED && source.at == 4);
     assert!(rt; source.timers.as_slice() == [true, false, false, true].as_slice());
-    assert_eq!(rt; source.at, 4);
-    Ok(())
 }
 
 /// Whether a peer that falls silent after these pieces is answered by these, and the association ends.
@@ -55,24 +50,26 @@ fn ends_in_silence(alloc: Global, pieces: &[&[u8]], answers: &[&[u8]]) -> Result
         &mut filing,
         9,
     );
-    let ended = Report {
-        standing: Standing::Ended,
-        held: 0,
-    };
-    Ok(report == ended && wire.sent() == sent.as_slice())
+    Ok(report == ENDED && wire.sent() == sent.as_slice())
 }
 
-/// The timer that expires ends an association without a request, and one that is over; an established one is
-/// aborted by the local user, and ends when the timer that this starts expires.
+/// The pieces of a peer that falls silent then, and what it is sent. The timer that expires ends an association without
+/// a request, and one that is over; an established one is aborted by the local user, and ends when the timer that this
+/// starts expires.
+static SILENCES: [(&[&[u8]], &[&[u8]]); 4] = [
+    (&[], &[]),
+    (&[REQUEST, RELEASE], &[ACCEPT, RELEASED]),
+    (&[REQUEST], &[ACCEPT, USER_ABORT]),
+    (
+        &[REQUEST, RELEASE, ECHO, &[1, 0, 0, 0, 0, 100]],
+        &[ACCEPT, RELEASED, &[7, 0, 0, 0, 0, 4, 0, 0, 2, 2]],
+    ),
+];
+
 #[test]
-fn a_peer_that_falls_silent(rt: HostRuntime) -> Result<(), Fail> {
-    let alloc = rt.alloc();
-    assert!(rt; ends_in_silence(alloc, &[], &[])?);
-    assert!(rt; ends_in_silence(alloc, &[REQUEST, RELEASE], &[ACCEPT, RELEASED])?);
-    assert!(rt; ends_in_silence(alloc, &[REQUEST], &[ACCEPT, USER_ABORT])?);
-    let head: &[u8] = &[1, 0, 0, 0, 0, 100];
-    let unexpected: &[u8] = &[7, 0, 0, 0, 0, 4, 0, 0, 2, 2];
-    let pieces = [REQUEST, RELEASE, ECHO, head];
-    assert!(rt; ends_in_silence(alloc, &pieces, &[ACCEPT, RELEASED, unexpected])?);
+fn a_peer_that_falls_silent(rt: HostRuntime) -> Result<(), AllocError> {
+    for (pieces, answers) in &SILENCES {
+        assert!(rt; ends_in_silence(rt.alloc(), pieces, answers)?);
+    }
     Ok(())
 }

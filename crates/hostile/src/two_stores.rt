@@ -1,8 +1,9 @@
 //! Two stores on one association, and what is due for them.
 
 use dimse::status;
-use fixtures::bytes::joined;
+use fixtures::bytes::{back, front};
 use fixtures::stores::{CT_SET, EXPLICIT, INSTANCE, OTHER, file, reply, request, whole_store};
+use harness::Step;
 use std::alloc::{AllocError, Global};
 
 /// The replies to both stores, and the files.
@@ -12,18 +13,21 @@ pub(crate) struct Due {
     pub(crate) files: Vec<Vec<u8>>,
 }
 
-/// A request and the messages of two stores, the second of which has its own instance; and what is due
-/// where the filing fails in none of them, in the first, and in the second.
+/// What is due where the filing fails in none of the stores, in the first, and in the second.
 #[derive(Drop)]
-pub(crate) struct TwoStores {
-    pub(crate) request: Vec<u8>,
-    pub(crate) first: Vec<u8>,
-    pub(crate) second: Vec<u8>,
-    /// Both stores.
-    pub(crate) messages: Vec<u8>,
+struct Dues {
     none_fails: Due,
     first_fails: Due,
     second_fails: Due,
+}
+
+/// A request and the messages of two stores, the second of which has its own instance; and what is due.
+#[derive(Drop)]
+pub(crate) struct TwoStores {
+    pub(crate) request: Vec<u8>,
+    /// Both stores, of the same size.
+    pub(crate) messages: Vec<u8>,
+    dues: Dues,
 }
 
 /// The data set of the second store.
@@ -33,7 +37,7 @@ fn second_set() -> [u8; 48] {
     set
 }
 
-fn make_due(alloc: Global, first: u16, second: u16) -> Result<Due, AllocError> {
+fn make_files(alloc: Global, first: u16, second: u16) -> Result<Vec<Vec<u8>>, AllocError> {
     let mut files = Vec::new(alloc);
     if first == status::SUCCESS {
         files.push(file(alloc, EXPLICIT, INSTANCE, &CT_SET)?)?;
@@ -41,37 +45,64 @@ fn make_due(alloc: Global, first: u16, second: u16) -> Result<Due, AllocError> {
     if second == status::SUCCESS {
         files.push(file(alloc, EXPLICIT, OTHER, &second_set())?)?;
     }
-    let first = reply(alloc, INSTANCE, first, None)?;
-    let second = reply(alloc, OTHER, second, None)?;
-    Ok(Due {
-        answer: joined(alloc, &[first.as_slice(), second.as_slice()])?,
-        files,
+    Ok(files)
+}
+
+fn make_due(alloc: Global, first: u16, second: u16) -> Result<Due, AllocError> {
+    let files = make_files(alloc, first, second)?;
+    let mut answer = reply(alloc, INSTANCE, first, None)?;
+    answer.extend_from_slice(reply(alloc, OTHER, second, None)?.as_slice())?;
+    Ok(Due { answer, files })
+}
+
+fn make_dues(alloc: Global) -> Result<Dues, AllocError> {
+    Ok(Dues {
+        none_fails: make_due(alloc, status::SUCCESS, status::SUCCESS)?,
+        first_fails: make_due(alloc, status::OUT_OF_RESOURCES, status::SUCCESS)?,
+        second_fails: make_due(alloc, status::SUCCESS, status::OUT_OF_RESOURCES)?,
     })
 }
 
 impl TwoStores {
     pub(crate) fn new(alloc: Global) -> Result<TwoStores, AllocError> {
-        let request = request(alloc, EXPLICIT)?;
-        let first = whole_store(alloc, INSTANCE, &CT_SET)?;
-        let second = whole_store(alloc, OTHER, &second_set())?;
-        let messages = joined(alloc, &[first.as_slice(), second.as_slice()])?;
+        let mut messages = whole_store(alloc, INSTANCE, &CT_SET)?;
+        messages.extend_from_slice(whole_store(alloc, OTHER, &second_set())?.as_slice())?;
         Ok(TwoStores {
-            request,
-            first,
-            second,
+            request: request(alloc, EXPLICIT)?,
             messages,
-            none_fails: make_due(alloc, status::SUCCESS, status::SUCCESS)?,
-            first_fails: make_due(alloc, status::OUT_OF_RESOURCES, status::SUCCESS)?,
-            second_fails: make_due(alloc, status::SUCCESS, status::OUT_OF_RESOURCES)?,
+            dues: make_dues(alloc)?,
         })
+    }
+
+    /// The size of a store.
+    pub(crate) fn size(&self) -> usize {
+        self.messages.len() / 2
+    }
+
+    /// The request and each store, in one piece each.
+    pub(crate) fn pieces(&self) -> [Step<'_>; 3] {
+        let messages = self.messages.as_slice();
+        [
+            Step::Piece(self.request.as_slice()),
+            Step::Piece(front(messages, self.size())),
+            Step::Piece(back(messages, self.size())),
+        ]
+    }
+
+    /// The request, and both stores, cut here.
+    pub(crate) fn cut(&self, cut: usize) -> [Step<'_>; 2] {
+        [
+            Step::Piece(self.request.as_slice()),
+            Step::Cut(self.messages.as_slice(), cut),
+        ]
     }
 
     /// What is due where the filing fails in this store, counted from 1; in none, at 0.
     pub(crate) fn due(&self, failed: usize) -> &Due {
         match failed {
-            0 => &self.none_fails,
-            1 => &self.first_fails,
-            _ => &self.second_fails,
+            0 => &self.dues.none_fails,
+            1 => &self.dues.first_fails,
+            _ => &self.dues.second_fails,
         }
     }
 }

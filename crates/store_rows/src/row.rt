@@ -4,8 +4,8 @@ use acceptor::State;
 use dimse::status;
 use fixtures::bytes::{after_first, joined};
 use fixtures::folders::{are_in, fresh};
-use fixtures::stores::{Cause, EXPLICIT, file, reply, request, whole_store};
-use harness::{Driven, config};
+use fixtures::stores::{Cause, EXPLICIT, INSTANCE, file, reply, request, whole_store};
+use harness::{OverMemory, Shown, Step, drive, over_memory};
 use part10::{FolderFiling, MemoryFiling};
 use pdu::MemoryWire;
 use std::alloc::{AllocError, Global};
@@ -22,18 +22,58 @@ pub(crate) enum Levels {
     Two,
 }
 
-/// What an association shows of itself: its state, whether a store has its draft, and how many bytes are held.
-pub(crate) type Shown = (State, bool, usize);
+/// The wire of an association over a folder, and what it shows of itself.
+#[derive(Drop)]
+pub(crate) struct OverFolder {
+    pub(crate) wire: MemoryWire<Global>,
+    pub(crate) shown: Shown,
+}
 
-/// An association over memory, and one over a folder.
-pub(crate) type OverMemory = Driven<MemoryWire<Global>, MemoryFiling<Global>, 64>;
+/// Opens an association over the filing of a folder, and takes these steps.
+pub(crate) fn over_folder(
+    alloc: Global,
+    filing: &mut FolderFiling<HostRuntime>,
+    levels: Levels,
+    steps: &[Step],
+) -> OverFolder {
+    let mut wire = MemoryWire::new(alloc);
+    let shown = match levels {
+        Levels::OfTheProgram => drive::<_, _, 64>(&mut wire, filing, steps),
+        Levels::Two => drive::<_, _, 2>(&mut wire, filing, steps),
+    };
+    OverFolder { wire, shown }
+}
 
-pub(crate) type OverFolder = Driven<MemoryWire<Global>, FolderFiling<HostRuntime>, 64>;
+/// Opens an association of two levels over memory, and takes these steps.
+fn over_memory_in_two_levels(alloc: Global, steps: &[Step]) -> OverMemory {
+    let mut wire = MemoryWire::new(alloc);
+    let mut filing = MemoryFiling::new(alloc);
+    let shown = drive::<_, _, 2>(&mut wire, &mut filing, steps);
+    OverMemory {
+        wire,
+        filing,
+        shown,
+    }
+}
 
 /// Returns the filing of a folder that is made anew.
 pub(crate) fn fresh_folder(rt: &HostRuntime, dir: &str) -> io::Result<FolderFiling<HostRuntime>> {
     fresh(rt, dir)?;
     Ok(FolderFiling::open(*rt, dir)?.without_sync())
+}
+
+/// The file of a store of this data set, or none where it is empty.
+fn one_file(
+    alloc: Global,
+    syntax: &[u8],
+    instance: &[u8; 6],
+    set: &[u8],
+) -> Result<Vec<Vec<u8>>, AllocError> {
+    let mut files = Vec::new(alloc);
+    if !set.is_empty() {
+        files.push(file(alloc, syntax, instance, set)?)?;
+    }
+    Ok(files)
 }
 
 /// A stream, and what comes of it: what is sent after the A-ASSOCIATE-AC, the files, and the state.
@@ -49,27 +89,24 @@ impl Row {
     /// The row of an association with this store alone.
     pub(crate) fn of(alloc: Global, store: &Store) -> Result<Row, AllocError> {
         let (syntax, instance, set, status, cause) = *store;
-        let request = request(alloc, syntax)?;
-        let message = whole_store(alloc, instance, set)?;
-        let mut files = Vec::new(alloc);
-        if status == status::SUCCESS {
-            files.push(file(alloc, syntax, instance, set)?)?;
-        }
+        let mut stream = request(alloc, syntax)?;
+        stream.extend_from_slice(whole_store(alloc, instance, set)?.as_slice())?;
+        let filed: &[u8] = if status == status::SUCCESS { set } else { &[] };
         Ok(Row {
-            stream: joined(alloc, &[request.as_slice(), message.as_slice()])?,
+            stream,
             answer: reply(alloc, instance, status, cause)?,
-            files,
+            files: one_file(alloc, syntax, instance, filed)?,
             state: State::Sta6,
         })
     }
 
     /// The row of an association that accepted Explicit, in which these messages come, and these replies
-    /// go out.
+    /// go out; and the file of a store of this data set alone, or none where it is empty.
     pub(crate) fn of_messages(
         alloc: Global,
         messages: &[&[u8]],
         replies: &[&[u8]],
-        files: Vec<Vec<u8>>,
+        set: &[u8],
         state: State,
     ) -> Result<Row, AllocError> {
         let mut stream = request(alloc, EXPLICIT)?;
@@ -79,7 +116,7 @@ impl Row {
         Ok(Row {
             stream,
             answer: joined(alloc, replies)?,
-            files,
+            files: one_file(alloc, EXPLICIT, INSTANCE, set)?,
             state,
         })
     }
@@ -87,72 +124,62 @@ impl Row {
     /// Whether an association that shows this, over this wire, is as the row has it. The one accepted context and
     /// the caller are held until it is left.
     pub(crate) fn is_shown(&self, shown: Shown, wire: &MemoryWire<Global>) -> bool {
-        let (state, drafting, held) = shown;
         let due = if self.state == State::Sta6 { 24 } else { 0 };
         after_first(wire.sent()) == self.answer.as_slice()
             && !wire.failed()
-            && state == self.state
-            && !drafting
-            && held == due
+            && shown.state == self.state
+            && !shown.drafting
+            && shown.held == due
+    }
+
+    /// Whether it is so over memory, and the files are there.
+    pub(crate) fn is_filed(&self, tried: &OverMemory) -> bool {
+        self.is_shown(tried.shown, &tried.wire) && tried.filing.files() == self.files.as_slice()
     }
 
     /// Whether it comes so over memory in two pieces, of which the first has `cut` bytes; byte by byte,
     /// if the stream has fewer.
-    fn comes_at(&self, alloc: Global, cut: usize) -> bool {
-        let wire = MemoryWire::new(alloc);
-        let mut driven = OverMemory::open(&config(), wire, MemoryFiling::new(alloc));
-        driven.feed_cut(self.stream.as_slice(), cut);
-        let shown = (driven.state(), driven.drafting(), driven.held());
-        self.is_shown(shown, driven.wire()) && driven.filing().files() == self.files.as_slice()
-    }
-
-    /// The same where two levels may be open.
-    fn comes_in_two_levels_at(&self, alloc: Global, cut: usize) -> bool {
-        let wire = MemoryWire::new(alloc);
-        let mut driven = Driven::<_, _, 2>::open(&config(), wire, MemoryFiling::new(alloc));
-        driven.feed_cut(self.stream.as_slice(), cut);
-        let shown = (driven.state(), driven.drafting(), driven.held());
-        self.is_shown(shown, driven.wire()) && driven.filing().files() == self.files.as_slice()
+    fn comes_at(&self, alloc: Global, levels: Levels, cut: usize) -> bool {
+        let steps = [Step::Cut(self.stream.as_slice(), cut)];
+        let tried = match levels {
+            Levels::OfTheProgram => over_memory(alloc, &steps),
+            Levels::Two => over_memory_in_two_levels(alloc, &steps),
+        };
+        self.is_filed(&tried)
     }
 
     /// Whether it comes so over memory in one piece, at each cut in two, and byte by byte.
     pub(crate) fn comes(&self, alloc: Global, levels: Levels) -> bool {
         for cut in 0..self.stream.len() + 2 {
-            let comes = match levels {
-                Levels::OfTheProgram => self.comes_at(alloc, cut),
-                Levels::Two => self.comes_in_two_levels_at(alloc, cut),
-            };
-            if !comes {
+            if !self.comes_at(alloc, levels, cut) {
                 return false;
             }
         }
         true
     }
 
-    /// Whether it is answered so over the filing of a folder, in two pieces.
+    /// Whether it is answered so over the filing of a folder, if it comes in these steps.
     pub(crate) fn is_answered(
         &self,
         alloc: Global,
         filing: FolderFiling<HostRuntime>,
-        cut: usize,
+        levels: Levels,
+        steps: &[Step],
     ) -> bool {
-        let mut driven = OverFolder::open(&config(), MemoryWire::new(alloc), filing);
-        driven.feed_cut(self.stream.as_slice(), cut);
-        let shown = (driven.state(), driven.drafting(), driven.held());
-        self.is_shown(shown, driven.wire())
+        let mut filing = filing;
+        let tried = over_folder(alloc, &mut filing, levels, steps);
+        self.is_shown(tried.shown, &tried.wire)
     }
 
-    /// The same where two levels may be open.
-    fn is_answered_in_two_levels(
+    /// Whether it is answered so over the filing of a folder, in two pieces.
+    pub(crate) fn comes_over(
         &self,
-        alloc: Global,
+        rt: &HostRuntime,
         filing: FolderFiling<HostRuntime>,
         cut: usize,
     ) -> bool {
-        let mut driven = Driven::<_, _, 2>::open(&config(), MemoryWire::new(alloc), filing);
-        driven.feed_cut(self.stream.as_slice(), cut);
-        let shown = (driven.state(), driven.drafting(), driven.held());
-        self.is_shown(shown, driven.wire())
+        let steps = [Step::Cut(self.stream.as_slice(), cut)];
+        self.is_answered(rt.alloc(), filing, Levels::OfTheProgram, &steps)
     }
 
     /// Whether it comes so over a folder of this name, which is made anew, in two pieces.
@@ -164,11 +191,11 @@ impl Row {
         cut: usize,
     ) -> io::Result<bool> {
         let filing = fresh_folder(rt, dir)?;
-        let is_answered = match levels {
-            Levels::OfTheProgram => self.is_answered(rt.alloc(), filing, cut),
-            Levels::Two => self.is_answered_in_two_levels(rt.alloc(), filing, cut),
-        };
-        Ok(is_answered && are_in(rt, dir, self.files.as_slice())?)
+        let steps = [Step::Cut(self.stream.as_slice(), cut)];
+        Ok(
+            self.is_answered(rt.alloc(), filing, levels, &steps)
+                && are_in(rt, dir, self.files.as_slice())?,
+        )
     }
 
     /// Whether it comes so over a folder of this name in one piece, at each cut in two, and byte by byte.

@@ -78,7 +78,7 @@ const PIXELS_WITHOUT_END: Option<Cause> = Some((
 ));
 
 /// Stores that are filed, refused in their data set, or of another image than their command names.
-pub(crate) const STORES: [Store<'static>; 10] = [
+pub(crate) static STORES: [Store<'static>; 10] = [
     (EXPLICIT, INSTANCE, &CT_SET, status::SUCCESS, None),
     (
         EXPLICIT,
@@ -141,7 +141,7 @@ pub(crate) const STORES: [Store<'static>; 10] = [
 ];
 
 /// Stores over a walk that may have two levels open.
-pub(crate) const STORES_OF_TWO_LEVELS: [Store<'static>; 2] = [
+pub(crate) static STORES_OF_TWO_LEVELS: [Store<'static>; 2] = [
     (
         IMPLICIT,
         INSTANCE,

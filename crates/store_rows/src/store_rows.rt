@@ -5,61 +5,52 @@ use crate::row::{Levels, Row, Store};
 use crate::sets::{OTHER_INSTANCE, STORES, STORES_OF_TWO_LEVELS};
 use acceptor::State;
 use dimse::status;
-use fixtures::bytes::{front, joined};
+use fixtures::bytes::{front, within};
 use fixtures::echo::{RELEASE, RELEASED};
 use fixtures::stores::{
     CT_SET, EXPLICIT, IMPLICIT, INSTANCE, OTHER, data, file, reply, request, store, whole_store,
 };
 use std::alloc::{AllocError, Global};
+use std::io;
 use std::test::Fail;
 
-/// Returns which of these stores is the first that does not come over memory, if there is one.
-fn other(alloc: Global, stores: &[Store], levels: Levels) -> Result<Option<usize>, AllocError> {
-    for (at, store) in stores.iter().enumerate() {
+/// Whether these stores come over memory.
+fn come(alloc: Global, stores: &[Store], levels: Levels) -> Result<bool, AllocError> {
+    for store in stores {
         if !Row::of(alloc, store)?.comes(alloc, levels) {
-            return Ok(Some(at));
+            return Ok(false);
         }
     }
-    Ok(None)
+    Ok(true)
 }
 
 #[test]
-fn stores_over_memory(rt: HostRuntime) -> Result<(), Fail> {
-    assert_eq!(rt; other(rt.alloc(), &STORES, Levels::OfTheProgram)?, None);
-    assert_eq!(rt;
-        other(rt.alloc(), &STORES_OF_TWO_LEVELS, Levels::Two)?,
-        None
-    );
+fn stores_over_memory(rt: HostRuntime) -> Result<(), AllocError> {
+    assert!(rt; come(rt.alloc(), &STORES, Levels::OfTheProgram)?);
+    assert!(rt; come(rt.alloc(), &STORES_OF_TWO_LEVELS, Levels::Two)?);
     Ok(())
 }
 
 /// The same over a folder.
-fn other_in_folder(
-    rt: &HostRuntime,
-    stores: &[Store],
-    levels: Levels,
-) -> Result<Option<usize>, Fail> {
-    for (at, store) in stores.iter().enumerate() {
+fn come_in_folder(rt: &HostRuntime, stores: &[Store], levels: Levels) -> io::Result<bool> {
+    for store in stores {
         let row = Row::of(rt.alloc(), store)?;
         if !row.comes_in_folder(rt, "stores_over_a_folder", levels)? {
-            return Ok(Some(at));
+            return Ok(false);
         }
     }
-    Ok(None)
+    Ok(true)
 }
 
 #[test]
 fn stores_over_a_folder(rt: HostRuntime) -> Result<(), Fail> {
-    assert_eq!(rt; other_in_folder(&rt, &STORES, Levels::OfTheProgram)?, None);
-    assert_eq!(rt;
-        other_in_folder(&rt, &STORES_OF_TWO_LEVELS, Levels::Two)?,
-        None
-    );
+    assert!(rt; come_in_folder(&rt, &STORES, Levels::OfTheProgram)?);
+    assert!(rt; come_in_folder(&rt, &STORES_OF_TWO_LEVELS, Levels::Two)?);
     Ok(())
 }
 
 /// Whether a row comes over memory and over a folder of this name.
-fn comes(rt: &HostRuntime, dir: &str, row: &Row) -> Result<bool, Fail> {
+fn comes(rt: &HostRuntime, dir: &str, row: &Row) -> io::Result<bool> {
     Ok(
         row.comes(rt.alloc(), Levels::OfTheProgram)
             && row.comes_in_folder(rt, dir, Levels::OfTheProgram)?,
@@ -77,11 +68,12 @@ fn sizes(alloc: Global) -> Result<[usize; 4], AllocError> {
 }
 
 #[test]
-fn sizes_of_a_ct_store(rt: HostRuntime) -> Result<(), Fail> {
+fn sizes_of_a_ct_store(rt: HostRuntime) -> Result<(), AllocError> {
     assert!(rt; sizes(rt.alloc())? == [180, 100, 172, 112]);
     let file = file(rt.alloc(), EXPLICIT, INSTANCE, &CT_SET)?;
-    assert_eq!(rt; file.len(), 336);
-    assert!(rt; file.as_slice().get(140..144) == Some(&[144, 0, 0, 0][..]));
+    assert!(rt;
+        file.len() == 336 && within(file.as_slice(), 140, 144) == [144, 0, 0, 0].as_slice()
+    );
     Ok(())
 }
 
@@ -96,77 +88,92 @@ fn too_deep(alloc: Global) -> Result<Vec<u8>, AllocError> {
     Ok(set)
 }
 
-#[test]
-fn a_data_set_with_too_many_levels(rt: HostRuntime) -> Result<(), Fail> {
-    let set = too_deep(rt.alloc())?;
-    let set = set.as_slice();
-    let store = (IMPLICIT, INSTANCE, set, status::OUT_OF_RESOURCES, None);
-    let row = Row::of(rt.alloc(), &store)?;
-    assert!(rt; comes(&rt, "too_many_levels", &row)?);
-    Ok(())
+/// Data with too many levels.
+fn of_too_many_levels(alloc: Global) -> Result<Row, AllocError> {
+    let set = too_deep(alloc)?;
+    Row::of(
+        alloc,
+        &(
+            IMPLICIT,
+            INSTANCE,
+            set.as_slice(),
+            status::OUT_OF_RESOURCES,
+            None,
+        ),
+    )
 }
 
-/// The file of the CT store alone.
-fn one_file(alloc: Global) -> Result<Vec<Vec<u8>>, AllocError> {
-    let mut files = Vec::new(alloc);
-    files.push(file(alloc, EXPLICIT, INSTANCE, &CT_SET)?)?;
-    Ok(files)
-}
-
-/// The state of the association is left where the data are cut after a whole fragment.
-#[test]
-fn a_release_in_its_data(rt: HostRuntime) -> Result<(), Fail> {
-    let alloc = rt.alloc();
+/// A release in its data. The state of the association is left where the data are cut after a whole fragment.
+fn of_release(alloc: Global) -> Result<Row, AllocError> {
     let command = data(alloc, 3, store(alloc, INSTANCE)?.as_slice())?;
     let part = data(alloc, 0, front(&CT_SET, 20))?;
     let messages = [command.as_slice(), part.as_slice(), RELEASE];
-    let row = Row::of_messages(alloc, &messages, &[RELEASED], Vec::new(alloc), State::Sta13)?;
-    assert!(rt; comes(&rt, "a_release_in_its_data", &row)?);
-    Ok(())
+    Row::of_messages(alloc, &messages, &[RELEASED], &[], State::Sta13)
 }
 
 /// A PDU with the last fragment of a store, and then with the head of a PDV that passes its end.
-#[test]
-fn a_store_before_a_bad_pdv(rt: HostRuntime) -> Result<(), Fail> {
-    let alloc = rt.alloc();
+fn of_bad_pdv(alloc: Global) -> Result<Row, AllocError> {
     let command = data(alloc, 3, store(alloc, INSTANCE)?.as_slice())?;
+    let reply = reply(alloc, INSTANCE, status::SUCCESS, None)?;
     let heads = [4, 0, 0, 0, 0, 60, 0, 0, 0, 50, 1, 2];
     let messages = [command.as_slice(), &heads, &CT_SET, &[0, 0, 0, 1, 1, 3]];
-    let reply = reply(alloc, INSTANCE, status::SUCCESS, None)?;
     let replies: [&[u8]; 2] = [reply.as_slice(), &[7, 0, 0, 0, 0, 4, 0, 0, 2, 6]];
-    let row = Row::of_messages(alloc, &messages, &replies, one_file(alloc)?, State::Sta13)?;
-    assert!(rt; comes(&rt, "a_store_before_a_bad_pdv", &row)?);
-    Ok(())
+    Row::of_messages(alloc, &messages, &replies, &CT_SET, State::Sta13)
 }
 
 /// Where the last digit of the class stands in a command or a reply: after the heads of its PDU and PDV,
 /// its first element and the header of its second.
 const NAMED: usize = 12 + 12 + 8 + 24;
 
-/// The command names MR images.
+/// A command or a reply of another class than the context: MR images.
+fn of_other_class(message: Vec<u8>) -> Vec<u8> {
+    let mut message = message;
+    if let Some(digit) = message.as_mut_slice().get_mut(NAMED) {
+        *digit = b'4';
+    }
+    message
+}
+
+/// Another class than the context.
+fn of_another_class(alloc: Global) -> Result<Row, AllocError> {
+    let store = of_other_class(whole_store(alloc, INSTANCE, &CT_SET)?);
+    let reply = of_other_class(reply(alloc, INSTANCE, status::CLASS_NOT_SUPPORTED, None)?);
+    Row::of_messages(
+        alloc,
+        &[store.as_slice()],
+        &[reply.as_slice()],
+        &[],
+        State::Sta6,
+    )
+}
+
+/// Two stores on one association.
+fn of_two_stores(alloc: Global) -> Result<Row, AllocError> {
+    let mut messages = whole_store(alloc, OTHER, &CT_SET)?;
+    messages.extend_from_slice(whole_store(alloc, INSTANCE, &CT_SET)?.as_slice())?;
+    let mut replies = reply(alloc, OTHER, status::DATA_SET_MISMATCH, OTHER_INSTANCE)?;
+    replies.extend_from_slice(reply(alloc, INSTANCE, status::SUCCESS, None)?.as_slice())?;
+    Row::of_messages(
+        alloc,
+        &[messages.as_slice()],
+        &[replies.as_slice()],
+        &CT_SET,
+        State::Sta6,
+    )
+}
+
 #[test]
-fn another_class_than_the_context(rt: HostRuntime) -> Result<(), Fail> {
-    let alloc = rt.alloc();
-    let mut store = whole_store(alloc, INSTANCE, &CT_SET)?;
-    *store.as_mut_slice().get_mut(NAMED).ok_or("a command")? = b'4';
-    let mut reply = reply(alloc, INSTANCE, status::CLASS_NOT_SUPPORTED, None)?;
-    *reply.as_mut_slice().get_mut(NAMED).ok_or("a reply")? = b'4';
-    let (messages, replies) = ([store.as_slice()], [reply.as_slice()]);
-    let row = Row::of_messages(alloc, &messages, &replies, Vec::new(alloc), State::Sta6)?;
-    assert!(rt; comes(&rt, "another_class", &row)?);
+fn a_data_set_with_too_many_levels(rt: HostRuntime) -> Result<(), Fail> {
+    assert!(rt; comes(&rt, "too_many_levels", &of_too_many_levels(rt.alloc())?)?);
     Ok(())
 }
 
 #[test]
-fn two_stores_on_one_association(rt: HostRuntime) -> Result<(), Fail> {
-    let alloc = rt.alloc();
-    let bad = whole_store(alloc, OTHER, &CT_SET)?;
-    let good = whole_store(alloc, INSTANCE, &CT_SET)?;
-    let first = reply(alloc, OTHER, status::DATA_SET_MISMATCH, OTHER_INSTANCE)?;
-    let second = reply(alloc, INSTANCE, status::SUCCESS, None)?;
-    let messages = [bad.as_slice(), good.as_slice()];
-    let replies = [first.as_slice(), second.as_slice()];
-    let row = Row::of_messages(alloc, &messages, &replies, one_file(alloc)?, State::Sta6)?;
-    assert!(rt; comes(&rt, "two_stores", &row)?);
+fn messages_of_an_association(rt: HostRuntime) -> Result<(), Fail> {
+    let dir = "messages_of_an_association";
+    assert!(rt; comes(&rt, dir, &of_release(rt.alloc())?)?);
+    assert!(rt; comes(&rt, dir, &of_bad_pdv(rt.alloc())?)?);
+    assert!(rt; comes(&rt, dir, &of_another_class(rt.alloc())?)?);
+    assert!(rt; comes(&rt, dir, &of_two_stores(rt.alloc())?)?);
     Ok(())
 }
