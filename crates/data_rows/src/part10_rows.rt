@@ -2,10 +2,10 @@
 
 use arrayvec::ArrayVec;
 use element::{AeTitle, Syntax, Uid};
+use fixtures::bytes::joined;
 use fixtures::folders::is_filed;
 use part10::{Filing, MemoryFiling, Meta, MetaFault, meta_bytes, read_meta};
 use std::alloc::{AllocError, Global};
-use std::process::Abort;
 
 /// Group 0002 of a CT image `1.2.3` in Explicit VR Little Endian, from `SCANNER1`, after its length, but for the title.
 const GROUP: [u8; 128] = [
@@ -33,6 +33,14 @@ pub fn header(calling: &[u8; 16]) -> Option<ArrayVec<u8, 512>> {
     }))
 }
 
+/// Whether these are the bytes of the header with this title.
+fn is_header(calling: &[u8; 16], wanted: &[u8]) -> bool {
+    match header(calling) {
+        Some(header) => header.as_slice() == wanted,
+        None => false,
+    }
+}
+
 fn wanted(length: u8, title: &[u8]) -> ArrayVec<u8, 512> {
     let mut wanted = ArrayVec::new();
     let _ = wanted.try_extend_from_slice(&[0; 128]);
@@ -50,9 +58,8 @@ fn headers_with_a_title_and_without(rt: HostRuntime) {
         (b"                ", 272, 128, &[]),
     ];
     for (calling, size, length, title) in rows {
-        let header = header(calling).expect(&rt, "a header");
-        assert_eq!(rt; header.len(), size);
-        assert!(rt; header.as_slice() == wanted(length, title).as_slice());
+        let wanted = wanted(length, title);
+        assert!(rt; wanted.len() == size && is_header(calling, wanted.as_slice()));
     }
 }
 
@@ -69,10 +76,12 @@ fn is_filed_in(filing: &mut MemoryFiling<Global>, appends: u16) -> bool {
     filing.commit().is_ok()
 }
 
-/// Checks how many files there are, and the size of this one.
-fn has_size(rt: &impl Abort, files: &[Vec<u8>], count: usize, index: usize, size: usize) {
-    assert_eq!(rt; files.len(), count);
-    assert_eq!(rt; files.get(index).map(Vec::len), Some(size));
+/// Returns whether there are so many files, and this one has this size.
+fn has_size(files: &[Vec<u8>], count: usize, index: usize, size: usize) -> bool {
+    match files.get(index) {
+        Some(file) => files.len() == count && file.len() == size,
+        None => false,
+    }
 }
 
 /// With memory to spare nothing fails: many files, long ones, and many appends to one.
@@ -83,8 +92,8 @@ fn memory_takes_long_and_many_files(rt: HostRuntime) {
         assert!(rt; is_filed(&mut filing, &[7; 5000]));
     }
     assert!(rt; is_filed_in(&mut filing, 1000));
-    has_size(&rt, filing.files(), 301, 0, 5000);
-    has_size(&rt, filing.files(), 301, 300, 333_000);
+    assert!(rt; has_size(filing.files(), 301, 0, 5000));
+    assert!(rt; has_size(filing.files(), 301, 300, 333_000));
 }
 
 /// Reads the header of a text; returns what it says of the instance and how many bytes are left, or
@@ -111,26 +120,29 @@ fn stored() -> ArrayVec<u8, 512> {
     file
 }
 
-/// Checks what the header of the stored CT image says.
-fn is_stored(rt: &impl Abort, meta: &Meta) {
-    assert!(rt; meta.class.as_bytes() == b"1.2.840.10008.5.1.4.1.1.2".as_slice());
-    assert!(rt; meta.instance.as_bytes() == b"1.2.3".as_slice());
-    assert_eq!(rt; meta.syntax, Syntax::Explicit);
-    assert!(rt; meta.calling.0 == [b' '; 16]);
+/// Returns whether the header of the stored CT image is read, and so many bytes are left.
+fn is_stored(file: &[u8], rest: usize) -> bool {
+    match read(file) {
+        Ok((meta, left)) => {
+            left == rest
+                && meta.class.as_bytes() == b"1.2.840.10008.5.1.4.1.1.2".as_slice()
+                && meta.instance.as_bytes() == b"1.2.3".as_slice()
+                && meta.syntax == Syntax::Explicit
+                && meta.calling.0 == [b' '; 16]
+        }
+        Err(_) => false,
+    }
 }
 
 #[test]
 fn a_stored_file_is_read_back(rt: HostRuntime) {
     let file = stored();
-    assert_eq!(rt; file.len(), 336);
-    let (meta, left) = read(file.as_slice()).expect(&rt, "a header");
-    assert_eq!(rt; left, 48);
-    is_stored(&rt, &meta);
+    assert!(rt; file.len() == 336 && is_stored(file.as_slice(), 48));
     // Cut anywhere, it is no file of the standard (50), or has no file header (51).
     for size in 0..288usize {
         let number = if size < 132 { 50 } else { 51 };
         let front = file.as_slice().get(..size).unwrap_or(&[]);
-        assert!(rt; is_fault(front, number), "at {size}");
+        assert!(rt; is_fault(front, number));
     }
 }
 
@@ -176,68 +188,79 @@ const FAULTS: [(usize, u8, u8); 17] = [
 #[test]
 fn faults_of_file_headers(rt: HostRuntime) {
     for (at, byte, number) in FAULTS {
-        assert_eq!(rt; fault_with(at, byte), number, "at {at}");
+        assert!(rt; fault_with(at, byte) == number);
     }
     assert!(rt; is_fault(&[], 50));
 }
 
-/// Appends this byte as often as said.
-fn push_each(file: &mut Vec<u8>, count: u32, byte: u8) -> Result<(), AllocError> {
-    for _ in 0..count {
-        file.push(byte)?;
-    }
-    Ok(())
-}
+const PADDING: [u8; 60_001] = [0; 60_001];
 
-/// Appends a header of group 0002 whose instance `1.2.3` has 60,001 bytes of padding, and which has an
+const SKIPPED: [u8; 70_000] = [5; 70_000];
+
+/// A file with a header of group 0002 whose instance `1.2.3` has 60,001 bytes of padding, and which has an
 /// element of 70,000 bytes that is skipped; and four bytes of data set.
-fn push_long_header(file: &mut Vec<u8>) -> Result<(), AllocError> {
-    file.extend_from_slice(b"DICM\x02\x00\x00\x00UL\x04\x00")?;
-    file.extend_from_slice(&(34 + 60_014u32 + 26 + 70_012).to_le_bytes())?;
-    file.extend_from_slice(b"\x02\x00\x02\x00UI\x1a\x001.2.840.10008.5.1.4.1.1.2\0")?;
-    file.extend_from_slice(b"\x02\x00\x03\x00UI")?;
-    file.extend_from_slice(&60_006u16.to_le_bytes())?;
-    file.extend_from_slice(b"1.2.3")?;
-    push_each(file, 60_001, 0)?;
-    file.extend_from_slice(b"\x02\x00\x10\x00UI\x12\x001.2.840.10008.1.2\0")?;
-    file.extend_from_slice(b"\x02\x00\x02\x01OB\0\0")?;
-    file.extend_from_slice(&70_000u32.to_le_bytes())?;
-    push_each(file, 70_000, 5)?;
-    file.extend_from_slice(b"data")
+fn long_file(alloc: Global) -> Result<Vec<u8>, AllocError> {
+    joined(
+        alloc,
+        &[
+            &[7; 128],
+            b"DICM\x02\x00\x00\x00UL\x04\x00",
+            &(34 + 60_014u32 + 26 + 70_012).to_le_bytes(),
+            b"\x02\x00\x02\x00UI\x1a\x001.2.840.10008.5.1.4.1.1.2\0",
+            b"\x02\x00\x03\x00UI",
+            &60_006u16.to_le_bytes(),
+            b"1.2.3",
+            &PADDING,
+            b"\x02\x00\x10\x00UI\x12\x001.2.840.10008.1.2\0",
+            b"\x02\x00\x02\x01OB\0\0",
+            &70_000u32.to_le_bytes(),
+            &SKIPPED,
+            b"data",
+        ],
+    )
 }
 
-/// Checks what the header says, and how many bytes are left after it.
-fn reads_long(rt: &impl Abort, file: &[u8]) {
-    let (meta, left) = read(file).expect(rt, "a header");
-    assert_eq!(rt; left, 4);
-    assert!(rt; meta.instance.as_bytes() == b"1.2.3".as_slice());
-    assert_eq!(rt; meta.syntax, Syntax::Implicit);
+/// Returns whether the header is read, and the data set is left after it.
+fn reads_long(file: &[u8]) -> bool {
+    match read(file) {
+        Ok((meta, left)) => {
+            left == 4
+                && meta.instance.as_bytes() == b"1.2.3".as_slice()
+                && meta.syntax == Syntax::Implicit
+        }
+        Err(_) => false,
+    }
 }
 
 /// An identifier with 60,000 bytes of padding is read in a fixed room; so is an element that is
 /// skipped.
 #[test]
 fn lengths_take_no_room(rt: HostRuntime) -> Result<(), AllocError> {
-    let mut file = Vec::from_slice(rt.alloc(), &[7; 128])?;
-    push_long_header(&mut file)?;
-    reads_long(&rt, file.as_slice());
+    let mut file = long_file(rt.alloc())?;
+    assert!(rt; reads_long(file.as_slice()));
     // A character after the padding is part of the identifier.
     set(file.as_mut_slice(), 60_000, b'4');
     assert!(rt; is_fault(file.as_slice(), 51));
     Ok(())
 }
 
-/// Checks the number of a fault, and what is printed of it.
-fn is_shown<R: Abort + AllocGlobal>(rt: &R, fault: MetaFault, number: u8, shown: &str) {
-    assert_eq!(rt; fault.number(), number);
-    let text = format!(in rt.alloc(); "{fault}").expect(rt, "memory");
-    assert_eq!(rt; text.as_str(), shown);
+/// Returns whether this is printed of the fault.
+fn is_shown(alloc: Global, fault: MetaFault, shown: &str) -> Result<bool, AllocError> {
+    let text = format!(in alloc; "{fault}")?;
+    Ok(text.as_str() == shown)
 }
 
+const SHOWN: [(MetaFault, u8, &str); 4] = [
+    (MetaFault::NotPart10, 50, "50 NotPart10"),
+    (MetaFault::BadMeta, 51, "51 BadMeta"),
+    (MetaFault::OtherSyntax, 53, "53 OtherSyntax"),
+    (MetaFault::ReadFailed, 54, "54 ReadFailed"),
+];
+
 #[test]
-fn faults_have_numbers_and_names(rt: HostRuntime) {
-    is_shown(&rt, MetaFault::NotPart10, 50, "50 NotPart10");
-    is_shown(&rt, MetaFault::BadMeta, 51, "51 BadMeta");
-    is_shown(&rt, MetaFault::OtherSyntax, 53, "53 OtherSyntax");
-    is_shown(&rt, MetaFault::ReadFailed, 54, "54 ReadFailed");
+fn faults_have_numbers_and_names(rt: HostRuntime) -> Result<(), AllocError> {
+    for (fault, number, shown) in &SHOWN {
+        assert!(rt; fault.number() == *number && is_shown(rt.alloc(), *fault, shown)?);
+    }
+    Ok(())
 }

@@ -2,8 +2,8 @@
 
 use crate::walks::{ends_at, is_at, new_shallow_walker, new_walker, take, take_cut};
 use element::{Header, Syntax, Tag, Vr};
+use fixtures::bytes::within;
 use sequence::{Fault, Step, Walker, Want, Wanted};
-use std::process::Abort;
 
 fn fault(number: u8, place: u64, tag: Tag) -> Fault {
     Fault { number, place, tag }
@@ -61,17 +61,17 @@ const ONE_CT_STORE: [u8; 48] = [
 fn two_open_levels(rt: HostRuntime) {
     let truncated = fault(20, 19, Tag(0, 0));
     let end = (2, 19, 35, Some(truncated));
-    ends_at(&rt, Syntax::Implicit, &TWO_OPEN_LEVELS, end);
+    assert!(rt; ends_at(Syntax::Implicit, &TWO_OPEN_LEVELS, end));
 }
 
 #[test]
 fn four_levels_that_end_together(rt: HostRuntime) {
     let mut w = new_walker(Syntax::Implicit);
     take(&mut w, &FOUR_LEVELS[..41]);
-    assert_eq!(rt; w.levels(), 4);
+    assert!(rt; w.levels() == 4);
     take(&mut w, &FOUR_LEVELS[41..42]);
-    assert_eq!(rt; w.levels(), 1);
-    ends_at(&rt, Syntax::Implicit, &FOUR_LEVELS, (0, 60, 0, None));
+    assert!(rt; w.levels() == 1);
+    assert!(rt; ends_at(Syntax::Implicit, &FOUR_LEVELS, (0, 60, 0, None)));
 }
 
 /// Whether both report the same.
@@ -86,19 +86,19 @@ fn is_same(step: &Step, other: &Step) -> bool {
     }
 }
 
-/// Steps along the piece, and checks how many bytes each step takes and what it reports.
-fn steps<const D: usize>(
-    rt: &impl Abort,
-    walker: &mut Walker<140, D>,
-    piece: &[u8],
-    wanted: &[(usize, Step)],
-) {
-    let mut rest = piece;
-    for (size, report) in wanted {
-        let (taken, step) = walker.step(rest);
-        assert!(rt; taken == *size && is_same(&step, report), "{step:?}");
-        rest = &rest[taken..];
+/// Where a piece begins and ends in a text; how many bytes a step takes of it, what it reports, and how
+/// many levels are open then.
+type Taking<'a> = (usize, usize, usize, Step<'a>, usize);
+
+/// Returns whether the steps take and report this.
+fn steps<const D: usize>(walker: &mut Walker<140, D>, text: &[u8], rows: &[Taking]) -> bool {
+    for (from, to, size, report, levels) in rows {
+        let (taken, step) = walker.step(within(text, *from, *to));
+        if taken != *size || !is_same(&step, report) || walker.levels() != *levels {
+            return false;
+        }
     }
+    true
 }
 
 /// A header in Implicit VR Little Endian, or of group FFFE.
@@ -113,72 +113,66 @@ fn header(tag: Tag, length: u32) -> Header {
 #[test]
 fn steps_along_four_levels(rt: HostRuntime) {
     let mut w = new_walker(Syntax::Implicit);
-    let headers = [
-        (8, Step::Element(header(Tag(0x40, 0x0275), u32::MAX))),
-        (8, Step::Opened(header(Tag(0xfffe, 0xe000), 26))),
-        (8, Step::Element(header(Tag(0x40, 0xa730), 18))),
-        (8, Step::Opened(header(Tag(0xfffe, 0xe000), 10))),
-        (8, Step::Element(header(Tag(0x08, 0x0104), 2))),
+    let item = Tag(0xfffe, 0xe000);
+    let rows: [Taking; 8] = [
+        (
+            0,
+            60,
+            8,
+            Step::Element(header(Tag(0x40, 0x0275), u32::MAX)),
+            1,
+        ),
+        (8, 60, 8, Step::Opened(header(item, 26)), 2),
+        (16, 60, 8, Step::Element(header(Tag(0x40, 0xa730), 18)), 3),
+        (24, 60, 8, Step::Opened(header(item, 10)), 4),
+        (32, 60, 8, Step::Element(header(Tag(0x08, 0x0104), 2)), 4),
+        (40, 60, 2, Step::Run(b"AB"), 1),
+        (42, 60, 8, Step::Closed(header(Tag(0xfffe, 0xe0dd), 0)), 0),
+        (50, 53, 3, Step::More, 0),
     ];
-    steps(&rt, &mut w, &FOUR_LEVELS, &headers);
-    assert_eq!(rt; w.levels(), 4);
-    steps(&rt, &mut w, &FOUR_LEVELS[40..], &[(2, Step::Run(b"AB"))]);
-    assert_eq!(rt; w.levels(), 1);
-    let delimiter = header(Tag(0xfffe, 0xe0dd), 0);
-    steps(
-        &rt,
-        &mut w,
-        &FOUR_LEVELS[42..],
-        &[(8, Step::Closed(delimiter))],
-    );
-    assert_eq!(rt; w.levels(), 0);
-    steps(&rt, &mut w, &FOUR_LEVELS[50..53], &[(3, Step::More)]);
+    assert!(rt; steps(&mut w, &FOUR_LEVELS, &rows));
 }
 
 #[test]
 fn a_header_past_its_item(rt: HostRuntime) {
     let overrun = fault(17, 26, Tag(0, 0));
-    ends_at(
-        &rt,
-        Syntax::Implicit,
-        &PAST_ITS_ITEM,
-        (2, 26, 32, Some(overrun)),
-    );
+    let end = (2, 26, 32, Some(overrun));
+    assert!(rt; ends_at(Syntax::Implicit, &PAST_ITS_ITEM, end));
     let overrun = fault(17, 24, Tag(0, 0));
     let end = (3, 24, 48, Some(overrun));
-    ends_at(&rt, Syntax::Implicit, &LEVEL_PAST_ITS_ITEM, end);
+    assert!(rt; ends_at(Syntax::Implicit, &LEVEL_PAST_ITS_ITEM, end));
 }
 
 /// A walk that is refused at the limit refuses what comes then.
-fn is_refused_at(rt: &impl Abort, cut: usize, refused: Fault) {
+fn is_refused_at(cut: usize, refused: Fault) -> bool {
     let mut w = new_shallow_walker(Syntax::Implicit);
     take_cut(&mut w, &TOO_DEEP, cut);
-    steps(rt, &mut w, &TOO_DEEP, &[(0, Step::Refused(refused))]);
-    is_at(rt, &w, (2, 24, 32, Some(refused)));
+    steps(&mut w, &TOO_DEEP, &[(0, 24, 0, Step::Refused(refused), 2)])
+        && is_at(&w, (2, 24, 32, Some(refused)))
+}
+
+/// What is deep enough is taken.
+fn is_taken_at(cut: usize) -> bool {
+    let mut w = new_shallow_walker(Syntax::Implicit);
+    take_cut(&mut w, &DEEP_ENOUGH, cut);
+    w.levels() == 2 && w.place() == 24
 }
 
 #[test]
 fn deeper_than_the_limit(rt: HostRuntime) {
     for cut in 0..TOO_DEEP.len() + 2 {
-        is_refused_at(&rt, cut, fault(18, 16, Tag(0x40, 0xa730)));
+        assert!(rt; is_refused_at(cut, fault(18, 16, Tag(0x40, 0xa730))));
     }
     for cut in 0..DEEP_ENOUGH.len() + 2 {
-        let mut w = new_shallow_walker(Syntax::Implicit);
-        take_cut(&mut w, &DEEP_ENOUGH, cut);
-        assert_eq!(rt; (w.levels(), w.place()), (2, 24));
+        assert!(rt; is_taken_at(cut));
     }
 }
 
 #[test]
 fn unknown_content(rt: HostRuntime) {
-    ends_at(&rt, Syntax::Explicit, &UNKNOWN_CONTENT, (0, 38, 0, None));
-    let refused = fault(14, 0, Tag(0x7fe0, 0x10));
-    ends_at(
-        &rt,
-        Syntax::Explicit,
-        &NOT_ALLOWED,
-        (0, 12, 0, Some(refused)),
-    );
+    assert!(rt; ends_at(Syntax::Explicit, &UNKNOWN_CONTENT, (0, 38, 0, None)));
+    let end = (0, 12, 0, Some(fault(14, 0, Tag(0x7fe0, 0x10))));
+    assert!(rt; ends_at(Syntax::Explicit, &NOT_ALLOWED, end));
 }
 
 /// The steps that one store's data set takes in two pieces, and whether its values are kept then.
@@ -222,12 +216,8 @@ fn one_ct_store(rt: HostRuntime) {
     for cut in 0..ONE_CT_STORE.len() + 2 {
         let (before, after, kept) = store_steps(cut);
         assert!(rt; kept);
-        if cut == 0 {
-            assert_eq!(rt; (before, after), (0, 4));
-        }
-        if cut == 6 {
-            assert_eq!(rt; (before, after), (1, 4));
-        }
+        assert!(rt; cut != 0 || before == 0 && after == 4);
+        assert!(rt; cut != 6 || before == 1 && after == 4);
     }
 }
 
@@ -244,30 +234,17 @@ fn uid_header(tag: Tag, length: u32) -> Header {
 fn steps_along_one_ct_store(rt: HostRuntime) {
     let mut w = new_walker(Syntax::Explicit);
     let class = uid_header(Tag(0x0008, 0x0016), 26);
-    let value = Step::Run(&ONE_CT_STORE[8..34]);
-    steps(
-        &rt,
-        &mut w,
-        &ONE_CT_STORE,
-        &[(8, Step::Element(class)), (26, value)],
-    );
-    steps(&rt, &mut w, &ONE_CT_STORE[34..40], &[(6, Step::More)]);
     let instance = uid_header(Tag(0x0008, 0x0018), 6);
-    steps(
-        &rt,
-        &mut w,
-        &ONE_CT_STORE[40..],
-        &[(2, Step::Element(instance))],
-    );
-    steps(&rt, &mut w, &[], &[(0, Step::More)]);
-    steps(
-        &rt,
-        &mut w,
-        &ONE_CT_STORE[42..45],
-        &[(3, Step::Run(b"1.2"))],
-    );
-    steps(&rt, &mut w, &ONE_CT_STORE[45..], &[(3, Step::Run(b".3\0"))]);
-    assert!(rt; w.finish().is_ok());
+    let rows: [Taking; 7] = [
+        (0, 48, 8, Step::Element(class), 0),
+        (8, 48, 26, Step::Run(b"1.2.840.10008.5.1.4.1.1.2\0"), 0),
+        (34, 40, 6, Step::More, 0),
+        (40, 48, 2, Step::Element(instance), 0),
+        (0, 0, 0, Step::More, 0),
+        (42, 45, 3, Step::Run(b"1.2"), 0),
+        (45, 48, 3, Step::Run(b".3\0"), 0),
+    ];
+    assert!(rt; steps(&mut w, &ONE_CT_STORE, &rows) && w.finish().is_ok());
 }
 
 /// A sequence and an item, both of undefined length.
@@ -282,12 +259,12 @@ fn nested_past_the_limit(rt: HostRuntime) {
         take(&mut w, &PAIR);
     }
     let truncated = fault(20, 512, Tag(0, 0));
-    is_at(&rt, &w, (64, 512, 1024, Some(truncated)));
+    assert!(rt; is_at(&w, (64, 512, 1024, Some(truncated))));
     for _ in 0..1_000_000 {
         take(&mut w, &PAIR);
     }
     let refused = fault(18, 512, Tag(0x40, 0xa730));
-    is_at(&rt, &w, (64, 520, 1024, Some(refused)));
+    assert!(rt; is_at(&w, (64, 520, 1024, Some(refused))));
 }
 
 /// The header of 64 MiB of pixel data.
@@ -304,6 +281,6 @@ fn a_large_value(rt: HostRuntime) {
     for _ in 0..1024 {
         steps = steps.saturating_add(take(&mut w, &PIECE));
     }
-    assert_eq!(rt; steps, 1025);
-    is_at(&rt, &w, (0, 12 + (64 << 20), 0, None));
+    assert!(rt; steps == 1025);
+    assert!(rt; is_at(&w, (0, 12 + (64 << 20), 0, None)));
 }

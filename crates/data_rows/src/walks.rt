@@ -2,7 +2,6 @@
 
 use element::Syntax;
 use sequence::{Fault, Walker, Wanted};
-use std::process::Abort;
 
 /// Takes the piece, stepping on by what each step took; returns the number of steps.
 pub(crate) fn take<const D: usize>(walker: &mut Walker<140, D>, piece: &[u8]) -> u32 {
@@ -42,9 +41,9 @@ pub(crate) fn end<const D: usize>(walker: &Walker<140, D>) -> End {
     (walker.levels(), walker.place(), walker.held(), fault)
 }
 
-/// Checks what a walk has come to.
-pub(crate) fn is_at<const D: usize>(rt: &impl Abort, walker: &Walker<140, D>, wanted: End) {
-    assert_eq!(rt; end(walker), wanted);
+/// Returns whether this is what a walk has come to.
+pub(crate) fn is_at<const D: usize>(walker: &Walker<140, D>, wanted: End) -> bool {
+    end(walker) == wanted
 }
 
 pub(crate) fn new_walker(syntax: Syntax) -> Walker<140, 64> {
@@ -56,11 +55,14 @@ pub(crate) fn new_shallow_walker(syntax: Syntax) -> Walker<140, 2> {
     Walker::new(syntax, Wanted::none(), 1 << 40)
 }
 
-/// Checks what the walk of a text comes to in one piece, at each cut in two, and byte by byte.
-pub(crate) fn ends_at(rt: &impl Abort, syntax: Syntax, text: &[u8], wanted: End) {
+/// Returns whether the walk of a text comes to this in one piece, at each cut in two, and byte by byte.
+pub(crate) fn ends_at(syntax: Syntax, text: &[u8], wanted: End) -> bool {
     for cut in 0..text.len() + 2 {
         let mut walker = new_walker(syntax);
         take_cut(&mut walker, text, cut);
-        is_at(rt, &walker, wanted);
+        if !is_at(&walker, wanted) {
+            return false;
+        }
     }
+    true
 }

@@ -75,42 +75,46 @@ fn refusal(edits: &[(usize, u8)]) -> Option<u8> {
     }
 }
 
-/// Checks what a command set is read as: its field, its message ID and whether a data set follows; its
-/// class; and its instance, if it has one.
+/// Returns whether an instance has this text, or there is none.
+fn is_instance(found: Option<&Uid>, instance: Option<&[u8]>) -> bool {
+    match (found, instance) {
+        (Some(uid), Some(text)) => uid.as_bytes() == text,
+        (None, None) => true,
+        _ => false,
+    }
+}
+
+/// Returns whether a command set is read as this: its field, its message ID and whether a data set
+/// follows; its class; and its instance, if it has one.
 fn reads(
-    rt: &impl Abort,
     bytes: &[u8],
-    read: (u16, u16, bool),
+    (field, message, with_data): (u16, u16, bool),
     class: &[u8],
     instance: Option<&[u8]>,
-) {
+) -> bool {
     match read_command(bytes) {
         Ok(command) => {
-            let found = (command.field(), command.message(), command.with_data());
-            assert_eq!(rt; found, read);
-            assert_eq!(rt; command.class().as_bytes(), class);
-            assert_eq!(rt; command.instance().map(Uid::as_bytes), instance);
+            command.field() == field
+                && command.message() == message
+                && command.with_data() == with_data
+                && command.class().as_bytes() == class
+                && is_instance(command.instance(), instance)
         }
-        Err(fault) => assert!(rt; false, "{fault}"),
+        Err(_) => false,
     }
 }
 
 #[test]
 fn the_echo_is_read(rt: HostRuntime) {
     let read = (Command::C_ECHO, 1, false);
-    reads(&rt, &ECHO, read, b"1.2.840.10008.1.1", None);
+    assert!(rt; reads(&ECHO, read, b"1.2.840.10008.1.1", None));
 }
 
 #[test]
 fn a_store_is_read(rt: HostRuntime) {
     let read = (Command::C_STORE, 7, true);
-    reads(
-        &rt,
-        &STORE,
-        read,
-        b"1.2.840.10008.5.1.4.1.1.2",
-        Some(b"1.2.3"),
-    );
+    let class = b"1.2.840.10008.5.1.4.1.1.2";
+    assert!(rt; reads(&STORE, read, class, Some(b"1.2.3")));
 }
 
 #[test]
@@ -119,16 +123,16 @@ fn the_echo_is_answered_in_one_send(rt: HostRuntime) -> Result<(), Fail> {
     for peer_max in [0, 84, 85, 16384, 0xffff_ffff] {
         let mut wire = CountingWire::new(rt.alloc());
         assert!(rt; write_response(&echo, status::SUCCESS, None, 1, peer_max, &mut wire).is_ok());
-        wire.has_sent(&rt, &ECHO_REPLY, 1);
+        assert!(rt; wire.has_sent(&ECHO_REPLY, 1));
     }
     Ok(())
 }
 
-/// Checks that these are 39 PDUs of 14 bytes, the first and the last as they should be.
-fn are_pairs(rt: &impl Abort, sent: &[u8]) {
-    assert_eq!(rt; sent.len(), 39 * 14);
-    assert!(rt; sent.starts_with(&[4, 0, 0, 0, 0, 8, 0, 0, 0, 4, 1, 1, 0, 0]));
-    assert!(rt; sent.ends_with(&[4, 0, 0, 0, 0, 8, 0, 0, 0, 4, 1, 3, 0, 0]));
+/// Returns whether these are 39 PDUs of 14 bytes, the first and the last as they should be.
+fn are_pairs(sent: &[u8]) -> bool {
+    sent.len() == 39 * 14
+        && sent.starts_with(&[4, 0, 0, 0, 0, 8, 0, 0, 0, 4, 1, 1, 0, 0])
+        && sent.ends_with(&[4, 0, 0, 0, 0, 8, 0, 0, 0, 4, 1, 3, 0, 0])
 }
 
 #[test]
@@ -137,8 +141,7 @@ fn a_peer_that_takes_eight_or_nine_bytes(rt: HostRuntime) -> Result<(), Fail> {
     for peer_max in [8, 9] {
         let mut wire = CountingWire::new(rt.alloc());
         assert!(rt; write_response(&echo, status::SUCCESS, None, 1, peer_max, &mut wire).is_ok());
-        assert_eq!(rt; wire.sends, 39);
-        are_pairs(&rt, wire.wire.sent());
+        assert!(rt; wire.sends == 39 && are_pairs(wire.wire.sent()));
     }
     Ok(())
 }
@@ -227,7 +230,7 @@ fn replies<R: Abort + AllocGlobal>(rt: &R, store: &Command, case: Case) -> Resul
     let detail = Some(Detail { number, tag });
     assert!(rt; write_response(store, status, detail, 3, 16384, &mut wire).is_ok());
     let expected = store_reply(rt.alloc(), group_length, status, cause)?;
-    wire.has_sent(rt, expected.as_slice(), 1);
+    assert!(rt; wire.has_sent(expected.as_slice(), 1));
     Ok(())
 }
 
@@ -261,30 +264,29 @@ const REFUSALS: [(&[(usize, u8)], Option<u8>); 14] = [
 #[test]
 fn the_first_broken_rule_of_a_command(rt: HostRuntime) {
     for (edits, expected) in REFUSALS {
-        assert_eq!(rt; refusal(edits), expected, "{edits:?}");
+        assert!(rt; refusal(edits) == expected);
     }
 }
 
-/// Checks the number of a fault, and what is printed of it.
-fn is_shown<R: Abort + AllocGlobal>(
-    rt: &R,
-    fault: DimseFault,
-    number: u8,
-    shown: &str,
-) -> Result<(), AllocError> {
-    assert_eq!(rt; fault.number(), number);
-    let text = format!(in rt.alloc(); "{fault}")?;
-    assert_eq!(rt; text.as_str(), shown);
-    Ok(())
+/// Returns whether this is printed of the fault.
+fn is_shown(alloc: Global, fault: DimseFault, shown: &str) -> Result<bool, AllocError> {
+    let text = format!(in alloc; "{fault}")?;
+    Ok(text.as_str() == shown)
 }
 
+const SHOWN: [(DimseFault, u8, &str); 5] = [
+    (DimseFault::CommandTooLong, 40, "40 CommandTooLong"),
+    (DimseFault::BadCommand, 41, "41 BadCommand"),
+    (DimseFault::UnknownField, 42, "42 UnknownField"),
+    (DimseFault::WrongKind, 43, "43 WrongKind"),
+    (DimseFault::OtherContext, 44, "44 OtherContext"),
+];
+
 #[test]
-fn faults_have_numbers_and_names(rt: HostRuntime) -> Result<(), Fail> {
-    is_shown(&rt, DimseFault::CommandTooLong, 40, "40 CommandTooLong")?;
-    is_shown(&rt, DimseFault::BadCommand, 41, "41 BadCommand")?;
-    is_shown(&rt, DimseFault::UnknownField, 42, "42 UnknownField")?;
-    is_shown(&rt, DimseFault::WrongKind, 43, "43 WrongKind")?;
-    is_shown(&rt, DimseFault::OtherContext, 44, "44 OtherContext")?;
+fn faults_have_numbers_and_names(rt: HostRuntime) -> Result<(), AllocError> {
+    for (fault, number, shown) in SHOWN {
+        assert!(rt; fault.number() == number && is_shown(rt.alloc(), fault, shown)?);
+    }
     let causes = [
         (17, Some("Overrun")),
         (CLASS_MISMATCH, Some("ClassMismatch")),
@@ -292,7 +294,7 @@ fn faults_have_numbers_and_names(rt: HostRuntime) -> Result<(), Fail> {
         (18, None),
     ];
     for (number, name) in causes {
-        assert_eq!(rt; cause_name(number), name);
+        assert!(rt; cause_name(number) == name);
     }
     Ok(())
 }

@@ -3,7 +3,6 @@
 use crate::dimse_rows::{ECHO, STORE};
 use dimse::{DimseFault, Join, Joined};
 use pdu::PdvHead;
-use std::process::Abort;
 
 /// A presentation data value: its context, whether it is of a command set, whether it is the last
 /// fragment, and the fragment; and what its end makes of the message, or the number of the fault.
@@ -38,17 +37,20 @@ fn join_fragment(
 fn are_joined(join: &mut Join<256>, steps: &[Step]) -> bool {
     for (context, command, last, fragment, expected) in steps {
         let joined = join_fragment(join, *context, *command, *last, fragment);
-        if joined.map_err(DimseFault::number) != *expected {
+        let found = match joined {
+            Ok(joined) => Ok(joined),
+            Err(fault) => Err(fault.number()),
+        };
+        if found != *expected {
             return false;
         }
     }
     true
 }
 
-/// Checks that each step has the result that it names, and what is held of the command set then.
-fn joins(rt: &impl Abort, join: &mut Join<256>, steps: &[Step], held: &[u8]) {
-    assert!(rt; are_joined(join, steps));
-    assert_eq!(rt; join.command(), held);
+/// Returns whether each step has the result that it names, and this is held of the command set then.
+fn joins(join: &mut Join<256>, steps: &[Step], held: &[u8]) -> bool {
+    are_joined(join, steps) && join.command() == held
 }
 
 #[test]
@@ -61,9 +63,9 @@ fn an_echo_in_two_fragments(rt: HostRuntime) {
         (1, false, true, back, Err(43)),
         (1, true, true, &[0; 247], Err(40)),
     ];
-    joins(&rt, &mut join, &steps, front);
+    assert!(rt; joins(&mut join, &steps, front));
     let last = (1, true, true, back, Ok(Joined::Message));
-    joins(&rt, &mut join, &[last], &ECHO);
+    assert!(rt; joins(&mut join, &[last], &ECHO));
     join.clear();
     assert!(rt; join.command().is_empty());
 }
@@ -81,10 +83,10 @@ fn a_store_with_its_data_set(rt: HostRuntime) {
         (5, false, false, &[], Ok(Joined::More)),
         (5, false, true, &[0, 24], Ok(Joined::Message)),
     ];
-    joins(&rt, &mut join, &steps, &STORE);
+    assert!(rt; joins(&mut join, &steps, &STORE));
     // The next message begins without `clear`, in another context.
     let next: Step = (9, true, true, &ECHO, Ok(Joined::Message));
-    joins(&rt, &mut join, &[next], &ECHO);
+    assert!(rt; joins(&mut join, &[next], &ECHO));
 }
 
 #[test]
@@ -96,5 +98,5 @@ fn a_command_set_that_is_no_command(rt: HostRuntime) {
         (1, true, true, front, Err(41)),
         (3, true, true, &ECHO, Err(44)),
     ];
-    joins(&rt, &mut Join::<256>::new(), &steps, front);
+    assert!(rt; joins(&mut Join::<256>::new(), &steps, front));
 }

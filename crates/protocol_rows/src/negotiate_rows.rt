@@ -10,7 +10,6 @@ use negotiate::{
 };
 use pdu::{MemoryWire, PduFault, read_request};
 use std::alloc::Global;
-use std::process::Abort;
 use std::test::Fail;
 
 const OURS: &[u8] = b"DCMBOX          ";
@@ -119,13 +118,15 @@ fn answered(alloc: Global, config: &Config, body: &[u8]) -> Result<MemoryWire<Gl
     }
 }
 
-/// Checks what a request with this body proposes that is accepted, under each of these IDs.
-fn accepts(rt: &impl Abort, body: &[u8], rows: &[(u8, Option<Context>)]) -> Result<(), PduFault> {
+/// Returns whether this is accepted of what a request with this body proposes, under each of these IDs.
+fn accepts(body: &[u8], rows: &[(u8, Option<Context>)]) -> Result<bool, PduFault> {
     let request = read_request(body)?;
     for (id, accepted) in rows {
-        assert_eq!(rt; context(&request, *id), *accepted, "at {id}");
+        if context(&request, *id) != *accepted {
+            return Ok(false);
+        }
     }
-    Ok(())
+    Ok(true)
 }
 
 #[test]
@@ -135,7 +136,7 @@ fn contexts_of_the_recorded_echo(rt: HostRuntime) -> Result<(), Fail> {
         class: Class::Verification,
         syntax: Syntax::Implicit,
     };
-    accepts(&rt, body.as_slice(), &[(1, Some(verification)), (3, None)])?;
+    assert!(rt; accepts(body.as_slice(), &[(1, Some(verification)), (3, None)])?);
     Ok(())
 }
 
@@ -160,7 +161,7 @@ fn refused_contexts(alloc: Global) -> Result<Vec<u8>, Fail> {
 fn contexts_that_cannot_be_had(rt: HostRuntime) -> Result<(), Fail> {
     let body = refused_contexts(rt.alloc())?;
     let rows = [(3, None), (5, Some(EXPLICIT_CT)), (7, None)];
-    accepts(&rt, body.as_slice(), &rows)?;
+    assert!(rt; accepts(body.as_slice(), &rows)?);
     Ok(())
 }
 
@@ -177,36 +178,45 @@ fn judged(
     Ok(judge(config, &read_request(body.as_slice())?))
 }
 
-/// Checks the answer to a request for Verification by `SCANNER1`, where this title alone may call.
-fn rejects<R: Abort + AllocGlobal>(
-    rt: &R,
-    caller: &str,
-    version: u8,
-    called: &[u8],
-    application: &[u8],
-    maximum: u8,
-    reason: (u8, u8, u8),
-) -> Result<(), Fail> {
-    let (a, b, c) = reason;
-    let answer = judged(
-        &config(caller)?,
-        rt.alloc(),
-        version,
-        called,
-        application,
-        [0, 0, 0, maximum],
-    )?;
-    assert_eq!(rt; answer, Answer::Reject(a, b, c));
-    Ok(())
+/// The title that alone may call; the version, the called title and the application context of a request
+/// for Verification by `SCANNER1`, and the last byte of its maximum; and the answer.
+type Rejection = (&'static str, u8, &'static [u8], &'static [u8], u8, Answer);
+
+const REJECTIONS: [Rejection; 5] = [
+    (
+        "SCANNER1",
+        2,
+        OTHERS,
+        VERIFICATION,
+        1,
+        Answer::Reject(1, 2, 2),
+    ),
+    (
+        "SCANNER1",
+        1,
+        OTHERS,
+        VERIFICATION,
+        1,
+        Answer::Reject(1, 1, 2),
+    ),
+    ("SCANNER2", 1, OURS, APPLICATION, 1, Answer::Reject(1, 1, 3)),
+    ("SCANNER1", 1, OURS, APPLICATION, 1, Answer::Reject(1, 1, 1)),
+    ("SCANNER1", 1, OURS, APPLICATION, 7, Answer::Reject(1, 1, 1)),
+];
+
+/// Returns whether a request is answered so.
+fn rejects(alloc: Global, row: Rejection) -> Result<bool, Fail> {
+    let (caller, version, called, application, maximum, answer) = row;
+    let config = config(caller)?;
+    let maximum = [0, 0, 0, maximum];
+    Ok(judged(&config, alloc, version, called, application, maximum)? == answer)
 }
 
 #[test]
 fn other_rejections(rt: HostRuntime) -> Result<(), Fail> {
-    rejects(&rt, "SCANNER1", 2, OTHERS, VERIFICATION, 1, (1, 2, 2))?;
-    rejects(&rt, "SCANNER1", 1, OTHERS, VERIFICATION, 1, (1, 1, 2))?;
-    rejects(&rt, "SCANNER2", 1, OURS, APPLICATION, 1, (1, 1, 3))?;
-    rejects(&rt, "SCANNER1", 1, OURS, APPLICATION, 1, (1, 1, 1))?;
-    rejects(&rt, "SCANNER1", 1, OURS, APPLICATION, 7, (1, 1, 1))?;
+    for row in REJECTIONS {
+        assert!(rt; rejects(rt.alloc(), row)?);
+    }
     Ok(())
 }
 
@@ -214,15 +224,11 @@ fn other_rejections(rt: HostRuntime) -> Result<(), Fail> {
 fn accepted(rt: HostRuntime) -> Result<(), Fail> {
     let alloc = rt.alloc();
     let known = config("SCANNER1")?;
-    assert_eq!(rt;
-        judged(&known.copied(), alloc, 1, OURS, APPLICATION, [0, 0, 0, 8])?,
-        Answer::Accept
-    );
+    let answer = judged(&known.copied(), alloc, 1, OURS, APPLICATION, [0, 0, 0, 8])?;
+    assert!(rt; answer == Answer::Accept);
     let anyone = Config::new(known.ae, ArrayVec::new(), 1024, 1024);
-    assert_eq!(rt;
-        judged(&anyone, alloc, 3, OURS, APPLICATION, [0, 0, 0, 0])?,
-        Answer::Accept
-    );
+    let answer = judged(&anyone, alloc, 3, OURS, APPLICATION, [0, 0, 0, 0])?;
+    assert!(rt; answer == Answer::Accept);
     Ok(())
 }
 
@@ -236,16 +242,21 @@ fn many(alloc: Global) -> Result<Vec<u8>, Fail> {
     Ok(body)
 }
 
+/// Returns whether these are the bytes of the answer to 128 contexts.
+fn answers_many(sent: &[u8]) -> bool {
+    let last = sent.get(4036..).unwrap_or(&[]);
+    sent.len() == 4108
+        && sent.starts_with(&[2, 0, 0, 0, 0x10, 6])
+        && last.starts_with(&[0x21, 0, 0, 0x1b, 255, 0, 0, 0])
+}
+
 /// The answer to 128 contexts has 4108 bytes.
 #[test]
 fn many_contexts(rt: HostRuntime) -> Result<(), Fail> {
     let alloc = rt.alloc();
     let body = many(alloc)?;
     let wire = answered(alloc, &config("SCANNER1")?, body.as_slice())?;
-    assert_eq!(rt; wire.sent().len(), 4108);
-    assert!(rt; wire.sent().starts_with(&[2, 0, 0, 0, 0x10, 6]));
-    let last = wire.sent().get(4036..).unwrap_or(&[]);
-    assert!(rt; last.starts_with(&[0x21, 0, 0, 0x1b, 255, 0, 0, 0]));
+    assert!(rt; answers_many(wire.sent()));
     Ok(())
 }
 
@@ -256,12 +267,15 @@ fn filled(body: &[u8], config: &Config) -> Result<ArrayVec<ContextRow, 128>, Pdu
     Ok(table)
 }
 
-/// Checks that of the IDs below 10, this one alone is accepted, for this context.
-fn accepts_only(rt: &impl Abort, table: &[ContextRow], id: u8, accepted: Context) {
+/// Returns whether of the IDs below 10, this one alone is accepted, for this context.
+fn accepts_only(table: &[ContextRow], id: u8, accepted: Context) -> bool {
     for other in 0..10u8 {
         let expected = if other == id { Some(accepted) } else { None };
-        assert_eq!(rt; context_of(table, other), expected, "at {other}");
+        if context_of(table, other) != expected {
+            return false;
+        }
     }
+    true
 }
 
 #[test]
@@ -274,8 +288,8 @@ fn table_of_one_context(rt: HostRuntime) -> Result<(), Fail> {
         syntax: Syntax::Explicit,
         spare: 0,
     };
-    assert_eq!(rt; table.as_slice(), [row].as_slice());
-    accepts_only(&rt, table.as_slice(), 5, EXPLICIT_CT);
+    assert!(rt; table.as_slice() == [row].as_slice());
+    assert!(rt; accepts_only(table.as_slice(), 5, EXPLICIT_CT));
     Ok(())
 }
 
@@ -283,8 +297,8 @@ fn table_of_one_context(rt: HostRuntime) -> Result<(), Fail> {
 fn table_of_many_contexts(rt: HostRuntime) -> Result<(), Fail> {
     let body = many(rt.alloc())?;
     let table = filled(body.as_slice(), &config("SCANNER1")?)?;
-    assert_eq!(rt; table.len(), 128);
-    assert!(rt; context_of(table.as_slice(), 255).is_some());
-    assert!(rt; context_of(table.as_slice(), 254).is_none());
+    let rows = table.as_slice();
+    assert!(rt; rows.len() == 128);
+    assert!(rt; context_of(rows, 255).is_some() && context_of(rows, 254).is_none());
     Ok(())
 }

@@ -1,12 +1,10 @@
 //! The worked rows of `pdu`, by its public calls alone: requests and PDUs as recorded, one refusal of
 //! each kind, and the wire over memory.
 use pdu::{
-    MemoryWire, Proposal, Request, Wire, read_pdu_head, read_pdv_head, read_request, write_abort,
-    write_data, write_reject, write_release,
+    MemoryWire, Proposal, Request, Wire, WireFailed, read_pdu_head, read_pdv_head, read_request,
+    write_abort, write_data, write_reject, write_release,
 };
 use std::alloc::{AllocError, Global};
-use std::process::Abort;
-use std::test::Fail;
 
 /// The body of the recorded echo's request.
 const ECHO: &[u8] = &[
@@ -49,51 +47,59 @@ const CONTEXT: &[u8] = &[
 
 const INFORMATION: &[u8] = &[0x50, 0, 0, 8, 0x51, 0, 0, 4, 0, 0, 0x40, 0];
 
-/// Checks the one presentation context of the recorded request.
-fn is_recorded(rt: &impl Abort, proposal: &Proposal) -> Result<(), Fail> {
-    assert_eq!(rt; proposal.id(), 1);
-    assert!(rt; proposal.abstract_syntax() == b"1.2.840.10008.1.1".as_slice());
+/// Returns whether it is the one presentation context of the recorded request.
+fn is_recorded(proposal: &Proposal) -> bool {
     let mut syntaxes = proposal.transfer_syntaxes();
-    let syntax = syntaxes.next().ok_or("no transfer syntax")?;
-    assert!(rt; syntax == b"1.2.840.10008.1.2".as_slice());
-    assert!(rt; syntaxes.next().is_none());
-    Ok(())
+    let Some(syntax) = syntaxes.next() else {
+        return false;
+    };
+    proposal.id() == 1
+        && proposal.abstract_syntax() == b"1.2.840.10008.1.1".as_slice()
+        && syntax == b"1.2.840.10008.1.2".as_slice()
+        && syntaxes.next().is_none()
 }
 
-/// Checks the fields of the recorded request.
-fn has_recorded_fields(rt: &impl Abort, request: &Request) {
-    assert_eq!(rt; (request.version(), request.maximum()), (1, 16384));
-    assert!(rt; request.called().0 == *b"DCMBOX          ");
-    assert!(rt; request.calling().0 == *b"SCANNER1        ");
+/// Returns whether the request has that context and no other.
+fn has_recorded_context(request: &Request) -> bool {
+    let mut contexts = request.contexts();
+    let Some(proposal) = contexts.next() else {
+        return false;
+    };
+    is_recorded(&proposal) && contexts.next().is_none()
+}
+
+/// Returns whether the request has the fields of the recorded one.
+fn has_recorded_fields(request: &Request) -> bool {
     request.keeps();
-    assert_eq!(rt; request.reserved().len(), 32);
-    assert!(rt; request.application_context() == b"1.2.840.10008.3.1.1.1".as_slice());
+    request.version() == 1
+        && request.maximum() == 16384
+        && request.called().0 == *b"DCMBOX          "
+        && request.calling().0 == *b"SCANNER1        "
+        && request.reserved().len() == 32
+        && request.application_context() == b"1.2.840.10008.3.1.1.1".as_slice()
+}
+
+/// Returns whether the body is that of the recorded request.
+fn is_recorded_request(body: &[u8]) -> bool {
+    match read_request(body) {
+        Ok(request) => has_recorded_fields(&request) && has_recorded_context(&request),
+        Err(_) => false,
+    }
 }
 
 #[test]
-fn the_recorded_request(rt: HostRuntime) -> Result<(), Fail> {
-    let request = read_request(ECHO).ok().ok_or("refused")?;
-    has_recorded_fields(&rt, &request);
-    let mut contexts = request.contexts();
-    let proposal = contexts.next().ok_or("no context")?;
-    is_recorded(&rt, &proposal)?;
-    assert!(rt; contexts.next().is_none());
-    Ok(())
-}
-
-/// Checks the number of the refusal of a body.
-fn refuses(rt: &impl Abort, body: &[u8], number: u8) {
-    assert_eq!(rt; refusal(body), number);
+fn the_recorded_request(rt: HostRuntime) {
+    assert!(rt; is_recorded_request(ECHO));
 }
 
 #[test]
 fn its_neighbours_are_refused(rt: HostRuntime) -> Result<(), AllocError> {
     let mut even = Vec::from_slice(rt.alloc(), ECHO)?;
     even[97] = 2;
-    refuses(&rt, even.as_slice(), 33);
-    refuses(&rt, &ECHO[..163], 31);
-    refuses(&rt, &ECHO[..143], 35);
-    refuses(&rt, &ECHO[..67], 31);
+    assert!(rt; refusal(even.as_slice()) == 33);
+    assert!(rt; refusal(&ECHO[..163]) == 31);
+    assert!(rt; refusal(&ECHO[..143]) == 35);
+    assert!(rt; refusal(&ECHO[..67]) == 31);
     Ok(())
 }
 
@@ -131,7 +137,7 @@ const REFUSALS: [(&[&[u8]], u8); 9] = [
 fn each_refusal_once(rt: HostRuntime) -> Result<(), AllocError> {
     for (items, number) in REFUSALS {
         let body = with_items(rt.alloc(), items)?;
-        refuses(&rt, body.as_slice(), number);
+        assert!(rt; refusal(body.as_slice()) == number);
     }
     Ok(())
 }
@@ -145,30 +151,28 @@ fn full(alloc: Global, first: &[u8], again: &[u8; 4]) -> Result<Vec<u8>, AllocEr
     Ok(body)
 }
 
-/// Checks the number of the refusal of a body that is as large as can be.
-fn refuses_greatest(rt: &impl Abort, body: &[u8], number: u8) {
-    assert_eq!(rt; body.len(), 65524);
-    refuses(rt, body, number);
+/// Returns whether this is the number of the refusal of a body that is as large as can be.
+fn refuses_greatest(body: &[u8], number: u8) -> bool {
+    body.len() == 65524 && refusal(body) == number
 }
 
 /// The greatest body that is kept, full of the smallest items, at the top and in a context.
 #[test]
 fn hostile_bodies(rt: HostRuntime) -> Result<(), AllocError> {
     let flat = full(rt.alloc(), &[], &[0x60, 0, 0, 0])?;
-    refuses_greatest(&rt, flat.as_slice(), 35);
+    assert!(rt; refuses_greatest(flat.as_slice(), 35));
     let context = [0x20, 0, 0xFF, 0xAC, 1, 0, 0, 0];
     let nested = full(rt.alloc(), &context, &[0x40, 0, 0, 0])?;
-    refuses_greatest(&rt, nested.as_slice(), 32);
+    assert!(rt; refuses_greatest(nested.as_slice(), 32));
     Ok(())
 }
 
 #[test]
 fn heads_are_read(rt: HostRuntime) {
     let head = read_pdu_head(&[4, 0, 0, 0, 0, 0x4A]);
-    assert_eq!(rt; (head.kind, head.length), (4, 74));
+    assert!(rt; head.kind == 4 && head.length == 74);
     let head = read_pdv_head(&[0, 0, 0, 0x46, 1, 3]);
-    assert_eq!(rt; (head.length, head.context), (70, 1));
-    assert!(rt; head.command && head.last);
+    assert!(rt; head.length == 70 && head.context == 1 && head.command && head.last);
 }
 
 /// A rejection, a release, an abort and a fragment, as they stand on the wire.
@@ -177,27 +181,25 @@ const WRITTEN: &[u8] = &[
     0, 0, 0, 8, 0, 0, 0, 4, 1, 1, 0, 0,
 ];
 
-#[test]
-fn pdus_are_written(rt: HostRuntime) -> Result<(), Fail> {
-    let mut wire = MemoryWire::new(rt.alloc());
-    write_reject(1, 1, 7, &mut wire)?;
-    write_release(&mut wire)?;
-    write_abort(2, 6, &mut wire)?;
-    write_data(1, true, false, &[0, 0], &mut wire)?;
-    assert!(rt; wire.sent() == WRITTEN);
-    write_data(3, false, true, &[7; 600], &mut wire)?;
-    assert_eq!(rt; wire.sent().len(), WRITTEN.len() + 612);
-    assert!(rt; !wire.failed());
-    Ok(())
+fn write_each(wire: &mut MemoryWire<Global>) -> Result<(), WireFailed> {
+    write_reject(1, 1, 7, wire)?;
+    write_release(wire)?;
+    write_abort(2, 6, wire)?;
+    write_data(1, true, false, &[0, 0], wire)
 }
 
 #[test]
-fn a_wire_over_memory_takes_long_sends(rt: HostRuntime) -> Result<(), Fail> {
+fn pdus_are_written(rt: HostRuntime) {
     let mut wire = MemoryWire::new(rt.alloc());
-    wire.send(&[1; 5000])?;
-    wire.send(&[2; 5000])?;
-    assert_eq!(rt; wire.sent().len(), 10000);
-    assert!(rt; wire.sent()[4999..5001] == [1, 2]);
-    assert!(rt; !wire.failed());
-    Ok(())
+    assert!(rt; write_each(&mut wire).is_ok() && wire.sent() == WRITTEN);
+    assert!(rt; write_data(3, false, true, &[7; 600], &mut wire).is_ok());
+    assert!(rt; wire.sent().len() == WRITTEN.len() + 612 && !wire.failed());
+}
+
+#[test]
+fn a_wire_over_memory_takes_long_sends(rt: HostRuntime) {
+    let mut wire = MemoryWire::new(rt.alloc());
+    assert!(rt; wire.send(&[1; 5000]).is_ok() && wire.send(&[2; 5000]).is_ok());
+    assert!(rt; wire.sent().len() == 10000);
+    assert!(rt; wire.sent()[4999..5001] == [1, 2] && !wire.failed());
 }
