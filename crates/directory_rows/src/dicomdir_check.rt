@@ -2,7 +2,7 @@
 use crate::files::{Change, ONE_IMAGE, Record, change, has, one_image, two_images, with_header};
 use dicomdir::{DirFault, FileId, Tree, check, kept_of};
 use linked_list_allocator::LocalHeap;
-use std::alloc::Allocator;
+use std::alloc::Global;
 use std::test::Fail;
 
 /// A directory of one image in which every level has an undefined length; the patient's record has a private sequence
@@ -43,15 +43,15 @@ fn are_ids(file_ids: &[FileId], texts: &[&[u8]]) -> bool {
     if file_ids.len() != texts.len() {
         return false;
     }
-    for (file_id, text) in file_ids.iter().zip(texts) {
-        if file_id.text() != *text {
+    for at in 0..texts.len() {
+        if file_ids[at].text() != texts[at] {
             return false;
         }
     }
     true
 }
 
-fn keeps<A: Allocator + Copy>(alloc: A, tree: &Tree<A>, texts: &[&[u8]]) -> bool {
+fn keeps(alloc: Global, tree: &Tree<Global>, texts: &[&[u8]]) -> bool {
     match kept_of(alloc, tree) {
         Err(_) => false,
         Ok(kept) => are_ids(kept.as_slice(), texts),
@@ -67,18 +67,18 @@ fn accepts(rt: HostRuntime, file: &[u8], records: &[Record], kept: &[&[u8]]) -> 
 }
 
 /// The file ID of the record with this index.
-fn file_id_of<A: Allocator + Copy>(tree: &Tree<A>, index: usize) -> Option<FileId> {
+fn file_id_of(tree: &Tree<Global>, index: usize) -> Option<FileId> {
     tree.records().get(index)?.file_id()
 }
 
 /// Whether, of the records of a directory, the first has no file ID, and the fourth has this one.
 fn has_file_id(rt: HostRuntime, file: &[u8], text: &[u8]) -> bool {
-    match check(rt.alloc(), file) {
-        Err(_) => false,
-        Ok(tree) => match (file_id_of(&tree, 0), file_id_of(&tree, 3)) {
-            (None, Some(file_id)) => file_id.text() == text,
-            _ => false,
-        },
+    let Ok(tree) = check(rt.alloc(), file) else {
+        return false;
+    };
+    match file_id_of(&tree, 3) {
+        Some(file_id) => file_id_of(&tree, 0).is_none() && file_id.text() == text,
+        None => false,
     }
 }
 
@@ -253,17 +253,35 @@ fn changed_of_two(rt: HostRuntime, changes: &[Change]) -> Result<Vec<u8>, Fail> 
     Ok(file)
 }
 
+/// Whether each of the rows is accepted so.
+fn are_accepted(rt: HostRuntime, rows: &[Accepted]) -> Result<bool, Fail> {
+    for row in rows {
+        let (changes, records, kept) = *row;
+        let file = changed_of_two(rt, changes)?;
+        if !accepts(rt, file.as_slice(), records, kept) {
+            return Ok(false);
+        }
+    }
+    Ok(true)
+}
+
+/// Whether each of the rows is refused so.
+fn are_refused(rt: HostRuntime, rows: &[RefusedOfTwo]) -> Result<bool, Fail> {
+    for row in rows {
+        let (changes, wanted) = *row;
+        let file = changed_of_two(rt, changes)?;
+        if refusal(rt, file.as_slice()) != wanted {
+            return Ok(false);
+        }
+    }
+    Ok(true)
+}
+
 #[test]
 fn inactive_records(rt: HostRuntime) -> Result<(), Fail> {
-    assert!(rt; two_images(rt.alloc())?.len() == 950);
-    for (row, (changes, records, kept)) in INACTIVE.iter().enumerate() {
-        let file = changed_of_two(rt, changes)?;
-        assert!(rt; accepts(rt, file.as_slice(), records, kept), "row {row}");
-    }
-    for (row, (changes, wanted)) in REFUSED_OF_TWO.iter().enumerate() {
-        let file = changed_of_two(rt, changes)?;
-        assert!(rt; refusal(rt, file.as_slice()) == *wanted, "row {row}");
-    }
+    assert!(rt; changed_of_two(rt, &[])?.len() == 950);
+    assert!(rt; are_accepted(rt, &INACTIVE)?);
+    assert!(rt; are_refused(rt, &REFUSED_OF_TWO)?);
     Ok(())
 }
 
@@ -283,10 +301,10 @@ fn undefined_lengths(rt: HostRuntime) -> Result<(), Fail> {
     Ok(())
 }
 
-/// How many files a directory keeps.
-fn count_kept<A: Allocator + Copy>(alloc: A, file: &[u8]) -> Result<usize, DirFault> {
-    let tree = check(alloc, file)?;
-    Ok(kept_of(alloc, &tree)?.len())
+/// How many files a directory keeps, whose memory is taken from a heap.
+fn count_kept(heap: &LocalHeap, file: &[u8]) -> Result<usize, DirFault> {
+    let tree = check(heap, file)?;
+    Ok(kept_of(heap, &tree)?.len())
 }
 
 /// Each growth fails in turn: then it is said so, and else the tree comes and keeps its files.

@@ -11,27 +11,41 @@ fn reads(value: &[u8], text: &[u8]) -> bool {
     }
 }
 
+const LONGEST: &[u8] =
+    b"A0000001\\A0000002\\A0000003\\A0000004\\A0000005\\A0000006\\A0000007\\A0000008";
+
+const FILE_IDS: [(&[u8], &[u8]); 4] = [
+    (b"I0000001", b"I0000001"),
+    (b"S0000001\\I_1  ", b"S0000001\\I_1"),
+    (b"A\\B\\C\\D\\E\\F\\G\\H", b"A\\B\\C\\D\\E\\F\\G\\H"),
+    (LONGEST, LONGEST),
+];
+
 #[test]
 fn file_ids_are_read(rt: HostRuntime) {
-    assert!(rt; reads(b"I0000001", b"I0000001"));
-    assert!(rt; reads(b"S0000001\\I_1  ", b"S0000001\\I_1"));
-    assert!(rt; reads(b"A\\B\\C\\D\\E\\F\\G\\H", b"A\\B\\C\\D\\E\\F\\G\\H"));
-    let longest = b"A0000001\\A0000002\\A0000003\\A0000004\\A0000005\\A0000006\\A0000007\\A0000008";
-    assert!(rt; longest.len() == 71);
-    assert!(rt; reads(longest, longest));
+    assert!(rt; LONGEST.len() == 71);
+    for (value, text) in FILE_IDS {
+        assert!(rt; reads(value, text));
+    }
 }
+
+const OTHER_VALUES: [&[u8]; 11] = [
+    b"",
+    b"   ",
+    b" I1",
+    b"i1",
+    b"I1\0",
+    b"I00000001",
+    b"S1\\\\I1",
+    b"\\I1",
+    b"I1\\",
+    b"I1 \\I2",
+    b"A\\B\\C\\D\\E\\F\\G\\H\\I",
+];
 
 #[test]
 fn other_values_are_no_file_ids(rt: HostRuntime) {
-    assert!(rt; FileId::read(b"").is_none());
-    assert!(rt; FileId::read(b"   ").is_none());
-    assert!(rt; FileId::read(b" I1").is_none());
-    assert!(rt; FileId::read(b"i1").is_none());
-    assert!(rt; FileId::read(b"I1\0").is_none());
-    assert!(rt; FileId::read(b"I00000001").is_none());
-    assert!(rt; FileId::read(b"S1\\\\I1").is_none());
-    assert!(rt; FileId::read(b"\\I1").is_none());
-    assert!(rt; FileId::read(b"I1\\").is_none());
-    assert!(rt; FileId::read(b"I1 \\I2").is_none());
-    assert!(rt; FileId::read(b"A\\B\\C\\D\\E\\F\\G\\H\\I").is_none());
+    for value in OTHER_VALUES {
+        assert!(rt; FileId::read(value).is_none());
+    }
 }

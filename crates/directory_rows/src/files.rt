@@ -1,6 +1,6 @@
 //! The directories of one image and of two, byte by byte, and what a directory has.
-use dicomdir::Tree;
-use std::alloc::{Allocator, Global};
+use dicomdir::{Tree, TreeRecord};
+use std::alloc::Global;
 use std::test::Fail;
 
 /// The preamble.
@@ -50,14 +50,19 @@ pub(crate) const ONE_IMAGE: [Record<'static>; 4] = [
 /// A record of a directory: place, level and type.
 pub(crate) type Record<'a> = (u64, u8, &'a [u8]);
 
+fn is_record(record: &TreeRecord, wanted: &Record) -> bool {
+    let (place, level, kind) = *wanted;
+    record.place() == place && record.level() == level && record.kind() == kind
+}
+
 /// Whether the tree has these records.
-pub(crate) fn has<A: Allocator + Copy>(tree: &Tree<A>, records: &[Record]) -> bool {
-    if tree.records().len() != records.len() {
+pub(crate) fn has(tree: &Tree<Global>, records: &[Record]) -> bool {
+    let found = tree.records();
+    if found.len() != records.len() {
         return false;
     }
-    for (record, wanted) in tree.records().iter().zip(records) {
-        let (place, level, kind) = *wanted;
-        if record.place() != place || record.level() != level || record.kind() != kind {
+    for at in 0..found.len() {
+        if !is_record(&found[at], &records[at]) {
             return false;
         }
     }
@@ -92,12 +97,16 @@ pub(crate) fn two_images(alloc: Global) -> Result<Vec<u8>, Fail> {
 /// Bytes that are written over those at a place.
 pub(crate) type Change<'a> = (usize, &'a [u8]);
 
-/// Makes these changes, one after another.
+fn write_at(file: &mut [u8], at: usize, bytes: &[u8]) {
+    if at <= file.len() && bytes.len() <= file.len() - at {
+        file[at..at + bytes.len()].copy_from_slice(bytes);
+    }
+}
+
+/// Makes these changes within the file, one after another.
 pub(crate) fn change(file: &mut [u8], changes: &[Change]) {
     for (at, bytes) in changes {
-        for (place, byte) in file.iter_mut().skip(*at).zip(*bytes) {
-            *place = *byte;
-        }
+        write_at(file, *at, bytes);
     }
 }
 

@@ -6,8 +6,14 @@ mod dicomdir_build;
 #[cfg(test)]
 mod dicomdir_check;
 #[cfg(test)]
+mod dicomdir_readers;
+#[cfg(test)]
 mod dicomdir_row_of;
 #[cfg(test)]
 mod dicomdir_rows;
 #[cfg(test)]
+mod dicomdir_writers;
+#[cfg(test)]
 mod files;
+#[cfg(test)]
+mod images;

@@ -1,0 +1,159 @@
+//! Rows that are read of files that end early or are long, by readers that are slow or fail, and with little memory.
+ghost use Rattle.std.specs.Prelude.{◌≤◌, length};
+
+use crate::images::{Element, header, id, image, is_image, put, reason};
+use dicomdir::{Skip, rows_of};
+use element::{Syntax, Tag};
+use linked_list_allocator::LocalHeap;
+use std::io;
+use std::io::{ErrorKind, Read};
+use std::test::Fail;
+
+/// Gives its bytes, at most so many a read, and fails at a place, if that comes before their end;
+/// every second read is interrupted, as by a signal.
+#[derive(Drop)]
+struct FailingReader<'a> {
+    bytes: &'a [u8],
+    at: usize,
+    most: usize,
+    fails_at: usize,
+    is_interrupted: bool,
+    ghost within: { at ≤ length bytes.now },
+}
+
+impl Read for FailingReader<'_> {
+    fn read(&mut self, buf: &mut [u8]) -> io::Result<usize> {
+        self.is_interrupted = !self.is_interrupted;
+        if self.is_interrupted {
+            return Err(io::Error::from(ErrorKind::Interrupted));
+        }
+        if self.fails_at <= self.at {
+            return Err(io::Error::from(ErrorKind::Other));
+        }
+        let n = (self.bytes.len() - self.at)
+            .min(buf.len())
+            .min(self.most.max(1))
+            .min(self.fails_at - self.at);
+        buf[..n].copy_from_slice(&self.bytes[self.at..self.at + n]);
+        self.at += n;
+        Ok(n)
+    }
+}
+
+/// Whether the front of this size of a file has no row for the right reason: its header ends at 132 and at `start`.
+fn is_front_of(size: usize, start: usize, found: Option<Skip>) -> bool {
+    match found {
+        Some(Skip::Missing(_)) => start <= size,
+        Some(Skip::Fault(50)) => size < 132,
+        Some(Skip::Fault(51)) => 132 <= size && size < start,
+        Some(Skip::Fault(20)) => start <= size,
+        _ => false,
+    }
+}
+
+/// How many fronts of a file lack a key; `None` where one has a row or another reason than that it ends early.
+fn count_lacking(rt: HostRuntime, file: &[u8], start: usize) -> Option<u32> {
+    let mut count = 0u32;
+    for size in 0..file.len() {
+        let found = reason(rt, &file[..size]);
+        if !is_front_of(size, start, found) {
+            return None;
+        }
+        if matches!(found, Some(Skip::Missing(_))) {
+            count = count.saturating_add(1);
+        }
+    }
+    Some(count)
+}
+
+/// A file that ends early has no row, wherever it ends: a key is missing before each of the elements, the header's end
+/// included.
+#[test]
+fn every_front_of_a_file(rt: HostRuntime) -> Result<(), Fail> {
+    let start = header(rt.alloc(), Syntax::Explicit, b"1.2.3.1.1")?.len();
+    let file = image(rt.alloc(), Syntax::Explicit)?;
+    assert!(rt; count_lacking(rt, file.as_slice(), start) == Some(15));
+    Ok(())
+}
+
+/// What stands after the first piece that is read counts, too.
+#[test]
+fn long_data_sets(rt: HostRuntime) -> Result<(), Fail> {
+    let pixels: Element = (Tag(0x7fe0, 0x0010), b"OW", b"");
+    let mut file = image(rt.alloc(), Syntax::Implicit)?;
+    put(&mut file, Syntax::Implicit, &pixels, &[0; 20_000])?;
+    assert!(rt; reason(rt, file.as_slice()).is_none());
+    put(&mut file, Syntax::Implicit, &pixels, b"")?;
+    assert!(rt; reason(rt, file.as_slice()) == Some(Skip::Fault(12)));
+    Ok(())
+}
+
+/// Whether a slow reader that fails at this place gives the image's row or, if the end of the file comes later, 54.
+/// The end of the file is one more read.
+fn fails_at(rt: HostRuntime, file: &[u8], most: usize, fails_at: usize) -> bool {
+    let mut reader = FailingReader {
+        bytes: file,
+        at: 0,
+        most,
+        fails_at,
+        is_interrupted: false,
+    };
+    let Ok(id) = id() else {
+        return false;
+    };
+    match rows_of(rt.alloc(), &mut reader, &id) {
+        Ok(row) => file.len() < fails_at && is_image(&row, Syntax::Explicit),
+        Err(reason) => fails_at <= file.len() && reason == Skip::Fault(54),
+    }
+}
+
+/// Byte by byte the row is the same, and a read that fails is 54, wherever it comes.
+#[test]
+fn slow_and_failing_readers(rt: HostRuntime) -> Result<(), Fail> {
+    let file = image(rt.alloc(), Syntax::Explicit)?;
+    for most in [1usize, 7, 4096] {
+        for place in 0..file.len().saturating_add(2) {
+            assert!(rt; fails_at(rt, file.as_slice(), most, place));
+        }
+    }
+    Ok(())
+}
+
+/// Whether the file has the image's row, whose memory is taken from a heap; or why it has none.
+fn has_row_in(heap: &LocalHeap, file: &[u8]) -> Result<bool, Skip> {
+    let mut rest = file;
+    let row = rows_of(heap, &mut rest, &id()?)?;
+    Ok(is_image(&row, Syntax::Explicit))
+}
+
+/// Each allocation fails in turn: then it is said so, and else the row comes.
+#[test]
+fn each_growth_of_memory_is_refused(rt: HostRuntime) -> Result<(), Fail> {
+    let file = image(rt.alloc(), Syntax::Explicit)?;
+    let mut failures = 0u32;
+    for size in 0..256usize {
+        let heap = LocalHeap::new(rt.alloc(), 64 + 16 * size)?;
+        match has_row_in(&heap, file.as_slice()) {
+            Err(reason) => {
+                assert!(rt; reason == Skip::OutOfMemory);
+                failures = failures.saturating_add(1);
+            }
+            Ok(is_row) => {
+                assert!(rt; is_row && 6 <= failures);
+                return Ok(());
+            }
+        }
+    }
+    assert!(rt; false);
+    Ok(())
+}
+
+/// A file without a row takes no memory.
+#[test]
+fn a_file_without_a_row_takes_no_memory(rt: HostRuntime) -> Result<(), Fail> {
+    let mut file = image(rt.alloc(), Syntax::Explicit)?;
+    file.truncate(file.len().saturating_sub(1));
+    let heap = LocalHeap::new(rt.alloc(), 64)?;
+    assert!(rt; has_row_in(&heap, file.as_slice()) == Err(Skip::Fault(20)));
+    Ok(())
+}

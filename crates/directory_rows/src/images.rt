@@ -1,0 +1,167 @@
+//! Files of an image, and the rows that are read from them.
+use dicomdir::{FileId, Row, Skip, rows_of};
+use element::{AeTitle, Syntax, Tag, Uid};
+use part10::{Meta, meta_bytes};
+use std::alloc::{Allocator, Global};
+use std::test::Fail;
+
+pub(crate) const STUDY_ID: Tag = Tag(0x0020, 0x0010);
+
+/// An element with a short VR: its tag, its VR and its value.
+pub(crate) type Element<'a> = (Tag, &'a [u8; 2], &'a [u8]);
+
+/// The data set of an image, with the class of another one than its file header names.
+pub(crate) const IMAGE: [Element; 15] = [
+    (Tag(0x0008, 0x0005), b"CS", b"ISO_IR 100"),
+    (Tag(0x0008, 0x0016), b"UI", b"1.2.840.10008.5.1.4.1.1.4\0"),
+    (Tag(0x0008, 0x0020), b"DA", b"20260101"),
+    (Tag(0x0008, 0x0030), b"TM", b"120000"),
+    (Tag(0x0008, 0x0050), b"SH", b""),
+    (Tag(0x0008, 0x0060), b"CS", b"CT"),
+    (Tag(0x0008, 0x1030), b"LO", b"HEAD"),
+    (Tag(0x0010, 0x0010), b"PN", b"DOE^JANE"),
+    (Tag(0x0010, 0x0020), b"LO", b"P1"),
+    (Tag(0x0010, 0x0040), b"CS", b"F "),
+    (Tag(0x0020, 0x000d), b"UI", b"1.2.3\0"),
+    (Tag(0x0020, 0x000e), b"UI", b"1.2.3.1\0"),
+    (STUDY_ID, b"SH", b"S1"),
+    (Tag(0x0020, 0x0011), b"IS", b"1 "),
+    (Tag(0x0020, 0x0013), b"IS", b"1 "),
+];
+
+/// Adds an element.
+pub(crate) fn put(
+    file: &mut Vec<u8>,
+    syntax: Syntax,
+    element: &Element,
+    value: &[u8],
+) -> Result<(), Fail> {
+    let (Tag(group, number), vr, _) = *element;
+    let [g0, g1] = group.to_le_bytes();
+    let [n0, n1] = number.to_le_bytes();
+    let [l0, l1, l2, l3] = u32::try_from(value.len()).unwrap_or(0).to_le_bytes();
+    let header = match syntax {
+        Syntax::Implicit => [g0, g1, n0, n1, l0, l1, l2, l3],
+        Syntax::Explicit => [g0, g1, n0, n1, vr[0], vr[1], l0, l1],
+    };
+    file.extend_from_slice(&header)?;
+    file.extend_from_slice(value)?;
+    Ok(())
+}
+
+/// The header of a file of the CT image with this instance UID.
+pub(crate) fn header(alloc: Global, syntax: Syntax, instance: &[u8]) -> Result<Vec<u8>, Fail> {
+    let meta = Meta {
+        class: Uid::read(b"1.2.840.10008.5.1.4.1.1.2").ok_or("a class")?,
+        instance: Uid::read(instance).ok_or("an instance")?,
+        syntax,
+        calling: AeTitle(*b"SCANNER1        "),
+    };
+    Ok(Vec::from_slice(alloc, meta_bytes(&meta).as_slice())?)
+}
+
+/// A file of the image in which the element with this tag has another value, or none where that is
+/// `None`.
+pub(crate) fn changed(
+    alloc: Global,
+    syntax: Syntax,
+    instance: &[u8],
+    tag: Tag,
+    other: Option<&[u8]>,
+) -> Result<Vec<u8>, Fail> {
+    let mut file = header(alloc, syntax, instance)?;
+    for element in &IMAGE {
+        let (here, _, value) = *element;
+        if here != tag {
+            put(&mut file, syntax, element, value)?;
+        } else if let Some(value) = other {
+            put(&mut file, syntax, element, value)?;
+        }
+    }
+    Ok(file)
+}
+
+/// The file of the image.
+pub(crate) fn image(alloc: Global, syntax: Syntax) -> Result<Vec<u8>, Fail> {
+    changed(alloc, syntax, b"1.2.3.1.1", Tag(0, 0), None)
+}
+
+pub(crate) fn same(value: &[u8], wanted: &[u8]) -> bool {
+    value == wanted
+}
+
+/// Whether the row has what the image's file header says.
+fn is_identified<A: Allocator>(row: &Row<A>, syntax: Syntax) -> bool {
+    let file_id = row.file_id();
+    same(file_id.text(), b"I0000001")
+        && same(row.class(), b"1.2.840.10008.5.1.4.1.1.2")
+        && same(row.instance(), b"1.2.3.1.1")
+        && row.syntax() == syntax
+}
+
+/// Whether the row has the image's keys of its patient.
+fn is_of_patient<A: Allocator>(row: &Row<A>) -> bool {
+    let Some(character_set) = row.character_set() else {
+        return false;
+    };
+    same(character_set, b"ISO_IR 100")
+        && same(row.patient_name(), b"DOE^JANE")
+        && same(row.patient_id(), b"P1")
+}
+
+/// Whether the row has the image's keys of its study.
+fn is_of_study<A: Allocator>(row: &Row<A>) -> bool {
+    same(row.study_date(), b"20260101")
+        && same(row.study_time(), b"120000")
+        && same(row.accession_number(), b"")
+        && same(row.study_description(), b"HEAD")
+        && same(row.study_instance_uid(), b"1.2.3\0")
+        && same(row.study_id(), b"S1")
+}
+
+/// Whether the row has the image's keys of its series and of itself.
+fn is_of_series<A: Allocator>(row: &Row<A>) -> bool {
+    same(row.modality(), b"CT")
+        && same(row.series_instance_uid(), b"1.2.3.1\0")
+        && same(row.series_number(), b"1 ")
+        && same(row.instance_number(), b"1 ")
+}
+
+/// Whether the row is that of the image.
+pub(crate) fn is_image<A: Allocator>(row: &Row<A>, syntax: Syntax) -> bool {
+    is_identified(row, syntax) && is_of_patient(row) && is_of_study(row) && is_of_series(row)
+}
+
+/// The file ID of these rows.
+pub(crate) fn id() -> Result<FileId, Skip> {
+    match FileId::read(b"I0000001") {
+        Some(id) => Ok(id),
+        None => Err(Skip::OutOfMemory),
+    }
+}
+
+/// Why a file has no row, if it has none.
+pub(crate) fn reason(rt: HostRuntime, file: &[u8]) -> Option<Skip> {
+    match row_of(rt, file) {
+        Ok(_) => None,
+        Err(reason) => Some(reason),
+    }
+}
+
+/// The row of a file.
+pub(crate) fn row_of(rt: HostRuntime, file: &[u8]) -> Result<Row<Global>, Skip> {
+    let mut rest = file;
+    rows_of(rt.alloc(), &mut rest, &id()?)
+}
+
+/// Whether a file has no row for this reason, or a row if that is `None`, where the image's element with this tag
+/// has another value.
+pub(crate) fn is_skipped(
+    rt: HostRuntime,
+    tag: Tag,
+    other: Option<&[u8]>,
+    wanted: Option<Skip>,
+) -> Result<bool, Fail> {
+    let file = changed(rt.alloc(), Syntax::Explicit, b"1.2.3.1.1", tag, other)?;
+    Ok(reason(rt, file.as_slice()) == wanted)
+}
