@@ -6,6 +6,7 @@ use crate::outcome::{Outcome, flushed};
 use crate::settings::Index;
 use crate::texts::{PathText, TagText};
 use dicomdir::{Built, DirFault, FileId, Row, Skip, build, check, kept_of, rows_of, write_dir};
+use part10::MetaFault;
 use std::alloc::{AllocError, Global};
 use std::fs::File;
 use std::io::{BufWriter, ErrorKind, Read, Write};
@@ -18,9 +19,6 @@ const DIRECTORY: &str = "DICOMDIR";
 /// The name of a directory that is not written whole yet.
 const DRAFT: &str = "DIRDRAFT";
 
-/// The number of a read that failed.
-const READ_FAILED: u8 = 54;
-
 /// Reads the row of the file with this file ID.
 fn row_of<R: Files<File = File> + Alloc<A = Global>>(
     rt: &R,
@@ -32,7 +30,7 @@ fn row_of<R: Files<File = File> + Alloc<A = Global>>(
     };
     match fs::open(rt, path.as_str()) {
         Ok(mut file) => rows_of(rt.alloc(), &mut file, id),
-        Err(_) => Err(Skip::Fault(READ_FAILED)),
+        Err(_) => Err(Skip::Fault(MetaFault::ReadFailed.number())),
     }
 }
 

@@ -18,13 +18,10 @@ use crate::keys::Keys;
 use crate::row::Row;
 use crate::skip::Skip;
 use element::Tag;
-use part10::read_meta;
+use part10::{MetaFault, read_meta};
 use sequence::{Walker, Want, Wanted};
 use std::alloc::Allocator;
 use std::io::{ErrorKind, Read};
-
-/// The number of a failed read.
-const READ_FAILED: u8 = 54;
 
 /// The bytes that one read takes at most.
 const PIECE: usize = 4096;
@@ -75,10 +72,10 @@ fn read_once<R: Read>(reader: &mut R, room: &mut [u8]) -> Result<usize, Skip>
         match reader.read(room) {
             Ok(n) => return Ok(n),
             Err(error) if error.kind() == ErrorKind::Interrupted => {}
-            Err(_) => return Err(Skip::Fault(READ_FAILED)),
+            Err(_) => return Err(Skip::Fault(MetaFault::ReadFailed.number())),
         }
     }
-    Err(Skip::Fault(READ_FAILED))
+    Err(Skip::Fault(MetaFault::ReadFailed.number()))
 }
 
 /// Walks the data set that the reader goes on with; fails with the number of its first fault, or of a
@@ -104,7 +101,7 @@ fn walk<R: Read>(walker: &mut RowWalker, reader: &mut R) -> Result<(), Skip>
             return Err(Skip::Fault(fault.number));
         }
     }
-    Err(Skip::Fault(READ_FAILED))
+    Err(Skip::Fault(MetaFault::ReadFailed.number()))
 }
 
 /// Copies the value with this tag, or nothing if the data set has none.

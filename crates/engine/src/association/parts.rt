@@ -12,11 +12,11 @@ ghost use Rattle.engine.specs.machine.Kept.{kept_of, settings_in, rooms_of};
 ghost use Rattle.engine.specs.machine.Pends.{Pends, BodyFits, FragmentFits};
 
 use super::Association;
-use super::pdvs::{DATA, add_part, begin_pdv};
+use super::pdvs::{add_part, begin_pdv};
 use crate::framing::Framing;
 use arrayvec::ArrayVec;
 use part10::Filing;
-use pdu::{PduHead, PdvHead, Wire, read_pdu_head, read_pdv_head};
+use pdu::{PduHead, PdvHead, Wire, pdu_type, read_pdu_head, read_pdv_head};
 
 /// Appends bytes of a piece, at most `most`, to the beginning of a head of six bytes. Returns how many.
 fn fill(bytes: &mut ArrayVec<u8, 6>, most: usize, piece: &[u8]) -> usize
@@ -90,7 +90,7 @@ impl<const A: usize, const C: usize, const V: usize, const D: usize> Association
             self.head.clear();
             return (count, Some(head.kind));
         }
-        if head.kind == DATA {
+        if head.kind == pdu_type::P_DATA_TF {
             self.framing = Framing::PdvHead { left: head.length };
             return (count, None);
         }
@@ -172,7 +172,7 @@ impl<const A: usize, const C: usize, const V: usize, const D: usize> Association
         self.head.clear();
         self.pdv.clear();
         self.framing = Framing::Head;
-        (count, Some(DATA))
+        (count, Some(pdu_type::P_DATA_TF))
     }
 
     /// Takes bytes of a fragment.

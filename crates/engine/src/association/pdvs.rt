@@ -23,10 +23,7 @@ use crate::framing::Framing;
 use crate::provider::Provider;
 use arrayvec::ArrayVec;
 use part10::Filing;
-use pdu::{PdvHead, Wire};
-
-/// The type of P-DATA-TF.
-pub(super) const DATA: u8 = 0x04;
+use pdu::{PdvHead, Wire, pdu_type};
 
 /// Whether one to five bytes of a P-DATA-TF are left after a PDV.
 fn is_leftover(left: u32) -> bool
@@ -60,7 +57,7 @@ fn end_pdv<const A: usize, const C: usize, const V: usize, const D: usize, W: Wi
     if left == 0 {
         head.clear();
         *framing = Framing::Head;
-        return Some(DATA);
+        return Some(pdu_type::P_DATA_TF);
     }
     if is_leftover(left) {
         *framing = Framing::Body { left };
@@ -110,7 +107,7 @@ pub(super) fn begin_pdv<
         if left == 0 {
             head.clear();
             *framing = Framing::Head;
-            return Some(DATA);
+            return Some(pdu_type::P_DATA_TF);
         }
         *framing = Framing::Body { left };
         return None;

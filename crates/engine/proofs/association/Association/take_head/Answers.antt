@@ -29,8 +29,8 @@ returns-then-head-eq0 g c = record {
       rw c.clear.ensures (found_head_empty _ _ _ _ _ _ p r _ s _ _ _ h c.fill-count.ensures.fills c.in-Some.ensures.0 kind (sym n ∙ c.if-head-eq0.true) (rw c.if-head-eq0.true at (c.on_head.ensures.does p q)));
 }
 
-pub returns-then-head-eq-DATA : goal.returns-then-head-eq-DATA
-returns-then-head-eq-DATA g c = record {
+pub returns-then-head-eq-P_DATA_TF : goal.returns-then-head-eq-P_DATA_TF
+returns-then-head-eq-P_DATA_TF g c = record {
   some = c.fill-count.ensures.some;
   within = c.fill-count.ensures.within;
   none_due = search rules;
@@ -39,7 +39,7 @@ returns-then-head-eq-DATA g c = record {
   found = λ p r s h q.
       let kind : c.in-Some.head.kind ≡ frame_kind c.fill-count.new.bytes.items = ap (λ (x : PduHead). x.kind) c.in-Some.ensures.1 in
       let n : c.in-Some.head.length ≡ frame_length c.fill-count.new.bytes.items = ap (λ (x : PduHead). x.length) c.in-Some.ensures.1 in
-      found_head_data _ _ _ _ _ _ p r _ s _ _ _ _ h c.fill-count.ensures.fills c.in-Some.ensures.0 kind n (omega (arith, c.if-head-eq0.false)) c.if-head-eq-DATA.true (c.on_head.ensures.does p q);
+      found_head_data _ _ _ _ _ _ p r _ s _ _ _ _ h c.fill-count.ensures.fills c.in-Some.ensures.0 kind n (omega (arith, c.if-head-eq0.false)) c.if-head-eq-P_DATA_TF.true (c.on_head.ensures.does p q);
 }
 
 pub returns : goal.returns
@@ -52,7 +52,7 @@ returns g c = record {
   found = λ p r s h q.
       let kind : c.in-Some.head.kind ≡ frame_kind c.fill-count.new.bytes.items = ap (λ (x : PduHead). x.kind) c.in-Some.ensures.1 in
       let n : c.in-Some.head.length ≡ frame_length c.fill-count.new.bytes.items = ap (λ (x : PduHead). x.length) c.in-Some.ensures.1 in
-      found_head_other _ _ _ _ _ _ p r _ s _ _ _ _ h c.fill-count.ensures.fills c.in-Some.ensures.0 kind n (omega (arith, c.if-head-eq0.false)) c.if-head-eq-DATA.false (c.on_head.ensures.does p q);
+      found_head_other _ _ _ _ _ _ p r _ s _ _ _ _ h c.fill-count.ensures.fills c.in-Some.ensures.0 kind n (omega (arith, c.if-head-eq0.false)) c.if-head-eq-P_DATA_TF.false (c.on_head.ensures.does p q);
 }
 
 pub invariant_of-self : goal.invariant_of-self
@@ -85,10 +85,10 @@ invariant_of-self-then-head-eq0 g c =
       fragment_fits = k.fragment_fits;
     }
 
-pub invariant_of-self-then-head-eq-DATA : goal.invariant_of-self-then-head-eq-DATA
-invariant_of-self-then-head-eq-DATA g c =
+pub invariant_of-self-then-head-eq-P_DATA_TF : goal.invariant_of-self-then-head-eq-P_DATA_TF
+invariant_of-self-then-head-eq-P_DATA_TF g c =
     let kind : c.in-Some.head.kind ≡ frame_kind c.fill-count.new.bytes.items = ap (λ (x : PduHead). x.kind) c.in-Some.ensures.1 in
-    let k = counted_pdv (g.row.A - 12) c.in-Some.head.length c.fill-count.new.bytes.items c.args.self.now.pdv.items (kept_of c.on_head.new.self) (omega (arith, c.if-head-eq0.false)) c.in-Some.ensures.0 (sym kind ∙ c.if-head-eq-DATA.true) (at_none _ 5 c.requires.pdv) in
+    let k = counted_pdv (g.row.A - 12) c.in-Some.head.length c.fill-count.new.bytes.items c.args.self.now.pdv.items (kept_of c.on_head.new.self) (omega (arith, c.if-head-eq0.false)) c.in-Some.ensures.0 (sym kind ∙ c.if-head-eq-P_DATA_TF.true) (at_none _ 5 c.requires.pdv) in
     record {
       some_due = k.some_due;
       head_least = k.least_head;
