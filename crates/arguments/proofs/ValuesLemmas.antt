@@ -3,7 +3,7 @@ use Rattle.std.proofs.Common.{◌≡◌, ◌<◌, ◌+◌, ◌∙◌, ◌++◌, 
 use Rattle.std.proofs.lemmas.List.{map_more, take_more_set, get_or-map, get_or-take, map-append, length-map}
 use Rattle.std.proofs.lemmas.List.Folds.{list_all_at}
 use Rattle.clap.specs.Walk.{Row, Text, first_of}
-use Rattle.arguments.specs.CommandLine.{has_all}
+use Rattle.arguments.specs.CommandLine.{have_values}
 
 pub texts_more : (rows : List Row) (ids vs : List (Bor Text)) (i : ℕ) (d v : Bor Text) → i < length ids → i < length vs → Some v.now ≡ first_of (get_or ids i d).now rows
     → map (λ id. first_of id.now rows) (take i ids) ≡ map (λ v. Some v.now) (take i vs)
@@ -17,12 +17,12 @@ pub if_none : {A : Type 0} (r : Option A) (P : Type 0) → P → IfNone r P
 if_none None P p = p
 if_none (Some a) P p = tt
 
-pub text_missing : (rows : List Row) (ids : List (Bor Text)) (i : ℕ) (d : Bor Text) → i < length ids → None ≡ first_of (get_or ids i d).now rows → has_all rows (map (λ id. id.now) ids) ≡ false
+pub text_missing : (rows : List Row) (ids : List (Bor Text)) (i : ℕ) (d : Bor Text) → i < length ids → None ≡ first_of (get_or ids i d).now rows → have_values rows (map (λ id. id.now) ids) ≡ false
 text_missing rows ids i d lt e =
     list_all_at _ (map (λ id. id.now) ids) i [] (omega (arith, length-map ids (λ (id : Bor Text). id.now), lt))
     (ap (λ t. is_some (first_of t rows)) (get_or-map (λ (id : Bor Text). id.now) ids i d [] lt) ∙ sym (ap is_some e))
 
-pub missing : (rows : List Row) (ids : List Text) (i : ℕ) → i < length ids → None ≡ first_of (get_or ids i []) rows → has_all rows ids ≡ false
+pub missing : (rows : List Row) (ids : List Text) (i : ℕ) → i < length ids → None ≡ first_of (get_or ids i []) rows → have_values rows ids ≡ false
 missing rows ids i lt e = list_all_at _ ids i [] lt (sym (ap is_some e))
 
 pub text_at : (fs : List (Option Text)) (vs : List (Bor Text)) (n k : ℕ) (d : Bor Text) → fs ≡ map (λ v. Some v.now) (take n vs) → k < length fs → k < n

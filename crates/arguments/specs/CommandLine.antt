@@ -117,8 +117,8 @@ pub record IsServe (a : ServeArguments) (rows : List Row) : Type 0 where
   pub once : IsFlag rows (codes "once") a.once
 
 -- whether each of these arguments has a value
-abbrev pub has_all : List Row → List Text → Bool
-has_all rows ids = list_all (λ id. is_some (first_of id rows)) ids
+abbrev pub have_values : List Row → List Text → Bool
+have_values rows ids = list_all (λ id. is_some (first_of id rows)) ids
 
 -- the arguments without which there is no job
 abbrev pub file_needs : List Text

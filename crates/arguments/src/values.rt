@@ -2,7 +2,7 @@
 ghost use Rattle.std.specs.Prelude.{◌≡◌, ◌<◌, ◌≤◌, ◌&&◌, IfSome, IfNone, Some, false, length, map, take};
 ghost use Rattle.clap.specs.Matches.{found_of};
 ghost use Rattle.clap.specs.Walk.{rows_of, first_of};
-ghost use Rattle.arguments.specs.CommandLine.{IsFile, IsReplay, IsIndex, IsServe, values_of, has_all, file_needs, replay_needs, index_needs, serve_needs, callers_fit};
+ghost use Rattle.arguments.specs.CommandLine.{IsFile, IsReplay, IsIndex, IsServe, values_of, have_values, file_needs, replay_needs, index_needs, serve_needs, callers_fit};
 
 use arrayvec::ArrayVec;
 use clap::ArgMatches;
@@ -60,7 +60,7 @@ struct Texts<'a>([&'a str; 8]);
 fn texts_of<'a>(matches: &ArgMatches<'a>, ids: &[&str]) -> Option<Texts<'a>>
     requires { length ids.now ≤ 8 }
     ensures some { IfSome result (λ t. map (λ id. first_of id.now (rows_of (found_of matches.now))) ids.now ≡ map (λ v. Some v.now) (take (length ids.now) t.0)) }
-    ensures none { IfNone result (has_all (rows_of (found_of matches.now)) (map (λ id. id.now) ids.now) ≡ false) }
+    ensures none { IfNone result (have_values (rows_of (found_of matches.now)) (map (λ id. id.now) ids.now) ≡ false) }
 {
     let mut found = Texts([""; 8]);
     for place in 0..ids.len() {
@@ -72,7 +72,7 @@ fn texts_of<'a>(matches: &ArgMatches<'a>, ids: &[&str]) -> Option<Texts<'a>>
 /// Returns the arguments of a command that takes one file.
 pub fn file_arguments<'a>(matches: &ArgMatches<'a>) -> Option<FileArguments<'a>>
     ensures some { IfSome result (λ a. IsFile a (rows_of (found_of matches.now))) }
-    ensures none { IfNone result (has_all (rows_of (found_of matches.now)) file_needs ≡ false) }
+    ensures none { IfNone result (have_values (rows_of (found_of matches.now)) file_needs ≡ false) }
 {
     let file = matches.get_str("FILE")?;
     Some(FileArguments { file })
@@ -81,7 +81,7 @@ pub fn file_arguments<'a>(matches: &ArgMatches<'a>) -> Option<FileArguments<'a>>
 /// Returns the arguments of `replay`, where each has its value.
 pub fn replay_arguments<'a>(matches: &ArgMatches<'a>) -> Option<ReplayArguments<'a>>
     ensures some { IfSome result (λ a. IsReplay a (rows_of (found_of matches.now))) }
-    ensures none { IfNone result (has_all (rows_of (found_of matches.now)) replay_needs ≡ false) }
+    ensures none { IfNone result (have_values (rows_of (found_of matches.now)) replay_needs ≡ false) }
 {
     let Texts([file, out, ae, cut, ..]) = texts_of(matches, &["FILE", "out", "ae", "cut"])?;
     let per = matches.get_str("per");
@@ -97,7 +97,7 @@ pub fn replay_arguments<'a>(matches: &ArgMatches<'a>) -> Option<ReplayArguments<
 /// Returns the arguments of `index`, where each has its value.
 pub fn index_arguments<'a>(matches: &ArgMatches<'a>) -> Option<IndexArguments<'a>>
     ensures some { IfSome result (λ a. IsIndex a (rows_of (found_of matches.now))) }
-    ensures none { IfNone result (has_all (rows_of (found_of matches.now)) index_needs ≡ false) }
+    ensures none { IfNone result (have_values (rows_of (found_of matches.now)) index_needs ≡ false) }
 {
     Some(IndexArguments {
         dir: matches.get_str("DIR")?,
@@ -125,7 +125,7 @@ fn values<'a>(matches: &ArgMatches<'a>, id: &str) -> Option<ArrayVec<&'a str, MO
 /// Returns the arguments of `serve`, where each has its value and at most 16 titles may call.
 pub fn serve_arguments<'a>(matches: &ArgMatches<'a>) -> Option<ServeArguments<'a>>
     ensures some { IfSome result (λ a. IsServe a (rows_of (found_of matches.now))) }
-    ensures none { IfNone result ((has_all (rows_of (found_of matches.now)) serve_needs && callers_fit (rows_of (found_of matches.now))) ≡ false) }
+    ensures none { IfNone result ((have_values (rows_of (found_of matches.now)) serve_needs && callers_fit (rows_of (found_of matches.now))) ≡ false) }
 {
     let Texts([port, out, bind, ae, timeout, idle, max_pdu, max_data]) = texts_of(
         matches,
