@@ -11,6 +11,30 @@ try 'two stores into folders of one file each' 0 "$stores" '' replay stores.bin 
 cmp flat/I0000001 levels/S0000001/I0000001 && cmp flat/I0000002 levels/S0000002/I0000001
 report 'their folders'
 
+# The same on a file system without hard links, exFAT or vfat, if one can be made and mounted here.
+mount_without_links() {
+  truncate -s 8M disk.img
+  mkfs.exfat disk.img || mkfs.vfat disk.img || return 1
+  device=$(losetup -f --show disk.img) || return 1
+  mount "$device" "$1" || mount.exfat-fuse "$device" "$1" || { losetup -d "$device"; return 1; }
+}
+mkdir without_links
+if mount_without_links without_links >mount.txt 2>&1; then
+  touch without_links/one && ! ln without_links/one without_links/two 2>/dev/null
+  report 'a file system without hard links'
+  mkdir without_links/flat without_links/levels
+  try 'two stores without hard links' 0 "$stores" '' replay stores.bin --out without_links/flat
+  [ "$(ls without_links/flat)" = $'I0000001\nI0000002' ] && cmp flat/I0000001 without_links/flat/I0000001 && cmp flat/I0000002 without_links/flat/I0000002
+  report 'their files'
+  try 'two stores without hard links into folders of one file each' 0 "$stores" '' replay stores.bin --out without_links/levels --per 1
+  [ "$(ls without_links/levels)" = $'S0000001\nS0000002' ] && diff -r levels without_links/levels
+  report 'their folders'
+  umount without_links
+  losetup -d "$device"
+else
+  echo 'skipped: stores without hard links (no exFAT or vfat can be mounted here)'
+fi
+
 # The directory of one image: 788 bytes, with its records at the places that are printed.
 hex "$here/data/directory.hex" >directory.bin
 records='0000000320 PATIENT
@@ -24,8 +48,8 @@ cp directory.bin cycle.bin
 put cycle.bin 336 '\100\1\0\0'
 try 'a record that follows itself' 1 'fault 61 Cycle at 320' '' checkdir cycle.bin
 cp directory.bin typed.bin
-put typed.bin 676 '\33[2J\7\7'
-try 'a record type of control characters' 0 "${records% IMAGE} "'\?\[2J\?\? I0000001'$'\n''records 4' '' checkdir typed.bin
+put typed.bin 676 '\33[2 J\7'
+try 'a record type of control characters' 0 "${records% IMAGE} "'\?\[2 J\? I0000001'$'\n''records 4' '' checkdir typed.bin
 
 # An image of that directory: its instance ends at byte 209, its series at 399 and its number at 429.
 hex "$here/data/image.hex" >image.dcm
@@ -50,6 +74,6 @@ put five/I0000003 398 2
 try 'a folder of five' 0 'skipped I0000005 missing 0020,0010
 double I0000004
 records 7' '' index five --uid 2.25.1
-"$program" checkdir five/DICOMDIR | sed 's/^[0-9]* *//' >listed.txt
+timeout 60 "$program" checkdir five/DICOMDIR | sed 's/^[0-9]* *//' >listed.txt
 [ "$(tr '\n' ' ' <listed.txt)" = 'PATIENT STUDY SERIES IMAGE I0000001 IMAGE I0000002 SERIES IMAGE I0000003 records 7 ' ]
 report 'its records'

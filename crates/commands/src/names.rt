@@ -3,45 +3,22 @@
 use crate::error::ProgramError;
 use crate::texts::PathText;
 use dicomdir::FileId;
+use part10::EntryKind;
 use std::alloc::{AllocError, Allocator};
 use std::fs::DirEntry;
 use std::io::ErrorKind;
 use std::rt::Files;
 use std::{fs, io};
 
-/// Returns whether a name is this letter and seven digits.
-fn is_name(letter: char, name: &str) -> bool {
-    match name.strip_prefix(letter) {
-        Some(digits) => digits.len() == 7 && digits.bytes().all(|byte| byte.is_ascii_digit()),
-        None => false,
-    }
-}
-
-/// What a name stands for.
-#[derive(Clone, Copy)]
-enum Kind {
-    /// A received file: `I` and seven digits.
-    File,
-    /// A folder of files: `S` and seven digits.
-    Folder,
-}
-
-/// Returns whether an entry of a folder is of this kind, by its name and, for a folder, its type.
-fn is_of<R: Files + Drop, A: Allocator>(kind: Kind, entry: &DirEntry<R, A>) -> io::Result<bool> {
-    match kind {
-        Kind::File => Ok(is_name('I', entry.file_name())),
-        Kind::Folder => Ok(is_name('S', entry.file_name()) && entry.file_type()?.is_dir()),
-    }
-}
-
 /// Adds the name of an entry of this kind.
 fn push_name<R: Files + Drop, A: Allocator + Clone>(
     names: &mut Vec<String<A>, A>,
-    kind: Kind,
+    kind: EntryKind,
     alloc: A,
     entry: &DirEntry<R, A>,
 ) -> Result<(), ProgramError> {
-    if is_of(kind, entry).map_err(ProgramError::Folder)? {
+    let number = kind.number_of(entry).map_err(ProgramError::Folder)?;
+    if number.is_some() {
         names.push(String::from_str(alloc, entry.file_name())?)?;
     }
     Ok(())
@@ -50,7 +27,7 @@ fn push_name<R: Files + Drop, A: Allocator + Clone>(
 /// Adds the name of what was read of a folder, if it is of this kind.
 fn push_read<R: Files + Drop, A: Allocator + Clone>(
     names: &mut Vec<String<A>, A>,
-    kind: Kind,
+    kind: EntryKind,
     alloc: A,
     entry: io::Result<DirEntry<R, A>>,
 ) -> Result<(), ProgramError> {
@@ -67,7 +44,7 @@ fn push_names<R: Files + Alloc + Clone + Drop>(
     rt: &R,
     names: &mut Vec<String<R::A>, R::A>,
     dir: &str,
-    kind: Kind,
+    kind: EntryKind,
 ) -> Result<(), ProgramError> {
     for entry in fs::read_dir(rt, dir).map_err(ProgramError::Folder)? {
         push_read(names, kind, rt.alloc(), entry)?;
@@ -79,7 +56,7 @@ fn push_names<R: Files + Alloc + Clone + Drop>(
 fn names_in<R: Files + Alloc + Clone + Drop>(
     rt: &R,
     dir: &str,
-    kind: Kind,
+    kind: EntryKind,
 ) -> Result<Vec<String<R::A>, R::A>, ProgramError> {
     let mut names = Vec::new(rt.alloc());
     push_names(rt, &mut names, dir, kind)?;
@@ -109,7 +86,7 @@ fn push_files<R: Files + Alloc + Clone + Drop>(
     dir: &str,
     above: &str,
 ) -> Result<(), ProgramError> {
-    for name in &names_in(rt, dir, Kind::File)? {
+    for name in &names_in(rt, dir, EntryKind::File)? {
         push_file(ids, rt.alloc(), above, name.as_str())?;
     }
     Ok(())
@@ -133,7 +110,7 @@ fn push_folders<R: Files + Alloc + Clone + Drop>(
     ids: &mut Vec<FileId, R::A>,
     dir: &str,
 ) -> Result<(), ProgramError> {
-    for folder in &names_in(rt, dir, Kind::Folder)? {
+    for folder in &names_in(rt, dir, EntryKind::Folder)? {
         push_folder(rt, ids, dir, folder.as_str())?;
     }
     Ok(())

@@ -2,10 +2,12 @@
 ghost use Rattle.std.specs.Prelude.{◌≡◌, ◌≤◌, ◌+◌, None, OnOk, is_some, true, false};
 
 use crate::filing::{Filing, FilingFailed};
-use crate::place::{Layout, Place, number_in};
+use crate::listing::{file_path, folder_path, last_place};
+use crate::naming::{Named, name_file};
+use crate::place::{Layout, Place};
+use crate::stored_file::StoredFile;
 use element::count::Count;
-use std::alloc::Allocator;
-use std::fs::{DirEntry, File, TryLockError};
+use std::fs::{File, OpenFile, TryLockError};
 use std::io::{Error, ErrorKind, Write};
 use std::rt::Files;
 use std::{fs, io};
@@ -17,19 +19,26 @@ use std::{fs, io};
 /// this value is dropped. No file is ever written over.
 ///
 /// A commit writes the draft to the disk (`sync_all`) before it gives it its name, and the folder
-/// after that, so that a file that was committed survives a loss of power. The folder's file system
-/// must have hard links: the name is made by one, which fails where the name is taken.
+/// after that, so that a file that was committed survives a loss of power. The name is made by a hard
+/// link, which fails where the name is taken; on a file system without hard links the draft is renamed
+/// once the name was seen to be free.
+///
+/// What contracts see of a folder is whether there is a draft, and how many calls failed: that much is
+/// proved. That the bytes arrive, and under which names, is tested.
 #[derive(Drop)]
-pub struct FolderFiling<R: Files<File = File> + Alloc + Clone + Drop> {
+pub struct FolderFiling<R: Files + Alloc + Clone + Drop>
+where
+    R::File: StoredFile,
+{
     rt: R,
     dir: String<R::A>,
     draft_path: String<R::A>,
     /// The opened folder, which holds the lock.
-    folder: File,
+    folder: R::File,
     layout: Layout,
     /// Of the last file that was found or committed.
     last: Place,
-    draft: Option<File>,
+    draft: Option<R::File>,
     has_sync: bool,
     committed: u32,
     dropped: u32,
@@ -37,7 +46,10 @@ pub struct FolderFiling<R: Files<File = File> + Alloc + Clone + Drop> {
 }
 
 /// Opens the folder and locks it.
-fn lock<R: Files<File = File>>(rt: &R, dir: &str) -> io::Result<File> {
+fn lock<R: Files>(rt: &R, dir: &str) -> io::Result<R::File>
+where
+    R::File: StoredFile,
+{
     let folder = fs::open(rt, dir)?;
     match folder.try_lock() {
         Ok(()) => Ok(folder),
@@ -57,68 +69,10 @@ fn remove_left<R: Files>(rt: &R, path: &str) -> io::Result<()> {
     }
 }
 
-/// Returns the number in the name of an entry, if it is a name of this letter.
-fn number_of<R: Files + Drop, A: Allocator>(
-    entry: &DirEntry<R, A>,
-    letter: char,
-    only_folders: bool,
-) -> io::Result<Option<u32>> {
-    let number = number_in(letter, entry.file_name());
-    if only_folders && number.is_some() && !entry.file_type()?.is_dir() {
-        return Ok(None);
-    }
-    Ok(number)
-}
-
-/// Returns the greatest number in a name of this letter, if there is one.
-fn highest<R: Files + Alloc + Clone + Drop>(
-    rt: &R,
-    dir: &str,
-    letter: char,
-    only_folders: bool,
-) -> io::Result<Option<u32>> {
-    let mut highest = None;
-    for entry in fs::read_dir(rt, dir)? {
-        match entry {
-            Ok(entry) => highest = highest.max(number_of(&entry, letter, only_folders)?),
-            // A name that is not UTF-8 is no number.
-            Err(error) if error.kind() == ErrorKind::InvalidFilename => {}
-            Err(error) => return Err(error),
-        }
-    }
-    Ok(highest)
-}
-
-/// Returns the path of a folder of files.
-fn folder_path<A: Allocator>(alloc: A, dir: &str, folder: u32) -> io::Result<String<A>> {
-    Ok(format!(in alloc; "{dir}/S{folder:07}")?)
-}
-
-/// Returns where the last file of the folder stands; 0 is the number of a file that is not there.
-fn last_place<R: Files + Alloc + Clone + Drop>(
-    rt: &R,
-    dir: &str,
-    layout: Layout,
-) -> io::Result<Place> {
-    let Layout::Levels { per } = layout else {
-        let file = highest(rt, dir, 'I', false)?.unwrap_or(0);
-        return Ok(Place { folder: 0, file });
-    };
-    match highest(rt, dir, 'S', true)? {
-        // As if a folder before the first were full.
-        None => Ok(Place {
-            folder: 0,
-            file: per,
-        }),
-        Some(folder) => {
-            let path = folder_path(rt.alloc(), dir, folder)?;
-            let file = highest(rt, path.as_str(), 'I', false)?.unwrap_or(0);
-            Ok(Place { folder, file })
-        }
-    }
-}
-
-impl<R: Files<File = File> + Alloc + Clone + Drop> FolderFiling<R> {
+impl<R: Files + Alloc + Clone + Drop> FolderFiling<R>
+where
+    R::File: StoredFile,
+{
     /// Opens a folder whose files all stand in it. The folder must be there.
     ///
     /// Fails with `WouldBlock` if another filing has the folder open.
@@ -227,8 +181,8 @@ impl<R: Files<File = File> + Alloc + Clone + Drop> FolderFiling<R> {
         Ok(())
     }
 
-    /// Writes the folder of a file to the disk.
-    fn sync_folder(&self, place: Place) -> io::Result<()> {
+    /// Writes to the disk what names a file: its folder and, after a rename, the folder that had it.
+    fn sync_name(&self, place: Place, named: Named) -> io::Result<()> {
         if !self.has_sync {
             return Ok(());
         }
@@ -236,17 +190,20 @@ impl<R: Files<File = File> + Alloc + Clone + Drop> FolderFiling<R> {
             return self.folder.sync_all();
         }
         let path = folder_path(self.rt.alloc(), self.dir.as_str(), place.folder)?;
-        fs::open(&self.rt, path)?.sync_all()
+        fs::open(&self.rt, path)?.sync_all()?;
+        match named {
+            Named::Linked => Ok(()),
+            Named::Renamed => self.folder.sync_all(),
+        }
     }
 
     fn path_of(&self, place: Place) -> io::Result<String<R::A>> {
-        let dir = &self.dir;
-        let Place { folder, file } = place;
-        let path = match self.layout {
-            Layout::Flat => format!(in self.rt.alloc(); "{dir}/I{file:07}")?,
-            Layout::Levels { .. } => format!(in self.rt.alloc(); "{dir}/S{folder:07}/I{file:07}")?,
-        };
-        Ok(path)
+        let dir = self.dir.as_str();
+        if matches!(self.layout, Layout::Flat) {
+            return Ok(file_path(self.rt.alloc(), dir, place.file)?);
+        }
+        let folder = folder_path(self.rt.alloc(), dir, place.folder)?;
+        Ok(file_path(self.rt.alloc(), folder.as_str(), place.file)?)
     }
 
     /// Gives the draft its name.
@@ -254,13 +211,16 @@ impl<R: Files<File = File> + Alloc + Clone + Drop> FolderFiling<R> {
         ensures same_count { self.new.failures.total ≡ self.old.failures.total }
     {
         let path = self.path_of(place)?;
-        if let Err(error) = fs::hard_link(&self.rt, self.draft_path.as_str(), path.as_str()) {
-            if error.kind() == ErrorKind::AlreadyExists {
-                self.last = place;
+        let named = match name_file(&self.rt, self.draft_path.as_str(), path.as_str()) {
+            Ok(named) => named,
+            Err(error) => {
+                if error.kind() == ErrorKind::AlreadyExists {
+                    self.last = place;
+                }
+                return Err(error);
             }
-            return Err(error);
-        }
-        if let Err(error) = self.sync_folder(place) {
+        };
+        if let Err(error) = self.sync_name(place, named) {
             if fs::remove_file(&self.rt, path.as_str()).is_err() {
                 self.last = place;
             }
@@ -300,7 +260,10 @@ impl<R: Files<File = File> + Alloc + Clone + Drop> FolderFiling<R> {
     }
 }
 
-impl<R: Files<File = File> + Alloc + Clone + Drop> Filing for FolderFiling<R> {
+impl<R: Files + Alloc + Clone + Drop> Filing for FolderFiling<R>
+where
+    R::File: StoredFile,
+{
     ghost store = { λ f. record { told = None; has_draft = is_some f.draft; failures = f.failures.total } };
 
     fn begin(&mut self) -> Result<(), FilingFailed> {

@@ -4,11 +4,15 @@
 mod filing;
 mod folder_filing;
 pub mod laws;
+mod listing;
 mod memory_filing;
 mod meta;
 mod meta_fault;
+mod names;
+mod naming;
 mod place;
 mod reading;
+mod stored_file;
 mod writing;
 
 pub use filing::{Filing, FilingFailed};
@@ -16,5 +20,7 @@ pub use folder_filing::FolderFiling;
 pub use memory_filing::MemoryFiling;
 pub use meta::Meta;
 pub use meta_fault::MetaFault;
+pub use names::{EntryKind, EntryName};
 pub use reading::read_meta;
+pub use stored_file::StoredFile;
 pub use writing::meta_bytes;

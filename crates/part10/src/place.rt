@@ -1,9 +1,9 @@
-//! Where the files of a folder stand, and their names: a letter and seven digits.
-ghost use Rattle.std.specs.Prelude.{◌≡◌, ◌≤◌, IfSome};
+//! Where the files of a folder stand.
+ghost use Rattle.std.specs.Prelude.{◌≡◌};
 ghost use Rattle.part10.specs.machine.Places.{next_place};
 
 /// The greatest number that seven digits spell.
-const GREATEST: u32 = 9_999_999;
+pub(crate) const GREATEST: u32 = 9_999_999;
 
 /// How a folder keeps its files.
 #[derive(Clone, Copy)]
@@ -47,19 +47,4 @@ impl Place {
             file: 1,
         })
     }
-}
-
-/// Returns the number in a name that is this letter and seven digits.
-pub fn number_in(letter: char, name: &str) -> Option<u32>
-    ensures { IfSome result (λ n. n ≤ 9999999) }
-{
-    let digits = name.strip_prefix(letter)?;
-    if digits.len() != 7 || !digits.bytes().all(|byte| byte.is_ascii_digit()) {
-        return None;
-    }
-    let number: u32 = digits.parse().ok()?;
-    if number > GREATEST {
-        return None;
-    }
-    Some(number)
 }
