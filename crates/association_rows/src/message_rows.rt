@@ -1,6 +1,6 @@
 //! Requests and messages in any pieces: echoes, and what is rejected, refused or left unfinished.
 
-use crate::pieces::{Outcome, Row, are_answered, is_answered, other};
+use crate::pieces::{Outcome, Row, are_answered, is_answered, is_answered_at_each, other};
 use acceptor::State;
 use fixtures::bytes::{back, front, joined, within};
 use fixtures::echo::{ACCEPT, ECHO, RELEASE, RELEASED, REPLY, REQUEST, USER_ABORT};
@@ -149,6 +149,36 @@ fn requests_and_messages(rt: HostRuntime) -> Result<(), AllocError> {
     assert!(rt; other(rt.alloc(), &REQUESTS)?.is_none());
     assert!(rt; within(ECHO, 58, 59) == [0x30].as_slice());
     assert!(rt; other(rt.alloc(), &MESSAGES)?.is_none());
+    Ok(())
+}
+
+/// The head of a request above the room, of 65,525 bytes, these, and the head of a request.
+fn long_request(alloc: Global) -> Result<Vec<u8>, AllocError> {
+    let head = [1, 0, 0, 0, 0, 100];
+    let mut stream = Vec::from_slice(alloc, &[1, 0, 0, 0, 0xff, 0xf5])?;
+    for _ in 0..10_920u16 {
+        stream.extend_from_slice(&head)?;
+    }
+    stream.extend_from_slice(&head[..5])?;
+    stream.extend_from_slice(&head)?;
+    Ok(stream)
+}
+
+/// The request is rejected at its head and its body is dropped, which spells the heads of further requests; the one
+/// after it is aborted.
+#[test]
+fn a_request_above_the_room(rt: HostRuntime) -> Result<(), AllocError> {
+    let stream = long_request(rt.alloc())?;
+    let sent = joined(rt.alloc(), &[&[3, 0, 0, 0, 0, 4, 0, 2, 3, 2], UNEXPECTED])?;
+    let outcome = Outcome {
+        sent: sent.as_slice(),
+        state: State::Sta13,
+        held: 0,
+    };
+    assert!(rt; stream.len() == 6 + 65_525 + 6);
+    for cuts in [0..9usize, 30_000..30_007, 65_524..65_539] {
+        assert!(rt; is_answered_at_each(rt.alloc(), stream.as_slice(), cuts, outcome));
+    }
     Ok(())
 }
 

@@ -1,9 +1,8 @@
-//! Filings: one of which a chosen call fails, and one that counts the bytes of its files.
+//! A filing of which a chosen call fails.
 ghost use Rattle.std.specs.Prelude.{◌≡◌, ◌+◌, None, false};
 
 use element::count::Count;
 use part10::{Filing, FilingFailed};
-use std::alloc::{AllocError, Allocator};
 
 /// A filing of which one call may fail, over another one. It counts its calls.
 #[derive(Drop)]
@@ -94,71 +93,5 @@ impl<F: Filing + Drop> Filing for FailingFiling<F> {
 
     fn discard(&mut self) {
         self.kept.discard();
-    }
-}
-
-/// A filing that counts its files and their bytes, and keeps the front of the last file, in room that
-/// it takes when it is made.
-#[derive(Drop)]
-pub(crate) struct CountedBytes<A: Allocator> {
-    drafting: bool,
-    draft: usize,
-    front: Vec<u8, A>,
-    room: usize,
-    pub(crate) files: usize,
-    pub(crate) bytes: usize,
-    failures: Count,
-}
-
-impl<A: Allocator> CountedBytes<A> {
-    pub(crate) fn new(alloc: A, room: usize) -> Result<CountedBytes<A>, AllocError> {
-        Ok(CountedBytes {
-            drafting: false,
-            draft: 0,
-            front: Vec::with_capacity(alloc, room)?,
-            room,
-            files: 0,
-            bytes: 0,
-            failures: Count::new(),
-        })
-    }
-
-    /// The front of the last file.
-    pub(crate) fn front(&self) -> &[u8] {
-        self.front.as_slice()
-    }
-}
-
-impl<A: Allocator> Filing for CountedBytes<A> {
-    ghost store = { λ f. record { told = None; has_draft = f.drafting; failures = f.failures.total } };
-
-    fn begin(&mut self) -> Result<(), FilingFailed> {
-        self.drafting = true;
-        self.draft = 0;
-        self.front.clear();
-        Ok(())
-    }
-
-    fn append(&mut self, bytes: &[u8]) -> Result<(), FilingFailed> {
-        self.draft = self.draft.saturating_add(bytes.len());
-        let left = self.room.saturating_sub(self.front.len());
-        let front = bytes.get(..left).unwrap_or(bytes);
-        if self.front.extend_from_slice(front).is_err() {
-            self.drafting = false;
-            self.failures.add_one();
-            return Err(FilingFailed);
-        }
-        Ok(())
-    }
-
-    fn commit(&mut self) -> Result<(), FilingFailed> {
-        self.drafting = false;
-        self.files = self.files.saturating_add(1);
-        self.bytes = self.bytes.saturating_add(self.draft);
-        Ok(())
-    }
-
-    fn discard(&mut self) {
-        self.drafting = false;
     }
 }

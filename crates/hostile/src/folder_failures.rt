@@ -3,10 +3,9 @@
 use crate::filings::FailingFiling;
 use crate::runtimes::Diverted;
 use crate::two_stores::{Due, TwoStores};
-use fixtures::bytes::after_first;
 use fixtures::folders::{are_in, fresh, holds, is_filed};
+use fixtures::refusing::Refusing;
 use harness::{Step, drive};
-use linked_list_allocator::LocalHeap;
 use part10::FolderFiling;
 use pdu::MemoryWire;
 use std::alloc::Global;
@@ -19,33 +18,38 @@ use std::{fs, io};
 const SECOND_APPEND: usize = 2;
 
 /// Files in this filing; returns whether that was done, and how many files were committed and dropped.
-fn filed_over_heap(filing: FolderFiling<(HostRuntime, &LocalHeap)>) -> (bool, u32, u32) {
+fn filed_over_memory(filing: FolderFiling<(HostRuntime, &Refusing<Global>)>) -> (bool, u32, u32) {
     let mut filing = filing;
     let is_filed = is_filed(&mut filing, b"file");
     (is_filed, filing.committed(), filing.dropped())
 }
 
-/// The same over a folder with this heap; a folder that gets no memory to be opened drops the file.
-fn filed_in(rt: &HostRuntime, dir: &str, heap: &LocalHeap) -> io::Result<(bool, u32, u32)> {
-    match FolderFiling::open_levels((*rt, heap), dir, 1) {
-        Ok(filing) => Ok(filed_over_heap(filing)),
+/// The same over a folder with this memory; a folder that gets no memory to be opened drops the file.
+fn filed_in(
+    rt: &HostRuntime,
+    dir: &str,
+    memory: &Refusing<Global>,
+) -> io::Result<(bool, u32, u32)> {
+    match FolderFiling::open_levels((*rt, memory), dir, 1) {
+        Ok(filing) => Ok(filed_over_memory(filing)),
         Err(error) if error.kind() == ErrorKind::OutOfMemory => Ok((false, 0, 1)),
         Err(error) => Err(error),
     }
 }
 
-/// Each growth is refused in turn: then the store fails, and leaves no file.
+/// Each allocation is refused in turn: then the store fails, and leaves no file.
 #[test]
-fn each_growth_of_a_folder_is_refused(rt: HostRuntime) -> Result<(), Fail> {
-    let dir = "each_growth_of_a_folder";
-    for size in 0..64usize {
+fn each_allocation_of_a_folder_is_refused(rt: HostRuntime) -> Result<(), Fail> {
+    let dir = "each_allocation_of_a_folder";
+    for passed in 0..100u64 {
         fresh(&rt, dir)?;
-        let heap = LocalHeap::new(rt.alloc(), 32 + 16 * size)?;
-        let (is_filed, committed, dropped) = filed_in(&rt, dir, &heap)?;
-        assert!(rt; (committed, dropped) == (u32::from(is_filed), u32::from(!is_filed)));
+        let memory = Refusing::new(rt.alloc(), passed);
+        let filed = filed_in(&rt, dir, &memory)?;
+        let is_filed = !memory.has_refused();
+        assert!(rt; filed == (is_filed, u32::from(is_filed), u32::from(!is_filed)));
         assert!(rt; holds(&rt, dir, "S0000001/I0000001", b"file")? == is_filed);
         if is_filed {
-            assert!(rt; 0 < size);
+            assert!(rt; 2 < passed);
             fs::remove_dir_all(&rt, dir)?;
             return Ok(());
         }
@@ -108,7 +112,7 @@ fn what_can_not_be_synced_is_not_committed(rt: HostRuntime) -> Result<(), Fail> 
 
 /// Whether these are the replies that are due, and the folder has the files that are due and nothing else.
 fn are_due(rt: &HostRuntime, dir: &str, sent: &[u8], due: &Due) -> io::Result<bool> {
-    Ok(after_first(sent) == due.answer.as_slice() && are_in(rt, dir, due.files.as_slice())?)
+    Ok(sent == due.answer.as_slice() && are_in(rt, dir, due.files.as_slice())?)
 }
 
 /// Feeds two stores, cut here, to an association over this filing; returns what was sent, and whether one store was

@@ -1,15 +1,18 @@
-//! A store of 16 MiB where every allocation is refused.
+//! A store of 16 MiB where memory is refused to whatever asks for as much as one piece of it.
 
-use crate::filings::CountedBytes;
 use crate::sources::Repeated;
-use crate::wires::LastSend;
 use dimse::status;
 use engine::{Report, Standing, run};
-use fixtures::bytes::{front, joined};
-use fixtures::stores::{CT_SET, EXPLICIT, INSTANCE, data, file, reply, request, store};
+use fixtures::bytes::joined;
+use fixtures::folders::{count, fresh};
+use fixtures::stores::{ACCEPT, CT_SET, EXPLICIT, INSTANCE, data, file, reply, request, store};
 use harness::config;
 use linked_list_allocator::LocalHeap;
+use part10::FolderFiling;
+use pdu::MemoryWire;
 use std::alloc::{AllocError, Global};
+use std::test::Fail;
+use std::{fs, io};
 
 /// The bytes of a value of 16 MiB.
 const VALUE: usize = 16_777_216;
@@ -23,8 +26,8 @@ const HEADER: [u8; 12] = [0xe0, 0x7f, 0x10, 0, b'O', b'W', 0, 0, 0, 0, 0, 1];
 /// How many bytes of the value come after the first such PDU, which has the class and the instance too.
 const LEFT: usize = VALUE - (PART - 60);
 
-/// How many bytes each device keeps.
-const ROOM: usize = 512;
+/// How many bytes the devices may allocate.
+const ROOM: usize = 4096;
 
 /// The pieces before the last ones, and the file as far as the first part of the data set.
 #[derive(Drop)]
@@ -65,8 +68,8 @@ fn make_rest(alloc: Global) -> Result<Rest, AllocError> {
 fn is_run(
     opening: &Opening,
     rest: &Rest,
-    wire: &mut LastSend<&LocalHeap>,
-    filing: &mut CountedBytes<&LocalHeap>,
+    wire: &mut MemoryWire<&LocalHeap>,
+    filing: FolderFiling<(HostRuntime, &LocalHeap)>,
 ) -> bool {
     let first = [
         opening.request.as_slice(),
@@ -74,44 +77,42 @@ fn is_run(
         opening.first.as_slice(),
     ];
     let (again, last) = (rest.again.as_slice(), rest.last.as_slice());
+    let mut filing = filing;
     let mut source = Repeated::new(&first, again, LEFT / PART, last);
     let turns = 4 + (LEFT / PART) as u64;
-    let report = run::<65536, 1024, 256, 64, _, _, _>(&mut source, &config(), wire, filing, turns);
+    let report = run::<65536, 1024, 256, 64, _, _, _>(
+        &mut source,
+        &config(),
+        wire,
+        &mut filing,
+        turns,
+    );
     let (standing, held) = (Standing::Open, 24);
-    report == Report { standing, held }
+    report == Report { standing, held } && (filing.committed(), filing.dropped()) == (1, 0)
 }
 
-/// Whether the store is taken, filed and answered where its devices have all of this heap.
-fn is_stored(
-    opening: &Opening,
-    rest: &Rest,
-    heap: &LocalHeap,
-    reply: &[u8],
-) -> Result<bool, AllocError> {
-    let mut wire = LastSend::new(heap, ROOM)?;
-    let mut filing = CountedBytes::new(heap, ROOM)?;
-    let is_taken = heap.free() == 0 && Vec::from_slice(heap, &[0u8]).is_err();
-    Ok(
-        is_taken
-            && is_run(opening, rest, &mut wire, &mut filing)
-            && (filing.files, filing.bytes) == (1, 288 + 60 + VALUE)
-            && filing.front() == front(opening.file.as_slice(), ROOM)
-            && wire.last().len() >= 100
-            && reply.ends_with(wire.last())
-            && heap.free() == 0,
-    )
+/// Whether the folder has the file, as far as the first part of its data set, and of its size.
+fn is_filed(rt: &HostRuntime, dir: &str, front: &[u8]) -> io::Result<bool> {
+    let path = format!(in rt.alloc(); "{dir}/I0000001")?;
+    let file = fs::read(rt, path)?;
+    Ok(count(rt, dir)? == 1 && file.len() == 288 + 60 + VALUE && file.starts_with(front))
 }
 
-/// The devices have taken all of their heap before the association is opened, and whatever asks it for
-/// memory from then on is refused. An association has no allocator in its type, and no call of it is
-/// passed another one: there is nothing else that could be refused.
+/// All that the devices may allocate from is a heap that has no room for one more piece of the data set.
 #[test]
-fn a_store_of_16_mib_without_memory(rt: HostRuntime) -> Result<(), AllocError> {
+fn a_store_of_16_mib_in_4_kib(rt: HostRuntime) -> Result<(), Fail> {
+    let dir = "a_store_of_16_mib";
     let opening = make_opening(rt.alloc())?;
     let rest = make_rest(rt.alloc())?;
-    assert!(rt; opening.first.len() == 4096 && rest.again.len() == 4096);
     let reply = reply(rt.alloc(), INSTANCE, status::SUCCESS, None)?;
-    let heap = LocalHeap::new(rt.alloc(), 2 * ROOM)?;
-    assert!(rt; is_stored(&opening, &rest, &heap, reply.as_slice())?);
+    assert!(rt; opening.first.len() == 4096 && rest.again.len() == 4096);
+    fresh(&rt, dir)?;
+    let heap = LocalHeap::new(rt.alloc(), ROOM)?;
+    let mut wire = MemoryWire::new(&heap);
+    let filing = FolderFiling::open((rt, &heap), dir)?.without_sync();
+    assert!(rt; is_run(&opening, &rest, &mut wire, filing));
+    assert!(rt; wire.sent() == joined(rt.alloc(), &[ACCEPT, reply.as_slice()])?.as_slice());
+    assert!(rt; is_filed(&rt, dir, opening.file.as_slice())?);
+    fs::remove_dir_all(&rt, dir)?;
     Ok(())
 }

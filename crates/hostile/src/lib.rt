@@ -1,5 +1,5 @@
-//! Devices that fail, count or keep nothing, and the tests over them: after a failed call, or where memory
-//! is refused, what was promised still holds.
+//! Devices that fail or are refused memory, and the tests over them: after a failed call, or without memory, what was
+//! promised still holds; and many and large stores, at which nothing gives up.
 #![tactic(auto)]
 
 #[cfg(test)]
@@ -7,7 +7,13 @@ mod filings;
 #[cfg(test)]
 mod folder_failures;
 #[cfg(test)]
+mod folder_links;
+#[cfg(test)]
 mod large_store;
+#[cfg(test)]
+mod links;
+#[cfg(test)]
+mod many_stores;
 #[cfg(test)]
 mod memory_failures;
 #[cfg(test)]

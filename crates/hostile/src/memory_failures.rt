@@ -1,68 +1,162 @@
-//! Memory that is refused to a filing, at each growth in turn.
+//! Memory of which each allocation is refused in turn, until a run meets no refusal.
 
-use crate::two_stores::TwoStores;
-use fixtures::bytes::{after_first, front};
+use crate::two_stores::{ENDS, TwoStores};
+use fixtures::bytes::front;
 use fixtures::folders::is_filed;
+use fixtures::refusing::Refusing;
 use harness::drive;
-use linked_list_allocator::LocalHeap;
 use part10::MemoryFiling;
-use pdu::MemoryWire;
-use std::alloc::{AllocError, Global};
-use std::process::Abort;
+use pdu::{MemoryWire, Wire};
+use std::alloc::{AllocError, Allocator, Global};
 
-/// Whether two files come to a filing over this heap; those that come are in it, and nothing else.
-fn come_over(rt: &impl Abort, heap: &LocalHeap) -> bool {
-    let mut filing = MemoryFiling::new(heap);
-    let first = is_filed(&mut filing, &[1; 300]);
-    let second = is_filed(&mut filing, &[1; 300]);
-    assert!(rt; filing.files().len() == usize::from(first) + usize::from(second));
-    for file in filing.files() {
-        assert!(rt; file.as_slice() == [1; 300].as_slice());
-    }
-    first && second
-}
+/// More allocations than any run makes.
+const MOST: u64 = 100;
 
-/// Each growth fails in turn; then the call fails, and the other files are as they were.
-#[test]
-fn each_growth_of_memory_is_refused(rt: HostRuntime) -> Result<(), AllocError> {
-    for size in 0..64usize {
-        let heap = LocalHeap::new(rt.alloc(), 64 + 32 * size)?;
-        if come_over(&rt, &heap) {
-            assert!(rt; 0 < size);
-            return Ok(());
+/// Returns whether one of four vectors of a byte gets no memory, the one after so many.
+fn is_one_refused(alloc: Global, passed: usize) -> bool {
+    let memory = Refusing::new(alloc, passed as u64);
+    for at in 0..4usize {
+        if memory.has_refused() != (passed < at) {
+            return false;
+        }
+        if Vec::from_slice(&memory, &[1u8]).is_ok() != (at != passed) {
+            return false;
         }
     }
-    assert!(rt; false);
-    Ok(())
+    memory.has_refused() == (passed < 4)
 }
 
-/// Whether the first of two stores is filed over this heap. Then its file is there, and it is answered by success; else
-/// it leaves no file, and is answered A700.
-fn is_stored(rt: &impl Abort, alloc: Global, heap: &LocalHeap, stores: &TwoStores) -> bool {
+#[test]
+fn one_allocation_is_refused(rt: HostRuntime) {
+    for passed in 0..5usize {
+        assert!(rt; is_one_refused(rt.alloc(), passed));
+    }
+}
+
+/// Returns whether these are the same files.
+fn are_same<A: Allocator, B: Allocator>(found: &[Vec<u8, A>], due: &[Vec<u8, B>]) -> bool {
+    for (file, other) in found.iter().zip(due) {
+        if file.as_slice() != other.as_slice() {
+            return false;
+        }
+    }
+    found.len() == due.len()
+}
+
+/// Files of several sizes, and what is sent in several sends.
+static TEXTS: [&[u8]; 5] = [&[1; 300], &[2; 2], &[3; 5000], &[], &[4; 900]];
+
+/// Files the texts. Those that come are in the filing, and nothing else; all come but one, if an allocation is refused.
+fn are_filed(alloc: Global, memory: &Refusing<Global>) -> Result<bool, AllocError> {
+    let mut filing = MemoryFiling::new(memory);
+    let mut come = Vec::new(alloc);
+    for text in &TEXTS {
+        if is_filed(&mut filing, text) {
+            come.push(Vec::from_slice(alloc, text)?)?;
+        }
+    }
+    let lost = usize::from(memory.has_refused());
+    Ok(come.len() + lost == TEXTS.len() && are_same(filing.files(), come.as_slice()))
+}
+
+/// Sends the texts. Those whose send does not fail are sent whole, and nothing else; all but one, if an allocation is
+/// refused.
+fn are_sent(alloc: Global, memory: &Refusing<Global>) -> Result<bool, AllocError> {
+    let mut wire = MemoryWire::new(memory);
+    let mut sent = Vec::new(alloc);
+    let mut failed = 0u32;
+    for text in &TEXTS {
+        match wire.send(text) {
+            Ok(()) => sent.extend_from_slice(text)?,
+            Err(_) => failed = failed.saturating_add(1),
+        }
+    }
+    Ok(
+        failed == u32::from(memory.has_refused())
+            && wire.failed() == memory.has_refused()
+            && wire.sent() == sent.as_slice(),
+    )
+}
+
+/// Has an association file two stores. One whose allocation is refused is answered A700 and leaves no file; the other
+/// one is filed.
+fn are_stored(alloc: Global, memory: &Refusing<Global>) -> Result<bool, AllocError> {
+    let stores = TwoStores::new(alloc)?;
     let mut wire = MemoryWire::new(alloc);
-    let mut filing = MemoryFiling::new(heap);
-    let _shown = drive::<_, _, 64>(&mut wire, &mut filing, &stores.pieces()[..2]);
-    let is_filed = !filing.files().is_empty();
-    let due = stores.due(if is_filed { 0 } else { 1 });
-    assert!(rt; after_first(wire.sent()) == front(due.answer.as_slice(), due.answer.len() / 2));
-    match (filing.files().first(), due.files.first()) {
-        (Some(found), Some(file)) => assert!(rt; found.as_slice() == file.as_slice()),
-        (found, _) => assert!(rt; found.is_none()),
-    }
-    is_filed
+    let mut filing = MemoryFiling::new(memory);
+    let shown = drive::<_, _, 64>(&mut wire, &mut filing, &stores.pieces());
+    let first = stores.due(2).files.as_slice();
+    let lost = match (memory.has_refused(), are_same(filing.files(), first)) {
+        (false, _) => 0,
+        (true, false) => 1,
+        (true, true) => 2,
+    };
+    let due = stores.due(lost);
+    Ok(
+        wire.sent() == due.answer.as_slice()
+            && are_same(filing.files(), due.files.as_slice())
+            && !shown.drafting,
+    )
 }
 
-/// Until there is memory for its file, a store is answered A700, and leaves no file.
-#[test]
-fn a_store_whose_file_gets_no_memory(rt: HostRuntime) -> Result<(), AllocError> {
-    let stores = TwoStores::new(rt.alloc())?;
-    for size in 0..64usize {
-        let heap = LocalHeap::new(rt.alloc(), 64 + 32 * size)?;
-        if is_stored(&rt, rt.alloc(), &heap, &stores) {
-            assert!(rt; 0 < size);
-            return Ok(());
+/// Has an association answer two stores. A send whose allocation is refused sends nothing, and ends the association; the
+/// stores whose reply was due by then are filed.
+fn are_answered(alloc: Global, memory: &Refusing<Global>) -> Result<bool, AllocError> {
+    let stores = TwoStores::new(alloc)?;
+    let mut wire = MemoryWire::new(memory);
+    let mut filing = MemoryFiling::new(alloc);
+    let shown = drive::<_, _, 64>(&mut wire, &mut filing, &stores.pieces());
+    let sent = wire.sent().len();
+    let Some(sends) = ENDS.iter().position(|end| *end == sent) else {
+        return Ok(false);
+    };
+    let due = stores.due(0);
+    let files = due.files.as_slice();
+    Ok(
+        wire.sent() == front(due.answer.as_slice(), sent)
+            && (sends < 3) == memory.has_refused()
+            && wire.failed() == memory.has_refused()
+            && shown.is_ended() == memory.has_refused()
+            && filing.files() == files.get(..sends).unwrap_or(files),
+    )
+}
+
+/// What runs over memory that is refused.
+#[derive(Clone, Copy)]
+enum Run {
+    Filing,
+    Wire,
+    Stores,
+    Replies,
+}
+
+fn is_right(alloc: Global, run: Run, memory: &Refusing<Global>) -> Result<bool, AllocError> {
+    match run {
+        Run::Filing => are_filed(alloc, memory),
+        Run::Wire => are_sent(alloc, memory),
+        Run::Stores => are_stored(alloc, memory),
+        Run::Replies => are_answered(alloc, memory),
+    }
+}
+
+/// Refuses each allocation of a run in turn. Returns how many there were, if each run was right.
+fn refused(alloc: Global, run: Run) -> Result<Option<u64>, AllocError> {
+    for passed in 0..MOST {
+        let memory = Refusing::new(alloc, passed);
+        if !is_right(alloc, run, &memory)? {
+            return Ok(None);
+        }
+        if !memory.has_refused() {
+            return Ok(Some(passed));
         }
     }
-    assert!(rt; false);
+    Ok(None)
+}
+
+#[test]
+fn each_allocation_is_refused(rt: HostRuntime) -> Result<(), AllocError> {
+    for run in [Run::Filing, Run::Wire, Run::Stores, Run::Replies] {
+        assert!(rt; matches!(refused(rt.alloc(), run)?, Some(2..)));
+    }
     Ok(())
 }

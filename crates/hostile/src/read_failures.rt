@@ -1,40 +1,45 @@
-//! Reads that fail in the middle of a file header.
+//! Reads that fail in the middle of a file header, each in turn.
 
 use crate::readers::SlowReader;
 use fixtures::stores::{CT_SET, EXPLICIT, INSTANCE, file};
 use part10::{MetaFault, read_meta};
 use std::alloc::AllocError;
-use std::process::Abort;
 
-/// Whether the file header is read in so many reads, of so many bytes at most, and read right; a read that fails before
-/// the end is 54.
-fn is_read(rt: &impl Abort, file: &[u8], most: usize, reads: u32) -> bool {
-    let mut reader = SlowReader::new(file, most, reads);
-    match read_meta(&mut reader) {
+/// Whether the file header is read right where no read fails, and is 54 where one does, after which nothing is read.
+fn is_told(reader: SlowReader) -> (bool, bool) {
+    let mut reader = reader;
+    let is_right = match read_meta(&mut reader) {
         Ok(meta) => {
-            assert!(rt; meta.instance.as_bytes() == b"1.2.3".as_slice() && reader.at == 288);
-            true
+            meta.instance.as_bytes() == b"1.2.3".as_slice()
+                && reader.at == 288
+                && !reader.has_failed()
         }
-        Err(fault) => {
-            assert!(rt; fault == MetaFault::ReadFailed);
-            false
-        }
-    }
+        Err(fault) => fault == MetaFault::ReadFailed && reader.has_failed() && reader.at < 288,
+    };
+    (is_right, reader.has_failed())
 }
 
-/// Whatever the reads give, the answer is the same.
+/// Returns how many reads failed in turn of those of so many bytes at most, if each was told.
+fn failed(file: &[u8], most: usize) -> Option<u32> {
+    for passed in 0..400u32 {
+        match is_told(SlowReader::new(file, most, passed)) {
+            (true, true) => {}
+            (true, false) => return Some(passed),
+            (false, _) => return None,
+        }
+    }
+    None
+}
+
+/// Whatever the reads give.
 #[test]
 fn a_failed_read_is_told_apart(rt: HostRuntime) -> Result<(), AllocError> {
     let file = file(rt.alloc(), EXPLICIT, INSTANCE, &CT_SET)?;
     for most in [1usize, 7, 64, 500] {
-        let mut met = false;
-        for reads in 0..400u32 {
-            met = is_read(&rt, file.as_slice(), most, reads);
-            if met {
-                break;
-            }
-        }
-        assert!(rt; met, "at {most}");
+        assert!(rt;
+            matches!(failed(file.as_slice(), most), Some(2..)),
+            "at {most}"
+        );
     }
     Ok(())
 }

@@ -4,27 +4,34 @@ ghost use Rattle.std.specs.Prelude.{◌≤◌, length};
 use std::io;
 use std::io::{ErrorKind, Read};
 
-/// Gives its bytes, at most so many a read, and fails once the reads are used up; every second call
-/// is interrupted, as by a signal.
+/// Gives its bytes, at most so many a read. One read fails, and those after it do not; every second call is
+/// interrupted, as by a signal.
 #[derive(Drop)]
 pub(crate) struct SlowReader<'a> {
     bytes: &'a [u8],
     pub(crate) at: usize,
     most: usize,
-    reads_left: u32,
+    /// The reads as far as the one that fails; 0 after it.
+    left: u32,
     is_interrupted: bool,
     ghost within: { at ≤ length bytes.now },
 }
 
 impl<'a> SlowReader<'a> {
-    pub(crate) fn new(bytes: &'a [u8], most: usize, reads: u32) -> SlowReader<'a> {
+    /// Returns a reader of which the read fails that comes after so many others.
+    pub(crate) fn new(bytes: &'a [u8], most: usize, passed: u32) -> SlowReader<'a> {
         SlowReader {
             bytes,
             at: 0,
             most,
-            reads_left: reads,
+            left: passed.saturating_add(1),
             is_interrupted: false,
         }
+    }
+
+    /// Whether a read has failed.
+    pub(crate) fn has_failed(&self) -> bool {
+        self.left == 0
     }
 }
 
@@ -34,10 +41,11 @@ impl Read for SlowReader<'_> {
         if self.is_interrupted {
             return Err(io::Error::from(ErrorKind::Interrupted));
         }
-        if self.reads_left == 0 {
+        let calls = self.left;
+        self.left = calls.saturating_sub(1);
+        if calls == 1 {
             return Err(io::Error::from(ErrorKind::Other));
         }
-        self.reads_left -= 1;
         let n = (self.bytes.len() - self.at)
             .min(buf.len())
             .min(self.most.max(1));

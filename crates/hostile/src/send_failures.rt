@@ -1,23 +1,15 @@
 //! Two stores over a wire of which each send fails in turn, in one piece, at each cut in two and byte by
 //! byte.
 
-use crate::two_stores::TwoStores;
+use crate::two_stores::{ENDS, TwoStores};
 use crate::wires::FailingWire;
-use fixtures::bytes::after_first;
+use fixtures::bytes::front;
 use fixtures::folders::{are_in, fresh};
-use harness::{OverMemory, Shown, Step, drive, over_memory};
+use harness::{Shown, Step, drive};
 use part10::{FolderFiling, MemoryFiling};
 use std::alloc::{AllocError, Global};
 use std::test::Fail;
 use std::{fs, io};
-
-/// After how many sends the request and each store are answered.
-#[derive(Clone, Copy)]
-struct Sends {
-    request: usize,
-    first: usize,
-    second: usize,
-}
 
 /// Which send fails, counted from 0, and how many of its bytes are sent.
 #[derive(Clone, Copy)]
@@ -26,122 +18,70 @@ struct Failure {
     front: usize,
 }
 
-/// An association over memory after a wire that fails.
-#[derive(Drop)]
-struct Tried {
-    wire: FailingWire,
-    filing: MemoryFiling<Global>,
-    shown: Shown,
+/// How many bytes are sent after so many sends.
+fn end_of(sends: usize) -> usize {
+    ENDS.get(sends).copied().unwrap_or(ENDS[3])
 }
 
-fn over_failing_wire(alloc: Global, failure: Failure, steps: &[Step]) -> Tried {
+/// What is sent of all, where a send fails: what the sends before it send, and a front of its bytes.
+fn sent_until(all: &[u8], failure: Failure) -> &[u8] {
+    let next = failure.at.saturating_add(1);
+    let sent = end_of(failure.at).saturating_add(failure.front);
+    front(all, sent.min(end_of(next)))
+}
+
+/// Whether a wire of which a send fails has sent just that, and no send comes after it: the association
+/// has ended. There are three sends; one after them is not made, and so does not fail.
+fn is_cut_off(wire: &FailingWire, shown: Shown, all: &[u8], failure: Failure) -> bool {
+    let fails = failure.at < 3;
+    let sends = if fails { failure.at + 1 } else { 3 };
+    wire.sent() == sent_until(all, failure)
+        && (wire.sends(), wire.has_failed()) == (sends, fails)
+        && shown.is_ended() == fails
+        && !shown.drafting
+}
+
+/// The files of the stores whose reply was due by then.
+fn due_files(stores: &TwoStores, failure: Failure) -> &[Vec<u8>] {
+    let files = stores.due(0).files.as_slice();
+    files.get(..failure.at).unwrap_or(files)
+}
+
+/// Whether this send fails so over memory, in these steps.
+fn fails(alloc: Global, stores: &TwoStores, failure: Failure, steps: &[Step]) -> bool {
     let mut wire = FailingWire::new(alloc, failure.at, failure.front);
     let mut filing = MemoryFiling::new(alloc);
     let shown = drive::<_, _, 64>(&mut wire, &mut filing, steps);
-    Tried {
-        wire,
-        filing,
-        shown,
-    }
+    is_cut_off(&wire, shown, stores.due(0).answer.as_slice(), failure)
+        && filing.files() == due_files(stores, failure)
 }
 
-/// How many sends there are in these steps where none fails.
-fn sends_in(alloc: Global, steps: &[Step]) -> usize {
-    let never = Failure {
-        at: usize::MAX,
-        front: 0,
-    };
-    over_failing_wire(alloc, never, steps).wire.sends()
-}
-
-fn sends_of(alloc: Global, stores: &TwoStores) -> Sends {
-    let pieces = stores.pieces();
-    Sends {
-        request: sends_in(alloc, &pieces[..1]),
-        first: sends_in(alloc, &pieces[..2]),
-        second: sends_in(alloc, &pieces),
-    }
-}
-
-/// Whether what was sent over a wire of which a send fails is a front of `all`, nothing was sent after the failure, and
-/// the association has ended.
-fn is_cut_off(wire: &FailingWire, shown: Shown, all: &[u8], at: usize) -> bool {
-    wire.has_failed()
-        && wire.sends() == at.saturating_add(1)
-        && all.starts_with(wire.sent())
-        && shown.is_ended()
-}
-
-/// How many stores are filed: those whose reply was due when the wire failed.
-fn filed(sends: Sends, at: usize) -> usize {
-    if at < sends.request {
-        0
-    } else if at < sends.first {
-        1
-    } else {
-        2
-    }
-}
-
-/// Both stores where no send fails.
-fn unfailed(alloc: Global, stores: &TwoStores) -> OverMemory {
-    over_memory(alloc, &stores.cut(0))
-}
-
-/// The first files.
-fn front_files(files: &[Vec<u8>], count: usize) -> &[Vec<u8>] {
-    files.get(..count).unwrap_or(&[])
-}
-
-/// Whether a send fails so where both stores come in these steps, and these are the files.
-fn fails(alloc: Global, failure: Failure, steps: &[Step], all: &[u8], files: &[Vec<u8>]) -> bool {
-    let tried = over_failing_wire(alloc, failure, steps);
-    is_cut_off(&tried.wire, tried.shown, all, failure.at) && tried.filing.files() == files
-}
-
-/// Whether, wherever both stores are cut, each send fails in turn after so many of its bytes, and the
-/// files are those of the stores whose reply was due.
-fn each_fails(alloc: Global, stores: &TwoStores, front: usize) -> bool {
-    let sends = sends_of(alloc, stores);
-    let all = unfailed(alloc, stores);
-    let files = stores.due(0).files.as_slice();
-    for cut in 0..stores.messages.len() + 2 {
-        let steps = stores.cut(cut);
-        for at in 0..sends.second {
-            let files = front_files(files, filed(sends, at));
-            if !fails(alloc, Failure { at, front }, &steps, all.wire.sent(), files) {
-                return false;
-            }
+/// Whether each send fails so in turn after so many of its bytes, where both stores are cut here, and one
+/// after the last send does not.
+fn each_fails(alloc: Global, stores: &TwoStores, front: usize, cut: usize) -> bool {
+    let steps = stores.cut(cut);
+    for at in 0..4usize {
+        if !fails(alloc, stores, Failure { at, front }, &steps) {
+            return false;
         }
     }
     true
 }
 
-#[test]
-fn sends_of_two_stores(rt: HostRuntime) -> Result<(), Fail> {
-    let stores = TwoStores::new(rt.alloc())?;
-    let sends = sends_of(rt.alloc(), &stores);
-    assert!(rt; 0 < sends.request);
-    assert!(rt; sends.first == sends.request.saturating_add(1));
-    assert!(rt; sends.second == sends.request.saturating_add(2));
-    let all = unfailed(rt.alloc(), &stores);
-    assert!(rt; after_first(all.wire.sent()) == stores.due(0).answer.as_slice());
-    Ok(())
-}
+/// After how many of its bytes a send fails: at once, after one, before the last one of a reply, and after all.
+const FRONTS: [usize; 4] = [0, 1, 111, usize::MAX];
 
-/// At once, and after a byte of it.
+/// Each of these in one piece, and one after the other at the cuts in two, of which the last is byte by byte.
 #[test]
 fn each_send_fails_in_turn(rt: HostRuntime) -> Result<(), AllocError> {
     let stores = TwoStores::new(rt.alloc())?;
-    assert!(rt; each_fails(rt.alloc(), &stores, 0));
-    assert!(rt; each_fails(rt.alloc(), &stores, 1));
-    Ok(())
-}
-
-#[test]
-fn each_send_fails_after_all_its_bytes(rt: HostRuntime) -> Result<(), AllocError> {
-    let stores = TwoStores::new(rt.alloc())?;
-    assert!(rt; each_fails(rt.alloc(), &stores, usize::MAX));
+    assert!(rt; stores.due(0).answer.len() == ENDS[3]);
+    for front in FRONTS {
+        assert!(rt; each_fails(rt.alloc(), &stores, front, 0));
+    }
+    for cut in 0..stores.messages.len() + 2 {
+        assert!(rt; each_fails(rt.alloc(), &stores, FRONTS[cut % 4], cut));
+    }
     Ok(())
 }
 
@@ -156,50 +96,32 @@ fn is_cut_off_in_folder(
     let mut filing = filing;
     let mut wire = FailingWire::new(alloc, failure.at, failure.front);
     let shown = drive::<_, _, 64>(&mut wire, &mut filing, steps);
-    is_cut_off(&wire, shown, all, failure.at) && filing.committed() == 1 && filing.dropped() == 0
+    is_cut_off(&wire, shown, all, failure) && filing.committed() == 1 && filing.dropped() == 0
 }
 
-/// Whether the reply to the first store is cut off, and its file stays in the folder.
+/// Whether the reply to the first store is cut off after so many bytes, and its file stays in the folder.
 fn reply_is_cut_off(
     rt: &HostRuntime,
     stores: &TwoStores,
-    all: &[u8],
-    failure: Failure,
+    front: usize,
     cut: usize,
 ) -> io::Result<bool> {
     let dir = "a_cut_reply_over_a_folder";
     fresh(rt, dir)?;
     let filing = FolderFiling::open(*rt, dir)?.without_sync();
-    let files = front_files(stores.due(0).files.as_slice(), 1);
+    let failure = Failure { at: 1, front };
+    let all = stores.due(0).answer.as_slice();
     Ok(
         is_cut_off_in_folder(rt.alloc(), filing, failure, &stores.cut(cut), all)
-            && are_in(rt, dir, files)?,
+            && are_in(rt, dir, due_files(stores, failure))?,
     )
-}
-
-/// Whether it is so at this cut, after none of its bytes, one and all.
-fn replies_are_cut_off(
-    rt: &HostRuntime,
-    stores: &TwoStores,
-    all: &[u8],
-    at: usize,
-    cut: usize,
-) -> io::Result<bool> {
-    for front in [0, 1, usize::MAX] {
-        if !reply_is_cut_off(rt, stores, all, Failure { at, front }, cut)? {
-            return Ok(false);
-        }
-    }
-    Ok(true)
 }
 
 #[test]
 fn a_cut_reply_over_a_folder(rt: HostRuntime) -> Result<(), Fail> {
     let stores = TwoStores::new(rt.alloc())?;
-    let at = sends_of(rt.alloc(), &stores).request;
-    let all = unfailed(rt.alloc(), &stores);
     for cut in 0..stores.messages.len() + 2 {
-        assert!(rt; replies_are_cut_off(&rt, &stores, all.wire.sent(), at, cut)?);
+        assert!(rt; reply_is_cut_off(&rt, &stores, 1, cut)?);
     }
     fs::remove_dir_all(&rt, "a_cut_reply_over_a_folder")?;
     Ok(())

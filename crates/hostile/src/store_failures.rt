@@ -4,7 +4,6 @@
 use crate::filings::FailingFiling;
 use crate::two_stores::TwoStores;
 use acceptor::State;
-use fixtures::bytes::after_first;
 use harness::{Shown, Step, drive};
 use part10::MemoryFiling;
 use pdu::MemoryWire;
@@ -53,7 +52,7 @@ fn failed_draft(alloc: Global, stores: &TwoStores, cut: usize, at: usize) -> Opt
     let tried = over_failing_filing(alloc, at, &stores.cut(cut));
     let failed = tried.filing.failed_draft();
     let due = stores.due(failed);
-    let is_due = after_first(tried.wire.sent()) == due.answer.as_slice()
+    let is_due = tried.wire.sent() == due.answer.as_slice()
         && tried.filing.kept().files() == due.files.as_slice()
         && tried.shown.state == State::Sta6
         && !tried.shown.drafting;

@@ -1,17 +1,22 @@
 //! Two stores on one association, and what is due for them.
 
 use dimse::status;
-use fixtures::bytes::{back, front};
-use fixtures::stores::{CT_SET, EXPLICIT, INSTANCE, OTHER, file, reply, request, whole_store};
+use fixtures::bytes::{back, front, joined};
+use fixtures::stores::{
+    ACCEPT, CT_SET, EXPLICIT, INSTANCE, OTHER, file, reply, request, whole_store,
+};
 use harness::Step;
 use std::alloc::{AllocError, Global};
 
-/// The replies to both stores, and the files.
+/// What is sent, and the files.
 #[derive(Drop)]
 pub(crate) struct Due {
     pub(crate) answer: Vec<u8>,
     pub(crate) files: Vec<Vec<u8>>,
 }
+
+/// How many bytes are sent after so many sends: the A-ASSOCIATE-AC, and the reply to each store.
+pub(crate) const ENDS: [usize; 4] = [0, 171, 283, 395];
 
 /// What is due where the filing fails in none of the stores, in the first, and in the second.
 #[derive(Drop)]
@@ -50,8 +55,9 @@ fn make_files(alloc: Global, first: u16, second: u16) -> Result<Vec<Vec<u8>>, Al
 
 fn make_due(alloc: Global, first: u16, second: u16) -> Result<Due, AllocError> {
     let files = make_files(alloc, first, second)?;
-    let mut answer = reply(alloc, INSTANCE, first, None)?;
-    answer.extend_from_slice(reply(alloc, OTHER, second, None)?.as_slice())?;
+    let first = reply(alloc, INSTANCE, first, None)?;
+    let second = reply(alloc, OTHER, second, None)?;
+    let answer = joined(alloc, &[ACCEPT, first.as_slice(), second.as_slice()])?;
     Ok(Due { answer, files })
 }
 
@@ -96,6 +102,9 @@ impl TwoStores {
             Step::Cut(self.messages.as_slice(), cut),
         ]
     }
+
+    /// How many bytes are sent after so many sends: the A-ASSOCIATE-AC, and the reply to each store.
+    pub(crate) const ENDS: [usize; 4] = [0, 171, 283, 395];
 
     /// What is due where the filing fails in this store, counted from 1; in none, at 0.
     pub(crate) fn due(&self, failed: usize) -> &Due {

@@ -1,9 +1,9 @@
-//! Wires: one of which a chosen send fails, and one that keeps the last send alone.
+//! A wire of which a chosen send fails.
 ghost use Rattle.std.specs.Prelude.{None};
 
 use element::count::Count;
 use pdu::{MemoryWire, Wire, WireFailed};
-use std::alloc::{AllocError, Allocator, Global};
+use std::alloc::Global;
 
 /// A wire over memory of which one send fails.
 #[derive(Drop)]
@@ -59,40 +59,6 @@ impl Wire for FailingWire {
         };
         if self.wire.send(front).is_err() || fails {
             self.has_failed = true;
-            self.failures.add_one();
-            return Err(WireFailed);
-        }
-        Ok(())
-    }
-}
-
-/// A wire that keeps the last send alone, in room that it takes when it is made.
-#[derive(Drop)]
-pub(crate) struct LastSend<A: Allocator> {
-    last: Vec<u8, A>,
-    failures: Count,
-}
-
-impl<A: Allocator> LastSend<A> {
-    pub(crate) fn new(alloc: A, room: usize) -> Result<LastSend<A>, AllocError> {
-        Ok(LastSend {
-            last: Vec::with_capacity(alloc, room)?,
-            failures: Count::new(),
-        })
-    }
-
-    /// The bytes of the last send.
-    pub(crate) fn last(&self) -> &[u8] {
-        self.last.as_slice()
-    }
-}
-
-impl<A: Allocator> Wire for LastSend<A> {
-    ghost line = { λ w. record { sent = None; failures = w.failures.total } };
-
-    fn send(&mut self, bytes: &[u8]) -> Result<(), WireFailed> {
-        self.last.clear();
-        if self.last.extend_from_slice(bytes).is_err() {
             self.failures.add_one();
             return Err(WireFailed);
         }

@@ -4,7 +4,7 @@ use crate::row::{Levels, Row, fresh_folder, over_folder};
 use dimse::status;
 use fixtures::bytes::{after_first, back, front};
 use fixtures::folders::{are_in, count};
-use fixtures::stores::{ACCEPT_SIZE, CT_SET, EXPLICIT, INSTANCE};
+use fixtures::stores::{ACCEPT, CT_SET, EXPLICIT, INSTANCE};
 use harness::{Shown, Step, over_memory};
 use part10::FolderFiling;
 use pdu::MemoryWire;
@@ -21,7 +21,7 @@ fn ct_store(alloc: Global) -> Result<Row, AllocError> {
 /// 24 bytes of the request, 100 of the command, 26 of the class and 5 of a header. Heads that are whole
 /// are not held.
 fn is_held(shown: Shown, wire: &MemoryWire<Global>) -> bool {
-    shown.drafting && shown.held == 155 && wire.sent().len() == ACCEPT_SIZE
+    shown.drafting && shown.held == 155 && wire.sent() == ACCEPT
 }
 
 /// Whether it is so over memory after the first of these steps, and with the rest of the row there is a file.

@@ -7,6 +7,8 @@ mod draft_rows;
 #[cfg(test)]
 mod folder_rows;
 #[cfg(test)]
+mod length_rows;
+#[cfg(test)]
 mod row;
 #[cfg(test)]
 mod sets;
