@@ -1,0 +1,224 @@
+//! Each call to the disk fails in turn, or is interrupted; and writes take fewer bytes than they are given.
+
+use crate::disk::{Disk, Failed, Shared};
+use crate::filed::{Due, Filed, Kept};
+use crate::lives::{NEXT, open, replies_of, tried_states};
+use crate::mounted::Mounted;
+use crate::stores::{Life, first_life, second_life};
+use crate::trouble::{Act, Trouble};
+use part10::FolderFiling;
+use std::alloc::Global;
+use std::io;
+use std::io::ErrorKind;
+use std::test::Fail;
+
+/// Opens the disk's folder, and again if a call fails in it; returns `None` if it is opened although a call fails, or is
+/// not although none does.
+fn opened(alloc: Global, disk: &Shared, kept: Kept) -> io::Result<Option<FolderFiling<Mounted>>> {
+    let had_failed = disk.try_borrow()?.failed().is_some();
+    let filing = open(alloc, disk, kept);
+    let fails = !had_failed && disk.try_borrow()?.failed().is_some();
+    match filing {
+        Ok(filing) if !fails => Ok(Some(filing)),
+        Err(_) if fails => Ok(Some(open(alloc, disk, kept)?)),
+        _ => Ok(None),
+    }
+}
+
+/// What a failed call means for its store.
+#[derive(Clone, Copy, PartialEq, Eq)]
+enum Effect {
+    /// The store fails.
+    Fails,
+    /// It fails, or the call was one that may fail.
+    MayFail,
+    /// The call is made again.
+    Nothing,
+}
+
+fn effect_of(failed: Failed, kind: ErrorKind) -> Effect {
+    match failed.act {
+        Act::Write if kind == ErrorKind::Interrupted => Effect::Nothing,
+        // A draft that is left is removed when the next one is begun.
+        Act::Remove => Effect::MayFail,
+        _ => Effect::Fails,
+    }
+}
+
+/// Which store failed.
+#[derive(Clone, Copy, PartialEq, Eq)]
+enum Outcome {
+    NoneFails,
+    Fails(usize),
+    /// The replies are none of those due.
+    Undue,
+}
+
+/// Returns which store of a life failed, by its replies, where this store had this effect of a failed call.
+fn outcome_of(
+    alloc: Global,
+    life: &Life,
+    replies: &[u8],
+    (store, effect): (usize, Effect),
+) -> io::Result<Outcome> {
+    let fails = replies == life.replies(alloc, Some(store))?.as_slice();
+    if fails && effect != Effect::Nothing {
+        return Ok(Outcome::Fails(store));
+    }
+    let none_fails = replies == life.replies(alloc, None)?.as_slice();
+    if none_fails && effect != Effect::Fails {
+        return Ok(Outcome::NoneFails);
+    }
+    Ok(Outcome::Undue)
+}
+
+/// Lives a life over this filing; returns which store failed.
+fn lived(
+    alloc: Global,
+    disk: &Shared,
+    filing: FolderFiling<Mounted>,
+    life: &Life,
+    kind: ErrorKind,
+) -> io::Result<Outcome> {
+    let had_failed = disk.try_borrow()?.failed().is_some();
+    let sends = disk.try_borrow()?.sent();
+    let replies = replies_of(alloc, disk, filing, life)?;
+    let here = match disk.try_borrow()?.failed() {
+        // The first send is the A-ASSOCIATE-AC.
+        Some(failed) if !had_failed => (
+            failed.sends.saturating_sub(sends).saturating_sub(1),
+            effect_of(failed, kind),
+        ),
+        _ => (usize::MAX, Effect::Nothing),
+    };
+    outcome_of(alloc, life, replies.as_slice(), here)
+}
+
+/// Adds what is due of a life, all of it but the file of the store that failed.
+fn add_due<'a>(due: &mut Vec<Due<'a>>, life: &'a Life, outcome: Outcome) -> io::Result<()> {
+    for (at, store) in life.stores.iter().enumerate() {
+        if !store.file.is_empty() {
+            let must = outcome != Outcome::Fails(at);
+            due.push(Due {
+                file: store.file.as_slice(),
+                must,
+                may: must,
+            })?;
+        }
+    }
+    Ok(())
+}
+
+/// Whether a disk has what is due; and after a loss of power has so still, where a file that failed may be there.
+fn has_due(alloc: Global, disk: &Disk, kept: Kept, due: &mut Vec<Due>) -> io::Result<bool> {
+    let is_left = disk.node("disk/DRAFT").is_ok();
+    let may_be_left = matches!(disk.failed(), Some(failed) if failed.act == Act::Remove);
+    let filed = Filed::of(alloc, disk, kept)?;
+    if !filed.is_due(disk, due.as_slice())? || is_left && !may_be_left {
+        return Ok(false);
+    }
+    for due in due.iter_mut() {
+        due.may = true;
+    }
+    due.push(Due {
+        file: NEXT,
+        must: false,
+        may: true,
+    })?;
+    Ok(tried_states(alloc, disk, kept, due.as_slice())?.is_some())
+}
+
+/// Lives both lives over a disk with this trouble; returns whether a call failed, or `None` where something was not as it
+/// is due.
+fn fails(
+    alloc: Global,
+    lives: &[Life; 2],
+    kept: Kept,
+    trouble: Trouble,
+    kind: ErrorKind,
+) -> io::Result<Option<bool>> {
+    let disk = Disk::new(alloc, trouble)?.shared()?;
+    let mut due = Vec::new(alloc);
+    for life in lives {
+        let Some(filing) = opened(alloc, &disk, kept)? else {
+            return Ok(None);
+        };
+        let outcome = lived(alloc, &disk, filing, life, kind)?;
+        if outcome == Outcome::Undue {
+            return Ok(None);
+        }
+        add_due(&mut due, life, outcome)?;
+    }
+    let disk = disk.try_borrow()?;
+    if !has_due(alloc, &disk, kept, &mut due)? {
+        return Ok(None);
+    }
+    Ok(Some(disk.failed().is_some()))
+}
+
+/// Lets each call fail in turn by this kind of failure; returns after how many none failed any more, or `None` where
+/// something was not as it is due.
+fn failed_calls(
+    alloc: Global,
+    kept: Kept,
+    kind: ErrorKind,
+    has_links: bool,
+) -> io::Result<Option<usize>> {
+    let lives = [first_life(alloc)?, second_life(alloc)?];
+    for at in 0..500usize {
+        let trouble = Trouble {
+            failure: Some((at, kind)),
+            has_links,
+            ..Trouble::NONE
+        };
+        match fails(alloc, &lives, kept, trouble, kind)? {
+            Some(true) => {}
+            Some(false) => return Ok(Some(at)),
+            None => return Ok(None),
+        }
+    }
+    Ok(None)
+}
+
+/// Whether each call fails so in turn, and there are more than 60.
+fn are_failed(alloc: Global, has_links: bool) -> io::Result<bool> {
+    for kind in [ErrorKind::StorageFull, ErrorKind::Interrupted] {
+        for kept in [Kept::Flat, Kept::Levels] {
+            if failed_calls(alloc, kept, kind, has_links)? <= Some(60) {
+                return Ok(false);
+            }
+        }
+    }
+    Ok(true)
+}
+
+#[test]
+fn each_call_to_a_disk_fails_in_turn(rt: HostRuntime) -> Result<(), Fail> {
+    assert!(rt; are_failed(rt.alloc(), true)?);
+    Ok(())
+}
+
+/// Whether all stores are filed where a write takes so many bytes at most.
+fn is_filed_short(alloc: Global, kept: Kept, most: usize) -> io::Result<bool> {
+    let lives = [first_life(alloc)?, second_life(alloc)?];
+    let trouble = Trouble {
+        most,
+        ..Trouble::NONE
+    };
+    Ok(fails(alloc, &lives, kept, trouble, ErrorKind::Other)? == Some(false))
+}
+
+#[test]
+fn writes_take_fewer_bytes(rt: HostRuntime) -> Result<(), Fail> {
+    for most in [1, 47, 300] {
+        assert!(rt; is_filed_short(rt.alloc(), Kept::Flat, most)?);
+        assert!(rt; is_filed_short(rt.alloc(), Kept::Levels, most)?);
+    }
+    Ok(())
+}
+
+#[test]
+fn each_call_to_a_disk_without_links_fails_in_turn(rt: HostRuntime) -> Result<(), Fail> {
+    assert!(rt; are_failed(rt.alloc(), false)?);
+    Ok(())
+}

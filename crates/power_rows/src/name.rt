@@ -1,0 +1,44 @@
+//! Names of files and folders.
+
+/// A name of at most eight bytes, with zeros after it.
+#[derive(Clone, Copy, PartialEq, Eq)]
+pub(crate) struct Name([u8; 8]);
+
+/// The name of a draft.
+pub(crate) const DRAFT: Name = Name(*b"DRAFT\0\0\0");
+
+impl Name {
+    /// Returns this name, or `None` if it has more than eight bytes.
+    pub(crate) fn of(text: &str) -> Option<Name> {
+        if text.len() > 8 {
+            return None;
+        }
+        let mut name = [0; 8];
+        for (to, from) in name.iter_mut().zip(text.as_bytes()) {
+            *to = *from;
+        }
+        Some(Name(name))
+    }
+
+    /// Returns the bytes of the name, with zeros after it.
+    pub(crate) fn padded(self) -> [u8; 8] {
+        self.0
+    }
+
+    /// Returns the number in a name that is this letter and seven digits.
+    pub(crate) fn number(self, letter: u8) -> Option<u32> {
+        if self.0[0] != letter {
+            return None;
+        }
+        let mut number = 0u32;
+        for digit in &self.0[1..] {
+            if !digit.is_ascii_digit() {
+                return None;
+            }
+            number = number
+                .saturating_mul(10)
+                .saturating_add(u32::from(*digit - b'0'));
+        }
+        Some(number)
+    }
+}
