@@ -1,6 +1,7 @@
 #!/bin/sh
 # A crate cites of the crates below it their definitions, their contracts and the lemmas of their module
-# `Public`, and no other lemma. Each lemma of `Public` is the contract of a law.
+# `Public`, and no other lemma. Each lemma of `Public` is the contract of a law. `specs/machine` is a crate's own:
+# no other crate names it, and no definition outside it stands on it, so that a public clause does not either.
 set -eu
 cd "$(dirname "$0")/.."
 failed=0
@@ -20,6 +21,24 @@ for crate in crates/*/; do
             fi
         done
     done
+    foreign=$(find "$crate" -name out -prune -o \( -name '*.antt' -o -name '*.rt' \) -print0 |
+        xargs -0 grep -nE 'Rattle\.[a-z0-9_]+\.specs\.machine|\b[a-z0-9_]+::specs::machine' |
+        grep -vE "(Rattle\.$own\.|crate::)specs(\.|::)machine" || true)
+    if [ -n "$foreign" ]; then
+        echo "$foreign"
+        echo "$own: names the machine of another crate"
+        failed=1
+    fi
+    # the definitions of `engine` stand on its machine until the association is rebuilt
+    if [ "$own" != engine ] && [ -d "${crate}specs" ]; then
+        standing=$(find "${crate}specs" -path '*/specs/machine' -prune -o -name '*.antt' -print0 |
+            xargs -0 grep -n 'specs\.machine\.' || true)
+        if [ -n "$standing" ]; then
+            echo "$standing"
+            echo "$own: a definition stands on the machine"
+            failed=1
+        fi
+    fi
     public=${crate}proofs/Public.antt
     [ -f "$public" ] || continue
     for lemma in $(sed -nE 's/^pub ([^ ]+) :.*/\1/p' "$public"); do

@@ -157,9 +157,19 @@ fn bytes_of_no_identifier(rt: HostRuntime) {
     }
 }
 
+/// A fault of a value, its number, and what is printed of it.
+const FAULTS: [(ValueFault, u8, &str); 4] = [
+    (ValueFault::BadCharacter, 1, "BadCharacter"),
+    (ValueFault::WrongSize, 2, "WrongSize"),
+    (ValueFault::TooLongValue, 3, "TooLongValue"),
+    (ValueFault::BadUid, 4, "BadUid"),
+];
+
 #[test]
 fn printed_faults(rt: HostRuntime) -> Result<(), AllocError> {
-    let text = format!(in rt.alloc(); "{}", ValueFault::BadUid)?;
-    assert!(rt; text.as_str() == "BadUid");
+    for (fault, number, shown) in FAULTS {
+        let text = format!(in rt.alloc(); "{fault}")?;
+        assert!(rt; fault.number() == number && text.as_str() == shown);
+    }
     Ok(())
 }

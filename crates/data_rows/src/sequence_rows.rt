@@ -1,6 +1,6 @@
 //! The worked rows of the walk, and a large value.
 
-use crate::walks::{ends_at, is_at, new_shallow_walker, new_walker, take, take_cut};
+use crate::walks::{ends_at, is_at, new_shallow_walker, new_walker, take, take_cut, take_each};
 use element::{Header, Syntax, Tag, Vr};
 use fixtures::bytes::within;
 use sequence::{Fault, Step, Walker, Want, Wanted};
@@ -175,6 +175,31 @@ fn unknown_content(rt: HostRuntime) {
     assert!(rt; ends_at(Syntax::Explicit, &NOT_ALLOWED, end));
 }
 
+/// The header of a value of 4,294,967,294 bytes.
+const ANNOUNCED: [u8; 12] = [
+    0xe0, 0x7f, 0x10, 0x00, 0x4f, 0x42, 0x00, 0x00, 0xfe, 0xff, 0xff, 0xff,
+];
+
+/// Whether a walk over the header with this limit reports this step, and comes to this fault with nothing held.
+fn announces(limit: u64, report: &Step, refused: Fault) -> bool {
+    let mut w: Walker<140, 64> = Walker::new(Syntax::Explicit, Wanted::none(), limit.min(1 << 40));
+    let (taken, step) = w.step(&ANNOUNCED);
+    taken == 12 && is_same(&step, report) && is_at(&w, (0, 12, 0, Some(refused)))
+}
+
+#[test]
+fn an_announced_length(rt: HostRuntime) {
+    let pixels = Tag(0x7fe0, 0x0010);
+    let refused = fault(19, 0, pixels);
+    assert!(rt; announces(1024, &Step::Refused(refused), refused));
+    let element = Header {
+        tag: pixels,
+        vr: Some(Vr::OB),
+        length: 0xffff_fffe,
+    };
+    assert!(rt; announces(1 << 40, &Step::Element(element), fault(20, 12, pixels)));
+}
+
 /// The steps that one store's data set takes in two pieces, and whether its values are kept then.
 fn store_steps(cut: usize) -> (u32, u32, bool) {
     let wants = [
@@ -192,8 +217,7 @@ fn store_steps(cut: usize) -> (u32, u32, bool) {
         Some(wanted) => {
             let mut w: Walker<140, 64> = Walker::new(Syntax::Explicit, wanted, 1 << 40);
             if cut > ONE_CT_STORE.len() {
-                take_cut(&mut w, &ONE_CT_STORE, cut);
-                return (48, 0, is_store(&w));
+                return (take_each(&mut w, &ONE_CT_STORE), 0, is_store(&w));
             }
             let before = take(&mut w, &ONE_CT_STORE[..cut]);
             let after = take(&mut w, &ONE_CT_STORE[cut..]);
@@ -211,13 +235,24 @@ fn is_store(w: &Walker<140, 64>) -> bool {
         && w.kept(Tag(0x0008, 0x0060)).is_none()
 }
 
+/// The same as it is due: two headers and two values, and one step more where one of them is cut; byte by byte a step
+/// for each byte.
+fn due_steps(cut: usize) -> (u32, u32, bool) {
+    if cut > ONE_CT_STORE.len() {
+        return (48, 0, true);
+    }
+    let mut steps = (0u32, 0u32);
+    for (begin, end) in [(0, 8), (8, 34), (34, 42), (42, 48)] {
+        steps.0 = steps.0.saturating_add(u32::from(begin < cut));
+        steps.1 = steps.1.saturating_add(u32::from(cut < end));
+    }
+    (steps.0, steps.1, true)
+}
+
 #[test]
 fn one_ct_store(rt: HostRuntime) {
     for cut in 0..ONE_CT_STORE.len() + 2 {
-        let (before, after, kept) = store_steps(cut);
-        assert!(rt; kept);
-        assert!(rt; cut != 0 || before == 0 && after == 4);
-        assert!(rt; cut != 6 || before == 1 && after == 4);
+        assert!(rt; store_steps(cut) == due_steps(cut));
     }
 }
 

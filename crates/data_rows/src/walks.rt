@@ -26,11 +26,18 @@ pub(crate) fn take_cut<const D: usize>(walker: &mut Walker<140, D>, text: &[u8],
             take(walker, back);
         }
         None => {
-            for byte in text {
-                take(walker, &[*byte]);
-            }
+            take_each(walker, text);
         }
     }
+}
+
+/// Hands the walker a text byte by byte; returns in how many steps it took it.
+pub(crate) fn take_each<const D: usize>(walker: &mut Walker<140, D>, text: &[u8]) -> u32 {
+    let mut steps = 0u32;
+    for byte in text {
+        steps = steps.saturating_add(take(walker, &[*byte]));
+    }
+    steps
 }
 
 /// What a walk has come to: the open levels, the place, the bytes held, and the fault.

@@ -5,7 +5,7 @@ use Rattle.element.specs.declared.syntax.Syntax.TheVariants.{Explicit}
 use Rattle.element.specs.declared.header.Header.{Header}
 use Rattle.element.specs.declared.size.Need.{Need}
 use Rattle.element.specs.declared.size.Need.TheVariants.{More, BadVr}
-use Rattle.element.specs.Header.{need, is_whole, header_at, number, short}
+use Rattle.element.specs.Header.{need, is_whole, number, short}
 use Rattle.element.specs.Uid.{uid_of}
 use Rattle.element.specs.Vr.{is_short}
 use Rattle.dictionary.specs.Tags.{row_of}
@@ -20,13 +20,11 @@ use Rattle.pdu.specs.Pieces.{pieces_of}
 use Rattle.pdu.specs.Refusal.{item_fault, items_fault}
 use Rattle.sequence.specs.Tree.{Elements, no_elements, value, IsElement, DataSet, nothing, value_then}
 use Rattle.sequence.specs.Open.{Open, in_header, at_elements, header_tail}
-use Rattle.sequence.specs.Rules.{Limits, broken_tag, broken_header, broken}
+use Rattle.sequence.specs.Rules.{Limits}
 use Rattle.sequence.specs.FirstFault.{IsUnbroken}
 use Rattle.sequence.specs.Wanted.{Values, KeepsWanted}
 use Rattle.sequence.specs.Walk.{Told, Tells, going, refused}
-use Rattle.sequence.specs.machine.Machine.{due, arrive, begin_value, begin_level, leave, take_header, headed, read, run}
-use Rattle.sequence.specs.machine.Keeping.{keep_header, keeps}
-use Rattle.sequence.proofs.Public.{report_computed, bytes_tried}
+use Rattle.sequence.proofs.Public.{one_store}
 use Rattle.engine.specs.Stores.{IsOfContext, HasNoFault, NamesUid, NamesInstance, names_instance, unfiled, filed, wanted, limits, class_tag, instance_tag}
 use Rattle.engine.specs.StoreExamples.{data_set}
 use Rattle.engine.specs.StoreVerdicts.{store_of, VerdictsOnOneImage, TheFileOfAStore}
@@ -77,8 +75,7 @@ unbroken_told s lim b told (going ok o) e = ok
 unbroken_told s lim b told (refused f o) e = absurd cc
 
 is_unbroken : IsUnbroken Explicit (limits 64 (2 ^ 40)) data_set
-unfolding need is_whole header_at is_short row_of broken_tag broken_header broken due arrive begin_value begin_level leave take_header headed read run keep_header keeps
-is_unbroken = unbroken_told Explicit (limits 64 (2 ^ 40)) data_set _ (report_computed Explicit (limits 64 (2 ^ 40)) data_set (bytes_tried data_set refl)) refl
+is_unbroken = unbroken_told Explicit (limits 64 (2 ^ 40)) data_set _ one_store refl
 
 no_fault : HasNoFault Explicit (limits 64 (2 ^ 40)) data_set
 no_fault = record { elements = both; whole = is_data_set; unbroken = is_unbroken }

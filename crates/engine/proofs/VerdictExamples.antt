@@ -2,20 +2,14 @@
 use Rattle.std.proofs.Common.{◌≡◌, ℕ, ◌^◌, Bool, List, length, Some, refl, subst, nat_eq}
 use Rattle.element.specs.declared.syntax.Syntax.{Syntax}
 use Rattle.element.specs.declared.syntax.Syntax.TheVariants.{Implicit, Explicit}
-use Rattle.element.specs.Header.{need, is_whole, header_at}
-use Rattle.element.specs.Vr.{is_short}
-use Rattle.dictionary.specs.Tags.{row_of}
 use Rattle.dictionary.specs.Classes.{class_named}
 use Rattle.negotiate.specs.declared.proposals.Context.{Context}
 use Rattle.dimse.specs.Command.{CommandRecord}
 use Rattle.sequence.specs.declared.fault.Fault.{Fault}
-use Rattle.sequence.specs.Rules.{broken_tag, broken_header, broken}
 use Rattle.sequence.specs.Walk.{Told, Tells, going, refused}
 use Rattle.sequence.specs.Examples.{past_item, level_past_item, third_level, pixels}
-use Rattle.sequence.specs.machine.Machine.{due, arrive, begin_value, begin_level, leave, take_header, headed, read, run}
-use Rattle.sequence.specs.machine.Keeping.{keep_header, keeps}
-use Rattle.sequence.proofs.Public.{report_computed, bytes_tried}
-use Rattle.engine.specs.Stores.{IsOfContext, Verdict, limits}
+use Rattle.sequence.proofs.Public.{past_its_item, too_deep, unknown_content}
+use Rattle.engine.specs.Stores.{IsOfContext, Verdict, limits, wanted}
 use Rattle.engine.specs.VerdictExamples.{ct_in, ct_store, VerdictsOnFaults}
 use Rattle.engine.specs.machine.Verdicts.{of_fault}
 use Rattle.engine.proofs.WalkVerdictLemmas.{rule_found}
@@ -34,10 +28,9 @@ unfolding class_named
 of_ct syntax = record { named = refl; storage = refl }
 
 pub verdicts_on_faults : VerdictsOnFaults
-unfolding need is_whole header_at is_short row_of broken_tag broken_header broken due arrive begin_value begin_level leave take_header headed read run keep_header keeps
 verdicts_on_faults = (
-  λ failed. fault_told 64 (2 ^ 40) (ct_in Implicit) ct_store past_item failed _ _ (of_ct Implicit) (report_computed Implicit (limits 64 (2 ^ 40)) past_item (bytes_tried past_item refl)) refl,
-  λ failed. fault_told 64 (2 ^ 40) (ct_in Implicit) ct_store level_past_item failed _ _ (of_ct Implicit) (report_computed Implicit (limits 64 (2 ^ 40)) level_past_item (bytes_tried level_past_item refl)) refl,
-  λ failed. fault_told 2 (2 ^ 40) (ct_in Implicit) ct_store third_level failed _ _ (of_ct Implicit) (report_computed Implicit (limits 2 (2 ^ 40)) third_level (bytes_tried third_level refl)) refl,
-  λ failed. fault_told 64 (2 ^ 40) (ct_in Explicit) ct_store pixels failed _ _ (of_ct Explicit) (report_computed Explicit (limits 64 (2 ^ 40)) pixels (bytes_tried pixels refl)) refl,
+  λ failed. fault_told 64 (2 ^ 40) (ct_in Implicit) ct_store past_item failed _ _ (of_ct Implicit) (past_its_item wanted).0 refl,
+  λ failed. fault_told 64 (2 ^ 40) (ct_in Implicit) ct_store level_past_item failed _ _ (of_ct Implicit) (past_its_item wanted).2 refl,
+  λ failed. fault_told 2 (2 ^ 40) (ct_in Implicit) ct_store third_level failed _ _ (of_ct Implicit) (too_deep wanted).0 refl,
+  λ failed. fault_told 64 (2 ^ 40) (ct_in Explicit) ct_store pixels failed _ _ (of_ct Explicit) (unknown_content wanted).1 refl,
 )

@@ -9,7 +9,7 @@ use Rattle.sequence.specs.Rules.{broken_tag, broken_header, broken}
 use Rattle.sequence.specs.machine.Machine.{due, arrive, begin_value, begin_level, leave, take_header, headed, read, run}
 use Rattle.sequence.specs.machine.Keeping.{keep_header, keeps}
 use Rattle.sequence.specs.machine.Standing.{IsBytes}
-use Rattle.sequence.specs.Examples.{levels_of, two_levels, four_levels, past_item, level_past_item, third_level, empty_third, unknown, pixels, TwoOpenLevels, FourLevels, PastItsItem, TooDeep, UnknownContent}
+use Rattle.sequence.specs.Examples.{wanting, levels_of, identifiers, two_levels, four_levels, past_item, level_past_item, third_level, empty_third, unknown, pixels, one_store, TwoOpenLevels, FourLevels, PastItsItem, TooDeep, UnknownContent, OneStore}
 use Rattle.sequence.proofs.Tales.{tells}
 
 both_left : (a b : Bool) → (a && b) ≡ true → a ≡ true
@@ -39,22 +39,26 @@ four_levels_that_end_together = (
 
 pub a_header_past_its_item : PastItsItem
 unfolding need is_whole header_at is_short row_of broken_tag broken_header broken due arrive begin_value begin_level leave take_header headed read run keep_header keeps
-a_header_past_its_item = (
-  tells Implicit (levels_of 64) past_item (bytes_by past_item refl),
-  tells Implicit (levels_of 64) (take 25 past_item) (bytes_by (take 25 past_item) refl),
-  tells Implicit (levels_of 64) level_past_item (bytes_by level_past_item refl),
+a_header_past_its_item wanted = (
+  tells Implicit (wanting wanted 64) past_item (bytes_by past_item refl),
+  tells Implicit (wanting wanted 64) (take 25 past_item) (bytes_by (take 25 past_item) refl),
+  tells Implicit (wanting wanted 64) level_past_item (bytes_by level_past_item refl),
 )
 
 pub deeper_than_the_limit : TooDeep
 unfolding need is_whole header_at is_short row_of broken_tag broken_header broken due arrive begin_value begin_level leave take_header headed read run keep_header keeps
-deeper_than_the_limit = (
-  tells Implicit (levels_of 2) third_level (bytes_by third_level refl),
-  tells Implicit (levels_of 2) empty_third (bytes_by empty_third refl),
+deeper_than_the_limit wanted = (
+  tells Implicit (wanting wanted 2) third_level (bytes_by third_level refl),
+  tells Implicit (wanting wanted 2) empty_third (bytes_by empty_third refl),
 )
 
 pub unknown_content : UnknownContent
 unfolding need is_whole header_at is_short row_of broken_tag broken_header broken due arrive begin_value begin_level leave take_header headed read run keep_header keeps
-unknown_content = (
-  tells Explicit (levels_of 64) unknown (bytes_by unknown refl),
-  tells Explicit (levels_of 64) pixels (bytes_by pixels refl),
+unknown_content wanted = (
+  tells Explicit (wanting wanted 64) unknown (bytes_by unknown refl),
+  tells Explicit (wanting wanted 64) pixels (bytes_by pixels refl),
 )
+
+pub one_store_reported : OneStore
+unfolding need is_whole header_at is_short row_of broken_tag broken_header broken due arrive begin_value begin_level leave take_header headed read run keep_header keeps
+one_store_reported = tells Explicit (wanting identifiers 64) one_store (bytes_by one_store refl)

@@ -2,7 +2,8 @@
 -- definitions alone.
 use Rattle.std.proofs.Common.{[]}
 use Rattle.sequence.specs.Ending.{WholeBreaksNoRule}
-use Rattle.sequence.specs.Laws.{FaultStays, RefusalStays, ReportIsComputed, BytesAreTried, RefusedStands, OneTree, OnePath, OneFault, SomeTelling, NothingIsUnbroken, NoHeader, LeastHeader, BytesAreJoined}
+use Rattle.sequence.specs.Examples.{PastItsItem, TooDeep, UnknownContent, OneStore}
+use Rattle.sequence.specs.Laws.{FaultStays, RefusalStays, RefusedStands, OneTree, OnePath, OneFault, SomeTelling, NothingIsUnbroken, NoHeader, LeastHeader, BytesAreJoined}
 use Rattle.sequence.specs.machine.Machine.{run}
 use Rattle.sequence.proofs.Arriving as arriving
 use Rattle.sequence.proofs.Examples as examples
@@ -58,8 +59,16 @@ refusal_stays = staying.refusal_stays
 pub refused_stands : RefusedStands
 refused_stands = refused.refused_stands
 
-pub report_computed : ReportIsComputed
-report_computed = tales.tells
+-- ---- worked texts
 
-pub bytes_tried : BytesAreTried
-bytes_tried = examples.bytes_by
+pub past_its_item : PastItsItem
+past_its_item = examples.a_header_past_its_item
+
+pub too_deep : TooDeep
+too_deep = examples.deeper_than_the_limit
+
+pub unknown_content : UnknownContent
+unknown_content = examples.unknown_content
+
+pub one_store : OneStore
+one_store = examples.one_store_reported

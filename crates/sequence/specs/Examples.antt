@@ -2,6 +2,7 @@
 use Rattle.std.specs.Prelude.{ℕ, ◌^◌, List, [], ◌∷◌, take, drop, Some, None, codes}
 use Rattle.element.specs.declared.syntax.Syntax.{Syntax}
 use Rattle.element.specs.declared.header.Header.{Header}
+use Rattle.sequence.specs.declared.wanted.Want.{Want}
 use Rattle.sequence.specs.declared.step.Step.{Step}
 use Rattle.sequence.specs.declared.step.Step.TheVariants.{Element, Opened, Closed}
 use Rattle.sequence.specs.Answering.{Answers, IsRun}
@@ -10,9 +11,13 @@ use Rattle.element.specs.declared.tag.Tag.{Tag}
 use Rattle.sequence.specs.Rules.{Limits, no_tag}
 use Rattle.sequence.specs.Walk.{Told, Tells}
 
+-- these tags are wanted, and so many levels may be open
+abbrev pub wanting : List Want → ℕ → Limits
+wanting wanted depth = record { wanted = wanted; depth = depth; bytes = 2 ^ 40 }
+
 -- no tag is wanted, and so many levels may be open
 abbrev pub levels_of : ℕ → Limits
-levels_of depth = record { wanted = []; depth = depth; bytes = 2 ^ 40 }
+levels_of depth = wanting [] depth
 
 -- no rule is broken: so many levels are open after so many bytes, and as much is held
 abbrev pub going_on : ℕ → ℕ → ℕ → Told
@@ -77,21 +82,39 @@ FourLevels =
 -- an item that ends where no header fits, in an item and in a sequence inside it; a byte earlier nothing is wrong
 abbrev pub PastItsItem : Type 0
 PastItsItem =
-    Tells Implicit (levels_of 64) past_item (faulty 17 26 no_tag 2 26 32)
-    × Tells Implicit (levels_of 64) (take 25 past_item) (going_on 2 25 32)
-    × Tells Implicit (levels_of 64) level_past_item (faulty 17 24 no_tag 3 24 48)
+    (wanted : List Want)
+    → Tells Implicit (wanting wanted 64) past_item (faulty 17 26 no_tag 2 26 32)
+    × Tells Implicit (wanting wanted 64) (take 25 past_item) (going_on 2 25 32)
+    × Tells Implicit (wanting wanted 64) level_past_item (faulty 17 24 no_tag 3 24 48)
 
 -- a third level where two may be open; an empty one opens none
 abbrev pub TooDeep : Type 0
 TooDeep =
-    Tells Implicit (levels_of 2) third_level (faulty 18 16 (record { 0 = 0x0040; 1 = 0xa730 }) 2 24 32)
-    × Tells Implicit (levels_of 2) empty_third (going_on 2 24 32)
+    (wanted : List Want)
+    → Tells Implicit (wanting wanted 2) third_level (faulty 18 16 (record { 0 = 0x0040; 1 = 0xa730 }) 2 24 32)
+    × Tells Implicit (wanting wanted 2) empty_third (going_on 2 24 32)
 
 -- unknown content of undefined length has items in Implicit; pixel data of undefined length is not allowed
 abbrev pub UnknownContent : Type 0
 UnknownContent =
-    Tells Explicit (levels_of 64) unknown (going_on 0 38 0)
-    × Tells Explicit (levels_of 64) pixels (faulty 14 0 (record { 0 = 0x7fe0; 1 = 0x0010 }) 0 12 0)
+    (wanted : List Want)
+    → Tells Explicit (wanting wanted 64) unknown (going_on 0 38 0)
+    × Tells Explicit (wanting wanted 64) pixels (faulty 14 0 (record { 0 = 0x7fe0; 1 = 0x0010 }) 0 12 0)
+
+-- the class and the instance, each with a room of 64 bytes
+abbrev pub identifiers : List Want
+identifiers = record { tag = record { 0 = 0x0008; 1 = 0x0016 }; room = 64 } ∷ record { tag = record { 0 = 0x0008; 1 = 0x0018 }; room = 64 } ∷ []
+
+-- the data set of one CT store breaks no rule, and both identifiers are kept
+abbrev pub OneStore : Type 0
+OneStore =
+    Tells Explicit (wanting identifiers 64) one_store (record {
+      fault = None;
+      levels = 0;
+      place = 48;
+      held = 32;
+      kept = (0x00080016, take 26 (drop 8 one_store)) ∷ (0x00080018, drop 42 one_store) ∷ [];
+    })
 
 -- after the first `from` bytes of the text, a step takes `size` bytes and returns this
 abbrev pub Steps : Syntax → ℕ → List ℕ → ℕ → ℕ → Step → Type 0

@@ -1,6 +1,5 @@
 -- What follows from the definitions alone.
-use Rattle.std.specs.Prelude.{◌≡◌, ℕ, ◌≤◌, true, List, [], ◌∷◌, ◌++◌, None, Some, nat_lt}
-use Rattle.std.specs.List.{list_all}
+use Rattle.std.specs.Prelude.{◌≡◌, ℕ, ◌≤◌, List, [], ◌∷◌, ◌++◌, None, Some}
 use Rattle.element.specs.declared.size.Need.TheVariants.{Size}
 use Rattle.element.specs.declared.syntax.Syntax.{Syntax}
 use Rattle.element.specs.declared.tag.Tag.{Tag}
@@ -15,9 +14,6 @@ use Rattle.sequence.specs.declared.walker.Walker.{Walker}
 use Rattle.sequence.specs.Taken.{StandsAt, fault_of}
 use Rattle.sequence.specs.Walk.{Told, Tells}
 use Rattle.sequence.specs.Holding.{Holding, Holds}
-use Rattle.sequence.specs.machine.Machine.{start, run}
-use Rattle.sequence.specs.machine.Keeping.{keeps}
-use Rattle.sequence.specs.machine.Reported.{told_in}
 
 -- the first fault of a text is that of every text that goes on from it
 abbrev pub FaultStays : Type 0
@@ -26,18 +22,6 @@ FaultStays = (s : Syntax) (lim : Limits) (b more p u : List ℕ) (rule : ℕ) (t
 -- what is reported after a refusal is reported for good
 abbrev pub RefusalStays : Type 0
 RefusalStays = (s : Syntax) (lim : Limits) (b more : List ℕ) (told : Told) (fault : Fault) → IsBytes (b ++ more) → told.fault ≡ Some fault → Tells s lim b told → Tells s lim (b ++ more) told
-
--- what is reported of a text, computed along its bytes
-abbrev pub report_of : Syntax → Limits → List ℕ → Told
-report_of s lim b = told_in lim (run lim (start s) b) (keeps lim (start s) [] b)
-
--- it is what is to be reported
-abbrev pub ReportIsComputed : Type 0
-ReportIsComputed = (s : Syntax) (lim : Limits) (b : List ℕ) → IsBytes b → Tells s lim b (report_of s lim b)
-
--- numbers below 256 are bytes
-abbrev pub BytesAreTried : Type 0
-BytesAreTried = (b : List ℕ) → list_all (λ x. nat_lt x 256) b ≡ true → IsBytes b
 
 -- a walker that refused stands after any bytes more
 abbrev pub RefusedStands : Type 0

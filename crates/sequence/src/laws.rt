@@ -3,8 +3,8 @@
 ghost use Rattle.std.specs.Prelude.{◌≡◌, ◌∷◌, []};
 ghost use Rattle.sequence.specs.Rules.{bad_vr, odd_length, not_rising, bad_group, undefined_not_allowed, unexpected_tag, delimiter_length, overrun, too_deep, too_long, truncated, kept_too_long};
 ghost use Rattle.sequence.specs.Ending.{WholeBreaksNoRule, WholeHasNoFault, FaultIsFinal};
-ghost use Rattle.sequence.specs.Laws.{FaultStays, RefusalStays, ReportIsComputed, BytesAreTried, RefusedStands, OneTree, OnePath, EndsAreNested, WholeHasOpenInside, OneFault, OneTelling, OneHolding, SomeTelling, NothingIsUnbroken, NoHeader, LeastHeader, BytesAreJoined};
-ghost use Rattle.sequence.specs.Examples.{TwoOpenLevels, FourLevels, PastItsItem, TooDeep, UnknownContent, AlongOneStore, AlongFourLevels};
+ghost use Rattle.sequence.specs.Laws.{FaultStays, RefusalStays, RefusedStands, OneTree, OnePath, EndsAreNested, WholeHasOpenInside, OneFault, OneTelling, OneHolding, SomeTelling, NothingIsUnbroken, NoHeader, LeastHeader, BytesAreJoined};
+ghost use Rattle.sequence.specs.Examples.{TwoOpenLevels, FourLevels, PastItsItem, TooDeep, UnknownContent, OneStore, AlongOneStore, AlongFourLevels};
 
 use crate::fault::Fault;
 
@@ -51,6 +51,11 @@ pub fn deeper_than_the_limit()
 /// Unknown content of undefined length has items in Implicit; pixel data may not have it.
 pub fn unknown_content()
     ensures { UnknownContent }
+{}
+
+/// What is reported of the data set of one CT store.
+pub fn one_store()
+    ensures { OneStore }
 {}
 
 /// What a step returns along the data set of one CT store.
@@ -151,14 +156,4 @@ pub fn bytes_are_joined()
 /// A walker that refused has taken any bytes that come after.
 pub fn a_refused_walker_stands()
     ensures { RefusedStands }
-{}
-
-/// What is reported of a text is computed along its bytes.
-pub fn a_report_is_computed()
-    ensures { ReportIsComputed }
-{}
-
-/// Numbers below 256 are bytes.
-pub fn bytes_are_tried()
-    ensures { BytesAreTried }
 {}

@@ -1,4 +1,4 @@
-// Open levels.
+//! Open levels.
 ghost use Rattle.std.specs.Prelude.{◌≡◌, ℕ, ◌<◌, ◌≤◌, ◌^◌, ◌+◌, ◌-◌, length, IfSome};
 
 use element::Syntax;
@@ -12,14 +12,17 @@ pub struct Scope {
     pub last: u32,
 }
 
-/// An open level: where it ends (`u64::MAX` if its length is undefined), the last tag that began in it,
-/// whether it is a sequence, and whether it is in Implicit.
+/// An open level. It counts as 16 bytes of what a walker holds.
 #[derive(Clone, Copy, Default)]
 pub struct Level {
-    end: u64,
-    last: u32,
-    kind: u8,
-    implicit: u8,
+    /// The place of its end, or `u64::MAX` if its length is undefined.
+    pub end: u64,
+    /// The tag of the last element that began in it as a number, 0 if there is none.
+    pub last: u32,
+    /// 1 if it is a sequence, 0 if it is an item.
+    pub kind: u8,
+    /// 1 if it is in Implicit VR Little Endian, 0 if it is in Explicit.
+    pub implicit: u8,
 }
 
 impl Level {
@@ -27,7 +30,7 @@ impl Level {
     ghost use Rattle.sequence.specs.Fields.{scope_of};
     ghost use Rattle.sequence.specs.machine.Machine.{stops_at};
 
-    pub fn scope(self) -> Scope
+    pub(crate) fn scope(self) -> Scope
         ensures { result ≡ scope_of self }
     {
         Scope {
@@ -46,7 +49,7 @@ impl Level {
         }
     }
 
-    pub fn new(scope: Scope) -> Level
+    pub(crate) fn new(scope: Scope) -> Level
         requires { IfSome scope.stop (λ end. end < 2 ^ 64 - 1) }
         ensures { scope_of result ≡ scope }
     {
@@ -65,7 +68,7 @@ impl Level {
     }
 
     /// Whether the level ends here.
-    pub fn ends_at(&self, place: u64) -> bool
+    pub(crate) fn ends_at(&self, place: u64) -> bool
         requires { place < 2 ^ 64 - 1 }
         ensures { result ≡ stops_at (scope_of self.now).stop place }
     {
@@ -73,7 +76,7 @@ impl Level {
     }
 
     /// Notes the tag of the last element that began in the level.
-    pub fn set_last(&mut self, last: u32)
+    pub(crate) fn set_last(&mut self, last: u32)
         ensures { scope_of self.new ≡ record (scope_of self.old) { last = last } }
     {
         self.last = last;

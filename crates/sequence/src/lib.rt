@@ -18,6 +18,7 @@ mod walker;
 mod wanted;
 
 pub use fault::Fault;
+pub use level::Level;
 pub use shape::{Shape, shape_of};
 pub use step::Step;
 pub use walker::Walker;

@@ -7,6 +7,8 @@ ghost use Rattle.sequence.specs.machine.Keeping.{place_from};
 use arrayvec::ArrayVec;
 use element::Tag;
 
+mod fields;
+
 /// A wanted tag, with the greatest number of bytes of a value that is kept.
 #[derive(Clone, Copy, Debug)]
 pub struct Want {

@@ -1,5 +1,5 @@
-//! The fields of a walker, each with its type: bytes that came are held in `header`, in `kept` and by `levels` alone.
-//! A further field does not compile here before it is named.
+//! The fields of a walker and of all that it holds, each with its type: bytes that came are held in `header`, in `kept`
+//! and by `levels` alone. A further field does not compile here before it is named.
 
 use super::Walker;
 use crate::fault::Fault;
@@ -28,6 +28,20 @@ fn fields<const V: usize, const D: usize>(walker: &Walker<V, D>) {
     stage_fields(stage);
 }
 
+/// Opens an element of `levels`: 16 bytes, of which the last two are unused.
+fn level_fields(level: &Level) {
+    let Level {
+        end,
+        last,
+        kind,
+        implicit,
+    } = level;
+    let _: &u64 = end;
+    let _: &u32 = last;
+    let _: &u8 = kind;
+    let _: &u8 = implicit;
+}
+
 fn scope_fields(scope: &Scope) {
     let Scope {
         in_sequence,
@@ -36,21 +50,35 @@ fn scope_fields(scope: &Scope) {
         last,
     } = scope;
     let _: &bool = in_sequence;
-    let _: &Syntax = syntax;
     let _: &Option<u64> = stop;
     let _: &u32 = last;
+    match syntax {
+        Syntax::Implicit => {}
+        Syntax::Explicit => {}
+    }
 }
 
 fn stage_fields(stage: &Stage) {
     match stage {
         Stage::Heading => {}
         Stage::Value { tag, left, kept } => {
-            let _: &Tag = tag;
             let _: &u32 = left;
             let _: &bool = kept;
+            tag_fields(tag);
         }
-        Stage::Stopped(fault) => {
-            let _: &Fault = fault;
-        }
+        Stage::Stopped(fault) => fault_fields(fault),
     }
+}
+
+fn fault_fields(fault: &Fault) {
+    let Fault { number, place, tag } = fault;
+    let _: &u8 = number;
+    let _: &u64 = place;
+    tag_fields(tag);
+}
+
+fn tag_fields(tag: &Tag) {
+    let Tag(group, element) = tag;
+    let _: &u16 = group;
+    let _: &u16 = element;
 }
