@@ -16,3 +16,8 @@ pub mod LaterLemmas
 pub mod ChunkLemmas
 pub mod BegunLemmas
 pub mod ValueLemmas
+pub mod TokenLemmas
+pub mod DeframerLemmas
+pub mod CallLemmas
+pub mod LongestLemmas
+pub mod LoopLemmas

@@ -9,7 +9,7 @@ use Rattle.pdu.specs.Record.{RequestRecord}
 use Rattle.pdu.specs.Request.{RequestText}
 use Rattle.pdu.specs.Refusal.{request_fault}
 use Rattle.pdu.specs.Frames.{IsRest, rest_of}
-use Rattle.pdu.specs.Marks.{Mark, Head, BadPdv, pdv_size, head_mark, pdv_mark, frame_kind, frame_length, marks, new_marks}
+use Rattle.pdu.specs.Marks.{Head, BadPdv, pdv_size, head_mark, pdv_mark, frame_kind, frame_length, new_marks}
 use Rattle.pdu.specs.Spot.{Opening, Plain, InPdv, spot, room_left}
 use Rattle.pdu.specs.Parts.{SameFrame, SameHead, IsInData, IsUnfinishedPdv, GoesOn, Comes, leftover_marks, leftover_spot, body_spot}
 use Rattle.pdu.proofs.SentLemmas as sending

@@ -27,3 +27,7 @@ past_the_end = 4 ∷ 0 ∷ 0 ∷ 0 ∷ 0 ∷ 6 ∷ 0 ∷ 0 ∷ 0 ∷ 3 ∷ 1 ∷
 -- A-RELEASE-RQ, and the head of another
 abbrev pub release_twice : List ℕ
 release_twice = 5 ∷ 0 ∷ 0 ∷ 0 ∷ 0 ∷ 4 ∷ 0 ∷ 0 ∷ 0 ∷ 0 ∷ 5 ∷ 0 ∷ 0 ∷ 0 ∷ 0 ∷ 4 ∷ []
+
+-- P-DATA of one presentation data value
+abbrev pub one_value : List ℕ
+one_value = 4 ∷ 0 ∷ 0 ∷ 0 ∷ 0 ∷ 8 ∷ 0 ∷ 0 ∷ 0 ∷ 4 ∷ 1 ∷ 3 ∷ 0xAA ∷ 0xBB ∷ []

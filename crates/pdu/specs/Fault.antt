@@ -1,10 +1,9 @@
--- The numbers and the names of the refusals of PDUs (this product's own profile).
+-- The numbers and the names of the refusals of requests (this product's own profile).
 use Rattle.std.specs.Prelude.{ℕ, List, codes}
 use Rattle.pdu.specs.declared.fault.PduFault.{PduFault}
-use Rattle.pdu.specs.declared.fault.PduFault.TheVariants.{UnknownType, BadLength, BadItem, BadContextId, DoubleContext, Missing}
+use Rattle.pdu.specs.declared.fault.PduFault.TheVariants.{BadLength, BadItem, BadContextId, DoubleContext, Missing}
 
 abbrev pub fault_number : PduFault → ℕ
-fault_number UnknownType = 30
 fault_number BadLength = 31
 fault_number BadItem = 32
 fault_number BadContextId = 33
@@ -12,7 +11,6 @@ fault_number DoubleContext = 34
 fault_number Missing = 35
 
 abbrev pub fault_name : PduFault → List ℕ
-fault_name UnknownType = codes "UnknownType"
 fault_name BadLength = codes "BadLength"
 fault_name BadItem = codes "BadItem"
 fault_name BadContextId = codes "BadContextId"

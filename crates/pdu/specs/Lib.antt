@@ -13,6 +13,10 @@ pub mod Spot
 pub mod Parts
 pub mod Examples
 pub mod Left
+pub mod Events
+pub mod Deframing
+pub mod Deframed
+pub mod Calls
 pub mod Request
 pub mod Refusal
 pub mod machine

@@ -1,13 +1,11 @@
-//! Why a PDU is invalid.
+//! Why an A-ASSOCIATE-RQ is invalid.
 ghost use Rattle.std.specs.Prelude.{◌≡◌};
 
 use std::fmt;
 
-/// Why a PDU is invalid.
+/// Why an A-ASSOCIATE-RQ is invalid.
 #[derive(Clone, Copy, Debug, PartialEq, Eq)]
 pub enum PduFault {
-    /// 30: a type that is not from 01H to 07H.
-    UnknownType,
     /// 31: a body of a request below 68 bytes, an item or sub-item that passes the end of what holds
     /// it, one to three bytes left over, or a proposed context without its id and reserved bytes.
     BadLength,
@@ -26,12 +24,11 @@ pub enum PduFault {
 impl PduFault {
     ghost use Rattle.pdu.specs.Fault.{fault_name, fault_number};
 
-    /// Returns its number, from 30 to 35.
+    /// Returns its number, from 31 to 35.
     pub fn number(self) -> u8
         ensures { result ≡ fault_number self }
     {
         match self {
-            PduFault::UnknownType => 30,
             PduFault::BadLength => 31,
             PduFault::BadItem => 32,
             PduFault::BadContextId => 33,
@@ -45,7 +42,6 @@ impl PduFault {
         ensures { result.now ≡ fault_name self }
     {
         match self {
-            PduFault::UnknownType => "UnknownType",
             PduFault::BadLength => "BadLength",
             PduFault::BadItem => "BadItem",
             PduFault::BadContextId => "BadContextId",

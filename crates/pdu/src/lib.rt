@@ -4,6 +4,9 @@
 
 mod checking;
 mod contexts;
+mod deframer;
+pub mod deframer_laws;
+mod event;
 mod fault;
 mod head;
 mod item;
@@ -12,6 +15,7 @@ pub mod laws;
 mod memory_wire;
 pub mod part_laws;
 pub mod pdu_type;
+mod position;
 mod proposal;
 mod request;
 mod syntaxes;
@@ -19,6 +23,8 @@ mod wire;
 mod writers;
 
 pub use contexts::Contexts;
+pub use deframer::Deframer;
+pub use event::Event;
 pub use fault::PduFault;
 pub use head::{PduHead, PdvHead, read_pdu_head, read_pdv_head};
 pub use memory_wire::MemoryWire;

@@ -3,9 +3,13 @@
 #![tactic(auto)]
 
 #[cfg(test)]
+mod accept_rows;
+#[cfg(test)]
 mod acceptor_rows;
 #[cfg(test)]
 mod counting_wire;
+#[cfg(test)]
+mod deframer_rows;
 #[cfg(test)]
 mod dimse_rows;
 #[cfg(test)]

@@ -1,22 +1,17 @@
-//! The worked rows of `negotiate`, by its public calls alone: requests and their answers, byte by
-//! byte.
-use crate::counting_wire::CountingWire;
+//! The worked rows of `negotiate`, by its public calls alone: how requests are judged, and which contexts are accepted.
 use arrayvec::ArrayVec;
 use dictionary::Class;
 use element::{AeTitle, Syntax};
-use negotiate::{
-    Answer, Config, Context, ContextRow, answer_size, compact, context, context_of, judge,
-    write_answer,
-};
-use pdu::{MemoryWire, PduFault, read_request};
+use negotiate::{Answer, Config, Context, ContextRow, compact, context, context_of, judge};
+use pdu::{PduFault, read_request};
 use std::alloc::Global;
 use std::test::Fail;
 
-const OURS: &[u8] = b"DCMBOX          ";
+pub(crate) const OURS: &[u8] = b"DCMBOX          ";
 
 const OTHERS: &[u8] = b"OTHER           ";
 
-const APPLICATION: &[u8] = b"1.2.840.10008.3.1.1.1";
+pub(crate) const APPLICATION: &[u8] = b"1.2.840.10008.3.1.1.1";
 
 const VERIFICATION: &[u8] = b"1.2.840.10008.1.1";
 
@@ -33,7 +28,7 @@ const BIG_ENDIAN: &[u8] = b"1.2.840.10008.1.2.2";
 const JPEG: &[u8] = b"1.2.840.10008.1.2.4.50";
 
 /// DCMBOX, that none but this one may call.
-fn config(calling: &str) -> Result<Config, Fail> {
+pub(crate) fn config(calling: &str) -> Result<Config, Fail> {
     let ae = AeTitle::of_text("DCMBOX").ok_or("title")?;
     let mut callers = ArrayVec::new();
     callers.push(AeTitle::of_text(calling).ok_or("title")?);
@@ -91,7 +86,7 @@ fn push_user(body: &mut Vec<u8>, maximum: [u8; 4]) -> Result<(), Fail> {
 }
 
 /// A request for Verification.
-fn echo(
+pub(crate) fn echo(
     alloc: Global,
     version: u8,
     called: &[u8],
@@ -104,25 +99,11 @@ fn echo(
     Ok(body)
 }
 
-/// Writes the answer to a request with this body, and checks that it is one send of `answer_size`
-/// bytes.
-fn answered(alloc: Global, config: &Config, body: &[u8]) -> Result<MemoryWire<Global>, PduFault> {
-    let request = read_request(body)?;
-    let mut counting = CountingWire::new(alloc);
-    let is_sent = write_answer(config, &request, &mut counting).is_ok();
-    let CountingWire { wire, sends } = counting;
-    if is_sent && sends == 1 && wire.sent().len() == answer_size(config, &request) {
-        Ok(wire)
-    } else {
-        Err(PduFault::Missing)
-    }
-}
-
 /// Returns whether this is accepted of what a request with this body proposes, under each of these IDs.
-fn accepts(body: &[u8], rows: &[(u8, Option<Context>)]) -> Result<bool, PduFault> {
+fn accepts(config: &Config, body: &[u8], rows: &[(u8, Option<Context>)]) -> Result<bool, PduFault> {
     let request = read_request(body)?;
     for (id, accepted) in rows {
-        if context(&request, *id) != *accepted {
+        if context(config, &request, *id) != *accepted {
             return Ok(false);
         }
     }
@@ -136,7 +117,8 @@ fn contexts_of_the_recorded_echo(rt: HostRuntime) -> Result<(), Fail> {
         class: Class::Verification,
         syntax: Syntax::Implicit,
     };
-    assert!(rt; accepts(body.as_slice(), &[(1, Some(verification)), (3, None)])?);
+    let rows = [(1, Some(verification)), (3, None)];
+    assert!(rt; accepts(&config("SCANNER1")?, body.as_slice(), &rows)?);
     Ok(())
 }
 
@@ -147,7 +129,7 @@ const EXPLICIT_CT: Context = Context {
 };
 
 /// Contexts of which the third alone is accepted.
-fn refused_contexts(alloc: Global) -> Result<Vec<u8>, Fail> {
+pub(crate) fn refused_contexts(alloc: Global) -> Result<Vec<u8>, Fail> {
     let mut body = begun(alloc, 1, b" DCMBOX         ", APPLICATION)?;
     push_context(alloc, &mut body, 1, CT, &[JPEG])?;
     push_context(alloc, &mut body, 3, CT, &[BIG_ENDIAN])?;
@@ -161,7 +143,7 @@ fn refused_contexts(alloc: Global) -> Result<Vec<u8>, Fail> {
 fn contexts_that_cannot_be_had(rt: HostRuntime) -> Result<(), Fail> {
     let body = refused_contexts(rt.alloc())?;
     let rows = [(3, None), (5, Some(EXPLICIT_CT)), (7, None)];
-    assert!(rt; accepts(body.as_slice(), &rows)?);
+    assert!(rt; accepts(&config("SCANNER1")?, body.as_slice(), &rows)?);
     Ok(())
 }
 
@@ -233,31 +215,13 @@ fn accepted(rt: HostRuntime) -> Result<(), Fail> {
 }
 
 /// A request with 128 contexts.
-fn many(alloc: Global) -> Result<Vec<u8>, Fail> {
+pub(crate) fn many(alloc: Global) -> Result<Vec<u8>, Fail> {
     let mut body = begun(alloc, 1, OURS, APPLICATION)?;
     for number in 0..128u8 {
         push_context(alloc, &mut body, 2 * number + 1, CT, &[EXPLICIT])?;
     }
     push_user(&mut body, [0, 0, 0x40, 0])?;
     Ok(body)
-}
-
-/// Returns whether these are the bytes of the answer to 128 contexts.
-fn answers_many(sent: &[u8]) -> bool {
-    let last = sent.get(4036..).unwrap_or(&[]);
-    sent.len() == 4108
-        && sent.starts_with(&[2, 0, 0, 0, 0x10, 6])
-        && last.starts_with(&[0x21, 0, 0, 0x1b, 255, 0, 0, 0])
-}
-
-/// The answer to 128 contexts has 4108 bytes.
-#[test]
-fn many_contexts(rt: HostRuntime) -> Result<(), Fail> {
-    let alloc = rt.alloc();
-    let body = many(alloc)?;
-    let wire = answered(alloc, &config("SCANNER1")?, body.as_slice())?;
-    assert!(rt; answers_many(wire.sent()));
-    Ok(())
 }
 
 fn filled(body: &[u8], config: &Config) -> Result<ArrayVec<ContextRow, 128>, PduFault> {

@@ -1,0 +1,16 @@
+-- Calls of a deframer, one after another.
+use Rattle.std.specs.Prelude.{ℕ, List, [], ◌++◌, Option}
+use Rattle.pdu.specs.declared.event.Event.{Event}
+use Rattle.pdu.specs.declared.position.Position.{Position}
+use Rattle.pdu.specs.Frames.{rest_of}
+use Rattle.pdu.specs.Marks.{Mark}
+use Rattle.pdu.specs.Events.{Token}
+use Rattle.pdu.specs.Deframing.{Took}
+
+-- from an unfinished frame and marks that are due, calls took these bytes, their events reported these tokens, and these
+-- marks are due then
+pub data Calls : List ℕ → List Mark → List ℕ → List Token → List Mark → Type 0 where
+  none : {r : List ℕ} {due : List Mark} → Calls r due [] [] due
+  one_more : {new : Position} {r : List ℕ} {due : List Mark} {taken : List ℕ} {e : Option Event} {bytes : List ℕ} {reported : List Token} {later : List Mark}
+      → (t : Took new r due taken e) → Calls (rest_of (r ++ taken)) t.later bytes reported later
+      → Calls r due (taken ++ bytes) (t.reported ++ reported) later

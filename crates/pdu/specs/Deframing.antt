@@ -1,0 +1,129 @@
+-- Where a deframer stands in a stream, and what a call of it does. The stream counts by its unfinished frame alone, and
+-- by the marks that its last byte completed and that no event has reported yet: those are due.
+use Rattle.std.specs.Prelude.{◌≡◌, ℕ, ◌+◌, ◌-◌, ◌<◌, ◌≤◌, min, true, false, List, [], ◌∷◌, ◌++◌, length, map, Option, Some, None, nat_lt, if◌then◌else◌}
+use Rattle.pdu.specs.declared.position.Position.{Position}
+use Rattle.pdu.specs.declared.position.Position.TheVariants as position
+use Rattle.pdu.specs.declared.event.Event.{Event}
+use Rattle.pdu.specs.declared.event.Event.TheVariants as event
+use Rattle.pdu.specs.Types.{p_data_tf}
+use Rattle.pdu.specs.Frames.{IsFrame, IsRest, rest_of}
+use Rattle.pdu.specs.Marks.{Mark, Pdv, Leftover, End, pdv_size, is_leftover, frame_kind}
+use Rattle.pdu.specs.Spot.{Spot, Opening, Plain, InPdv, spot, room_left}
+use Rattle.pdu.specs.Events.{Token, Completes, tokens, Reports}
+
+-- less than a frame of this type, whose head has come, of which this much is to come
+pub record Inside (kind left : ℕ) (r : List ℕ) (s : Spot) : Type 0 where
+  pub rest : IsRest r
+  pub headed : 6 ≤ length r
+  pub kind_is : frame_kind r ≡ kind
+  pub left_is : left ≡ room_left r
+  pub spot_is : spot r ≡ s
+
+-- a frame of this type is whole, and its end is due
+pub record IsOver (kind left : ℕ) (r : List ℕ) (due : List Mark) : Type 0 where
+  pub none_left : left ≡ 0
+  pub rest : r ≡ []
+  pub body : List ℕ
+  pub due_is : due ≡ End kind body ∷ []
+
+pub record AtHead (bytes r : List ℕ) (due : List Mark) : Type 0 where
+  pub short : length r < 6
+  pub bytes_are : bytes ≡ r
+  pub none_due : due ≡ []
+
+pub data AtBody (kind left : ℕ) (r : List ℕ) (due : List Mark) : Type 0 where
+  in_body : 0 < left → Inside kind left r Plain → due ≡ [] → AtBody kind left r due
+  after_body : IsOver kind left r due → AtBody kind left r due
+
+pub record AtPdvHead (left : ℕ) (bytes r : List ℕ) (due : List Mark) : Type 0 where
+  pub inside : Inside p_data_tf left r (InPdv bytes)
+  pub short : length bytes < 6
+  pub none_due : due ≡ []
+
+pub record AtLeftover (left : ℕ) (r : List ℕ) (due : List Mark) : Type 0 where
+  pub inside : Inside p_data_tf left r Plain
+  pub some : 0 < left
+  pub due_is : due ≡ Leftover ∷ []
+
+-- what follows the mark of a presentation data value
+pub data AfterPdv (left : ℕ) (r : List ℕ) (due : List Mark) : Type 0 where
+  over : IsOver p_data_tf left r due → AfterPdv left r due
+  leftover : is_leftover left ≡ true → AtLeftover left r due → AfterPdv left r due
+  another : 0 < left → is_leftover left ≡ false → AtPdvHead left [] r due → AfterPdv left r due
+
+pub record InFragment (left more : ℕ) (r : List ℕ) (due : List Mark) : Type 0 where
+  pub part : List ℕ
+  pub inside : Inside p_data_tf left r (InPdv part)
+  pub headed : 6 ≤ length part
+  pub more_is : more + length part ≡ pdv_size part
+  pub none_due : due ≡ []
+
+pub record AfterFragment (left : ℕ) (r : List ℕ) (due : List Mark) : Type 0 where
+  pub context : ℕ
+  pub control : ℕ
+  pub fragment : List ℕ
+  pub later : List Mark
+  pub due_is : due ≡ Pdv context control fragment ∷ later
+  pub next : AfterPdv left r later
+
+pub data AtFragment (left more : ℕ) (r : List ℕ) (due : List Mark) : Type 0 where
+  in_fragment : 0 < more → InFragment left more r due → AtFragment left more r due
+  after_fragment : more ≡ 0 → AfterFragment left r due → AtFragment left more r due
+
+-- the unfinished frame is r, and these marks are due
+abbrev pub At : Position → List ℕ → List Mark → Type 0
+At (position.Head bytes) r due = AtHead bytes.items r due
+At (position.Body kind left) r due = AtBody kind left r due
+At (position.PdvHead left bytes) r due = AtPdvHead left bytes.items r due
+At (position.Fragment left more) r due = AtFragment left more r due
+At (position.Leftover left) r due = AtLeftover left r due
+At (position.Skipped kind left) r due = IsOver kind left r due
+
+-- Some bytes were taken, and an event was returned: what was due, and what the bytes complete, is what the event reports,
+-- and what is due then. No byte is taken while a mark is due.
+pub record Took (new : Position) (r : List ℕ) (due : List Mark) (taken : List ℕ) (e : Option Event) : Type 0 where
+  pub reported : List Token
+  pub later : List Mark
+  pub all : map Completes due ++ tokens r taken ≡ reported ++ map Completes later
+  pub reports : Reports taken e reported
+  pub is_at : At new (rest_of (r ++ taken)) later
+  pub prompt : 0 < length taken → due ≡ []
+  pub at_once : e ≡ None → later ≡ []
+
+-- Of a body or a fragment, a call takes as many bytes as there are and as are to come of it.
+pub record Longest (r : List ℕ) (there taken : ℕ) : Type 0 where
+  pub body : spot r ≡ Plain → taken ≡ min there (room_left r)
+  pub fragment : (part : List ℕ) → spot r ≡ InPdv part → 6 ≤ length part → taken ≡ min there (pdv_size part - length part)
+
+-- ---- a frame that is skipped
+
+-- of the unfinished frame r, this much is to come
+abbrev pub SkipsAt : Position → List ℕ → Type 0
+SkipsAt (position.Skipped kind left) r = (0 < left) × IsRest r × (6 ≤ length r) × (frame_kind r ≡ kind) × (left ≡ room_left r)
+SkipsAt (position.Head bytes) r = ⊥
+SkipsAt (position.Body kind left) r = ⊥
+SkipsAt (position.PdvHead left bytes) r = ⊥
+SkipsAt (position.Fragment left more) r = ⊥
+SkipsAt (position.Leftover left) r = ⊥
+
+-- what these bytes do in a frame that is skipped: it goes on, or its end is reported
+pub data Skipped (new : Position) (r taken : List ℕ) (e : Option Event) : Type 0 where
+  goes_on : e ≡ None → SkipsAt new (r ++ taken) → Skipped new r taken e
+  ends : e ≡ Some (event.PduEnd (frame_kind r)) → IsFrame (r ++ taken) → At new [] [] → Skipped new r taken e
+
+-- What the rest of a frame is skipped for: nothing before its head is whole; of a whole frame the end alone is due; else
+-- the frame is skipped
+pub data Skip (new : Position) (r : List ℕ) (due : List Mark) : Type 0 where
+  no_frame : length r < 6 → due ≡ [] → At new r [] → Skip new r due
+  end_alone : (before : List Mark) (kind : ℕ) (body : List ℕ) → due ≡ before ++ End kind body ∷ [] → At new r (End kind body ∷ []) → Skip new r due
+  skipped : SkipsAt new r → Skip new r due
+
+-- ---- how many bytes are held: those of an unfinished head
+
+abbrev pub unfinished_pdv_head : Spot → ℕ
+unfinished_pdv_head Opening = 0
+unfinished_pdv_head Plain = 0
+unfinished_pdv_head (InPdv part) = if nat_lt (length part) 6 then length part else 0
+
+abbrev pub unfinished_heads : List ℕ → ℕ
+unfinished_heads r = if nat_lt (length r) 6 then length r else unfinished_pdv_head (spot r)

@@ -1,0 +1,67 @@
+-- What a stream of PDUs makes known byte by byte, and the events that report it (PS3.8 section 9.3).
+use Rattle.std.specs.Prelude.{◌≡◌, ℕ, ◌<◌, List, [], ◌∷◌, ◌++◌, length, map, Option, Some, None, nat_lt, if◌then◌else◌}
+use Rattle.pdu.specs.declared.event.Event.{Event}
+use Rattle.pdu.specs.declared.event.Event.TheVariants as event
+use Rattle.pdu.specs.Frames.{rest_of}
+use Rattle.pdu.specs.Heads.{is_command, is_last}
+use Rattle.pdu.specs.Marks.{Mark, Head, PdvHead, Pdv, BadPdv, Leftover, End, new_marks}
+use Rattle.pdu.specs.Spot.{Spot, Opening, Plain, InPdv, spot}
+
+pub data Token : Type 0 where
+  -- a byte of a body that has no further mark before its end
+  OfBody : (byte : ℕ) → Token
+  -- a byte of a fragment
+  OfFragment : (byte : ℕ) → Token
+  -- a mark, after the byte that completes it
+  Completes : (mark : Mark) → Token
+
+-- the bytes of bodies and of fragments are lent, those of heads are not
+abbrev pub lent : Spot → List ℕ → List Token
+lent Opening bytes = []
+lent Plain bytes = map OfBody bytes
+lent (InPdv part) bytes = if nat_lt (length part) 6 then [] else map OfFragment bytes
+
+-- what the bytes of a piece make known, after a stream
+abbrev pub tokens : List ℕ → List ℕ → List Token
+tokens stream [] = []
+tokens stream (b ∷ piece) = lent (spot (rest_of stream)) (b ∷ []) ++ (map Completes (new_marks stream (b ∷ [])) ++ tokens (stream ++ b ∷ []) piece)
+
+-- the marks among them
+abbrev pub marks_among : List Token → List Mark
+marks_among [] = []
+marks_among (OfBody byte ∷ ts) = marks_among ts
+marks_among (OfFragment byte ∷ ts) = marks_among ts
+marks_among (Completes mark ∷ ts) = mark ∷ marks_among ts
+
+-- the event that reports a mark
+abbrev pub event_of : Mark → Event
+event_of (Head kind n) = event.PduHead (record { kind = kind; length = n })
+event_of (PdvHead n context control) = event.PdvHead (record { length = n; context = context; command = is_command control; last = is_last control })
+event_of (Pdv context control fragment) = event.PdvEnd
+event_of BadPdv = event.BadPdv
+event_of Leftover = event.Leftover
+event_of (End kind body) = event.PduEnd kind
+
+-- the event reports this one mark
+pub record ReportsMark (e : Event) (ts : List Token) : Type 0 where
+  pub mark : Mark
+  pub one : ts ≡ Completes mark ∷ []
+  pub same : e ≡ event_of mark
+
+-- a part is these bytes, at least one, and they are these tokens
+pub record Lends (part bytes : List ℕ) (all ts : List Token) : Type 0 where
+  pub part_is : part ≡ bytes
+  pub some : 0 < length bytes
+  pub lent : ts ≡ all
+
+-- of these bytes, the ones that were taken, the event reports these tokens: one mark, or the bytes themselves
+abbrev pub Reports : List ℕ → Option Event → List Token → Type 0
+Reports taken None ts = ts ≡ []
+Reports taken (Some (event.Body part)) ts = Lends part.now taken (map OfBody taken) ts
+Reports taken (Some (event.Fragment part)) ts = Lends part.now taken (map OfFragment taken) ts
+Reports taken (Some (event.PduHead head)) ts = ReportsMark (event.PduHead head) ts
+Reports taken (Some (event.PdvHead head)) ts = ReportsMark (event.PdvHead head) ts
+Reports taken (Some event.PdvEnd) ts = ReportsMark event.PdvEnd ts
+Reports taken (Some event.BadPdv) ts = ReportsMark event.BadPdv ts
+Reports taken (Some event.Leftover) ts = ReportsMark event.Leftover ts
+Reports taken (Some (event.PduEnd kind)) ts = ReportsMark (event.PduEnd kind) ts

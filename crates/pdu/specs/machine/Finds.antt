@@ -1,0 +1,14 @@
+-- What a part of a call finds: an event and where the stream stands then, or where it stands without one.
+use Rattle.std.specs.Prelude.{ℕ, List, Option, Some, None}
+use Rattle.pdu.specs.declared.position.Position.{Position}
+use Rattle.pdu.specs.declared.event.Event.{Event}
+use Rattle.pdu.specs.Marks.{Mark}
+use Rattle.pdu.specs.Deframing.{Took, Skipped}
+
+abbrev pub Finds : Position → List ℕ → List Mark → List ℕ → Option (Position × Event) → Type 0
+Finds stays r due taken None = Took stays r due taken None
+Finds stays r due taken (Some (new, e)) = Took new r due taken (Some e)
+
+abbrev pub FindsEnd : Position → List ℕ → List ℕ → Option (Position × Event) → Type 0
+FindsEnd stays r taken None = Skipped stays r taken None
+FindsEnd stays r taken (Some (new, e)) = Skipped new r taken (Some e)

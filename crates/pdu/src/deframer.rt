@@ -1,0 +1,81 @@
+//! Cuts a stream of PDUs into events, in pieces that end anywhere.
+ghost use Rattle.std.specs.Prelude.{◌≡◌, ◌≤◌, ◌<◌, ◌-◌, ◌+◌, ◌++◌, ◌⊎◌, [], ℕ, List, length, take, Option, None, Some, IfSome};
+ghost use Rattle.pdu.specs.machine.Positions.{head_bytes, left_least, left_of, fragment_due};
+
+mod fields;
+
+use crate::event::Event;
+use crate::pdu_type::P_DATA_TF;
+use crate::position::{Position, find};
+use arrayvec::ArrayVec;
+
+/// Cuts a stream of PDUs into events (PS3.8 section 9.3). Takes no memory: it lends the bytes of bodies
+/// and fragments, and holds those of an unfinished head.
+#[derive(Drop)]
+pub struct Deframer {
+    position: Position,
+    ghost short: { head_bytes position < 6 },
+    ghost some: { 0 < left_least position },
+    ghost within: { fragment_due position ≤ left_of position },
+}
+
+impl Deframer {
+    ghost use Rattle.pdu.specs.Marks.{Mark};
+    ghost use Rattle.pdu.specs.Frames.{IsRest};
+    ghost use Rattle.pdu.specs.Deframing.{Took, Longest, Skipped, Skip, unfinished_heads};
+    ghost use Rattle.pdu.specs.Deframed.{IsAt, Skips, position_of};
+
+    /// A stream of which nothing has come.
+    pub fn new() -> Self
+        ensures { IsAt result [] [] }
+    {
+        Deframer {
+            position: Position::Head(ArrayVec::new()),
+        }
+    }
+
+    /// Takes the first bytes of the piece, and returns how many, and what they make known.
+    pub fn next<'p>(&mut self, piece: &'p [u8]) -> (usize, Option<Event<'p>>)
+        ensures within { result.0 ≤ length piece.now }
+        ensures used_up { result.1 ≡ None → result.0 ≡ length piece.now }
+        ensures took { (r : List ℕ) (due : List Mark) → IsAt self.old r due → Took (position_of self.new) r due (take result.0 piece.now) result.1 }
+        ensures longest { (r : List ℕ) → IsAt self.old r [] → Longest r (length piece.now) result.0 }
+        ensures skipped { (r : List ℕ) → Skips self.old r → Skipped (position_of self.new) r (take result.0 piece.now) result.1 }
+    {
+        match find(&mut self.position, piece) {
+            (count, Some((position, event))) => {
+                self.position = position;
+                (count, Some(event))
+            }
+            (count, None) => (count, None),
+        }
+    }
+
+    /// Lets the rest of the PDU whose head has been reported go by: its end is the next event.
+    pub fn skip_frame(&mut self)
+        ensures skip { (r : List ℕ) (due : List Mark) → IsAt self.old r due → Skip (position_of self.new) r due }
+        ensures skips { (r : List ℕ) → Skips self.old r → Skips self.new r }
+    {
+        let (kind, left) = match &self.position {
+            Position::Head(_) => return,
+            Position::Body { kind, left } => (*kind, *left),
+            Position::PdvHead { left, .. } => (P_DATA_TF, *left),
+            Position::Fragment { left, .. } => (P_DATA_TF, *left),
+            Position::Leftover { left } => (P_DATA_TF, *left),
+            Position::Skipped { kind, left } => (*kind, *left),
+        };
+        self.position = Position::Skipped { kind, left };
+    }
+
+    /// How many received bytes are held: those of an unfinished head.
+    pub fn held(&self) -> usize
+        ensures held { (r : List ℕ) (due : List Mark) → IsAt self.now r due → result ≡ unfinished_heads r }
+        ensures skipping { (r : List ℕ) → Skips self.now r → result ≡ 0 }
+    {
+        match &self.position {
+            Position::Head(bytes) => bytes.len(),
+            Position::PdvHead { bytes, .. } => bytes.len(),
+            _ => 0,
+        }
+    }
+}
