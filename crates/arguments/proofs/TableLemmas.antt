@@ -9,7 +9,7 @@ use Rattle.clap.specs.declared.builder.command.Command.{Command}
 use Rattle.clap.specs.declared.builder.command.Command.TheViews.{out-Command}
 use Rattle.clap.specs.declared.builder.command.Command.TheOpen.{Command-F}
 use Rattle.arguments.specs.CommandLine.{with_rules, with_subcommands}
-use Rattle.arguments.specs.Tables.{rule_for, app_for}
+use Rattle.arguments.specs.machine.Tables.{rule_for, app_for}
 use Rattle.arguments.specs.declared.argument.Argument.{Argument}
 use Rattle.arguments.specs.declared.argument.Argument.TheVariants.{Positional, Needed, Default, Free, Repeated, Flag}
 use Rattle.arguments.specs.declared.command.Subcommand.{Subcommand}

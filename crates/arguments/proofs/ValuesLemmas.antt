@@ -3,7 +3,7 @@ use Rattle.std.proofs.Common.{◌≡◌, ◌<◌, ◌+◌, ◌∙◌, ◌++◌, 
 use Rattle.std.proofs.lemmas.List.{map_more, take_more_set, get_or-map, get_or-take, map-append, length-map}
 use Rattle.std.proofs.lemmas.List.Folds.{list_all_at}
 use Rattle.clap.specs.Walk.{Row, Text, first_of}
-use Rattle.arguments.specs.CommandLine.{have_values}
+use Rattle.arguments.specs.machine.Needs.{have_values}
 
 pub texts_more : (rows : List Row) (ids vs : List (Bor Text)) (i : ℕ) (d v : Bor Text) → i < length ids → i < length vs → Some v.now ≡ first_of (get_or ids i d).now rows
     → map (λ id. first_of id.now rows) (take i ids) ≡ map (λ v. Some v.now) (take i vs)

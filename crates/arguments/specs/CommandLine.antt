@@ -1,6 +1,5 @@
 -- The commands that the program knows, as clap defines a simple command, and what their arguments are.
-use Rattle.std.specs.Prelude.{◌≡◌, Bool, true, false, List, [], ◌∷◌, map, length, Option, Some, None, codes, is_some, nat_le, option_map, unwrap_or}
-use Rattle.std.specs.List.{list_all}
+use Rattle.std.specs.Prelude.{◌≡◌, Bool, true, false, List, [], ◌∷◌, map, Option, Some, None, codes, option_map, unwrap_or}
 use Rattle.clap.specs.Walk.{Row, Rule, Text, first_of, one_of, all_of}
 use Rattle.clap.specs.Simple.{App, new_app, new_rule, with_rule, with_subcommand, on_top}
 use Rattle.clap.specs.declared.builder.action.ArgAction.TheVariants.{SetTrue, Append}
@@ -115,27 +114,6 @@ pub record IsServe (a : ServeArguments) (rows : List Row) : Type 0 where
   pub per : first_of (codes "per") rows ≡ option_map (λ w. w.now) a.per
   pub no_sync : IsFlag rows (codes "no-sync") a.no_sync
   pub once : IsFlag rows (codes "once") a.once
-
--- whether each of these arguments has a value
-abbrev pub have_values : List Row → List Text → Bool
-have_values rows ids = list_all (λ id. is_some (first_of id rows)) ids
-
--- the arguments without which there is no job
-abbrev pub file_needs : List Text
-file_needs = codes "FILE" ∷ []
-
-abbrev pub replay_needs : List Text
-replay_needs = codes "FILE" ∷ codes "out" ∷ codes "ae" ∷ codes "cut" ∷ []
-
-abbrev pub index_needs : List Text
-index_needs = codes "DIR" ∷ codes "uid" ∷ []
-
-abbrev pub serve_needs : List Text
-serve_needs = codes "port" ∷ codes "out" ∷ codes "bind" ∷ codes "ae" ∷ codes "timeout" ∷ codes "idle" ∷ codes "max-pdu" ∷ codes "max-data" ∷ []
-
--- at most 16 titles may call
-abbrev pub callers_fit : List Row → Bool
-callers_fit rows = nat_le (length (values_of rows (codes "caller"))) 16
 
 -- the job is that of the subcommand, with its arguments
 abbrev pub Names : Job → Option (Text × List Row) → Type 0

@@ -3,7 +3,7 @@ ghost use Rattle.std.specs.Prelude.{◌≡◌, IfOk, map};
 ghost use Rattle.clap.specs.Walk.{rule_of};
 ghost use Rattle.clap.specs.Simple.{app_of};
 ghost use Rattle.arguments.specs.CommandLine.{free, with_rules};
-ghost use Rattle.arguments.specs.Tables.{rule_for};
+ghost use Rattle.arguments.specs.machine.Tables.{rule_for};
 
 use clap::{Arg, ArgAction, Command};
 use std::alloc::{AllocError, Global};

@@ -2,7 +2,7 @@
 ghost use Rattle.std.specs.Prelude.{◌≡◌, IfOk, map};
 ghost use Rattle.clap.specs.Simple.{app_of};
 ghost use Rattle.arguments.specs.CommandLine.{the_command, with_subcommands};
-ghost use Rattle.arguments.specs.Tables.{app_for};
+ghost use Rattle.arguments.specs.machine.Tables.{app_for};
 
 use crate::argument::{Argument, add_arguments};
 use clap::Command;

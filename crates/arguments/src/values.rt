@@ -2,7 +2,8 @@
 ghost use Rattle.std.specs.Prelude.{◌≡◌, ◌<◌, ◌≤◌, ◌&&◌, IfSome, IfNone, Some, false, length, map, take};
 ghost use Rattle.clap.specs.Matches.{found_of};
 ghost use Rattle.clap.specs.Walk.{rows_of, first_of};
-ghost use Rattle.arguments.specs.CommandLine.{IsFile, IsReplay, IsIndex, IsServe, values_of, have_values, file_needs, replay_needs, index_needs, serve_needs, callers_fit};
+ghost use Rattle.arguments.specs.CommandLine.{IsFile, IsReplay, IsIndex, IsServe, values_of};
+ghost use Rattle.arguments.specs.machine.Needs.{have_values, file_needs, replay_needs, index_needs, serve_needs, callers_fit};
 
 use arrayvec::ArrayVec;
 use clap::ArgMatches;

@@ -1,5 +1,6 @@
 //! The command line.
-ghost use Rattle.std.specs.Prelude.{◌≡◌, IfOk, IfSome, Some, map};
+ghost use Rattle.std.specs.Prelude.{◌≡◌, IfOk, IfSome, IsOk, Some, [], map};
+ghost use Rattle.clap.specs.Faults.{fault_of};
 ghost use Rattle.clap.specs.Matches.{found_of};
 ghost use Rattle.clap.specs.Simple.{subcommand_of};
 ghost use Rattle.clap.specs.Walk.{rows_of};
@@ -85,9 +86,12 @@ fn job_of<'a>(name: &str, matches: &ArgMatches<'a>) -> Option<Job<'a>>
 
 /// Reads the arguments of the command line, of which the first is the program's name.
 ///
+/// `taken`: the arguments have none of the faults of clap's definition of a simple command, such as an
+/// option that is given twice.
 /// `named`: the subcommand, the values and the flags are those that clap's definition of a simple
 /// command gives for these arguments.
 pub fn read_words<'a>(alloc: Global, words: &'a [&'a str]) -> Result<Job<'a>, WordsError>
+    ensures taken { IsOk result → fault_of the_command (map (λ w. w.now) words.entry.now) ≡ [] }
     ensures named { IfOk result (λ job. Names job (subcommand_of the_command (map (λ w. w.now) words.entry.now))) }
 {
     let command = command(alloc)?;

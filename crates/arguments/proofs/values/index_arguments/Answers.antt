@@ -2,7 +2,7 @@ use Rattle.std.proofs.Common.{sym, ◌∙◌, codes, arith}
 use Rattle.clap.specs.Matches.{found_of}
 use Rattle.clap.specs.Walk.{rows_of}
 use Rattle.clap.proofs.WalkLemmas.{first_value-rows, one_text-rows}
-use Rattle.arguments.specs.CommandLine.{index_needs}
+use Rattle.arguments.specs.machine.Needs.{index_needs}
 use Rattle.arguments.proofs.ValuesLemmas.{if_none, missing}
 use Rattle.arguments.proofs.values.index_arguments.Goals as goal
 

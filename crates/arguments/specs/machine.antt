@@ -1,0 +1,3 @@
+-- What the code's private functions are proved against; no public contract cites it.
+pub mod Tables
+pub mod Needs

@@ -1,0 +1,26 @@
+-- The values without which a subcommand's matches are no job.
+use Rattle.std.specs.Prelude.{Bool, List, [], ◌∷◌, length, codes, is_some, nat_le}
+use Rattle.std.specs.List.{list_all}
+use Rattle.clap.specs.Walk.{Row, Text, first_of}
+use Rattle.arguments.specs.CommandLine.{values_of}
+
+-- whether each of these arguments has a value
+abbrev pub have_values : List Row → List Text → Bool
+have_values rows ids = list_all (λ id. is_some (first_of id rows)) ids
+
+-- the arguments without which there is no job
+abbrev pub file_needs : List Text
+file_needs = codes "FILE" ∷ []
+
+abbrev pub replay_needs : List Text
+replay_needs = codes "FILE" ∷ codes "out" ∷ codes "ae" ∷ codes "cut" ∷ []
+
+abbrev pub index_needs : List Text
+index_needs = codes "DIR" ∷ codes "uid" ∷ []
+
+abbrev pub serve_needs : List Text
+serve_needs = codes "port" ∷ codes "out" ∷ codes "bind" ∷ codes "ae" ∷ codes "timeout" ∷ codes "idle" ∷ codes "max-pdu" ∷ codes "max-data" ∷ []
+
+-- at most 16 titles may call
+abbrev pub callers_fit : List Row → Bool
+callers_fit rows = nat_le (length (values_of rows (codes "caller"))) 16
