@@ -1,13 +1,12 @@
 -- What the nodes of a tree keep.
 use Rattle.std.proofs.Common.{◌≡◌, ℕ, suc, ◌+◌, ◌<◌, ◌≤◌, Bool, true, false, List, [], ◌∷◌, ◌++◌, length, drop, get_or, map, refl, sym, ap, ◌∙◌, if◌then◌else◌}
 use Rattle.std.proofs.lemmas.List.{append_assoc, append-nil, drop_more, drop_all}
-use Rattle.dicomdir.specs.TreeOf.{no_nodes, node}
-use Rattle.dicomdir.specs.Linked.{nodes_of}
-use Rattle.dicomdir.specs.NodesInUse.{LevelNode, nodes_in_use}
-use Rattle.dicomdir.specs.Kept.{pruned, images_of, file_id_of_image}
+use Rattle.dicomdir.specs.TreeOf.{Forest, no_nodes, node}
+use Rattle.dicomdir.specs.Linked.{PlacedNode, nodes_of}
+use Rattle.dicomdir.specs.NodesInUse.{LevelNode, nodes_in_use, HasNodes}
+use Rattle.dicomdir.specs.Kept.{pruned, images_of, file_id_of_image, KeptOf}
 use Rattle.dicomdir.specs.TreeNodes.{kept_in, node_of}
 use Rattle.dicomdir.specs.declared.tree.TreeRecord.{TreeRecord}
-use Rattle.dicomdir.specs.KeptLaws.{KeptAreInUse}
 
 kept_append : (xs ys : List LevelNode) → kept_in (xs ++ ys) ≡ kept_in xs ++ kept_in ys
 kept_append [] ys = refl
@@ -15,7 +14,7 @@ kept_append (x ∷ xs) ys =
     ap (λ z. file_id_of_image x.carries ++ z) (kept_append xs ys)
     ∙ sym (append_assoc (file_id_of_image x.carries) (kept_in xs) (kept_in ys))
 
-pub kept_are_in_use : KeptAreInUse
+kept_are_in_use : (level : ℕ) (placed : Forest PlacedNode) → KeptOf (nodes_of placed) ≡ kept_in (nodes_in_use level placed)
 kept_are_in_use level no_nodes = refl
 kept_are_in_use level (node n below next) = by n.carries.in_use (kept_are_in_use (suc level) below) (kept_are_in_use level next)
   where
@@ -27,6 +26,10 @@ kept_are_in_use level (node n below next) = by n.carries.in_use (kept_are_in_use
         (ap (λ z. z ++ images_of (pruned (nodes_of next))) low
         ∙ (ap (λ z. kept_in (nodes_in_use (suc level) below) ++ z) nxt ∙ sym (kept_append (nodes_in_use (suc level) below) (nodes_in_use level next))))
     by false low nxt = nxt
+
+-- the files that the nodes of a file keep are those of the tree that it is linked to
+pub kept_of_nodes : (file : List ℕ) (nodes : List LevelNode) (has : HasNodes file nodes) → kept_in nodes ≡ KeptOf has.tree
+kept_of_nodes file nodes has = sym (ap kept_in has.nodes_are) ∙ (sym (kept_are_in_use 1 has.linked.placed) ∙ ap KeptOf has.linked.tree_is)
 
 -- of the records from an index on
 abbrev pub kept_from : ℕ → List TreeRecord → List (List ℕ)

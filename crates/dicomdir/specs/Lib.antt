@@ -23,7 +23,6 @@ pub mod NodesInUseExamples
 pub mod machine
 pub mod Followed
 pub mod TreeNodes
-pub mod KeptLaws
 pub mod Keys
 pub mod KeysOf
 pub mod RowOf

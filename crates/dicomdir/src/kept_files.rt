@@ -1,7 +1,8 @@
 //! The files that a directory keeps.
-ghost use Rattle.std.specs.Prelude.{◌≡◌, map, IfOk, IfErr};
+ghost use Rattle.std.specs.Prelude.{◌≡◌, ℕ, List, map, IfOk, IfErr};
 ghost use Rattle.sequence.specs.Rules.{no_tag};
-ghost use Rattle.dicomdir.specs.Kept.{listed, file_id_of_image};
+ghost use Rattle.dicomdir.specs.Kept.{listed, file_id_of_image, KeptOf};
+ghost use Rattle.dicomdir.specs.NodesInUse.{HasNodes};
 ghost use Rattle.dicomdir.specs.TreeNodes.{node_of, tree_nodes, kept_in};
 
 use crate::fault::DirFault;
@@ -37,13 +38,14 @@ fn images<A: Allocator + Copy>(alloc: A, records: &[TreeRecord]) -> Result<Vec<F
     Ok(kept)
 }
 
-/// Returns the file IDs of a tree's records of type IMAGE, in the tree's order; 67 where the allocator refuses a
-/// growth.
+/// Returns the file IDs of a tree's records of type IMAGE, in the tree's order. Of a file whose tree it is, these are
+/// the images in use with no inactive record above them; 67 where the allocator refuses a growth.
 pub fn kept_of<'a, A: Allocator + Copy>(
     alloc: A,
     tree: &Tree<'a, A>,
 ) -> Result<Vec<FileId, A>, DirFault>
-    ensures kept { IfOk result (λ kept. kept.items ≡ kept_in (tree_nodes tree.now)) }
+    ensures kept { IfOk result (λ kept. (file : List ℕ) (has : HasNodes file (tree_nodes tree.now)) → kept.items ≡ KeptOf has.tree) }
+    ensures listed { IfOk result (λ kept. kept.items ≡ kept_in (tree_nodes tree.now)) }
     ensures fault { IfErr result (λ f. f ≡ record { number = 67; place = 0; tag = no_tag }) }
 {
     images(alloc, tree.records())

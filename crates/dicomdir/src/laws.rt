@@ -6,7 +6,6 @@ ghost use Rattle.dicomdir.specs.FiledLaws.{FiledHasRow};
 ghost use Rattle.dicomdir.specs.Groups.{RowsAreGrouped, FileIdsAreRead};
 ghost use Rattle.dicomdir.specs.HeaderFaults.{HeaderFaults};
 ghost use Rattle.dicomdir.specs.KeptExamples.{InactiveRecords};
-ghost use Rattle.dicomdir.specs.KeptLaws.{KeptAreInUse};
 ghost use Rattle.dicomdir.specs.NoFault.{LinkedHasNoFault, NodesAreRecords, NoFaultIsLinked, OneTreeOfFile};
 ghost use Rattle.dicomdir.specs.OneCheck.{AcceptedHasNoFault, OneCheckFault, OneListOfNodes};
 ghost use Rattle.dicomdir.specs.OneImage.{OneImageIsLinked, OneImageFaults, PreambleCounts, RecordFaults, NoRowsAreLinked};
@@ -125,11 +124,6 @@ pub fn sizes_are_true()
 /// Inactive records are followed as any other, and keep neither themselves nor what is below them.
 pub fn inactive_records()
     ensures { InactiveRecords }
-{}
-
-/// The files that a tree keeps are those of its nodes in use with no inactive node above.
-pub fn kept_are_in_use()
-    ensures { KeptAreInUse }
 {}
 
 /// The directory of one image has these four records, with their places and levels.

@@ -1,8 +1,7 @@
 //! Directories that are built of rows and written, by the public calls of `dicomdir` alone.
 use crate::files::{Change, ONE_IMAGE, Record, has, one_image, two_images};
-use dicomdir::{DirFault, FileId, Keys, Row, TreeRecord, build, check, write_dir};
+use dicomdir::{FileId, Keys, Row, TreeRecord, build, check, write_dir};
 use element::{Syntax, Uid};
-use linked_list_allocator::LocalHeap;
 use std::alloc::{Allocator, Global};
 use std::test::Fail;
 
@@ -293,40 +292,5 @@ fn several_images_are_written(rt: HostRuntime) -> Result<(), Fail> {
     assert!(rt; gives(rt.alloc(), &SEVERAL, 11, &[4])?);
     assert!(rt; accepts(rt.alloc(), file.as_slice(), &RECORDS_OF_SEVERAL));
     assert!(rt; file.len() == 1672);
-    Ok(())
-}
-
-/// How many records the directory of the files has, whose memory is taken from a heap; 0, if there is none for their
-/// rows.
-fn count_records(heap: &LocalHeap) -> Result<usize, DirFault> {
-    let rows = rows(heap, &FILES);
-    let Some(uid) = Uid::read(b"2.25.1") else {
-        return Ok(0);
-    };
-    if rows.len() < 5 {
-        return Ok(0);
-    }
-    Ok(build(heap, rows.as_slice(), uid)?.records())
-}
-
-/// Each growth fails in turn: then it is said so, and else the directory comes.
-#[test]
-fn each_growth_of_a_build_is_refused(rt: HostRuntime) -> Result<(), Fail> {
-    let mut has_failed = false;
-    for size in 0..2048usize {
-        let heap = LocalHeap::new(rt.alloc(), 64 + 32 * size)?;
-        match count_records(&heap) {
-            Ok(0) => {}
-            Err(fault) => {
-                assert!(rt; fault.number == DirFault::OUT_OF_MEMORY && fault.place == 0);
-                has_failed = true;
-            }
-            Ok(records) => {
-                assert!(rt; records == 11 && has_failed);
-                return Ok(());
-            }
-        }
-    }
-    assert!(rt; false);
     Ok(())
 }

@@ -1,7 +1,6 @@
 //! Directories that are checked, by the public calls of `dicomdir` alone.
 use crate::files::{Change, ONE_IMAGE, Record, change, has, one_image, two_images, with_header};
 use dicomdir::{DirFault, FileId, Tree, check, kept_of};
-use linked_list_allocator::LocalHeap;
 use std::alloc::Global;
 use std::test::Fail;
 
@@ -298,33 +297,5 @@ fn undefined_lengths(rt: HostRuntime) -> Result<(), Fail> {
     let file = with_header(rt.alloc(), &UNDEFINED)?;
     assert!(rt; accepts(rt, file.as_slice(), &UNDEFINED_RECORDS, &[b"I0000001"]));
     assert!(rt; refuses_each_front(rt, file.as_slice()));
-    Ok(())
-}
-
-/// How many files a directory keeps, whose memory is taken from a heap.
-fn count_kept(heap: &LocalHeap, file: &[u8]) -> Result<usize, DirFault> {
-    let tree = check(heap, file)?;
-    Ok(kept_of(heap, &tree)?.len())
-}
-
-/// Each growth fails in turn: then it is said so, and else the tree comes and keeps its files.
-#[test]
-fn each_growth_of_memory_is_refused(rt: HostRuntime) -> Result<(), Fail> {
-    let file = two_images(rt.alloc())?;
-    let mut has_failed = false;
-    for size in 0..256usize {
-        let heap = LocalHeap::new(rt.alloc(), 64 + 32 * size)?;
-        match count_kept(&heap, file.as_slice()) {
-            Err(fault) => {
-                assert!(rt; fault.number == DirFault::OUT_OF_MEMORY && fault.place == 0);
-                has_failed = true;
-            }
-            Ok(kept) => {
-                assert!(rt; kept == 2 && has_failed);
-                return Ok(());
-            }
-        }
-    }
-    assert!(rt; false);
     Ok(())
 }

@@ -4,7 +4,7 @@ ghost use Rattle.std.specs.Prelude.{◌≤◌, length};
 use crate::images::{Element, header, id, image, is_image, put, reason};
 use dicomdir::{Skip, rows_of};
 use element::{Syntax, Tag};
-use linked_list_allocator::LocalHeap;
+use fixtures::refusing::Refusing;
 use std::io;
 use std::io::{ErrorKind, Read};
 use std::test::Fail;
@@ -119,41 +119,14 @@ fn slow_and_failing_readers(rt: HostRuntime) -> Result<(), Fail> {
     Ok(())
 }
 
-/// Whether the file has the image's row, whose memory is taken from a heap; or why it has none.
-fn has_row_in(heap: &LocalHeap, file: &[u8]) -> Result<bool, Skip> {
-    let mut rest = file;
-    let row = rows_of(heap, &mut rest, &id()?)?;
-    Ok(is_image(&row, Syntax::Explicit))
-}
-
-/// Each allocation fails in turn: then it is said so, and else the row comes.
-#[test]
-fn each_growth_of_memory_is_refused(rt: HostRuntime) -> Result<(), Fail> {
-    let file = image(rt.alloc(), Syntax::Explicit)?;
-    let mut failures = 0u32;
-    for size in 0..256usize {
-        let heap = LocalHeap::new(rt.alloc(), 64 + 16 * size)?;
-        match has_row_in(&heap, file.as_slice()) {
-            Err(reason) => {
-                assert!(rt; reason == Skip::OutOfMemory);
-                failures = failures.saturating_add(1);
-            }
-            Ok(is_row) => {
-                assert!(rt; is_row && 6 <= failures);
-                return Ok(());
-            }
-        }
-    }
-    assert!(rt; false);
-    Ok(())
-}
-
-/// A file without a row takes no memory.
+/// A file without a row takes no memory: the first allocation would be refused.
 #[test]
 fn a_file_without_a_row_takes_no_memory(rt: HostRuntime) -> Result<(), Fail> {
     let mut file = image(rt.alloc(), Syntax::Explicit)?;
     file.truncate(file.len().saturating_sub(1));
-    let heap = LocalHeap::new(rt.alloc(), 64)?;
-    assert!(rt; has_row_in(&heap, file.as_slice()) == Err(Skip::Fault(20)));
+    let refusing = Refusing::new(rt.alloc(), 0);
+    let mut rest = file.as_slice();
+    let row = rows_of(&refusing, &mut rest, &id()?);
+    assert!(rt; row.err() == Some(Skip::Fault(20)) && !refusing.has_refused());
     Ok(())
 }

@@ -1,6 +1,6 @@
 //! The directories of one image and of two, byte by byte, and what a directory has.
 use dicomdir::{Tree, TreeRecord};
-use std::alloc::Global;
+use std::alloc::{Allocator, Global};
 use std::test::Fail;
 
 /// The preamble.
@@ -56,7 +56,7 @@ fn is_record(record: &TreeRecord, wanted: &Record) -> bool {
 }
 
 /// Whether the tree has these records.
-pub(crate) fn has(tree: &Tree<Global>, records: &[Record]) -> bool {
+pub(crate) fn has<A: Allocator + Copy>(tree: &Tree<A>, records: &[Record]) -> bool {
     let found = tree.records();
     if found.len() != records.len() {
         return false;
