@@ -130,12 +130,13 @@ def table(title, names, results):
 
 def compare(program, work, rounds, log):
     starts = servers(program, work)
-    files = []
-    for n in range(60):
-        files.append(f"{work}/ct{n}.dcm")
-        subprocess.run([f"{work}/client", "--file", files[-1], "ct", str(n)], check=True)
+    files = {corpus: [f"{work}/{corpus}{n}.dcm" for n in range(60)] for corpus in ("ct", "tiny")}
+    for corpus, names in files.items():
+        for n, name in enumerate(names):
+            subprocess.run([f"{work}/client", "--file", name, corpus, str(n)], check=True)
     senders = {title: send(work, name) for name, title in CORPORA}
-    senders["60 CT of 512 KiB by storescu"] = storescu(files)
+    senders["60 CT of 512 KiB by storescu"] = storescu(files["ct"])
+    senders["60 of 1 KiB by storescu"] = storescu(files["tiny"])
     runs = {(title, name): [] for title in senders for name in starts}
     for _ in range(rounds):
         for title, sender in senders.items():

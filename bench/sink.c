@@ -16,6 +16,8 @@ static unsigned char room[ROOM];
 static size_t from, to;
 
 static int fill(int fd) {
+  int on = 1;
+  setsockopt(fd, IPPROTO_TCP, TCP_QUICKACK, &on, sizeof on);
   ssize_t n = read(fd, room, ROOM);
   if (n <= 0) return 0;
   from = 0;

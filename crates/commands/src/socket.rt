@@ -3,6 +3,7 @@ ghost use Rattle.std.specs.Prelude.{◌≡◌, ◌≤◌, None, length, take};
 
 use crate::limits::PIECE;
 use crate::timer::{Timeouts, Timer};
+use acknowledge::acknowledge_at_once;
 use element::count::Count;
 use engine::{Input, Source};
 use pdu::{Wire, WireFailed};
@@ -79,6 +80,7 @@ impl<R: Clock> Source for SocketSource<'_, R> {
             if !self.wait(time) {
                 return Input::Closed;
             }
+            acknowledge_at_once(stream);
             match stream.read(&mut self.room) {
                 Ok(0) => return Input::Closed,
                 Ok(len) => {
