@@ -34,24 +34,42 @@ logged() {
   return 1
 }
 
-# echoes : sends the recorded echo, and compares the answer with that of the recording.
-echoes() {
+# ended : waits until the box has ended, for ten seconds; returns its status.
+ended() {
+  local attempt
+  for attempt in $(seq 100); do
+    kill -0 "$listening" 2>/dev/null || break
+    sleep 0.1
+  done
+  kill "$listening" 2>/dev/null
+  wait "$listening"
+}
+
+# answers RECORDING LINES : sends a recorded association, and compares the answer with the lines that its replay
+# prints before the last one.
+answers() {
+  local want
+  want=$(head -n -1 "$2" | tr -d '\n')
   connect || return 1
-  cat "$recordings/echo.bin" >&3
-  answer=$(head -c 269 <&3 | od -An -v -tx1 | tr -d ' \n')
+  cat "$1" >&3
+  answer=$(timeout 20 head -c $((${#want} / 2)) <&3 | od -An -v -tx1 | tr -d ' \n')
   exec 3>&-
-  [ "$answer" = "$(head -n -1 "$here/../crates/cli/stdout" | tr -d '\n')" ]
+  [ "$answer" = "$want" ]
+}
+
+echoes() {
+  answers "$recordings/echo.bin" "$here/../crates/cli/stdout"
 }
 
 listen --once --timeout 5
 echoes
 report 'the recorded echo over TCP'
 line='\[INFO  cli::serve\] 20[0-9-]+T[0-9:.]+Z 127\.0\.0\.1:[0-9]+ Ended held 0 files 0 dropped 0 received 260 in [0-9]+ s'
-wait "$listening"
+ended
 [ "$?" -eq 0 ] && [ ! -s out.txt ] && [[ $(cat err.txt) =~ ^$line$ ]]
 report 'its log has one line, and nothing is printed'
 
-listen --timeout 2 --idle 2
+listen --timeout 2 --idle 4
 
 # A request byte by byte, and never whole: the ARTIM timer runs from its start.
 (
@@ -69,13 +87,13 @@ report 'a peer that sends slowly'
   connect || exit 1
   sleep 1.5
   cat text.bin >&3
-  [ "$(od -An -v -tx1 <&3 | tr -d ' \n')" = 07000000000400000000 ]
+  [ "$(timeout 20 od -An -v -tx1 <&3 | tr -d ' \n')" = 07000000000400000000 ]
 )
 report 'a peer that sends what is no PDU'
 logged 'Ended held 0 files 0 dropped 0 received 18 in 3 s'
 report 'the timer starts anew with the answer'
 
-# Echoes without end, and no reply is read.
+# Echoes without end, and no reply is read: a send fails after the idle time.
 head -c 170 "$recordings/echo.bin" >flood.bin
 tail -c +171 "$recordings/echo.bin" | head -c 80 >pdus.bin
 for _ in $(seq 18); do
@@ -87,17 +105,17 @@ cat pdus.bin >>flood.bin
   connect || exit 1
   timeout 20 cat flood.bin >&3
 ) 2>/dev/null
-logged 'Ended held 0 files 0 dropped 0 received [0-9]\{6,8\} in'
+logged 'Ended held 0 files 0 dropped 0 received [0-9]\{6,8\} in \([4-9]\|1[0-9]\) s'
 report 'a peer that stops reading'
 
-# Silence in an association: the local user aborts it.
+# Silence in an association: the local user aborts it after the idle time, and waits for the peer to close.
 (
   connect || exit 1
   head -c 170 "$recordings/echo.bin" >&3
-  [ "$(tail -c 10 <&3 | od -An -v -tx1 | tr -d ' \n')" = 07000000000400000000 ]
+  [ "$(timeout 20 tail -c 10 <&3 | od -An -v -tx1 | tr -d ' \n')" = 07000000000400000000 ]
 )
 report 'a peer that falls silent'
-logged 'Ended held 0 files 0 dropped 0 received 170 in'
+logged 'Ended held 0 files 0 dropped 0 received 170 in \([6-9]\|1[0-9]\) s'
 report 'its association ends'
 
 timeout 20 "$program" serve --port $port --out . >out.txt 2>err2.txt
@@ -117,15 +135,34 @@ wait "$listening" 2>/dev/null
 [ "$(wc -l <err.txt)" -eq 5 ]
 report 'one line an association'
 
+# Two stores, the second cut in its data set, and then both whole: each association counts its own files and drafts.
+head -c 500 stores.bin >cut_stores.bin
+printf '%s\nend\n' "$(head -n -1 "$here/expected/two_stores.txt" | tr -d '\n' | head -c 566)" >first_reply.txt
+listen --timeout 2
+answers cut_stores.bin first_reply.txt
+report 'a store, and another that is cut'
+logged 'Ended held 0 files 1 dropped 1 received 500 in'
+report 'the file and the draft are counted'
+answers stores.bin "$here/expected/two_stores.txt"
+report 'two stores over TCP'
+logged 'Ended held 0 files 2 dropped 0 received 534 in'
+report 'their files alone are counted'
+kill "$listening"
+wait "$listening" 2>/dev/null
+
 # Without a free descriptor no connection is accepted, until there is one again.
 listen --timeout 2
 echoes
+logged 'received 260 in'
 free=0
 while [ -e "/proc/$listening/fd/$free" ]; do free=$((free + 1)); done
 prlimit --pid "$listening" --nofile="$free:"
 connect
 logged '^\[ERROR cli::serve\] a connection could not be accepted: '
 report 'a connection that is not accepted'
+sleep 1
+[ "$(grep -c 'could not be accepted' err.txt)" -le 40 ]
+report 'the box waits before it tries again'
 exec 3>&-
 prlimit --pid "$listening" --nofile=256:
 echoes && [ "$(grep -c 'received 260 in' err.txt)" -ge 1 ]

@@ -16,6 +16,11 @@ for tool in $tools; do
   fi
 done
 
+# Each call of a tool has two minutes.
+for tool in $tools; do
+  eval "$tool() { timeout 120 $tool \"\$@\"; }"
+done
+
 work=$(mktemp -d)
 server=
 stop() {
@@ -60,7 +65,7 @@ start() {
   "$program" serve --port $port --out "$folder" "$@" 2>>"$folder.log" &
   server=$!
   for _ in $(seq 100); do
-    echoscu -aec DCMBOX 127.0.0.1 $port >/dev/null 2>&1 && return 0
+    timeout 5 echoscu -aec DCMBOX 127.0.0.1 $port >/dev/null 2>&1 && return 0
     sleep 0.05
   done
   echo 'the server does not answer'
@@ -182,6 +187,30 @@ for length in 4096 131072; do
   check "data sets in PDUs of at most $length bytes" holds "pdu_$length" "${explicit[@]}"
 done
 
+# ---- an unchanged storescu writes command and data set apart, and sends the second once the first is acknowledged:
+# delayed acknowledgements would cost it 40 ms for each image, 2.4 s for sixty
+
+sed -e '/7fe0,0010/d' image.txt >small.txt
+dump2dcm -q +te small.txt small.dcm || exit 1
+sixty=()
+for n in $(seq 60); do
+  sixty+=(small.dcm)
+done
+
+# Sends sixty small images in less than 1.2 s, in one of three tries.
+sixty_at_once() {
+  for _ in 1 2 3; do
+    local begun
+    begun=$(date +%s%3N)
+    storescu "${to_box[@]}" "${sixty[@]}" || return 1
+    [ $(($(date +%s%3N) - begun)) -lt 1200 ] && return 0
+  done
+  return 1
+}
+start acknowledged --no-sync || exit 1
+check 'sixty small images wait for no delayed acknowledgement' sixty_at_once
+stop
+
 # ---- what is refused
 
 start titles || exit 1
@@ -234,7 +263,7 @@ check 'the next start removes the draft' test ! -e killed/DRAFT
 
 # The file IDs that a directory lists, as checkdir prints them.
 listed() {
-  "$program" checkdir "$1" | awk '$2 == "IMAGE" { print $3 }' | sort
+  timeout 120 "$program" checkdir "$1" | awk '$2 == "IMAGE" { print $3 }' | sort
 }
 
 # The instances that a directory lists, as DCMTK reads it.
@@ -259,7 +288,7 @@ for n in $(seq 1 20); do
     directories=$((directories + 1))
   fi
   mv "$folder/DICOMDIR" of_dcmtk
-  if "$program" index "$folder" --uid "2.25.7.$n" >last.txt 2>&1 &&
+  if timeout 120 "$program" index "$folder" --uid "2.25.7.$n" >last.txt 2>&1 &&
     dcmftest "$folder/DICOMDIR" | grep -q '^yes: ' && dcmdump -q "$folder/DICOMDIR" >/dev/null &&
     [ "$(listed "$folder/DICOMDIR")" = "$wanted" ] &&
     [ "$(instances "$folder/DICOMDIR")" = "$(instances of_dcmtk)" ]; then
@@ -296,8 +325,6 @@ fronts() {
   done
   [ $status -eq 0 ]
 }
-sed -e '/7fe0,0010/d' image.txt >small.txt
-dump2dcm -q +te small.txt small.dcm || exit 1
 check 'every front of a file' fronts check small.dcm
 check 'every front of a directory' fronts checkdir dir1/DICOMDIR
 

@@ -16,7 +16,7 @@ failed=0
 try() {
   local name=$1 status=$2 output=$3 error=$4
   shift 4
-  "$program" "$@" >out.txt 2>err.txt </dev/null
+  timeout 60 "$program" "$@" >out.txt 2>err.txt </dev/null
   local got=$?
   if [ "$got" -ne "$status" ]; then
     echo "FAILED $name: status $got, wanted $status"
@@ -121,7 +121,7 @@ try 'no file to show' 2 '' '.*FILE.*' show
 try 'two files to check' 2 '' '.*' check ct.dcm cut.dcm
 try 'help with an example' 0 '.*Example: dcmbox show .*' '' show --help
 try 'a missing file is shown' 3 '' 'dcmbox: missing.dcm: the file can.t be opened: .*check its name.*' show missing.dcm
-try 'a folder is checked' 3 '' 'dcmbox: \.: the file can.t be read: .*' check .
+try 'a folder is checked' 3 '' 'dcmbox: \.: the file can.t be read: Is a directory.*' check .
 mkdir folder empty other
 mkdir -p odd/DICOMDIR
 cp ct.dcm folder/I0000001
@@ -157,28 +157,40 @@ for _ in $(seq 15); do
   mv twice.bin items.bin
 done
 { cat header.dcm; printf '\10\0\100\21SQ\0\0\377\377\377\377'; cat items.bin; printf '\376\377\335\340\0\0\0\0'; } >items.dcm
-"$program" show items.dcm 2>err.txt | head -1 >out.txt
+timeout 60 "$program" show items.dcm 2>err.txt | head -1 >out.txt
 [ "${PIPESTATUS[0]}" -eq 0 ] && [ ! -s err.txt ] && [ "$(cat out.txt)" = 'class 1.2.840.10008.5.1.4.1.1.2' ]
 report 'a reader that has read enough'
-"$program" show items.dcm >/dev/full 2>err.txt
-[ "$?" -eq 3 ] && grep -q 'dcmbox: items.dcm: the output can.t be written' err.txt
-report 'a full disk'
-"$program" replay "$recordings/echo.bin" --out . >/dev/full 2>err.txt
-[ "$?" -eq 3 ] && grep -q 'echo.bin: the output can.t be written' err.txt
-report 'a full disk for what is sent'
+# One that has closed the pipe before a short text is flushed.
+{
+  sleep 0.5
+  timeout 60 "$program" check ct.dcm 2>err.txt
+  echo "$?" >status.txt
+} | true
+[ "$(cat status.txt)" -eq 0 ] && [ ! -s err.txt ]
+report 'a reader that reads nothing'
+for command in 'show items.dcm' 'show ct.dcm' 'check ct.dcm' 'check cut.dcm' 'checkdir directory.bin' \
+  'checkdir cut_directory.bin' 'index one --uid 2.25.1' "replay $recordings/echo.bin --out ."; do
+  timeout 60 "$program" $command >/dev/full 2>err.txt
+  [ "$?" -eq 3 ] && grep -q "dcmbox: .*: the output can't be written: No space left on device" err.txt
+  report "a full disk for ${command%% *}"
+done
 
 # A value of 1 GiB, which takes no room on the disk, in 16 MB of memory.
 { cat header.dcm; printf '\340\177\20\0OW\0\0\0\0\0\100'; } >large.dcm
 truncate -s $((288 + 12 + 1073741824)) large.dcm
-[ "$(ulimit -v 16384 && "$program" check large.dcm)" = 'good 1073742124' ]
+[ "$(ulimit -v 16384 && timeout 60 "$program" check large.dcm)" = 'good 1073742124' ]
 report 'a large file in little memory'
 
 . "$here/associations.sh"
+. "$here/system_calls.sh"
+. "$here/large.sh"
 
 # A recording of 1 GiB, which takes no room on the disk, and 400 MB of memory.
 truncate -s 1G large.bin
 ulimit -v 400000
-try 'too little memory' 3 '' 'dcmbox: .*memory.*' replay large.bin --out .
+memory='dcmbox: large.bin: out of memory; give the program more'
+try 'too little memory for a recording' 3 '' "$memory" replay large.bin --out .
+try 'too little memory for a directory' 3 '' "$memory" checkdir large.bin
 
 echo "program: $passed passed, $failed failed"
 [ "$failed" -eq 0 ]

@@ -1,6 +1,7 @@
 //! What `checkdir` prints of a directory: a worked example, and every front of it.
 use crate::devices::{Device, Gives};
 use commands::{Outcome, ProgramError, checkdir_over};
+use linked_list_allocator::LocalHeap;
 use std::alloc::{AllocError, Global};
 use std::test::Fail;
 
@@ -95,5 +96,32 @@ fn every_front_of_a_directory_has_a_fault(rt: HostRuntime) -> Result<(), Fail> {
         let front = file.as_slice().get(..length).ok_or("no front")?;
         assert!(rt; refuses(alloc, front)?);
     }
+    Ok(())
+}
+
+/// Returns whether the records of the directory are listed in a heap of this size; else memory ran out, and
+/// nothing is printed.
+fn lists_in(alloc: Global, mut bytes: &[u8], size: usize) -> Result<bool, Fail> {
+    let heap = LocalHeap::new(alloc, size)?;
+    let mut out = Vec::new(alloc);
+    match checkdir_over(&heap, &mut bytes, &mut out) {
+        Ok(Outcome::Good) if out.as_slice() == LISTED => Ok(true),
+        Err(ProgramError::Memory(_)) if out.is_empty() => Ok(false),
+        _ => Err(Fail::from("neither listed nor refused")),
+    }
+}
+
+/// Heaps of rising sizes refuse each growth in turn, while the directory is read and after it.
+#[test]
+fn want_of_memory_is_told(rt: HostRuntime) -> Result<(), Fail> {
+    let alloc = rt.alloc();
+    let file = one_image(alloc)?;
+    let mut refused = 0u32;
+    for size in 2..512usize {
+        if !lists_in(alloc, file.as_slice(), size * 16)? {
+            refused = refused.saturating_add(1);
+        }
+    }
+    assert!(rt; 100 < refused && refused < 500, "{refused}");
     Ok(())
 }

@@ -10,7 +10,7 @@ use std::test::Fail;
 
 /// An image of these tests: its instance, its series and its number, each of which has an even length.
 #[derive(Clone, Copy)]
-struct Image<'a> {
+pub(crate) struct Image<'a> {
     instance: &'a [u8],
     series: &'a [u8],
     number: &'a [u8],
@@ -18,14 +18,14 @@ struct Image<'a> {
     study_id: &'a [u8],
 }
 
-const FIRST: Image = Image {
+pub(crate) const FIRST: Image = Image {
     instance: b"1.2.3.1.1",
     series: b"1.2.3.1\0",
     number: b"1 ",
     study_id: b"S1",
 };
 
-const SECOND: Image = Image {
+pub(crate) const SECOND: Image = Image {
     instance: b"1.2.3.1.2",
     number: b"2 ",
     ..FIRST
@@ -38,7 +38,7 @@ const THIRD: Image = Image {
     ..FIRST
 };
 
-const WITHOUT_STUDY_ID: Image = Image {
+pub(crate) const WITHOUT_STUDY_ID: Image = Image {
     instance: b"1.2.3.1.3",
     study_id: b"",
     ..FIRST
@@ -79,7 +79,7 @@ fn put_image(file: &mut Vec<u8, Global>, image: Image) -> Result<(), AllocError>
 }
 
 /// Writes the file of an image.
-fn file(rt: &HostRuntime, path: &str, image: Image) -> Result<(), Fail> {
+pub(crate) fn file(rt: &HostRuntime, path: &str, image: Image) -> Result<(), Fail> {
     let mut file = header(rt.alloc(), Syntax::Explicit, image.instance)?;
     put_image(&mut file, image)?;
     fs::write(rt, path, file.as_slice())?;
@@ -87,7 +87,11 @@ fn file(rt: &HostRuntime, path: &str, image: Image) -> Result<(), Fail> {
 }
 
 /// Makes the folder anew, with the files of these images.
-fn put_images(rt: &HostRuntime, dir: &str, images: &[(&str, Image)]) -> Result<(), Fail> {
+pub(crate) fn put_images(
+    rt: &HostRuntime,
+    dir: &str,
+    images: &[(&str, Image)],
+) -> Result<(), Fail> {
     fresh(rt, dir)?;
     for (path, image) in images {
         file(rt, path, *image)?;
@@ -96,7 +100,7 @@ fn put_images(rt: &HostRuntime, dir: &str, images: &[(&str, Image)]) -> Result<(
 }
 
 /// Returns the settings of `index` for the folder.
-fn settings(dir: &str, keep: bool) -> Result<Index<'_>, Fail> {
+pub(crate) fn settings(dir: &str, keep: bool) -> Result<Index<'_>, Fail> {
     let uid = Uid::read(b"2.25.1").ok_or("no UID")?;
     Ok(Index { dir, uid, keep })
 }
@@ -180,6 +184,49 @@ fn a_folder_of_two_levels(rt: HostRuntime) -> Result<(), Fail> {
     Ok(())
 }
 
+/// The instances of nine images, and where they are, by their paths. They are written in another order.
+const BY_NAME: [(&str, &[u8]); 9] = [
+    ("order/S0000002/I0000002", b"1.2.3.1.8"),
+    ("order/S0000002/I0000003", b"1.2.3.1.9"),
+    ("order/S0000002/I0000001", b"1.2.3.1.7"),
+    ("order/S0000001/I0000002", b"1.2.3.1.5"),
+    ("order/S0000001/I0000003", b"1.2.3.1.6"),
+    ("order/S0000001/I0000001", b"1.2.3.1.4"),
+    ("order/I0000002", b"1.2.3.1.2"),
+    ("order/I0000003", b"1.2.3.1.3"),
+    ("order/I0000001", b"1.2.3.1.1"),
+];
+
+/// What `checkdir` lists of their directory.
+const LISTED_BY_NAME: &[u8] = b"0000000320 PATIENT
+0000000404   STUDY
+0000000534     SERIES
+0000000626       IMAGE I0000001
+0000000788       IMAGE I0000002
+0000000950       IMAGE I0000003
+0000001112       IMAGE S0000001/I0000001
+0000001284       IMAGE S0000001/I0000002
+0000001456       IMAGE S0000001/I0000003
+0000001628       IMAGE S0000002/I0000001
+0000001800       IMAGE S0000002/I0000002
+0000001972       IMAGE S0000002/I0000003
+records 12
+";
+
+/// Files are in the order of their names, whatever the order in which a folder lists them.
+#[test]
+fn files_by_name(rt: HostRuntime) -> Result<(), Fail> {
+    fresh(&rt, "order")?;
+    fs::create_dir(&rt, "order/S0000002")?;
+    fs::create_dir(&rt, "order/S0000001")?;
+    for (path, instance) in BY_NAME {
+        file(&rt, path, Image { instance, ..FIRST })?;
+    }
+    assert!(rt; prints(&rt, "order", false, b"records 12\n")?);
+    assert!(rt; listed(&rt, "order/DICOMDIR")?.as_slice() == LISTED_BY_NAME);
+    Ok(())
+}
+
 /// Writes the directory with the two bytes of the flag at this place changed.
 fn put_flag(
     rt: &HostRuntime,
@@ -214,6 +261,30 @@ fn inactive_records_are_not_kept(rt: HostRuntime) -> Result<(), Fail> {
         put_flag(&rt, "kept/DICOMDIR", whole.as_slice(), place, flag)?;
         assert!(rt; keeps(&rt, "kept", printed)? && has_size(&rt, "kept/DICOMDIR", size)?);
     }
+    Ok(())
+}
+
+/// What `checkdir` lists of the directory of the second image.
+const LISTED_SECOND: &[u8] = b"0000000320 PATIENT
+0000000404   STUDY
+0000000534     SERIES
+0000000626       IMAGE I0000002
+records 4
+";
+
+/// Of the records at the fourth level those of another type than IMAGE keep no file.
+#[test]
+fn records_of_other_types_are_not_kept(rt: HostRuntime) -> Result<(), Fail> {
+    let images = [("types/I0000001", FIRST), ("types/I0000002", SECOND)];
+    put_images(&rt, "types", &images)?;
+    assert!(rt; prints(&rt, "types", false, b"records 5\n")?);
+    let mut directory = fs::read(&rt, "types/DICOMDIR")?;
+    if let Some(kind) = directory.as_mut_slice().get_mut(676..682) {
+        kind.copy_from_slice(b"PLAN  ");
+    }
+    fs::write(&rt, "types/DICOMDIR", directory.as_slice())?;
+    assert!(rt; prints(&rt, "types", true, b"records 4\n")?);
+    assert!(rt; listed(&rt, "types/DICOMDIR")?.as_slice() == LISTED_SECOND);
     Ok(())
 }
 

@@ -75,7 +75,7 @@ fn replay_in(alloc: Global, size: usize) -> Result<Replayed, Fail> {
                 Replayed::Wrong
             }
         }
-        Err(_) if out.is_empty() => Replayed::Refused,
+        Err(ProgramError::Memory(_) | ProgramError::Wire) if out.is_empty() => Replayed::Refused,
         _ => Replayed::Wrong,
     })
 }

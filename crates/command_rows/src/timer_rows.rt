@@ -2,6 +2,7 @@
 use commands::{Timeouts, Timer};
 use std::cell::Cell;
 use std::io;
+use std::io::ErrorKind;
 use std::process::Abort;
 use std::test::Fail;
 use std::time::{Clock, Duration};
@@ -22,6 +23,28 @@ impl Clock for Hands {
     }
 }
 
+/// A clock that fails.
+#[derive(Drop)]
+struct Stopped;
+
+impl Clock for Stopped {
+    fn monotonic(&self) -> io::Result<Duration> {
+        Err(io::Error::from(ErrorKind::Other))
+    }
+
+    fn since_1970(&self) -> io::Result<Duration> {
+        Err(io::Error::from(ErrorKind::Other))
+    }
+}
+
+/// Returns a timer of 30 seconds, and ten minutes of silence.
+fn timer() -> Timer {
+    Timer::new(Timeouts {
+        artim: Duration::from_secs(30),
+        idle: Duration::from_secs(600),
+    })
+}
+
 /// A moment, whether the timer runs and something was sent, and how many seconds are left.
 struct Moment(u64, bool, bool, Option<u64>);
 
@@ -29,10 +52,7 @@ fn follows<R: Abort>(rt: &R, moments: &[Moment]) {
     let clock = Hands {
         seconds: Cell::new(0),
     };
-    let mut timer = Timer::new(Timeouts {
-        artim: Duration::from_secs(30),
-        idle: Duration::from_secs(600),
-    });
+    let mut timer = timer();
     for Moment(seconds, runs, has_sent, left) in moments {
         clock.seconds.set(*seconds);
         let answer = timer.time_left(&clock, *runs, *has_sent);
@@ -75,4 +95,17 @@ fn the_timer_runs_from_its_start(rt: HostRuntime) -> Result<(), Fail> {
         ],
     );
     Ok(())
+}
+
+/// While the clock fails the timer does not expire, neither where it starts nor once it runs.
+#[test]
+fn a_clock_that_fails_leaves_the_whole_time(rt: HostRuntime) {
+    let whole = Some(Duration::from_secs(30));
+    let clock = Hands {
+        seconds: Cell::new(1000),
+    };
+    let mut timer = timer();
+    assert!(rt; timer.time_left(&Stopped, true, false) == whole);
+    assert!(rt; timer.time_left(&clock, true, false) == whole);
+    assert!(rt; timer.time_left(&Stopped, true, false) == whole);
 }

@@ -3,10 +3,11 @@ use crate::error::ProgramError;
 use crate::faults::write_dir_fault;
 use crate::outcome::Outcome;
 use crate::texts::{Indent, PathText, Printable};
+use crate::whole::read_whole;
 use dicomdir::{DirFault, Tree, TreeRecord, check};
 use std::alloc::{AllocError, Allocator};
 use std::io;
-use std::io::{ErrorKind, Read, Write};
+use std::io::{Read, Write};
 
 /// Writes the line of a record.
 fn write_record<O: Write>(record: &TreeRecord<'_>, out: &mut O) -> io::Result<()> {
@@ -73,11 +74,6 @@ pub fn checkdir_over<A: Allocator + Copy, R: Read, O: Write>(
     input: &mut R,
     out: &mut O,
 ) -> Result<Outcome, ProgramError> {
-    match read_directory(alloc, input) {
-        Ok(bytes) => list_records(alloc, bytes.as_slice(), out),
-        Err(error) if error.kind() == ErrorKind::OutOfMemory => {
-            Err(ProgramError::Memory(AllocError))
-        }
-        Err(error) => Err(ProgramError::Read(error)),
-    }
+    let bytes = read_whole(alloc, input)?;
+    list_records(alloc, bytes.as_slice(), out)
 }

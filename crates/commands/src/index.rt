@@ -7,8 +7,8 @@ use crate::settings::Index;
 use crate::texts::{PathText, TagText};
 use dicomdir::{Built, DirFault, FileId, Row, Skip, build, check, kept_of, rows_of, write_dir};
 use part10::MetaFault;
-use std::alloc::{AllocError, Global};
-use std::fs::File;
+use std::alloc::{AllocError, Allocator};
+use std::fs::OpenFile;
 use std::io::{BufWriter, ErrorKind, Read, Write};
 use std::rt::Files;
 use std::{fs, io};
@@ -20,11 +20,10 @@ const DIRECTORY: &str = "DICOMDIR";
 const DRAFT: &str = "DIRDRAFT";
 
 /// Reads the row of the file with this file ID.
-fn row_of<R: Files<File = File> + Alloc<A = Global>>(
-    rt: &R,
-    dir: &str,
-    id: &FileId,
-) -> Result<Row<Global>, Skip> {
+fn row_of<R: Files + Alloc>(rt: &R, dir: &str, id: &FileId) -> Result<Row<R::A>, Skip>
+where
+    R::A: Copy,
+{
     let Ok(path) = path_of(rt.alloc(), dir, id) else {
         return Err(Skip::OutOfMemory);
     };
@@ -43,14 +42,14 @@ struct Skipped {
 
 /// What is read of the files of a folder.
 #[derive(Drop)]
-struct Contents {
-    rows: Vec<Row<Global>, Global>,
-    skipped: Vec<Skipped, Global>,
+struct Contents<A: Allocator> {
+    rows: Vec<Row<A>, A>,
+    skipped: Vec<Skipped, A>,
 }
 
-impl Contents {
+impl<A: Allocator> Contents<A> {
     /// Adds the row of a file, or why it has none; fails where memory ran out.
-    fn push(&mut self, id: &FileId, row: Result<Row<Global>, Skip>) -> Result<(), ProgramError> {
+    fn push(&mut self, id: &FileId, row: Result<Row<A>, Skip>) -> Result<(), ProgramError> {
         match row {
             Ok(row) => self.rows.push(row)?,
             Err(Skip::OutOfMemory) => return Err(ProgramError::Memory(AllocError)),
@@ -61,11 +60,14 @@ impl Contents {
 }
 
 /// Reads the rows of files, and keeps why a file has none; fails where memory ran out.
-fn read_rows<R: Files<File = File> + Alloc<A = Global>>(
+fn read_rows<R: Files + Alloc>(
     rt: &R,
     dir: &str,
     ids: &[FileId],
-) -> Result<Contents, ProgramError> {
+) -> Result<Contents<R::A>, ProgramError>
+where
+    R::A: Copy,
+{
     let mut contents = Contents {
         rows: Vec::new(rt.alloc()),
         skipped: Vec::new(rt.alloc()),
@@ -94,7 +96,10 @@ fn tell_skipped<O: Write>(skipped: &[Skipped], out: &mut O) -> io::Result<()> {
 }
 
 /// Reads the folder's directory, which is open.
-fn read_present<R: Read>(alloc: Global, file: &mut R) -> Result<Vec<u8, Global>, ProgramError> {
+fn read_present<A: Allocator + Copy, R: Read>(
+    alloc: A,
+    file: &mut R,
+) -> Result<Vec<u8, A>, ProgramError> {
     match read_directory(alloc, file) {
         Ok(bytes) => Ok(bytes),
         Err(error) if error.kind() == ErrorKind::OutOfMemory => {
@@ -105,10 +110,10 @@ fn read_present<R: Read>(alloc: Global, file: &mut R) -> Result<Vec<u8, Global>,
 }
 
 /// Reads the folder's directory whole.
-fn present_directory<R: Files<File = File> + Alloc<A = Global>>(
-    rt: &R,
-    dir: &str,
-) -> Result<Vec<u8, Global>, ProgramError> {
+fn present_directory<R: Files + Alloc>(rt: &R, dir: &str) -> Result<Vec<u8, R::A>, ProgramError>
+where
+    R::A: Copy,
+{
     let path = format!(in rt.alloc(); "{dir}/{DIRECTORY}")?;
     match fs::open(rt, path.as_str()) {
         Ok(mut file) => read_present(rt.alloc(), &mut file),
@@ -117,7 +122,7 @@ fn present_directory<R: Files<File = File> + Alloc<A = Global>>(
 }
 
 /// Returns the file IDs of the images that a directory keeps, or its fault.
-fn kept_in(alloc: Global, bytes: &[u8]) -> Result<Vec<FileId, Global>, DirFault> {
+fn kept_in<A: Allocator + Copy>(alloc: A, bytes: &[u8]) -> Result<Vec<FileId, A>, DirFault> {
     match check(alloc, bytes) {
         Ok(tree) => kept_of(alloc, &tree),
         Err(fault) => Err(fault),
@@ -125,19 +130,25 @@ fn kept_in(alloc: Global, bytes: &[u8]) -> Result<Vec<FileId, Global>, DirFault>
 }
 
 /// Returns the file IDs of the images that the folder's directory keeps, or the fault of the directory.
-fn kept_files<R: Files<File = File> + Alloc<A = Global>>(
+fn kept_files<R: Files + Alloc>(
     rt: &R,
     dir: &str,
-) -> Result<Result<Vec<FileId, Global>, DirFault>, ProgramError> {
+) -> Result<Result<Vec<FileId, R::A>, DirFault>, ProgramError>
+where
+    R::A: Copy,
+{
     let bytes = present_directory(rt, dir)?;
     Ok(kept_in(rt.alloc(), bytes.as_slice()))
 }
 
 /// Returns the file IDs of the files that the directory is of, or the fault of the present directory.
-fn files_of<R: Files<File = File> + Alloc<A = Global> + Clone + Drop>(
+fn files_of<R: Files + Alloc + Clone + Drop>(
     rt: &R,
     settings: &Index,
-) -> Result<Result<Vec<FileId, Global>, DirFault>, ProgramError> {
+) -> Result<Result<Vec<FileId, R::A>, DirFault>, ProgramError>
+where
+    R::A: Copy,
+{
     if settings.keep {
         return kept_files(rt, settings.dir);
     }
@@ -145,30 +156,36 @@ fn files_of<R: Files<File = File> + Alloc<A = Global> + Clone + Drop>(
 }
 
 /// Writes the directory to a file.
-fn write_built(alloc: Global, file: &File, built: &Built<'_, Global>) -> io::Result<()> {
+fn write_built<A: Allocator + Copy, W: Write>(
+    alloc: A,
+    file: &mut W,
+    built: &Built<'_, A>,
+) -> io::Result<()> {
     let mut writer = BufWriter::new(alloc, file)?;
     write_dir(built, &mut writer)?;
     writer.flush()
 }
 
 /// Writes the directory to a file of its own, up to the disk.
-fn write_draft<R: Files<File = File> + Alloc<A = Global>>(
-    rt: &R,
-    path: &str,
-    built: &Built<'_, Global>,
-) -> io::Result<()> {
-    let file = fs::create(rt, path)?;
-    write_built(rt.alloc(), &file, built)?;
+fn write_draft<R: Files + Alloc>(rt: &R, path: &str, built: &Built<'_, R::A>) -> io::Result<()>
+where
+    R::A: Copy,
+{
+    let mut file = fs::create(rt, path)?;
+    write_built(rt.alloc(), &mut file, built)?;
     file.sync_all()
 }
 
 /// Writes the directory to the draft and gives that its name; removes it where either fails.
-fn replace<R: Files<File = File> + Alloc<A = Global>>(
+fn replace<R: Files + Alloc>(
     rt: &R,
     draft: &str,
     path: &str,
-    built: &Built<'_, Global>,
-) -> io::Result<()> {
+    built: &Built<'_, R::A>,
+) -> io::Result<()>
+where
+    R::A: Copy,
+{
     let written = match write_draft(rt, draft, built) {
         Ok(()) => fs::rename(rt, draft, path),
         Err(error) => Err(error),
@@ -180,29 +197,35 @@ fn replace<R: Files<File = File> + Alloc<A = Global>>(
 }
 
 /// Writes what the folder names up to the disk.
-fn sync<R: Files<File = File>>(rt: &R, dir: &str) -> io::Result<()> {
+fn sync<R: Files>(rt: &R, dir: &str) -> io::Result<()> {
     let folder = fs::open(rt, dir)?;
     folder.sync_all()
 }
 
 /// Puts the directory into the folder, in place of an old one once it is whole.
-fn put_directory<R: Files<File = File> + Alloc<A = Global>>(
+fn put_directory<R: Files + Alloc>(
     rt: &R,
     dir: &str,
-    built: &Built<'_, Global>,
-) -> Result<(), ProgramError> {
+    built: &Built<'_, R::A>,
+) -> Result<(), ProgramError>
+where
+    R::A: Copy,
+{
     let draft = format!(in rt.alloc(); "{dir}/{DRAFT}")?;
     let path = format!(in rt.alloc(); "{dir}/{DIRECTORY}")?;
     match replace(rt, draft.as_str(), path.as_str(), built) {
         Ok(()) => sync(rt, dir).map_err(ProgramError::Directory),
+        Err(error) if error.kind() == ErrorKind::OutOfMemory => {
+            Err(ProgramError::Memory(AllocError))
+        }
         Err(error) => Err(ProgramError::Directory(error)),
     }
 }
 
 /// Writes a line for each file that has no row, a line for each row that is left out because an earlier one
 /// has the same instance, and the number of records.
-fn tell_built<O: Write>(
-    built: &Built<'_, Global>,
+fn tell_built<A: Allocator, O: Write>(
+    built: &Built<'_, A>,
     skipped: &[Skipped],
     out: &mut O,
 ) -> io::Result<()> {
@@ -218,13 +241,16 @@ fn tell_built<O: Write>(
 }
 
 /// Puts the directory into the folder, and tells what it left out.
-fn put_and_tell<R: Files<File = File> + Alloc<A = Global>, O: Write>(
+fn put_and_tell<R: Files + Alloc, O: Write>(
     rt: &R,
     dir: &str,
-    built: &Built<'_, Global>,
+    built: &Built<'_, R::A>,
     skipped: &[Skipped],
     out: &mut O,
-) -> Result<Outcome, ProgramError> {
+) -> Result<Outcome, ProgramError>
+where
+    R::A: Copy,
+{
     put_directory(rt, dir, built)?;
     match tell_built(built, skipped, out) {
         Ok(()) => Ok(Outcome::Good),
@@ -233,12 +259,15 @@ fn put_and_tell<R: Files<File = File> + Alloc<A = Global>, O: Write>(
 }
 
 /// Writes the directory of these files, and tells what it left out, or its fault.
-fn index_files<R: Files<File = File> + Alloc<A = Global>, O: Write>(
+fn index_files<R: Files + Alloc, O: Write>(
     rt: &R,
     settings: &Index,
-    contents: &Contents,
+    contents: &Contents<R::A>,
     out: &mut O,
-) -> Result<Outcome, ProgramError> {
+) -> Result<Outcome, ProgramError>
+where
+    R::A: Copy,
+{
     let skipped = contents.skipped.as_slice();
     match build(rt.alloc(), contents.rows.as_slice(), settings.uid.copied()) {
         Ok(built) => put_and_tell(rt, settings.dir, &built, skipped, out),
@@ -254,13 +283,19 @@ fn index_files<R: Files<File = File> + Alloc<A = Global>, O: Write>(
 /// and why; then of each double; then how many records there are. A directory that is not built leaves an
 /// old one as it is, and its fault is told.
 ///
+/// Memory for what the files say is the runtime's.
+///
 /// Fails if the folder or its directory can't be read, the directory or the output can't be written, or
-/// memory runs out. Where the output fails, the directory is there.
-pub fn index_dir<R: Files<File = File> + Alloc<A = Global> + Clone + Drop, O: Write>(
+/// memory runs out; then an old directory is as it was. Where only the output fails, or the folder can't be
+/// written up to the disk, the new directory is there.
+pub fn index_dir<R: Files + Alloc + Clone + Drop, O: Write>(
     rt: &R,
     settings: &Index,
     out: &mut O,
-) -> Result<Outcome, ProgramError> {
+) -> Result<Outcome, ProgramError>
+where
+    R::A: Copy,
+{
     match files_of(rt, settings)? {
         Ok(ids) => {
             let contents = read_rows(rt, settings.dir, ids.as_slice())?;

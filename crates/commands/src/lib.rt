@@ -23,6 +23,7 @@ mod socket;
 mod texts;
 mod timer;
 mod walk;
+mod whole;
 
 pub use check::check_over;
 pub use checkdir::checkdir_over;
@@ -33,6 +34,8 @@ pub use outcome::Outcome;
 pub use program::run_program;
 pub use replay::replay_over;
 pub use serve::serve_one;
-pub use settings::{Index, Layout, Per, Serve};
+pub use settings::{
+    Index, Layout, Per, Replay, Serve, index_settings, replay_settings, serve_settings,
+};
 pub use show::show_over;
 pub use timer::{Timeouts, Timer};

@@ -6,6 +6,7 @@ use crate::folder::open_folder;
 use crate::hexadecimal;
 use crate::limits::{COMMAND, DEPTH, REQUEST, VALUES};
 use crate::settings::Replay;
+use crate::whole::read_whole;
 use engine::{ListSource, ListedInput, Report, run};
 use negotiate::Config;
 use part10::{Filing, FolderFiling};
@@ -87,10 +88,7 @@ pub fn replay_over<A: Allocator + Copy, R: Read, F: Filing, O: Write>(
 ) -> Result<Report, ProgramError>
     requires { 0 < cut }
 {
-    let mut recording = Vec::new(alloc);
-    input
-        .read_to_end(&mut recording)
-        .map_err(ProgramError::Read)?;
+    let recording = read_whole(alloc, input)?;
     replay_recording(alloc, recording.as_slice(), cut, config, filing, out)
 }
 
