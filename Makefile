@@ -6,7 +6,7 @@ RECORDING := crates/cli/data/recordings/echo.bin
 PREFIX ?= /usr/local
 DESTDIR ?=
 
-.PHONY: run test interop bench check must-fail fmt gate-table clean install uninstall
+.PHONY: run test interop bench check must-fail fmt gate-table clean install uninstall deb
 
 run: dcmbox
 	./dcmbox replay $(RECORDING) --out .
@@ -19,15 +19,17 @@ dcmbox: FORCE
 .PHONY: FORCE
 FORCE:
 
-# Looks at what the crates cite of each other, proves every crate and its tests from nothing, tries the
-# must-fail edits, runs the tests and the program, and then tries the program from outside: with
-# invalid arguments and missing files, and with the tools of DCMTK, which it installs where they are
-# missing.
+# Looks at what the crates cite of each other and at the index of the definitions, proves every crate and its
+# tests from nothing, tries the must-fail edits, runs the tests and the program, and then tries the program
+# from outside: with invalid arguments and missing files, under strace, with the tools of DCMTK, and as a
+# Debian package. What of strace, DCMTK and lintian is missing it installs.
 test:
 	tests/layers.sh
+	tests/definitions.py
 	rt ci
 	tests/program.sh $(PROGRAM)
 	tests/interop.sh $(PROGRAM)
+	tests/package.sh $(PROGRAM)
 
 # The tools of DCMTK against the program that is built.
 interop:
@@ -63,10 +65,15 @@ install:
 	sed 's|@PREFIX@|$(PREFIX)|' packaging/dcmbox.service.in > $(DESTDIR)$(PREFIX)/lib/systemd/system/dcmbox.service
 	chmod 644 $(DESTDIR)$(PREFIX)/lib/systemd/system/dcmbox.service
 
+# Builds a Debian package of what `make run` built, here.
+deb:
+	@test -x dcmbox || { echo "there is no ./dcmbox: run 'make run' first"; exit 1; }
+	packaging/make-deb dcmbox .
+
 uninstall:
 	rm -f $(DESTDIR)$(PREFIX)/bin/dcmbox $(DESTDIR)$(PREFIX)/share/man/man1/dcmbox.1 \
 		$(DESTDIR)$(PREFIX)/share/bash-completion/completions/dcmbox \
 		$(DESTDIR)$(PREFIX)/lib/systemd/system/dcmbox.service
 
 clean:
-	rm -rf dcmbox crates/*/out
+	rm -rf dcmbox dcmbox_*.deb crates/*/out
