@@ -14,6 +14,8 @@ mod size;
 mod syntax;
 mod tag;
 mod title;
+pub mod trace;
+pub mod traced;
 mod uid;
 mod values;
 mod vr;
