@@ -1,5 +1,6 @@
 //! A filing over a folder.
-ghost use Rattle.std.specs.Prelude.{◌≡◌, ◌≤◌, ◌+◌, None, OnOk, is_some, true, false};
+ghost use Rattle.std.specs.Prelude.{◌≡◌, ◌≤◌, ◌+◌, [], ◌∷◌, ◌++◌, None, Some, OnOk, OnErr, is_some, option_map, true, false};
+ghost use Rattle.part10.specs.Store.{or_nothing, store_of};
 
 use crate::filing::{Filing, FilingFailed};
 use crate::listing::{file_path, folder_path, last_place};
@@ -7,6 +8,8 @@ use crate::naming::{Named, name_file};
 use crate::place::{Layout, Place};
 use crate::stored_file::StoredFile;
 use element::count::Count;
+use element::trace::Traces;
+use element::traced::Traced;
 use std::fs::{File, OpenFile, TryLockError};
 use std::io::{Error, ErrorKind, Write};
 use std::rt::Files;
@@ -23,8 +26,9 @@ use std::{fs, io};
 /// link, which fails where the name is taken; on a file system without hard links the draft is renamed
 /// once the name was seen to be free.
 ///
-/// What contracts see of a folder is whether there is a draft, and how many calls failed: that much is
-/// proved. That the bytes arrive, and under which names, is tested.
+/// What contracts see of a folder is what was written into each file that was committed since it was
+/// opened, and into the draft; whether there is a draft; and how many calls failed. Under which names
+/// the files stand, and that they survive a loss of power, is tested.
 #[derive(Drop)]
 pub struct FolderFiling<R: Files + Alloc + Clone + Drop>
 where
@@ -38,7 +42,10 @@ where
     layout: Layout,
     /// Of the last file that was found or committed.
     last: Place,
-    draft: Option<R::File>,
+    draft: Option<Traced<R::File>>,
+    /// What contracts see of the files that were committed since the folder was opened, oldest
+    /// first: the bytes that were written into each.
+    kept: Traces,
     has_sync: bool,
     committed: u32,
     dropped: u32,
@@ -105,6 +112,7 @@ where
             layout,
             last,
             draft: None,
+            kept: Traces::new(),
             has_sync: true,
             committed: 0,
             dropped: 0,
@@ -138,7 +146,8 @@ where
     }
 
     fn drop_draft(&mut self)
-        ensures draft { is_some self.new.draft ≡ false }
+        ensures draft { self.new.draft ≡ None }
+        ensures same_files { self.new.kept.all ≡ self.old.kept.all }
         ensures same_count { self.new.failures.total ≡ self.old.failures.total }
     {
         if self.draft.take().is_some() {
@@ -149,12 +158,14 @@ where
     }
 
     fn begin_draft(&mut self) -> io::Result<()>
-        ensures draft { OnOk result (is_some self.new.draft ≡ true) }
+        ensures draft { OnOk result (option_map (λ d. d.trace.bytes) self.new.draft ≡ Some []) }
+        ensures same_files { self.new.kept.all ≡ self.old.kept.all }
         ensures same_count { self.new.failures.total ≡ self.old.failures.total }
     {
         self.drop_draft();
         self.remove_draft()?;
-        self.draft = Some(File::create_new(&self.rt, self.draft_path.as_str())?);
+        let file = File::create_new(&self.rt, self.draft_path.as_str())?;
+        self.draft = Some(Traced::new(file));
         Ok(())
     }
 
@@ -167,6 +178,8 @@ where
 
     /// Makes a folder for files.
     fn make_folder(&mut self, folder: u32) -> io::Result<()>
+        ensures same_draft { self.new.draft ≡ self.old.draft }
+        ensures same_files { self.new.kept.all ≡ self.old.kept.all }
         ensures same_count { self.new.failures.total ≡ self.old.failures.total }
     {
         let path = folder_path(self.rt.alloc(), self.dir.as_str(), folder)?;
@@ -206,8 +219,11 @@ where
         Ok(file_path(self.rt.alloc(), folder.as_str(), place.file)?)
     }
 
-    /// Gives the draft its name.
+    /// Gives the draft its name. This is the one place where contracts see a file more.
     fn name_draft(&mut self, place: Place) -> io::Result<()>
+        requires draft { is_some self.old.draft ≡ true }
+        ensures named { OnOk result (self.new.kept.all ≡ self.old.kept.all ++ or_nothing (option_map (λ d. d.trace.bytes) self.old.draft) ∷ []) }
+        ensures failed { OnErr result (self.new.kept.all ≡ self.old.kept.all) }
         ensures same_count { self.new.failures.total ≡ self.old.failures.total }
     {
         let path = self.path_of(place)?;
@@ -227,11 +243,17 @@ where
             return Err(error);
         }
         self.last = place;
+        if let Some(draft) = &self.draft {
+            self.kept.push(draft.trace());
+        }
         Ok(())
     }
 
     fn commit_draft(&mut self) -> io::Result<()>
-        ensures draft { OnOk result (is_some self.new.draft ≡ false) }
+        requires draft { is_some self.old.draft ≡ true }
+        ensures committed { OnOk result (self.new.kept.all ≡ self.old.kept.all ++ or_nothing (option_map (λ d. d.trace.bytes) self.old.draft) ∷ []) }
+        ensures failed { OnErr result (self.new.kept.all ≡ self.old.kept.all) }
+        ensures draft { OnOk result (self.new.draft ≡ None) }
         ensures same_count { self.new.failures.total ≡ self.old.failures.total }
     {
         self.sync_draft()?;
@@ -252,7 +274,8 @@ where
     }
 
     fn fail(&mut self)
-        ensures draft { is_some self.new.draft ≡ false }
+        ensures draft { self.new.draft ≡ None }
+        ensures same_files { self.new.kept.all ≡ self.old.kept.all }
         ensures counted { self.new.failures.total ≡ self.old.failures.total + 1 }
     {
         self.drop_draft();
@@ -264,7 +287,7 @@ impl<R: Files + Alloc + Clone + Drop> Filing for FolderFiling<R>
 where
     R::File: StoredFile,
 {
-    ghost store = { λ f. record { told = None; has_draft = is_some f.draft; failures = f.failures.total } };
+    ghost store = { λ f. store_of (record { files = f.kept.all; draft = option_map (λ d. d.trace.bytes) f.draft; failures = f.failures.total }) };
 
     fn begin(&mut self) -> Result<(), FilingFailed> {
         if self.begin_draft().is_err() {
