@@ -1,7 +1,7 @@
 -- One turn after another.
 use Rattle.std.proofs.Common.{◌≡◌, ◌≢◌, ℕ, zero, suc, ◌+◌, ◌≤◌, Bool, false, List, [], ◌∷◌, ◌++◌, length, take, drop, option_map, Option, Some, None, refl, sym, ap, subst, ◌∙◌, arith, inl, inr}
 use Rattle.std.proofs.lemmas.Bool.{cases_lt}
-use Rattle.std.proofs.lemmas.List.{length-append, length-map, take-append-drop, take-append-le, take_all}
+use Rattle.std.proofs.lemmas.List.{append_assoc, append-nil, length-append, length-map, take-append-drop, take-append-le, take_all}
 use Rattle.acceptor.specs.declared.state.State.TheVariants.{Sta1}
 use Rattle.part10.specs.Store.{Shelf, Store, told_after, without_draft, stepped}
 use Rattle.negotiate.specs.Settings.{Settings}
@@ -9,7 +9,7 @@ use Rattle.engine.specs.declared.source.Input.{Input}
 use Rattle.engine.specs.declared.report.Report.{Report}
 use Rattle.engine.specs.Devices.{Devices, with_files, filed}
 use Rattle.engine.specs.Held.{Held}
-use Rattle.engine.specs.Inputs.{Received, first_of, others_of, first_inputs, input_of, stream_of, Gives}
+use Rattle.engine.specs.Inputs.{Received, Supply, first_of, others_of, first_inputs, input_of, stream_of, TakesFirst, Gives, with_given}
 use Rattle.engine.specs.Moves.{Moved}
 use Rattle.engine.specs.Progress.{at_start}
 use Rattle.engine.specs.Ran.{inputs_after, story_after, EndsLast, LeavesOthers, standing_of, Answered}
@@ -18,7 +18,7 @@ use Rattle.engine.specs.Run.{Rooms, progress_of, sent_of, files_of}
 use Rattle.engine.specs.Stands.{Stands}
 use Rattle.engine.specs.machine.Shows.{Fields}
 use Rattle.engine.specs.Timeline.{Happened, Entry, entries, entries_of}
-use Rattle.engine.specs.machine.Running.{Follows, Stood, Running}
+use Rattle.engine.specs.machine.Running.{TakesFront, Follows, Stood, Running}
 use Rattle.engine.proofs.StoryLemmas.{gains_nothing, gains_then}
 use Rattle.engine.proofs.TimelineLemmas.{entries_append}
 
@@ -32,21 +32,38 @@ after_more : (n : ℕ) (xs : List Received) → inputs_after (suc n) xs ≡ othe
 after_more zero xs = refl
 after_more (suc n) xs = after_more n (others_of xs)
 
-follows_more : (old now next : Option (List Received)) (taken : List Received) (bytes : List ℕ) (kind : Input) → Follows old now taken → Gives now next bytes kind → Follows old next (taken ++ input_of kind bytes ∷ [])
-follows_more None now next taken bytes kind f g = rw f at g
-follows_more (Some all) now next taken bytes kind f g =
-    let k : (input_of kind bytes ≡ first_of (inputs_after (length taken) all)) × (next ≡ Some (others_of (inputs_after (length taken) all))) = rw f.1 at g in
-    let len : length (taken ++ input_of kind bytes ∷ []) ≡ suc (length taken) = length-append taken (input_of kind bytes ∷ []) ∙ omega arith in (
+front_more : (old now next : Option (List Received)) (taken : List Received) (x : Received) → TakesFront old now taken → TakesFirst now next x → TakesFront old next (taken ++ x ∷ [])
+front_more None now next taken x f g = rw f at g
+front_more (Some all) now next taken x f g =
+    let k : (x ≡ first_of (inputs_after (length taken) all)) × (next ≡ Some (others_of (inputs_after (length taken) all))) = rw f.1 at g in
+    let len : length (taken ++ x ∷ []) ≡ suc (length taken) = length-append taken (x ∷ []) ∙ omega arith in (
       rw (len, first_more (length taken) all, k.0) (ap (λ (ys : List Received). ys ++ first_of (inputs_after (length taken) all) ∷ []) f.0),
       rw (len, after_more (length taken) all) k.1,
     )
 
-follows_start : (source : Option (List Received)) → Follows source source []
-follows_start None = refl
-follows_start (Some all) = (refl, refl)
+given_more : (old : Option (List Received)) (taken more : List Received) → with_given more (with_given taken old) ≡ with_given (taken ++ more) old
+given_more None taken more = refl
+given_more (Some given) taken more = ap (λ (xs : List Received). Some xs) (append_assoc given taken more)
 
-pub follows_all : (old now : Option (List Received)) (taken all : List Received) → Follows old now taken → old ≡ Some all → LeavesOthers taken all now
-follows_all old now taken all f e = let g : Follows (Some all) now taken = subst (λ (x : Option (List Received)). Follows x now taken) e f in record { first = g.0; others = g.1 }
+given_nothing : (old : Option (List Received)) → old ≡ with_given [] old
+given_nothing None = refl
+given_nothing (Some given) = ap (λ (xs : List Received). Some xs) (sym (append-nil given))
+
+follows_more : (old now next : Supply) (taken : List Received) (bytes : List ℕ) (kind : Input) → Follows old now taken → Gives now next bytes kind → Follows old next (taken ++ input_of kind bytes ∷ [])
+follows_more old now next taken bytes kind f g = record {
+  front = front_more old.to_come now.to_come next.to_come taken (input_of kind bytes) f.front g.first;
+  given = g.added ∙ ap (with_given (input_of kind bytes ∷ [])) f.given ∙ given_more old.given taken (input_of kind bytes ∷ []);
+}
+
+front_start : (source : Option (List Received)) → TakesFront source source []
+front_start None = refl
+front_start (Some all) = (refl, refl)
+
+follows_start : (source : Supply) → Follows source source []
+follows_start source = record { front = front_start source.to_come; given = given_nothing source.given }
+
+pub follows_all : (old now : Option (List Received)) (taken all : List Received) → TakesFront old now taken → old ≡ Some all → LeavesOthers taken all now
+follows_all old now taken all f e = let g : TakesFront (Some all) now taken = subst (λ (x : Option (List Received)). TakesFront x now taken) e f in record { first = g.0; others = g.1 }
 
 -- ---- the story of a front of the inputs
 
@@ -96,7 +113,7 @@ module _ (rooms : Rooms) (s : Settings) where
 
   -- ---- one turn more
 
-  pub running_start : (seen : Fields) (source : Option (List Received)) (d : Devices) → Stands rooms s [] [] false seen d.store → Running rooms s 0 source source seen d d
+  pub running_start : (seen : Fields) (source : Supply) (d : Devices) → Stands rooms s [] [] false seen d.store → Running rooms s 0 source source seen d d
   running_start seen source d h = record {
     taken = [];
     number = refl;
@@ -109,7 +126,7 @@ module _ (rooms : Rooms) (s : Settings) where
   OnInput seen seen_new now new x set = (inputs : List Received) (story : List Happened) (failed : Bool) → Stands rooms set inputs story failed seen now.store
       → Moved rooms set inputs story failed x seen seen_new now new
 
-  pub running_more : (seen seen_new : Fields) (source now next : Option (List Received)) (turns : ℕ) (old mid new : Devices) (bytes : List ℕ) (kind : Input) (set : Settings) → set ≡ s → seen.kept.state ≢ Sta1 → (r : Running rooms s turns source now seen old mid)
+  pub running_more : (seen seen_new : Fields) (source now next : Supply) (turns : ℕ) (old mid new : Devices) (bytes : List ℕ) (kind : Input) (set : Settings) → set ≡ s → seen.kept.state ≢ Sta1 → (r : Running rooms s turns source now seen old mid)
       → Gives now next bytes kind → OnInput seen seen_new mid new (input_of kind bytes) set → Running rooms s (turns + 1) source next seen_new old new
   running_more seen seen_new source now next turns old mid new bytes kind set is open_still r g k = record {
     taken = r.taken ++ input_of kind bytes ∷ [];

@@ -1,6 +1,6 @@
 -- What an association receives: pieces of the stream, the transport's close, the ARTIM timer's expiry and the local
 -- user's abort (PS3.8 section 9.2.1).
-use Rattle.std.specs.Prelude.{◌≡◌, ℕ, zero, suc, List, [], ◌∷◌, ◌++◌, Option, Some, None}
+use Rattle.std.specs.Prelude.{◌≡◌, ℕ, zero, suc, List, [], ◌∷◌, ◌++◌, map, Option, Some, None, option_map}
 use Rattle.engine.specs.declared.source.Input.{Input}
 use Rattle.engine.specs.declared.source.Input.TheVariants as kind
 use Rattle.engine.specs.declared.list_source.ListedInput.{ListedInput}
@@ -41,10 +41,28 @@ input_of kind.Closed bytes = Close
 input_of kind.Expired bytes = Expiry
 input_of kind.LocalAbort bytes = UserAbort
 
+-- the inputs that a source named, one after another, each with the bytes that it lent
+abbrev pub inputs_of : List (Input × List ℕ) → List Received
+inputs_of named = map (λ x. input_of x.0 x.1) named
+
+-- what contracts see of a source: the inputs that are still to come, and those that it has given, where it shows them
+pub record Supply : Type 0 where
+  pub to_come : Option (List Received)
+  pub given : Option (List Received)
+
+-- these inputs were given too, where it is known what was
+abbrev pub with_given : List Received → Option (List Received) → Option (List Received)
+with_given inputs known = option_map (λ xs. xs ++ inputs) known
+
 -- a source that shows what is to come gives the first of it and keeps the others
-abbrev pub Gives : Option (List Received) → Option (List Received) → List ℕ → Input → Type 0
-Gives None new last named = new ≡ None
-Gives (Some inputs) new last named = (input_of named last ≡ first_of inputs) × (new ≡ Some (others_of inputs))
+abbrev pub TakesFirst : Option (List Received) → Option (List Received) → Received → Type 0
+TakesFirst None new input = new ≡ None
+TakesFirst (Some inputs) new input = (input ≡ first_of inputs) × (new ≡ Some (others_of inputs))
+
+-- a source gives this input: the first of those that were to come, and the last of those that it has given
+pub record Gives (old new : Supply) (last : List ℕ) (named : Input) : Type 0 where
+  pub first : TakesFirst old.to_come new.to_come (input_of named last)
+  pub added : new.given ≡ with_given (input_of named last ∷ []) old.given
 
 -- a listed input
 abbrev pub received_of : ListedInput → Received

@@ -10,7 +10,7 @@ use Rattle.engine.specs.declared.report.Report.{Report}
 use Rattle.engine.specs.Devices.{Devices, line_with, filed}
 use Rattle.engine.specs.Fair.{IsStory}
 use Rattle.engine.specs.Held.{Held}
-use Rattle.engine.specs.Inputs.{Received, first_inputs, others_of}
+use Rattle.engine.specs.Inputs.{Received, Supply, first_inputs, others_of, with_given}
 use Rattle.engine.specs.Progress.{at_start}
 use Rattle.engine.specs.Reached.{reached}
 use Rattle.engine.specs.Run.{Rooms, progress_of, sent_of, files_of, wire_failures, filing_failures}
@@ -63,11 +63,12 @@ pub record LeavesOthers (taken all : List Received) (new : Option (List Received
   pub others : new ≡ Some (inputs_after (length taken) all)
 
 -- The first inputs of the source were taken, as many as there were turns unless they ended the association, and this came
--- of them.
-pub record Ran (rooms : Rooms) (s : Settings) (turns : ℕ) (report : Report) (source_old source_new : Option (List Received)) (old new : Devices) : Type 0 where
+-- of them. They are what the source was to give, and what it has given, where it shows either.
+pub record Ran (rooms : Rooms) (s : Settings) (turns : ℕ) (report : Report) (source_old source_new : Supply) (old new : Devices) : Type 0 where
   pub taken : List Received
   pub most_turns : length taken ≤ turns
   pub all_turns : length taken < turns → report.standing ≡ standing.Ended
-  pub source : (all : List Received) → source_old ≡ Some all → LeavesOthers taken all source_new
+  pub source : (all : List Received) → source_old.to_come ≡ Some all → LeavesOthers taken all source_new.to_come
+  pub given : source_new.given ≡ with_given taken source_old.given
   pub answered : Answered rooms s taken report old new
   pub no_draft : new.store.has_draft ≡ false

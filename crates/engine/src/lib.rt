@@ -3,6 +3,7 @@
 
 mod association;
 mod framing;
+mod given;
 mod heads;
 pub mod laws;
 mod list_source;
@@ -17,6 +18,7 @@ mod status;
 mod stores;
 
 pub use association::Association;
+pub use given::Given;
 pub use list_source::{ListSource, ListedInput};
 pub use report::{Report, Standing};
 pub use running::run;

@@ -39,10 +39,10 @@ impl<'a> ListSource<'a> {
 }
 
 impl Source for ListSource<'_> {
-    ghost use Rattle.std.specs.Prelude.{Some};
+    ghost use Rattle.std.specs.Prelude.{Some, None};
     ghost use Rattle.engine.specs.ListSource.{inputs_left};
 
-    ghost to_come = { λ s. Some (inputs_left s) };
+    ghost supply = { λ s. record { to_come = Some (inputs_left s); given = None } };
 
     ghost last = { λ s. s.piece.now };
 

@@ -28,7 +28,7 @@ fn take_input<
     requires draft { IsThere (drafting_of association.old) (F.store filing.old) }
     ensures draft { IsThere (drafting_of association.new) (F.store filing.new) }
     ensures settings { settings_in association.new ≡ settings_in association.old }
-    ensures took { TookInput (rooms_of A C V D) (settings_in association.old) (S.to_come source.old) (S.to_come source.new) (fields_of association.old) (fields_of association.new)
+    ensures took { TookInput (rooms_of A C V D) (settings_in association.old) (S.supply source.old) (S.supply source.new) (fields_of association.old) (fields_of association.new)
         (devices (W.line wire.old) (F.store filing.old)) (devices (W.line wire.new) (F.store filing.new)) }
 {
     match source.next(association.artim()) {
@@ -42,8 +42,8 @@ fn take_input<
 /// Opens an association and takes inputs until it has ended or `turns` were taken; then drops the
 /// draft that may be there. Returns how the association stands, and how many received bytes it holds.
 ///
-/// `ran`: the source is left with exactly the inputs that were not taken, and only the last one that
-/// was taken may have ended the association. What was sent, the files, how the association stands and
+/// `ran`: the source is left with exactly the inputs that were not taken, has given exactly those that
+/// were, and only the last one that was taken may have ended the association. What was sent, the files, how the association stands and
 /// what it holds are what the acceptor's table and the rules of DIMSE give for the inputs, cut off at
 /// a failed send; and every failure is counted. It holds for every number of turns, so at every
 /// moment between two inputs.
@@ -63,7 +63,7 @@ pub fn run<
     requires greatest_kept { V ≤ 2 ^ 24 }
     requires least_levels { 2 ≤ D }
     requires greatest_levels { D ≤ 2 ^ 24 }
-    ensures ran { Ran (rooms_of A C V D) (settings_of config.now) turns result (S.to_come source.old) (S.to_come source.new)
+    ensures ran { Ran (rooms_of A C V D) (settings_of config.now) turns result (S.supply source.old) (S.supply source.new)
         (devices (W.line wire.old) (F.store filing.old)) (devices (W.line wire.new) (F.store filing.new)) }
     ensures room { result.held ≤ A + C + V + 16 * D }
 {

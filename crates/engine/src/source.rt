@@ -1,6 +1,6 @@
 //! Where an association's inputs come from.
-ghost use Rattle.std.specs.Prelude.{◌≡◌, ℕ, List, Option};
-ghost use Rattle.engine.specs.Inputs.{Received, Gives};
+ghost use Rattle.std.specs.Prelude.{◌≡◌, ℕ, List};
+ghost use Rattle.engine.specs.Inputs.{Supply, Gives};
 
 /// What comes next.
 #[derive(Clone, Copy, Debug, PartialEq, Eq)]
@@ -17,15 +17,15 @@ pub enum Input {
 
 /// Where inputs come from.
 pub trait Source {
-    /// The inputs that are still to come, where the source shows them.
-    ghost to_come: { Self → Option (List Received) };
+    /// The inputs that are still to come, and those that the source has given, where it shows them.
+    ghost supply: { Self → Supply };
 
     /// The bytes of the last piece.
     ghost last: { Self → List ℕ };
 
     /// Takes the next input; `timer` says whether the ARTIM timer runs.
     fn next(&mut self, timer: bool) -> Input
-        ensures { Gives (to_come self.old) (to_come self.new) (last self.new) result };
+        ensures { Gives (supply self.old) (supply self.new) (last self.new) result };
 
     /// The bytes of the last piece.
     fn piece(&self) -> &[u8]

@@ -28,7 +28,7 @@ impl<'a> Witness<'a> {
 }
 
 impl Source for Witness<'_> {
-    ghost to_come = { λ w. None };
+    ghost supply = { λ w. record { to_come = None; given = None } };
 
     ghost last = { λ w. w.piece.now };
 
@@ -76,7 +76,7 @@ impl<'a> Silent<'a> {
 }
 
 impl Source for Silent<'_> {
-    ghost to_come = { λ s. None };
+    ghost supply = { λ s. record { to_come = None; given = None } };
 
     ghost last = { λ s. s.piece.now };
 
@@ -129,7 +129,7 @@ impl<'a> Repeated<'a> {
 }
 
 impl Source for Repeated<'_> {
-    ghost to_come = { λ s. None };
+    ghost supply = { λ s. record { to_come = None; given = None } };
 
     ghost last = { λ s. s.piece.now };
 

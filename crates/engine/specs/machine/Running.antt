@@ -3,7 +3,7 @@ use Rattle.std.specs.Prelude.{◌≡◌, ℕ, Bool, false, List, length, Option,
 use Rattle.negotiate.specs.Settings.{Settings}
 use Rattle.engine.specs.Devices.{Devices}
 use Rattle.engine.specs.declared.source.Input.{Input}
-use Rattle.engine.specs.Inputs.{Received, Gives, first_inputs, input_of}
+use Rattle.engine.specs.Inputs.{Received, Supply, Gives, first_inputs, input_of, with_given}
 use Rattle.engine.specs.Moves.{Moved}
 use Rattle.engine.specs.Gains.{Gains}
 use Rattle.engine.specs.Progress.{at_start}
@@ -14,9 +14,14 @@ use Rattle.engine.specs.machine.Shows.{Fields}
 use Rattle.engine.specs.Timeline.{Happened}
 
 -- a source that shows what is to come gave these inputs, and has the others left
-abbrev pub Follows : Option (List Received) → Option (List Received) → List Received → Type 0
-Follows None now taken = now ≡ None
-Follows (Some all) now taken = (taken ≡ first_inputs (length taken) all) × (now ≡ Some (inputs_after (length taken) all))
+abbrev pub TakesFront : Option (List Received) → Option (List Received) → List Received → Type 0
+TakesFront None now taken = now ≡ None
+TakesFront (Some all) now taken = (taken ≡ first_inputs (length taken) all) × (now ≡ Some (inputs_after (length taken) all))
+
+-- a source gave these inputs
+pub record Follows (old now : Supply) (taken : List Received) : Type 0 where
+  pub front : TakesFront old.to_come now.to_come taken
+  pub given : now.given ≡ with_given taken old.given
 
 -- after these inputs the association stands so, none before the last of them ended it, and this is what the devices gained
 pub record Stood (rooms : Rooms) (s : Settings) (taken : List Received) (seen : Fields) (old new : Devices) : Type 0 where
@@ -27,14 +32,14 @@ pub record Stood (rooms : Rooms) (s : Settings) (taken : List Received) (seen : 
   pub gains : Gains rooms s at_start story false failed old new
 
 -- so many inputs were taken
-pub record Running (rooms : Rooms) (s : Settings) (turns : ℕ) (source_old source_now : Option (List Received)) (seen : Fields) (old new : Devices) : Type 0 where
+pub record Running (rooms : Rooms) (s : Settings) (turns : ℕ) (source_old source_now : Supply) (seen : Fields) (old new : Devices) : Type 0 where
   pub taken : List Received
   pub number : length taken ≡ turns
   pub follows : Follows source_old source_now taken
   pub stood : Stood rooms s taken seen old new
 
 -- a source gave one more input, and this is what it did to an association and its devices
-pub record TookInput (rooms : Rooms) (s : Settings) (source_old source_now : Option (List Received)) (seen_old seen_new : Fields) (old new : Devices) : Type 0 where
+pub record TookInput (rooms : Rooms) (s : Settings) (source_old source_now : Supply) (seen_old seen_new : Fields) (old new : Devices) : Type 0 where
   pub bytes : List ℕ
   pub kind : Input
   pub gives : Gives source_old source_now bytes kind

@@ -49,7 +49,8 @@ returns-clause-ran g c =
         | else-loop-turn-test w ↦ absurd (omega (arith, r.number, w.loop-turn-test.false))
         | then-loop-turn-test+then-over w ↦ c.of.ensures ∙ ap standing_of (c.state.ensures ∙ ended_is _ (sym w.is_ended-over.ensures ∙ w.if-over.true))
       ];
-      source = λ all e. follows_all _ _ r.taken all r.follows e;
+      source = λ all e. follows_all _ _ r.taken all r.follows.front e;
+      given = r.follows.given;
       answered = answered_by rooms s r.taken _ _ _ _ _ r.stood (c.of.ensures ∙ ap standing_of c.state.ensures)
           (λ story failed h. subst (λ (x : Settings). Held rooms x (reached rooms x r.taken story failed) c.held.result) set
           (c.held.ensures.held r.taken story failed _ (subst (λ (x : Settings). Stands rooms x r.taken story failed (fields_of c.loop-turn.association) (g.F.Filing.store c.loop-turn.filing)) (sym set) h)))

@@ -12,6 +12,6 @@ abbrev pub invariant-loop-turn : goal.invariant-loop-turn
 invariant-loop-turn g l = record {
   settings : settings_in l.association ≡ settings_of l.fn.config;
   there : IsThere (drafting_of l.association) (g.F.Filing.store l.filing);
-  running : Running (rooms_of g.row.A g.row.C g.row.V g.row.D) (settings_of l.fn.config) l._turn (g.S.Source.to_come l.fn.source) (g.S.Source.to_come l.source) (fields_of l.association)
+  running : Running (rooms_of g.row.A g.row.C g.row.V g.row.D) (settings_of l.fn.config) l._turn (g.S.Source.supply l.fn.source) (g.S.Source.supply l.source) (fields_of l.association)
       (devices (g.W.Wire.line l.fn.wire) (g.F.Filing.store l.fn.filing)) (devices (g.W.Wire.line l.wire) (g.F.Filing.store l.filing));
 }
