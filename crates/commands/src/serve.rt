@@ -1,14 +1,20 @@
 //! `dcmbox serve`: associations over TCP, one after the other.
+ghost use Rattle.std.specs.Prelude.{◌≡◌, [], IfOk, OnErr};
+ghost use Rattle.negotiate.specs.Settings.{settings_of};
+ghost use Rattle.commands.specs.Served.{Exchanged, Came, CameOf};
+
 use crate::error::ProgramError;
 use crate::limits::{COMMAND, DEPTH, REQUEST, VALUES};
 use crate::settings::Serve;
-use crate::socket::{SocketSource, StreamWire};
+use crate::socket::{SocketOptions, SocketSource, StreamWire};
+use element::trace::Trace;
 use engine::{Report, run};
 use jiff::Timestamp;
 use log::{Log, error, info};
-use part10::FolderFiling;
+use part10::{Filing, FolderFiling};
 use std::cell::Cell;
 use std::fs::File;
+use std::io::{Read, Write};
 use std::net::{Net, SocketAddr, TcpListener, TcpStream};
 use std::rt::Files;
 use std::time::{Clock, Duration, Instant};
@@ -74,24 +80,61 @@ fn log_served<R: Log + Clock>(rt: &R, served: Served) {
     info!(rt; target: TARGET, "{line}");
 }
 
-/// Runs the association of a connection; returns how it ended, and how many bytes it received.
-fn run_over<R: Clock, S: Files<File = File> + Alloc + Clone + Drop>(
+/// What went over a connection.
+#[derive(Drop)]
+pub struct Exchange {
+    report: Report,
+    /// How many bytes were received.
+    received: u64,
+    /// What contracts see of the bytes that were read.
+    read: Trace,
+    /// What contracts see of the bytes that were sent.
+    sent: Trace,
+}
+
+/// Runs an association over a source from which nothing was read and a wire over which nothing was
+/// sent; returns how it ended.
+///
+/// `served`: from the calls that read to those that write. Of the bytes that were read the definitions
+/// give the bytes that were sent, the files that were committed, and how the association stands.
+fn run_over<R: Clock, O: SocketOptions, D: Read + Drop, W: Write + Drop, F: Filing>(
+    source: &mut SocketSource<'_, R, O, D>,
+    wire: &mut StreamWire<'_, W>,
+    settings: &Serve,
+    filing: &mut F,
+) -> Report
+    requires nothing_read { source.old.given.named ≡ [] }
+    requires nothing_sent { wire.old.stream.trace.bytes ≡ [] }
+    ensures served { Exchanged (settings_of settings.now.config) result source.new.stream.trace.bytes wire.new.stream.trace.bytes (F.store filing.old) (F.store filing.new) }
+{
+    run::<REQUEST, COMMAND, VALUES, DEPTH, _, _, _>(
+        source,
+        &settings.config,
+        wire,
+        filing,
+        u64::MAX,
+    )
+}
+
+/// Runs the association of a connection; returns what went over it.
+fn exchange_over<R: Clock, F: Filing>(
     rt: &R,
     stream: &TcpStream,
     settings: &Serve,
-    filing: &mut FolderFiling<S>,
-) -> (Report, u64) {
+    filing: &mut F,
+) -> Exchange
+    ensures came { Came (settings_of settings.now.config) result (F.store filing.old) (F.store filing.new) }
+{
     let has_sent = Cell::new(false);
-    let mut source = SocketSource::new(rt, stream, settings.timeouts, &has_sent);
+    let mut source = SocketSource::new(rt, stream, stream, settings.timeouts, &has_sent);
     let mut wire = StreamWire::new(stream, &has_sent);
-    let report = run::<REQUEST, COMMAND, VALUES, DEPTH, _, _, _>(
-        &mut source,
-        &settings.config,
-        &mut wire,
-        filing,
-        u64::MAX,
-    );
-    (report, source.received())
+    let report = run_over(&mut source, &mut wire, settings, filing);
+    Exchange {
+        report,
+        received: source.received(),
+        read: source.into_trace(),
+        sent: wire.into_trace(),
+    }
 }
 
 /// Has a connection send what is written at once, and fail where its peer takes nothing for so long.
@@ -100,51 +143,71 @@ fn set_up(stream: &TcpStream, idle: Duration) -> io::Result<()> {
     stream.set_write_timeout(Some(idle))
 }
 
+/// Logs a connection that failed.
+fn log_failed<R: Log>(rt: &R, peer: SocketAddr, failure: &io::Error) {
+    error!(rt; target: TARGET, "{peer} the connection failed: {failure}");
+}
+
 /// Serves the association of one connection, and logs when it ended, its peer, how it stands, how
 /// many bytes it holds, how many files it put and drafts it dropped, how many bytes it received and
 /// how long it took.
+///
+/// Fails if there was no association, and then the folder is as it was.
 fn associate<R: Log + Clock, S: Files<File = File> + Alloc + Clone + Drop>(
     rt: &R,
     stream: &TcpStream,
     peer: SocketAddr,
     settings: &Serve,
     filing: &mut FolderFiling<S>,
-) -> io::Result<()> {
+) -> io::Result<Exchange>
+    ensures came { IfOk result (λ e. Came (settings_of settings.now.config) e (⟦<FolderFiling<S> as Filing>⟧.store filing.old) (⟦<FolderFiling<S> as Filing>⟧.store filing.new)) }
+    ensures failed { OnErr result (⟦<FolderFiling<S> as Filing>⟧.store filing.new ≡ ⟦<FolderFiling<S> as Filing>⟧.store filing.old) }
+{
     set_up(stream, settings.timeouts.idle)?;
     let started = Instant::now(rt)?;
     let (committed, dropped) = (filing.committed(), filing.dropped());
-    let (report, received) = run_over(rt, stream, settings, filing);
-    let served = Served {
-        peer,
-        report,
-        files: filing.committed().saturating_sub(committed),
-        dropped: filing.dropped().saturating_sub(dropped),
-        received,
-        seconds: started.elapsed(rt)?.as_secs(),
-    };
-    log_served(rt, served);
-    Ok(())
+    let exchange = exchange_over(rt, stream, settings, filing);
+    match started.elapsed(rt) {
+        Ok(time) => log_served(
+            rt,
+            Served {
+                peer,
+                report: exchange.report,
+                files: filing.committed().saturating_sub(committed),
+                dropped: filing.dropped().saturating_sub(dropped),
+                received: exchange.received,
+                seconds: time.as_secs(),
+            },
+        ),
+        Err(failure) => log_failed(rt, peer, &failure),
+    }
+    Ok(exchange)
 }
 
-/// Logs a connection that failed.
-fn log_failed<R: Log>(rt: &R, peer: SocketAddr, failure: &io::Error) {
-    error!(rt; target: TARGET, "{peer} the connection failed: {failure}");
-}
-
-/// Waits for the next connection and serves its association. A connection that fails is logged.
+/// Waits for the next connection and serves its association. Returns what went over it, or `None` if
+/// the connection failed before an association was opened, which is logged.
 ///
 /// Fails if no connection could be accepted.
+///
+/// `came`: of the bytes that were read the definitions give the bytes that were sent and the files that
+/// were committed. Without an association no file is.
 pub fn serve_one<R: Log + Clock, S: Files<File = File> + Alloc + Clone + Drop>(
     rt: &R,
     listener: &TcpListener,
     settings: &Serve,
     filing: &mut FolderFiling<S>,
-) -> io::Result<()> {
+) -> io::Result<Option<Exchange>>
+    ensures came { IfOk result (λ e. CameOf (settings_of settings.now.config) e (⟦<FolderFiling<S> as Filing>⟧.store filing.old) (⟦<FolderFiling<S> as Filing>⟧.store filing.new)) }
+    ensures failed { OnErr result (⟦<FolderFiling<S> as Filing>⟧.store filing.new ≡ ⟦<FolderFiling<S> as Filing>⟧.store filing.old) }
+{
     let (stream, peer) = listener.accept()?;
-    if let Err(failure) = associate(rt, &stream, peer, settings, filing) {
-        log_failed(rt, peer, &failure);
+    match associate(rt, &stream, peer, settings, filing) {
+        Ok(exchange) => Ok(Some(exchange)),
+        Err(failure) => {
+            log_failed(rt, peer, &failure);
+            Ok(None)
+        }
     }
-    Ok(())
 }
 
 /// How long the box waits after a connection that could not be accepted, so that a lasting failure
@@ -167,8 +230,8 @@ fn serve_each<R: Log + Clock, S: Files<File = File> + Alloc + Clone + Drop>(
 ) {
     for _ in 0..u64::MAX {
         match serve_one(rt, listener, settings, filing) {
-            Ok(()) if settings.once => return,
-            Ok(()) => {}
+            Ok(_) if settings.once => return,
+            Ok(_) => {}
             Err(failure) => pause(rt, &failure),
         }
     }

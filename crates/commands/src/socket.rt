@@ -1,23 +1,47 @@
 //! The socket of a served association: where its inputs come from, and where it sends.
-ghost use Rattle.std.specs.Prelude.{◌≡◌, ◌≤◌, None, length, take};
+ghost use Rattle.std.specs.Prelude.{◌≡◌, ◌≢◌, ◌≤◌, [], ◌∷◌, ◌++◌, None, Some, length, take};
+ghost use Rattle.engine.specs.Inputs.{inputs_of, stream_of};
 
 use crate::limits::PIECE;
 use crate::timer::{Timeouts, Timer};
 use acknowledge::acknowledge_at_once;
 use element::count::Count;
-use engine::{Input, Source};
+use element::trace::Trace;
+use element::traced::Traced;
+use engine::{Given, Input, Source};
 use pdu::{Wire, WireFailed};
 use std::cell::Cell;
+use std::io;
 use std::io::{ErrorKind, Read, Write};
 use std::net::TcpStream;
 use std::time::{Clock, Duration};
 
+/// What is asked of a socket beside its bytes: no byte is read or written through it.
+pub trait SocketOptions {
+    /// Has a read fail with `WouldBlock` after so long.
+    fn set_read_timeout(&self, time: Duration) -> io::Result<()>;
+
+    /// Has the system acknowledge at once what it receives.
+    fn acknowledge(&self);
+}
+
+impl SocketOptions for TcpStream {
+    fn set_read_timeout(&self, time: Duration) -> io::Result<()> {
+        TcpStream::set_read_timeout(self, Some(time))
+    }
+
+    fn acknowledge(&self) {
+        acknowledge_at_once(self);
+    }
+}
+
 /// Takes the inputs of an association from a socket: a read that fails or ends is the transport's
 /// close; silence is the timer's expiry while the timer runs, else the local user's abort.
 #[derive(Drop)]
-pub struct SocketSource<'a, R: Clock> {
+pub struct SocketSource<'a, R: Clock, O: SocketOptions, D: Read + Drop> {
     rt: &'a R,
-    stream: &'a TcpStream,
+    options: &'a O,
+    stream: Traced<D>,
     timer: Timer,
     /// Whether the association has sent anything.
     has_sent: &'a Cell<bool>,
@@ -26,26 +50,36 @@ pub struct SocketSource<'a, R: Clock> {
     room: [u8; PIECE],
     len: usize,
     received: u64,
+    /// What contracts see of the inputs that it has given.
+    given: Given,
     ghost within: { len ≤ length room },
+    /// The pieces that it has given are what was read, no byte dropped and none given twice.
+    ghost whole: { stream_of (inputs_of given.named) ≡ stream.trace.bytes },
 }
 
-impl<'a, R: Clock> SocketSource<'a, R> {
-    /// Returns the source of a new association, whose wire notes in `has_sent` that it has sent.
+impl<'a, R: Clock, O: SocketOptions, D: Read + Drop> SocketSource<'a, R, O, D> {
+    /// Returns the source of a new association, whose wire notes in `has_sent` that it has sent. It
+    /// reads `stream`, whose socket has these options.
     pub fn new(
         rt: &'a R,
-        stream: &'a TcpStream,
+        options: &'a O,
+        stream: D,
         timeouts: Timeouts,
         has_sent: &'a Cell<bool>,
-    ) -> SocketSource<'a, R> {
+    ) -> SocketSource<'a, R, O, D>
+        ensures nothing { result.given.named ≡ [] }
+    {
         SocketSource {
             rt,
-            stream,
+            options,
+            stream: Traced::new(stream),
             timer: Timer::new(timeouts),
             has_sent,
             timeout: None,
             room: [0; PIECE],
             len: 0,
             received: 0,
+            given: Given::new(),
         }
     }
 
@@ -54,52 +88,73 @@ impl<'a, R: Clock> SocketSource<'a, R> {
         self.received
     }
 
+    /// Returns what contracts see of the bytes that were read.
+    pub fn into_trace(self) -> Trace
+        ensures { result ≡ self.entry.stream.trace }
+    {
+        self.stream.into_trace()
+    }
+
     /// Has the next read wait so long, but at least a millisecond: no time at all is no timeout.
-    fn wait(&mut self, time: Duration) -> bool {
-        let time = Some(time.max(Duration::from_millis(1)));
-        if self.timeout == time {
+    fn wait(&mut self, time: Duration) -> bool
+        ensures same_given { self.new.given ≡ self.old.given }
+    {
+        let time = time.max(Duration::from_millis(1));
+        if self.timeout == Some(time) {
             return true;
         }
-        self.timeout = time;
-        self.stream.set_read_timeout(time).is_ok()
+        self.timeout = Some(time);
+        self.options.set_read_timeout(time).is_ok()
+    }
+
+    /// Gives an input that has no bytes.
+    #[tactic(auto, using(crate::proofs::ServedLemmas::still_whole))]
+    fn give(&mut self, input: Input) -> Input
+        requires no_piece { input ≢ Input.Piece }
+        ensures given { self.new.given.named ≡ self.old.given.named ++ (input, take self.new.len self.new.room) ∷ [] }
+        ensures same { result ≡ input }
+    {
+        self.given.push(&input, &self.room[..self.len]);
+        input
     }
 }
 
-impl<R: Clock> Source for SocketSource<'_, R> {
-    ghost to_come = { λ _. None };
+impl<R: Clock, O: SocketOptions, D: Read + Drop> Source for SocketSource<'_, R, O, D> {
+    ghost supply = { λ s. record { to_come = None; given = Some (inputs_of s.given.named) } };
 
     ghost last = { λ s. take s.len s.room };
 
+    #[tactic(auto, using(crate::proofs::ServedLemmas::whole_more, crate::proofs::ServedLemmas::gives_one))]
     fn next(&mut self, timer: bool) -> Input {
-        let mut stream = self.stream;
         for _ in 0..u64::MAX {
             let has_sent = self.has_sent.get();
             let Some(time) = self.timer.time_left(self.rt, timer, has_sent) else {
-                return Input::Expired;
+                return self.give(Input::Expired);
             };
             if !self.wait(time) {
-                return Input::Closed;
+                return self.give(Input::Closed);
             }
-            acknowledge_at_once(stream);
-            match stream.read(&mut self.room) {
-                Ok(0) => return Input::Closed,
+            self.options.acknowledge();
+            match self.stream.read(&mut self.room) {
+                Ok(0) => return self.give(Input::Closed),
                 Ok(len) => {
                     self.len = len;
                     self.received = self.received.saturating_add(len as u64);
+                    self.given.push(&Input::Piece, &self.room[..len]);
                     return Input::Piece;
                 }
                 Err(error) if error.kind() == ErrorKind::Interrupted => {}
                 Err(error) if error.kind() == ErrorKind::WouldBlock => {
-                    return if timer {
+                    return self.give(if timer {
                         Input::Expired
                     } else {
                         Input::LocalAbort
-                    };
+                    });
                 }
-                Err(_) => return Input::Closed,
+                Err(_) => return self.give(Input::Closed),
             }
         }
-        Input::Closed
+        self.give(Input::Closed)
     }
 
     fn piece(&self) -> &[u8] {
@@ -110,24 +165,34 @@ impl<R: Clock> Source for SocketSource<'_, R> {
 /// Sends to a stream.
 #[derive(Drop)]
 pub struct StreamWire<'a, W: Write + Drop> {
-    stream: W,
+    stream: Traced<W>,
     /// Whether anything was sent.
     has_sent: &'a Cell<bool>,
     failures: Count,
 }
 
 impl<'a, W: Write + Drop> StreamWire<'a, W> {
-    pub fn new(stream: W, has_sent: &'a Cell<bool>) -> StreamWire<'a, W> {
+    pub fn new(stream: W, has_sent: &'a Cell<bool>) -> StreamWire<'a, W>
+        ensures nothing { result.stream.trace.bytes ≡ [] }
+        ensures never { result.failures.total ≡ 0 }
+    {
         StreamWire {
-            stream,
+            stream: Traced::new(stream),
             has_sent,
             failures: Count::new(),
         }
     }
+
+    /// Returns what contracts see of the bytes that were sent.
+    pub fn into_trace(self) -> Trace
+        ensures { result ≡ self.entry.stream.trace }
+    {
+        self.stream.into_trace()
+    }
 }
 
 impl<W: Write + Drop> Wire for StreamWire<'_, W> {
-    ghost line = { λ w. record { sent = None; failures = w.failures.total } };
+    ghost line = { λ w. record { sent = Some w.stream.trace.bytes; failures = w.failures.total } };
 
     fn send(&mut self, bytes: &[u8]) -> Result<(), WireFailed> {
         self.has_sent.set(true);
