@@ -36,3 +36,4 @@ pub mod WalkedLemmas
 pub mod BodyLemmas
 pub mod CountLemmas
 pub mod AskedLemmas
+pub mod Public

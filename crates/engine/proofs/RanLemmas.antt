@@ -8,7 +8,7 @@ use Rattle.negotiate.specs.Settings.{Settings}
 use Rattle.engine.specs.declared.source.Input.{Input}
 use Rattle.engine.specs.declared.report.Report.{Report}
 use Rattle.engine.specs.Devices.{Devices, with_files, filed}
-use Rattle.engine.specs.Held.{Held}
+use Rattle.engine.specs.Held.{Held, is_ended}
 use Rattle.engine.specs.Inputs.{Received, Supply, first_of, others_of, first_inputs, input_of, stream_of, TakesFirst, Gives, with_given}
 use Rattle.engine.specs.Moves.{Moved}
 use Rattle.engine.specs.Progress.{at_start}
@@ -17,10 +17,13 @@ use Rattle.engine.specs.Reached.{reached}
 use Rattle.engine.specs.Run.{Rooms, progress_of, sent_of, files_of}
 use Rattle.engine.specs.Stands.{Stands}
 use Rattle.engine.specs.machine.Shows.{Fields}
+use Rattle.engine.specs.machine.Storing.{drafting_in}
+use Rattle.engine.specs.TurnLaws.{TurnsBegin, OneTurnMore, TurnsAreARun, EndedHasNoDraft}
 use Rattle.engine.specs.Timeline.{Happened, Entry, entries, entries_of}
-use Rattle.engine.specs.machine.Running.{TakesFront, Follows, Stood, Running}
+use Rattle.engine.specs.Turns.{TakesFront, Follows, Stood, TookTurns, TookInput, Reports}
 use Rattle.engine.proofs.StoryLemmas.{gains_nothing, gains_then}
 use Rattle.engine.proofs.TimelineLemmas.{entries_append}
+use Rattle.engine.proofs.ShownLemmas.{ended_stored}
 
 -- ---- the inputs of a source
 
@@ -113,7 +116,7 @@ module _ (rooms : Rooms) (s : Settings) where
 
   -- ---- one turn more
 
-  pub running_start : (seen : Fields) (source : Supply) (d : Devices) → Stands rooms s [] [] false seen d.store → Running rooms s 0 source source seen d d
+  pub running_start : (seen : Fields) (source : Supply) (d : Devices) → Stands rooms s [] [] false seen d.store → TookTurns rooms s 0 source source seen d d
   running_start seen source d h = record {
     taken = [];
     number = refl;
@@ -126,8 +129,8 @@ module _ (rooms : Rooms) (s : Settings) where
   OnInput seen seen_new now new x set = (inputs : List Received) (story : List Happened) (failed : Bool) → Stands rooms set inputs story failed seen now.store
       → Moved rooms set inputs story failed x seen seen_new now new
 
-  pub running_more : (seen seen_new : Fields) (source now next : Supply) (turns : ℕ) (old mid new : Devices) (bytes : List ℕ) (kind : Input) (set : Settings) → set ≡ s → seen.kept.state ≢ Sta1 → (r : Running rooms s turns source now seen old mid)
-      → Gives now next bytes kind → OnInput seen seen_new mid new (input_of kind bytes) set → Running rooms s (turns + 1) source next seen_new old new
+  pub running_more : (seen seen_new : Fields) (source now next : Supply) (turns : ℕ) (old mid new : Devices) (bytes : List ℕ) (kind : Input) (set : Settings) → set ≡ s → seen.kept.state ≢ Sta1 → (r : TookTurns rooms s turns source now seen old mid)
+      → Gives now next bytes kind → OnInput seen seen_new mid new (input_of kind bytes) set → TookTurns rooms s (turns + 1) source next seen_new old new
   running_more seen seen_new source now next turns old mid new bytes kind set is open_still r g k = record {
     taken = r.taken ++ input_of kind bytes ∷ [];
     number = omega (arith, r.number, length-append r.taken (input_of kind bytes ∷ []));
@@ -174,3 +177,35 @@ module _ (rooms : Rooms) (s : Settings) where
     told = ap (λ (x : Store). x.told) store ∙ told_filed old.store.told now.store.told (files_of rooms s at_start h.story) h.gains.files;
     count = omega (arith, ap (λ (x : Store). x.failures) store, h.gains.count);
   }
+
+-- ---- the laws of turns
+
+pub turns_begin : TurnsBegin
+turns_begin rooms s seen source d h = running_start rooms s seen source d h
+
+pub one_turn_more : OneTurnMore
+one_turn_more rooms s turns source now next seen seen_new old mid new open_still r t =
+    running_more rooms s seen seen_new source now next turns old mid new t.bytes t.kind s refl open_still r t.gives t.moved
+
+pub turns_are_a_run : TurnsAreARun
+turns_are_a_run rooms s turns most source now seen old mid new report r few ended reports line store = record {
+  taken = r.taken;
+  most_turns = omega (arith, r.number, few);
+  all_turns = λ lt. reports.standing ∙ ap standing_of (ended (omega (arith, r.number, lt)));
+  source = λ all e. follows_all _ _ r.taken all r.follows.front e;
+  given = r.follows.given;
+  answered = answered_by rooms s r.taken report seen old mid new r.stood reports.standing (λ story failed h. reports.held r.taken story failed h) line store;
+  no_draft = ap (λ (x : Store). x.has_draft) store;
+}
+
+pub ended_has_no_draft : EndedHasNoDraft
+ended_has_no_draft rooms s inputs story failed seen store h e =
+    let pends = h.shows.frame.pends in
+    ap drafting_in (ended_stored seen.kept store (reached rooms s inputs story failed).progress _ _ (ap is_ended (sym pends.state_is) ∙ e) pends)
+
+-- with the settings that an association has
+pub took_set : (rooms : Rooms) (set s : Settings) (now next : Supply) (seen seen_new : Fields) (old new : Devices) → set ≡ s → TookInput rooms set now next seen seen_new old new → TookInput rooms s now next seen seen_new old new
+took_set rooms set s now next seen seen_new old new e t = subst (λ (x : Settings). TookInput rooms x now next seen seen_new old new) e t
+
+pub reports_set : (rooms : Rooms) (set s : Settings) (seen : Fields) (store : Store) (report : Report) → set ≡ s → Reports rooms set seen store report → Reports rooms s seen store report
+reports_set rooms set s seen store report e r = subst (λ (x : Settings). Reports rooms x seen store report) e r

@@ -8,6 +8,7 @@ use denote.Param.{param, number}
 use denote.Struct.Declared.{row}
 use Rattle.engine.specs.contracts.provider.Provider as provider
 use Rattle.engine.specs.contracts.association.Association as association
+use Rattle.engine.specs.contracts.running.Running as running
 use Rattle.engine.specs.declared.provider.Provider.{Provider}
 
 abbrev pub size_in : List Ty → ℕ
@@ -33,3 +34,11 @@ provider_small p = provider_fits p.greatest p.command_greatest p.greatest_kept p
 pub association_small : {A C V D : ℕ} → (p : Provider A C V D)
     → size_of (row (association.the_type (param 0 (number A)) (param 1 (number C)) (param 2 (number V)) (param 3 (number D)))) < 2 ^ 63
 association_small p = association_fits p.greatest p.command_greatest p.greatest_kept p.greatest_levels
+
+pub running_fits : {A C V D : ℕ} → A ≤ 2 ^ 24 → C ≤ 2 ^ 24 → V ≤ 2 ^ 24 → D ≤ 2 ^ 24
+    → size_of (row (running.the_type (param 0 (number A)) (param 1 (number C)) (param 2 (number V)) (param 3 (number D)))) < 2 ^ 63
+running_fits a c v d = grind arith
+
+pub running_small : {A C V D : ℕ} → (p : Provider A C V D)
+    → size_of (row (running.the_type (param 0 (number A)) (param 1 (number C)) (param 2 (number V)) (param 3 (number D)))) < 2 ^ 63
+running_small p = running_fits p.greatest p.command_greatest p.greatest_kept p.greatest_levels

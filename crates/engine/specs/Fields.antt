@@ -3,6 +3,7 @@ use Rattle.std.specs.Prelude.{ℕ, Bool}
 use Rattle.acceptor.specs.declared.state.State.{State}
 use Rattle.negotiate.specs.Settings.{Settings, settings_of}
 use Rattle.engine.specs.declared.association.Association.{Association}
+use Rattle.engine.specs.declared.running.Running.{Running}
 use Rattle.engine.specs.machine.Kept.{kept_of}
 use Rattle.engine.specs.machine.Storing.{stored_of, drafting_in}
 use Rattle.engine.specs.machine.Shows.{Fields}
@@ -19,3 +20,7 @@ settings_in a = settings_of a.provider.config
 -- whether it has a draft in the filing
 abbrev pub drafting_of : {A C V D : ℕ} → Association A C V D → Bool
 drafting_of a = drafting_in (stored_of a.provider.storing)
+
+-- the association of a run that is taken turn by turn
+abbrev pub association_in : {A C V D : ℕ} → Running A C V D → Association A C V D
+association_in r = r.association

@@ -17,6 +17,8 @@ pub mod Gains
 pub mod Moves
 pub mod Fields
 pub mod Ran
+pub mod Turns
+pub mod TurnLaws
 pub mod Laws
 pub mod StoreLaws
 pub mod RunLaws

@@ -12,4 +12,3 @@ pub mod Counts
 pub mod Counted
 pub mod Shows
 pub mod HeldHeads
-pub mod Running

@@ -218,7 +218,7 @@ impl<const A: usize, const C: usize, const V: usize, const D: usize> Association
     }
 
     /// Whether the association has ended.
-    pub(crate) fn is_ended(&self) -> bool
+    pub fn is_ended(&self) -> bool
         ensures { result ≡ holding.is_ended (state_of self.now) }
     {
         matches!(self.provider.state, State::Sta1)

@@ -6,6 +6,7 @@ ghost use Rattle.engine.specs.StoreVerdicts.{VerdictsOnOneImage, TheFileOfAStore
 ghost use Rattle.engine.specs.VerdictExamples.{VerdictsOnFaults};
 ghost use Rattle.engine.specs.StoreLaws.{AVerdictIsThere, AVerdictIsOne, NoGoodImageIsRefused, FiledByItself};
 ghost use Rattle.engine.specs.RunLaws.{EveryGoodImageIsFiled, OneRun};
+ghost use Rattle.engine.specs.TurnLaws.{TurnsBegin, OneTurnMore, TurnsAreARun, EndedHasNoDraft};
 ghost use Rattle.engine.specs.Laws.{EntriesAppend, CutsDoNotShow, NothingAfterTheEnd};
 ghost use Rattle.engine.specs.Examples.{ARequestAboveTheRoom, BytesThatAreNoPdu, DataAboveTheMaximum, AfterTheEnd, AnotherCalledTitle, RecordedEcho, HeldWhileTheEchoComes, AGoodPdvBeforeABadOne};
 
@@ -27,6 +28,26 @@ pub fn a_run_without_failures_is_one()
 /// Nothing is sent and no file is put after the end.
 pub fn nothing_after_the_end()
     ensures { NothingAfterTheEnd }
+{}
+
+/// An association that has just been opened has taken no turn.
+pub fn turns_begin()
+    ensures { TurnsBegin }
+{}
+
+/// An association that has not ended takes one turn more.
+pub fn one_turn_more()
+    ensures { OneTurnMore }
+{}
+
+/// Turns, as many as asked for or until the association ended, are a run.
+pub fn turns_are_a_run()
+    ensures { TurnsAreARun }
+{}
+
+/// An association that has ended has no draft in the filing.
+pub fn ended_has_no_draft()
+    ensures { EndedHasNoDraft }
 {}
 
 /// There is a verdict on every store.

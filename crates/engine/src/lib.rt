@@ -21,5 +21,5 @@ pub use association::Association;
 pub use given::Given;
 pub use list_source::{ListSource, ListedInput};
 pub use report::{Report, Standing};
-pub use running::run;
+pub use running::{Running, run};
 pub use source::{Input, Source};

@@ -1,13 +1,17 @@
--- Between two turns of a run.
+-- A run turn by turn: what was taken and what came of it between two of them, and what one turn does.
 use Rattle.std.specs.Prelude.{◌≡◌, ℕ, Bool, false, List, length, Option, Some, None}
 use Rattle.negotiate.specs.Settings.{Settings}
+use Rattle.part10.specs.Store.{Store}
 use Rattle.engine.specs.Devices.{Devices}
 use Rattle.engine.specs.declared.source.Input.{Input}
+use Rattle.engine.specs.declared.report.Report.{Report}
+use Rattle.engine.specs.Held.{Held}
+use Rattle.engine.specs.Reached.{reached}
 use Rattle.engine.specs.Inputs.{Received, Supply, Gives, first_inputs, input_of, with_given}
 use Rattle.engine.specs.Moves.{Moved}
 use Rattle.engine.specs.Gains.{Gains}
 use Rattle.engine.specs.Progress.{at_start}
-use Rattle.engine.specs.Ran.{inputs_after, EndsLast}
+use Rattle.engine.specs.Ran.{inputs_after, EndsLast, standing_of}
 use Rattle.engine.specs.Run.{Rooms}
 use Rattle.engine.specs.Stands.{Stands}
 use Rattle.engine.specs.machine.Shows.{Fields}
@@ -32,7 +36,7 @@ pub record Stood (rooms : Rooms) (s : Settings) (taken : List Received) (seen : 
   pub gains : Gains rooms s at_start story false failed old new
 
 -- so many inputs were taken
-pub record Running (rooms : Rooms) (s : Settings) (turns : ℕ) (source_old source_now : Supply) (seen : Fields) (old new : Devices) : Type 0 where
+pub record TookTurns (rooms : Rooms) (s : Settings) (turns : ℕ) (source_old source_now : Supply) (seen : Fields) (old new : Devices) : Type 0 where
   pub taken : List Received
   pub number : length taken ≡ turns
   pub follows : Follows source_old source_now taken
@@ -45,3 +49,8 @@ pub record TookInput (rooms : Rooms) (s : Settings) (source_old source_now : Sup
   pub gives : Gives source_old source_now bytes kind
   pub moved : (inputs : List Received) (story : List Happened) (failed : Bool) → Stands rooms s inputs story failed seen_old old.store
       → Moved rooms s inputs story failed (input_of kind bytes) seen_old seen_new old new
+
+-- the report of an association that is seen so: how it stands, and how many bytes it holds where it stands as its inputs say
+pub record Reports (rooms : Rooms) (s : Settings) (seen : Fields) (store : Store) (report : Report) : Type 0 where
+  pub standing : report.standing ≡ standing_of seen.kept.state
+  pub held : (inputs : List Received) (story : List Happened) (failed : Bool) → Stands rooms s inputs story failed seen store → Held rooms s (reached rooms s inputs story failed) report.held

@@ -1,0 +1,16 @@
+-- What the crates above cite of this crate's lemmas: the laws of `engine::laws`, which are their contracts, in the words of
+-- the definitions alone.
+use Rattle.engine.specs.TurnLaws.{TurnsBegin, OneTurnMore, TurnsAreARun, EndedHasNoDraft}
+use Rattle.engine.proofs.RanLemmas as ran
+
+pub turns_begin : TurnsBegin
+turns_begin = ran.turns_begin
+
+pub one_turn_more : OneTurnMore
+one_turn_more = ran.one_turn_more
+
+pub turns_are_a_run : TurnsAreARun
+turns_are_a_run = ran.turns_are_a_run
+
+pub ended_has_no_draft : EndedHasNoDraft
+ended_has_no_draft = ran.ended_has_no_draft
