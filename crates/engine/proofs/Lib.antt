@@ -36,4 +36,5 @@ pub mod WalkedLemmas
 pub mod BodyLemmas
 pub mod CountLemmas
 pub mod AskedLemmas
+pub mod OutputLemmas
 pub mod Public

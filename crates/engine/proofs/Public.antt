@@ -1,6 +1,8 @@
 -- What the crates above cite of this crate's lemmas: the laws of `engine::laws`, which are their contracts, in the words of
 -- the definitions alone.
 use Rattle.engine.specs.TurnLaws.{TurnsBegin, OneTurnMore, TurnsAreARun, EndedHasNoDraft}
+use Rattle.engine.specs.OutputLaws.{FewMarks, BoundedOutput}
+use Rattle.engine.proofs.OutputLemmas as output
 use Rattle.engine.proofs.RanLemmas as ran
 
 pub turns_begin : TurnsBegin
@@ -14,3 +16,9 @@ turns_are_a_run = ran.turns_are_a_run
 
 pub ended_has_no_draft : EndedHasNoDraft
 ended_has_no_draft = ran.ended_has_no_draft
+
+pub few_marks : FewMarks
+few_marks = output.few_marks
+
+pub bounded_output : BoundedOutput
+bounded_output = output.bounded_output

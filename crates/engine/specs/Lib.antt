@@ -19,6 +19,7 @@ pub mod Fields
 pub mod Ran
 pub mod Turns
 pub mod TurnLaws
+pub mod OutputLaws
 pub mod Laws
 pub mod StoreLaws
 pub mod RunLaws

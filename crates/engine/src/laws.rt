@@ -7,6 +7,7 @@ ghost use Rattle.engine.specs.VerdictExamples.{VerdictsOnFaults};
 ghost use Rattle.engine.specs.StoreLaws.{AVerdictIsThere, AVerdictIsOne, NoGoodImageIsRefused, FiledByItself};
 ghost use Rattle.engine.specs.RunLaws.{EveryGoodImageIsFiled, OneRun};
 ghost use Rattle.engine.specs.TurnLaws.{TurnsBegin, OneTurnMore, TurnsAreARun, EndedHasNoDraft};
+ghost use Rattle.engine.specs.OutputLaws.{FewMarks, BoundedOutput};
 ghost use Rattle.engine.specs.Laws.{EntriesAppend, CutsDoNotShow, NothingAfterTheEnd};
 ghost use Rattle.engine.specs.Examples.{ARequestAboveTheRoom, BytesThatAreNoPdu, DataAboveTheMaximum, AfterTheEnd, AnotherCalledTitle, RecordedEcho, HeldWhileTheEchoComes, AGoodPdvBeforeABadOne};
 
@@ -48,6 +49,16 @@ pub fn turns_are_a_run()
 /// An association that has ended has no draft in the filing.
 pub fn ended_has_no_draft()
     ensures { EndedHasNoDraft }
+{}
+
+/// A byte completes four marks at most.
+pub fn few_marks()
+    ensures { FewMarks }
+{}
+
+/// A piece has an association send four times its length at most, times what one entry sends.
+pub fn bounded_output()
+    ensures { BoundedOutput }
 {}
 
 /// There is a verdict on every store.
