@@ -1,22 +1,46 @@
 -- A byte completes four marks at most, and a piece has an association send no more than its marks do.
-use Rattle.std.proofs.Common.{◌≡◌, ◌⊎◌, ℕ, ◌+◌, ◌-◌, ◌*◌, ◌<◌, ◌≤◌, Bool, true, false, List, [], ◌∷◌, ◌++◌, length, drop, map, nat_eq, nat_lt, refl, sym, ap, subst, ◌∙◌, arith, if◌then◌else◌, inl, inr}
+use Rattle.std.proofs.Common.{◌≡◌, ◌⊎◌, ◌&&◌, Option, Some, None, ℕ, ◌+◌, ◌-◌, ◌*◌, ◌<◌, ◌≤◌, Bool, true, false, List, [], ◌∷◌, ◌++◌, length, drop, map, nat_eq, nat_lt, refl, sym, ap, subst, ◌∙◌, arith, if◌then◌else◌, inl, inr}
 use Rattle.std.proofs.lemmas.Bool.{cases_lt, cases_Bool}
 use Rattle.std.proofs.lemmas.Bool.Decides.{nat_tests}
-use Rattle.std.proofs.lemmas.List.{append-nil, length-append, length-map}
+use Rattle.std.proofs.lemmas.List.{append-nil, length-append, length-map, length-take}
 use Rattle.std.proofs.lemmas.Nat.{mul-le}
 use Rattle.byteorder.specs.Endian.{big_number}
 use Rattle.pdu.specs.Frames.{IsFrame, IsRest, rest_of}
-use Rattle.pdu.specs.Marks.{Mark, Leftover, pdv_size, is_leftover, frame_kind, frame_length, new_marks}
+use Rattle.acceptor.specs.declared.event.Event.{Event}
+use Rattle.acceptor.specs.declared.event.Event.TheVariants as event
+use Rattle.acceptor.specs.declared.effect.Sending.{Sending}
+use Rattle.acceptor.specs.declared.effect.Sending.TheVariants as effect
+use Rattle.acceptor.specs.Effect.{sending, bytes_sent}
+use Rattle.acceptor.specs.Table.{table}
+use Rattle.pdu.specs.declared.fault.PduFault.{PduFault}
+use Rattle.pdu.specs.Items.{request_record}
+use Rattle.pdu.specs.Record.{RequestRecord}
+use Rattle.pdu.specs.Refusal.{request_fault}
+use Rattle.pdu.specs.Texts.{reject_text, release_text, abort_text}
+use Rattle.pdu.specs.Marks.{Mark, Head, PdvHead, Pdv, BadPdv, Leftover, End, pdv_size, is_leftover, frame_kind, frame_length, new_marks}
 use Rattle.pdu.specs.Pdvs.{DataSpot, Dropped, Within, data_spot}
 use Rattle.pdu.specs.Spot.{Spot, Opening, Plain, InPdv, spot, spot_of, room_left}
 use Rattle.pdu.specs.Parts.{Comes, IsUnfinishedPdv, in_head, in_fragment, leftover_marks, end_mark}
 use Rattle.pdu.proofs.Public.{new_nothing, new_then, new_rest, rest_is_rest, unfinished_pdv, head_part, head_done, plain_part, pdv_head_part, pdv_head_bad, pdv_head_done, pdv_head_whole, fragment_part, fragment_done}
+use Rattle.negotiate.specs.declared.answer.Answer.{Answer}
+use Rattle.negotiate.specs.declared.answer.Answer.TheVariants.{Accept, Reject}
+use Rattle.negotiate.specs.declared.proposals.Context.{Context}
+use Rattle.negotiate.specs.Accept.{accept_text}
+use Rattle.negotiate.specs.Answer.{judged}
+use Rattle.negotiate.specs.Contexts.{context_of}
+use Rattle.negotiate.specs.Rejections.{rejected_transient, service_provider_presentation, local_limit_exceeded}
 use Rattle.negotiate.specs.Settings.{Settings}
+use Rattle.dimse.specs.declared.fault.DimseFault.{DimseFault}
+use Rattle.dimse.specs.Messages.{Brought, Goes, Ends, Refuses, brought, refusal}
+use Rattle.dimse.specs.Reading.{command_in}
+use Rattle.engine.specs.Heads.{HeadEvent, NoEvent, AtOnce, TooLong, head_event, invalid_parameter}
 use Rattle.engine.specs.Inputs.{Bytes}
-use Rattle.engine.specs.Progress.{Progress}
-use Rattle.engine.specs.Run.{Rooms, gives, sent_of}
-use Rattle.engine.specs.Timeline.{At, Entry, Happened, entries, entries_of}
-use Rattle.engine.specs.OutputLaws.{FewMarks, EachSends, BoundedOutput}
+use Rattle.engine.specs.Progress.{Progress, Advance, absorb, nothing, followed_by, done, refusing, is_due, is_established}
+use Rattle.engine.specs.Replies.{invalid, user_aborts, aborted_if_refused, replied, going_on}
+use Rattle.engine.specs.Requests.{keeping, accepting, declined, answered}
+use Rattle.engine.specs.Run.{Rooms, released, at_end, at_mark, at_entry, cut, gives, sent_of}
+use Rattle.engine.specs.Timeline.{At, Shut, TimedOut, Aborted, Entry, Finding, Happened, entries, entries_of}
+use Rattle.engine.specs.OutputLaws.{FewMarks, AnswersHave, BoundedOutput, answer_length, FewBytesButAnswers}
 use Rattle.engine.proofs.FoundLemmas.{more}
 
 -- ---- one byte
@@ -128,12 +152,121 @@ few_marks before (b ∷ piece) =
       few_marks (before ++ b ∷ []) piece,
     )
 
--- ---- what is sent
+-- ---- what one entry sends
 
-sent_few : (rooms : Rooms) (s : Settings) (most : ℕ) (p : Progress) (story : List Happened) → EachSends rooms s most p story → length (sent_of rooms s p story) ≤ length story * most
+abbrev Few : ℕ → Advance → Type 0
+Few n g = length g.sent ≤ n
+
+pick : (t : Bool) (a b : Advance) (n : ℕ) → Few n a → Few n b → Few n (if t then a else b)
+pick true a b n x y = x
+pick false a b n x y = y
+
+bytes_few : (answer : List ℕ) (x : Sending) → length (bytes_sent answer release_text abort_text x) ≤ length answer + 10
+bytes_few answer effect.Nothing = omega arith
+bytes_few answer effect.Answer = omega arith
+bytes_few answer effect.ReleaseResponse = omega arith
+bytes_few answer (effect.Abort source reason) = omega arith
+
+done_few : (answer : List ℕ) (reason : ℕ) (p : Progress) (e : Event) → Few (length answer + 10) (done answer reason p e)
+done_few answer reason p e = bytes_few answer (sending (table p.state e).0 (table p.state e).1 reason)
+
+followed_few : (g : Advance) (f : Progress → Advance) (m n : ℕ) → Few m g → Few n (f g.next) → Few (m + n) (followed_by g f)
+followed_few g f m n a b = omega (arith, length-append g.sent (f g.next).sent, a, b)
+
+head_few : (p : Progress) (n : ℕ) (h : HeadEvent) → Few (30 + n) (elim h [
+  | NoEvent ↦ nothing p
+  | AtOnce e reason ↦ refusing (done [] reason p e)
+  | TooLong ↦ refusing (done (reject_text rejected_transient service_provider_presentation local_limit_exceeded) 0 p (event.Request false))
+])
+head_few p n NoEvent = omega arith
+head_few p n (AtOnce e reason) = omega (arith, done_few [] reason p e)
+head_few p n TooLong = omega (arith, done_few (reject_text rejected_transient service_provider_presentation local_limit_exceeded) 0 p (event.Request false))
+
+pdv_head_few : (p : Progress) (refused : Option DimseFault) (known : Option Context) → Few 30 (elim known [ None ↦ invalid p | Some accepted ↦ aborted_if_refused refused p ])
+pdv_head_few p refused None = omega (arith, done_few [] invalid_parameter p event.Invalid)
+pdv_head_few p None (Some context) = omega arith
+pdv_head_few p (Some fault) (Some context) = omega (arith, done_few [] 0 p event.UserAborts)
+
+pdv_few : (p : Progress) (finding : Finding) (b : Brought) → Few (30 + elim b [ Goes begun ↦ 0 | Ends m ↦ length (replied p finding m (command_in m.command)).sent | Refuses fault ↦ 0 ]) (elim b [
+  | Goes begun ↦ nothing (going_on begun p)
+  | Ends m ↦ replied p finding m (command_in m.command)
+  | Refuses fault ↦ user_aborts p
+])
+pdv_few p finding (Goes begun) = omega arith
+pdv_few p finding (Ends m) = omega arith
+pdv_few p finding (Refuses fault) = omega (arith, done_few [] 0 p event.UserAborts)
+
+accepting_few : (p : Progress) (answer : List ℕ) → Few (20 + length answer) (accepting p answer)
+accepting_few p answer =
+    let first = done [] 0 p (event.Request true) in
+    omega (arith, followed_few first (λ q. done answer 0 q event.UserAccepts) 10 (length answer + 10) (done_few [] 0 p (event.Request true)) (done_few answer 0 first.next event.UserAccepts))
+
+declined_few : (p : Progress) (answer : List ℕ) → Few (20 + length answer) (declined p answer)
+declined_few p answer =
+    let first = done [] 0 p (event.Request true) in
+    omega (arith, followed_few first (λ q. done answer 0 q event.UserRefuses) 10 (length answer + 10) (done_few [] 0 p (event.Request true)) (done_few answer 0 first.next event.UserRefuses))
+
+answered_few : (s : Settings) (r : RequestRecord) (p : Progress) (a : Answer) → Few (30 + length (accept_text s r)) (answered s r p a)
+answered_few s r p Accept = let few = accepting_few p (accept_text s r) in omega (arith, few)
+answered_few s r p (Reject result source reason) =
+    pick (nat_eq source 2) _ _ _ (omega (arith, done_few (reject_text result source reason) 0 p (event.Request false))) (omega (arith, declined_few p (reject_text result source reason)))
+
+request_few : (s : Settings) (p q : Progress) (r : RequestRecord) (a : Answer) (fault : Option PduFault) → Few (30 + length (accept_text s r)) (elim fault [ Some f ↦ done [] invalid_parameter p event.Invalid | None ↦ answered s r q a ])
+request_few s p q r a (Some f) = omega (arith, done_few [] invalid_parameter p event.Invalid)
+request_few s p q r a None = answered_few s r q a
+
+released_few : (p : Progress) → Few 20 (released p)
+released_few p =
+    let first = done [] 0 p event.ReleaseRq in
+    followed_few first (λ q. done [] 0 q event.UserReleases) 10 10 (done_few [] 0 p event.ReleaseRq) (done_few [] 0 first.next event.UserReleases)
+
+end_few : (s : Settings) (p : Progress) (kind : ℕ) (body : List ℕ) → Few (30 + length (accept_text s (request_record body))) (at_end s p kind body)
+end_few s p kind body =
+    pick (nat_eq kind 7) _ _ _ (omega (arith, done_few [] 0 p event.Abort))
+    (pick (nat_eq kind 1 && is_due p.state) _ _ _ (request_few s p (keeping body p) (request_record body) (judged s (request_record body)) (request_fault body))
+    (pick (nat_eq kind 5 && is_established p.state) _ _ _ (omega (arith, released_few p)) (omega arith)))
+
+module _ (rooms : Rooms) (s : Settings) where
+  mark_few : (q : Progress) (finding : Finding) (mark : Mark) → Few (30 + answer_length s q finding (At mark)) (at_mark rooms s q finding mark)
+  mark_few q finding (Head kind n) = head_few q 0 (head_event (rooms.request - 12) s.max_pdu q.state kind n)
+  mark_few q finding (PdvHead n context control) = pick (is_established q.state) _ _ _ (pdv_head_few q (refusal rooms.command q.message n context control) (context_of (request_record q.request) context)) (omega arith)
+  mark_few q finding (Pdv context control fragment) = pick (is_established q.state) _ _ _ (pdv_few q finding (brought q.message (record { context = context; control = control; fragment = fragment }))) (omega arith)
+  mark_few q finding BadPdv = pick (is_established q.state) _ _ _ (omega (arith, done_few [] invalid_parameter q event.Invalid)) (omega arith)
+  mark_few q finding Leftover = pick (is_established q.state) _ _ _ (omega (arith, done_few [] invalid_parameter q event.Invalid)) (omega arith)
+  mark_few q finding (End kind body) = end_few s q kind body
+
+  -- the later marks of a refused PDU give nothing
+  later_few : (refused : Bool) (p : Progress) (finding : Finding) (mark : Mark) → Few (30 + answer_length s p finding (At mark)) (if refused then nothing p else at_mark rooms s p finding mark)
+  later_few true p finding mark = omega arith
+  later_few false p finding mark = mark_few p finding mark
+
+  entry_few : (p : Progress) (finding : Finding) (e : Entry) → length (at_entry rooms s p finding e).sent ≤ 30 + answer_length s p finding e
+  entry_few p finding (At (Head kind n)) = head_few (record p { refused = false }) 0 (head_event (rooms.request - 12) s.max_pdu p.state kind n)
+  entry_few p finding (At (PdvHead n context control)) = later_few p.refused p finding (PdvHead n context control)
+  entry_few p finding (At (Pdv context control fragment)) = later_few p.refused p finding (Pdv context control fragment)
+  entry_few p finding (At BadPdv) = later_few p.refused p finding BadPdv
+  entry_few p finding (At Leftover) = later_few p.refused p finding Leftover
+  entry_few p finding (At (End kind body)) = later_few p.refused p finding (End kind body)
+  entry_few p finding Shut = omega (arith, done_few [] 0 p event.Closed)
+  entry_few p finding TimedOut = omega (arith, done_few [] 0 p event.Expired)
+  entry_few p finding Aborted = omega (arith, done_few [] 0 p event.UserAborts)
+
+pub few_bytes_but_answers : FewBytesButAnswers
+few_bytes_but_answers rooms s p finding e = entry_few rooms s p finding e
+
+-- ---- what a piece has an association send
+
+cut_few : (wire : Option ℕ) (p : Progress) (g : Advance) (n : ℕ) → Few n g → Few n (cut wire p g)
+cut_few None p g n few = few
+cut_few (Some k) p g n few = omega (arith, few, length-take k g.sent)
+
+sent_few : (rooms : Rooms) (s : Settings) (most : ℕ) (p : Progress) (story : List Happened) → AnswersHave rooms s most p story → length (sent_of rooms s p story) ≤ length story * (30 + most)
 sent_few rooms s most p [] e = omega arith
 sent_few rooms s most p (h ∷ story) e =
-    omega (arith, length-append (gives rooms s p h).sent (sent_of rooms s (gives rooms s p h).next story), e.0, sent_few rooms s most (gives rooms s p h).next story e.1)
+    let g = at_entry rooms s (absorb h.1.filing p) h.1.finding h.0 in
+    let one : Few (30 + answer_length s (absorb h.1.filing p) h.1.finding h.0) g = entry_few rooms s (absorb h.1.filing p) h.1.finding h.0 in
+    let few : length (gives rooms s p h).sent ≤ 30 + most = omega (arith, cut_few h.1.wire p g _ one, e.0) in
+    omega (arith, length-append (gives rooms s p h).sent (sent_of rooms s (gives rooms s p h).next story), few, sent_few rooms s most (gives rooms s p h).next story e.1)
 
 entries_few : (before piece : List ℕ) → length (entries before (Bytes piece ∷ [])) ≤ 4 * length piece
 entries_few before piece = omega (arith, ap length (append-nil (map At (new_marks before piece))), length-map (new_marks before piece) At, few_marks before piece)
@@ -141,4 +274,4 @@ entries_few before piece = omega (arith, ap length (append-nil (map At (new_mark
 pub bounded_output : BoundedOutput
 bounded_output rooms s p story before piece most told each =
     let few : length story ≤ 4 * length piece = omega (arith, length-map story (λ (h : Happened). h.0), ap length told, entries_few before piece) in
-    omega (arith, sent_few rooms s most p story each, mul-le (length story) most (4 * length piece) most few (omega arith))
+    omega (arith, sent_few rooms s most p story each, mul-le (length story) (30 + most) (4 * length piece) (30 + most) few (omega arith))

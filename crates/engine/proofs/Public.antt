@@ -1,7 +1,7 @@
 -- What the crates above cite of this crate's lemmas: the laws of `engine::laws`, which are their contracts, in the words of
 -- the definitions alone.
 use Rattle.engine.specs.TurnLaws.{TurnsBegin, OneTurnMore, TurnsAreARun, EndedHasNoDraft}
-use Rattle.engine.specs.OutputLaws.{FewMarks, BoundedOutput}
+use Rattle.engine.specs.OutputLaws.{FewMarks, BoundedOutput, FewBytesButAnswers}
 use Rattle.engine.proofs.OutputLemmas as output
 use Rattle.engine.proofs.RanLemmas as ran
 
@@ -22,3 +22,6 @@ few_marks = output.few_marks
 
 pub bounded_output : BoundedOutput
 bounded_output = output.bounded_output
+
+pub few_bytes_but_answers : FewBytesButAnswers
+few_bytes_but_answers = output.few_bytes_but_answers

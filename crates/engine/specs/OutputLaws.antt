@@ -1,24 +1,43 @@
 -- How much an association sends for what it receives.
-use Rattle.std.specs.Prelude.{◌≡◌, ℕ, ◌*◌, ◌≤◌, List, [], ◌∷◌, length}
-use Rattle.pdu.specs.Marks.{new_marks}
+use Rattle.std.specs.Prelude.{◌≡◌, ℕ, ◌+◌, ◌*◌, ◌≤◌, List, [], ◌∷◌, length}
+use Rattle.pdu.specs.Items.{request_record}
+use Rattle.pdu.specs.Marks.{Pdv, End, new_marks}
+use Rattle.negotiate.specs.Accept.{accept_text}
 use Rattle.negotiate.specs.Settings.{Settings}
+use Rattle.dimse.specs.Messages.{Goes, Ends, Refuses, brought}
+use Rattle.dimse.specs.Reading.{command_in}
 use Rattle.engine.specs.Inputs.{Bytes}
-use Rattle.engine.specs.Progress.{Progress}
-use Rattle.engine.specs.Run.{Rooms, gives, sent_of}
-use Rattle.engine.specs.Timeline.{Happened, entries, entries_of}
+use Rattle.engine.specs.Progress.{Progress, absorb}
+use Rattle.engine.specs.Replies.{replied}
+use Rattle.engine.specs.Run.{Rooms, at_entry, gives, sent_of}
+use Rattle.engine.specs.Timeline.{Entry, At, Finding, Happened, entries, entries_of}
 
 -- a byte completes four marks at most
 abbrev pub FewMarks : Type 0
 FewMarks = (before piece : List ℕ) → length (new_marks before piece) ≤ 4 * length piece
 
--- each entry of the story sends so many bytes at most
-abbrev pub EachSends : Rooms → Settings → ℕ → Progress → List Happened → Type 0
-EachSends rooms s most p [] = Unit {0}
-EachSends rooms s most p (h ∷ story) = (length (gives rooms s p h).sent ≤ most) × EachSends rooms s most (gives rooms s p h).next story
+-- the bytes of the A-ASSOCIATE-AC to a request that ends, and of the reply to a message that ends
+abbrev pub answer_length : Settings → Progress → Finding → Entry → ℕ
+answer_length s p finding (At (End kind body)) = length (accept_text s (request_record body))
+answer_length s p finding (At (Pdv context control fragment)) = elim (brought p.message (record { context = context; control = control; fragment = fragment })) [
+  | Goes begun ↦ 0
+  | Ends m ↦ length (replied p finding m (command_in m.command)).sent
+  | Refuses fault ↦ 0
+]
+answer_length s p finding e = 0
 
--- what a piece has an association send, where no entry sends more than so many bytes
+-- but for these an entry sends 30 bytes at most
+abbrev pub FewBytesButAnswers : Type 0
+FewBytesButAnswers = (rooms : Rooms) (s : Settings) (p : Progress) (finding : Finding) (e : Entry) → length (at_entry rooms s p finding e).sent ≤ 30 + answer_length s p finding e
+
+-- the answers and replies along the story have so many bytes at most
+abbrev pub AnswersHave : Rooms → Settings → ℕ → Progress → List Happened → Type 0
+AnswersHave rooms s most p [] = Unit {0}
+AnswersHave rooms s most p (h ∷ story) = (answer_length s (absorb h.1.filing p) h.1.finding h.0 ≤ most) × AnswersHave rooms s most (gives rooms s p h).next story
+
+-- what a piece has an association send, where no answer or reply has more than so many bytes
 abbrev pub BoundedOutput : Type 0
 BoundedOutput =
     (rooms : Rooms) (s : Settings) (p : Progress) (story : List Happened) (before piece : List ℕ) (most : ℕ)
-    → entries_of story ≡ entries before (Bytes piece ∷ []) → EachSends rooms s most p story
-    → length (sent_of rooms s p story) ≤ 4 * length piece * most
+    → entries_of story ≡ entries before (Bytes piece ∷ []) → AnswersHave rooms s most p story
+    → length (sent_of rooms s p story) ≤ 4 * length piece * (30 + most)

@@ -7,7 +7,7 @@ ghost use Rattle.engine.specs.VerdictExamples.{VerdictsOnFaults};
 ghost use Rattle.engine.specs.StoreLaws.{AVerdictIsThere, AVerdictIsOne, NoGoodImageIsRefused, FiledByItself};
 ghost use Rattle.engine.specs.RunLaws.{EveryGoodImageIsFiled, OneRun};
 ghost use Rattle.engine.specs.TurnLaws.{TurnsBegin, OneTurnMore, TurnsAreARun, EndedHasNoDraft};
-ghost use Rattle.engine.specs.OutputLaws.{FewMarks, BoundedOutput};
+ghost use Rattle.engine.specs.OutputLaws.{FewMarks, BoundedOutput, FewBytesButAnswers};
 ghost use Rattle.engine.specs.Laws.{EntriesAppend, CutsDoNotShow, NothingAfterTheEnd};
 ghost use Rattle.engine.specs.Examples.{ARequestAboveTheRoom, BytesThatAreNoPdu, DataAboveTheMaximum, AfterTheEnd, AnotherCalledTitle, RecordedEcho, HeldWhileTheEchoComes, AGoodPdvBeforeABadOne};
 
@@ -56,9 +56,14 @@ pub fn few_marks()
     ensures { FewMarks }
 {}
 
-/// A piece has an association send four times its length at most, times what one entry sends.
+/// For each byte of a piece an association sends at most four times 30 bytes and an answer.
 pub fn bounded_output()
     ensures { BoundedOutput }
+{}
+
+/// But for the answer to a request and the reply to a message an entry sends 30 bytes at most.
+pub fn few_bytes_but_answers()
+    ensures { FewBytesButAnswers }
 {}
 
 /// There is a verdict on every store.
