@@ -38,3 +38,4 @@ pub mod CountLemmas
 pub mod AskedLemmas
 pub mod OutputLemmas
 pub mod Public
+pub mod AcceptedLemmas

@@ -2,6 +2,7 @@
 use Rattle.std.proofs.Common.{◌≡◌, ◌⊎◌, inl, inr, ℕ, Bool, true, false, not, ◌&&◌, List, [], ◌∷◌, ◌++◌, Option, Some, None, Result, Ok, Err, refl, sym, ap, subst, ◌∙◌, arith, nat_eq, if◌then◌else◌}
 use Rattle.element.specs.Uid.{uid_of}
 use Rattle.pdu.specs.Items.{request_record}
+use Rattle.pdu.specs.Sent.{Line}
 use Rattle.pdu.specs.Marks.{Head, PdvHead, Pdv, BadPdv, Leftover, End}
 use Rattle.negotiate.specs.declared.proposals.Context.{Context}
 use Rattle.negotiate.specs.Contexts.{context_of}
@@ -19,7 +20,12 @@ use Rattle.engine.specs.Progress.{Progress, Advance, at_start, absorb, is_establ
 use Rattle.engine.specs.Replies.{at_pdv, replied, finding_on, file_put, file_in, echo_status, ended_message}
 use Rattle.engine.specs.Run.{Rooms, at_entry, cut, gives, progress_of, sent_of, files_of, fails, counted, wire_failures, filing_failures}
 use Rattle.engine.specs.Fair.{IsFair, AreFair, IsVerdict, message_at}
-use Rattle.engine.specs.RunLaws.{EveryGoodImageIsFiled, OneRun, IsAccepted, AreAccepted}
+use Rattle.engine.specs.declared.report.Report.{Report}
+use Rattle.engine.specs.Devices.{Devices}
+use Rattle.engine.specs.Inputs.{Received}
+use Rattle.engine.specs.Ran.{Answered, standing_of}
+use Rattle.engine.specs.RunLaws.{EveryGoodImageIsFiled, OneRun, IsUnfailed, NoneFailed, CutsGiveTheSame}
+use Rattle.engine.proofs.AcceptedLemmas.{IsAccepted, AreAccepted, story_accepted}
 use Rattle.engine.proofs.CutLemmas.{cuts_do_not_show}
 use Rattle.engine.proofs.OneVerdict.{same_finding}
 use Rattle.engine.proofs.StoryLemmas.{sent_then, files_then}
@@ -154,7 +160,7 @@ module _ (rooms : Rooms) (s : Settings) where
       let v = subst (λ (b : Bool). IsVerdict rooms s (absorb b p) x.1.finding (message_at p x.0)) filing fair.verdict in
       let w = subst (λ (e : Entry). IsVerdict rooms s p y.1.finding (message_at p e)) (sym same) (subst (λ (b : Bool). IsVerdict rooms s (absorb b p) y.1.finding (message_at p y.0)) filing2 fair2.verdict) in
       calm_gives p x wire filing
-      ∙ entry_same p x.1.finding y.1.finding x.0 v w accepted
+      ∙ entry_same p x.1.finding y.1.finding x.0 v w (λ m command is spelled store. accepted m is)
       ∙ ap (λ (e : Entry). at_entry rooms s p y.1.finding e) same
       ∙ sym (calm_gives p y wire2 filing2)
 
@@ -192,10 +198,24 @@ same_way rooms s p (x ∷ xs) (y ∷ ys) last last2 e fair fair2 w w2 k k2 accep
     }
 
 pub one_run : OneRun
-one_run rooms s a b story story2 failed failed2 sent sent2 files files2 state ended cuts run run2 calm calm2 accepted =
+one_run rooms s a b story story2 failed failed2 sent sent2 files files2 state ended cuts run run2 calm calm2 =
     let told = run.story_is.told ∙ (cuts_do_not_show rooms s a b cuts).0 ∙ sym run2.story_is.told in
+    let accepted = story_accepted rooms s a story run.story_is.told in
     let way = same_way rooms s at_start story story2 failed failed2 told run.story_is.fair run2.story_is.fair calm.wire calm2.wire calm.filing calm2.filing accepted in (
       run.sent_is ∙ way.sent ∙ sym run2.sent_is,
       run.files_are ∙ way.files ∙ sym run2.files_are,
       run.state_is ∙ ap (λ (p : Progress). p.state) way.progress ∙ sym run2.state_is,
     )
+
+-- where no count rose, the story has no failure
+unfailed : (rooms : Rooms) (s : Settings) (taken : List Received) (report : Report) (old new : Devices) → (x : Answered rooms s taken report old new) → NoneFailed old new → IsUnfailed x.story x.failed
+unfailed rooms s taken report old new x none = record {
+  wire = omega (arith, ap (λ (line : Line). line.failures) x.line, none.wire);
+  filing = omega (arith, x.count, none.filing);
+}
+
+pub cuts_give_the_same : CutsGiveTheSame
+cuts_give_the_same rooms s a b one other old new old2 new2 cuts x y none none2 =
+    let same = one_run rooms s a b x.story y.story x.failed y.failed x.sent y.sent x.files y.files x.state y.state cuts x.run y.run
+    (unfailed rooms s a one old new x none) (unfailed rooms s b other old2 new2 y none2) in
+    record { sent = same.0; files = same.1; state = same.2; standing = x.standing ∙ ap standing_of same.2 ∙ sym y.standing }

@@ -1,21 +1,20 @@
 -- What follows for stores in a whole run.
-use Rattle.std.specs.Prelude.{◌≡◌, ℕ, Bool, List, [], ◌∷◌, ◌++◌, Some, None, Ok}
+use Rattle.std.specs.Prelude.{◌≡◌, ℕ, Bool, List, ◌∷◌, ◌++◌, Some, None, Ok}
 use Rattle.acceptor.specs.declared.state.State.{State}
 use Rattle.pdu.specs.Items.{request_record}
-use Rattle.dimse.specs.Command.{CommandRecord, c_store}
+use Rattle.dimse.specs.Command.{CommandRecord}
 use Rattle.dimse.specs.Messages.{Message}
-use Rattle.dimse.specs.Reading.{command_in}
 use Rattle.dimse.specs.Reply.{reply_bytes}
 use Rattle.dimse.specs.Status.{success}
 use Rattle.negotiate.specs.declared.proposals.Context.{Context}
-use Rattle.negotiate.specs.Contexts.{context_of}
 use Rattle.negotiate.specs.Settings.{Settings}
 use Rattle.engine.specs.Inputs.{Received}
 use Rattle.engine.specs.Timeline.{Happened}
 use Rattle.engine.specs.Progress.{Progress, at_start}
 use Rattle.engine.specs.Run.{Rooms, gives, progress_of, sent_of, files_of, wire_failures, filing_failures}
-use Rattle.engine.specs.Fair.{message_at}
-use Rattle.engine.specs.Ran.{Run}
+use Rattle.engine.specs.declared.report.Report.{Report}
+use Rattle.engine.specs.Devices.{Devices}
+use Rattle.engine.specs.Ran.{Run, Answered}
 use Rattle.engine.specs.Laws.{DifferInCuts}
 use Rattle.engine.specs.StoreLaws.{EndsAt, IsGoodImage, IsCalm, file_of}
 
@@ -39,25 +38,36 @@ EveryGoodImageIsFiled =
 
 -- ---- a run without failures
 
--- a store that ends at this entry came in a presentation context that was accepted
-abbrev pub IsAccepted : Progress → Happened → Type 0
-IsAccepted p h = (m : Message) (command : CommandRecord) → message_at p h.0 ≡ Some m → command_in m.command ≡ Ok command → command.field ≡ c_store
-    → (context : Context) × (context_of (request_record p.request) m.context ≡ Some context)
-
-abbrev pub AreAccepted : Rooms → Settings → Progress → List Happened → Type 0
-AreAccepted rooms s p [] = Unit {0}
-AreAccepted rooms s p (h ∷ story) = IsAccepted p h × AreAccepted rooms s (gives rooms s p h).next story
-
 -- no send failed and no call of the filing
 pub record IsUnfailed (story : List Happened) (failed : Bool) : Type 0 where
   pub wire : wire_failures story ≡ 0
   pub filing : filing_failures story failed ≡ 0
 
 -- Inputs have one run in which no device fails: two lists of them that differ in their cuts alone give the same bytes sent,
--- the same files and the same state, where each store came in an accepted context.
+-- the same files and the same state.
 abbrev pub OneRun : Type 0
 OneRun =
     (rooms : Rooms) (s : Settings) (a b : List Received) (story story2 : List Happened) (failed failed2 : Bool) (sent sent2 : List ℕ) (files files2 : List (List ℕ)) (state state2 : State)
     → DifferInCuts a b → Run rooms s a story failed sent files state → Run rooms s b story2 failed2 sent2 files2 state2
-    → IsUnfailed story failed → IsUnfailed story2 failed2 → AreAccepted rooms s at_start story
+    → IsUnfailed story failed → IsUnfailed story2 failed2
     → (sent ≡ sent2) × (files ≡ files2) × (state ≡ state2)
+
+-- no device failed from here to there
+pub record NoneFailed (old new : Devices) : Type 0 where
+  pub wire : new.line.failures ≡ old.line.failures
+  pub filing : new.store.failures ≡ old.store.failures
+
+-- the same bytes sent, the same files, and the same standing
+pub record SameOutcome (rooms : Rooms) (s : Settings) (a b : List Received) (one other : Report) (old new old2 new2 : Devices) (x : Answered rooms s a one old new) (y : Answered rooms s b other old2 new2) : Type 0 where
+  pub sent : x.sent ≡ y.sent
+  pub files : x.files ≡ y.files
+  pub state : x.state ≡ y.state
+  pub standing : one.standing ≡ other.standing
+
+-- Two runs whose inputs differ only in how the stream between the other inputs is cut, and in which no device fails, send
+-- the same bytes, put the same files and stand alike.
+abbrev pub CutsGiveTheSame : Type 0
+CutsGiveTheSame =
+    (rooms : Rooms) (s : Settings) (a b : List Received) (one other : Report) (old new old2 new2 : Devices)
+    → DifferInCuts a b → (x : Answered rooms s a one old new) → (y : Answered rooms s b other old2 new2) → NoneFailed old new → NoneFailed old2 new2
+    → SameOutcome rooms s a b one other old new old2 new2 x y

@@ -5,7 +5,7 @@ ghost use Rattle.engine.specs.StoreExamples.{AStoreIsFiled, AFilingFailsOnce, AC
 ghost use Rattle.engine.specs.StoreVerdicts.{VerdictsOnOneImage, TheFileOfAStore};
 ghost use Rattle.engine.specs.VerdictExamples.{VerdictsOnFaults};
 ghost use Rattle.engine.specs.StoreLaws.{AVerdictIsThere, AVerdictIsOne, NoGoodImageIsRefused, FiledByItself};
-ghost use Rattle.engine.specs.RunLaws.{EveryGoodImageIsFiled, OneRun};
+ghost use Rattle.engine.specs.RunLaws.{EveryGoodImageIsFiled, OneRun, CutsGiveTheSame};
 ghost use Rattle.engine.specs.TurnLaws.{TurnsBegin, OneTurnMore, TurnsAreARun, EndedHasNoDraft};
 ghost use Rattle.engine.specs.OutputLaws.{FewMarks, BoundedOutput, FewBytesButAnswers};
 ghost use Rattle.engine.specs.Laws.{EntriesAppend, CutsDoNotShow, NothingAfterTheEnd};
@@ -24,6 +24,12 @@ pub fn cuts_do_not_show()
 /// Inputs have one run in which no device fails, however their stream is cut.
 pub fn a_run_without_failures_is_one()
     ensures { OneRun }
+{}
+
+/// However the stream is cut: two runs over the same bytes and the same other inputs, in which no device
+/// fails, send the same bytes, put the same files and stand alike.
+pub fn cuts_give_the_same()
+    ensures { CutsGiveTheSame }
 {}
 
 /// Nothing is sent and no file is put after the end.

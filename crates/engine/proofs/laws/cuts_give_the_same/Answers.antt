@@ -1,0 +1,5 @@
+use Rattle.engine.proofs.RunLawLemmas.{cuts_give_the_same}
+use Rattle.engine.proofs.laws.cuts_give_the_same.Goals as goal
+
+pub returns : goal.returns
+returns c = cuts_give_the_same
