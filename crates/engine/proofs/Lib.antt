@@ -39,3 +39,4 @@ pub mod AskedLemmas
 pub mod OutputLemmas
 pub mod Public
 pub mod AcceptedLemmas
+pub mod OneHeld

@@ -1,8 +1,8 @@
 -- One turn after another.
-use Rattle.std.proofs.Common.{◌≡◌, ◌≢◌, ℕ, zero, suc, ◌+◌, ◌≤◌, Bool, false, List, [], ◌∷◌, ◌++◌, length, take, drop, option_map, Option, Some, None, refl, sym, ap, subst, ◌∙◌, arith, inl, inr}
+use Rattle.std.proofs.Common.{◌≡◌, ◌≢◌, ℕ, zero, suc, ◌+◌, ◌*◌, ◌≤◌, Bool, false, List, [], ◌∷◌, ◌++◌, length, take, drop, option_map, Option, Some, None, refl, sym, ap, subst, ◌∙◌, arith, inl, inr}
 use Rattle.std.proofs.lemmas.Bool.{cases_lt}
 use Rattle.std.proofs.lemmas.List.{append_assoc, append-nil, length-append, length-map, take-append-drop, take-append-le, take_all}
-use Rattle.acceptor.specs.declared.state.State.TheVariants.{Sta1}
+use Rattle.acceptor.specs.declared.state.State.TheVariants.{Sta1, Sta6}
 use Rattle.part10.specs.Store.{Shelf, Store, told_after, without_draft, stepped}
 use Rattle.negotiate.specs.Settings.{Settings}
 use Rattle.engine.specs.declared.source.Input.{Input}
@@ -162,8 +162,9 @@ module _ (rooms : Rooms) (s : Settings) where
 
   pub answered_by : (taken : List Received) (report : Report) (seen : Fields) (old now new : Devices) → Stood rooms s taken seen old now → report.standing ≡ standing_of seen.kept.state
       → ((story : List Happened) (failed : Bool) → Stands rooms s taken story failed seen now.store → Held rooms s (reached rooms s taken story failed) report.held)
+      → (seen.kept.state ≡ Sta6 → report.held ≤ 544 + rooms.command + rooms.values + 16 * rooms.depth)
       → new.line ≡ now.line → new.store ≡ stepped without_draft false now.store → Answered rooms s taken report old new
-  answered_by taken report seen old now new h e held line store = record {
+  answered_by taken report seen old now new h e held accepted line store = record {
     story = h.story;
     failed = h.failed;
     sent = sent_of rooms s at_start h.story;
@@ -173,6 +174,7 @@ module _ (rooms : Rooms) (s : Settings) where
     last = h.last;
     standing = e;
     held = held h.story h.failed h.stands;
+    accepted_room = accepted;
     line = line ∙ h.gains.line;
     told = ap (λ (x : Store). x.told) store ∙ told_filed old.store.told now.store.told (files_of rooms s at_start h.story) h.gains.files;
     count = omega (arith, ap (λ (x : Store). x.failures) store, h.gains.count);
@@ -194,7 +196,7 @@ turns_are_a_run rooms s turns most source now seen old mid new report r few ende
   all_turns = λ lt. reports.standing ∙ ap standing_of (ended (omega (arith, r.number, lt)));
   source = λ all e. follows_all _ _ r.taken all r.follows.front e;
   given = r.follows.given;
-  answered = answered_by rooms s r.taken report seen old mid new r.stood reports.standing (λ story failed h. reports.held r.taken story failed h) line store;
+  answered = answered_by rooms s r.taken report seen old mid new r.stood reports.standing (λ story failed h. reports.held r.taken story failed h) reports.accepted_room line store;
   no_draft = ap (λ (x : Store). x.has_draft) store;
 }
 

@@ -1,8 +1,9 @@
 -- Stores in a whole run, and runs without failures.
-use Rattle.std.proofs.Common.{◌≡◌, ◌⊎◌, inl, inr, ℕ, Bool, true, false, not, ◌&&◌, List, [], ◌∷◌, ◌++◌, Option, Some, None, Result, Ok, Err, refl, sym, ap, subst, ◌∙◌, arith, nat_eq, if◌then◌else◌}
+use Rattle.std.proofs.Common.{◌≡◌, ◌⊎◌, inl, inr, ℕ, Bool, true, false, not, ◌&&◌, List, [], ◌∷◌, ◌++◌, Option, Some, None, Result, Ok, Err, refl, sym, ap, subst, ◌∙◌, append_assoc, arith, nat_eq, if◌then◌else◌}
 use Rattle.element.specs.Uid.{uid_of}
 use Rattle.pdu.specs.Items.{request_record}
 use Rattle.pdu.specs.Sent.{Line}
+use Rattle.pdu.specs.Frames.{rest_of}
 use Rattle.pdu.specs.Marks.{Head, PdvHead, Pdv, BadPdv, Leftover, End}
 use Rattle.negotiate.specs.declared.proposals.Context.{Context}
 use Rattle.negotiate.specs.Contexts.{context_of}
@@ -19,15 +20,19 @@ use Rattle.engine.specs.Timeline.{Entry, At, Shut, TimedOut, Aborted, Finding, H
 use Rattle.engine.specs.Progress.{Progress, Advance, at_start, absorb, is_established, nothing}
 use Rattle.engine.specs.Replies.{at_pdv, replied, finding_on, file_put, file_in, echo_status, ended_message}
 use Rattle.engine.specs.Run.{Rooms, at_entry, cut, gives, progress_of, sent_of, files_of, fails, counted, wire_failures, filing_failures}
-use Rattle.engine.specs.Fair.{IsFair, AreFair, IsVerdict, message_at}
+use Rattle.engine.specs.Fair.{IsFair, AreFair, IsVerdict, IsStory, message_at}
 use Rattle.engine.specs.declared.report.Report.{Report}
 use Rattle.engine.specs.Devices.{Devices}
-use Rattle.engine.specs.Inputs.{Received}
+use Rattle.engine.specs.Held.{Held}
+use Rattle.engine.specs.Inputs.{Received, Bytes, Close, Expiry, UserAbort, stream_of}
+use Rattle.engine.specs.Laws.{DifferInCuts, put_together}
+use Rattle.engine.specs.Reached.{Reached, reached}
 use Rattle.engine.specs.Ran.{Answered, standing_of}
 use Rattle.engine.specs.RunLaws.{EveryGoodImageIsFiled, OneRun, IsUnfailed, NoneFailed, CutsGiveTheSame}
 use Rattle.engine.proofs.AcceptedLemmas.{IsAccepted, AreAccepted, story_accepted}
 use Rattle.engine.proofs.CutLemmas.{cuts_do_not_show}
 use Rattle.engine.proofs.OneVerdict.{same_finding}
+use Rattle.engine.proofs.OneHeld.{held_is_one}
 use Rattle.engine.proofs.StoryLemmas.{sent_then, files_then}
 use Rattle.engine.proofs.StoreLawLemmas.{no_good_image_is_refused, by_brought, brought_is, entry_at}
 
@@ -197,11 +202,15 @@ same_way rooms s p (x ∷ xs) (y ∷ ys) last last2 e fair fair2 w w2 k k2 accep
       progress = rest.progress ∙ ap (λ (g : Advance). progress_of rooms s g.next ys) same;
     }
 
+module _ (rooms : Rooms) (s : Settings) (a b : List Received) (story story2 : List Happened) (failed failed2 : Bool) where
+  one_way : DifferInCuts a b → IsStory rooms s a story failed → IsStory rooms s b story2 failed2 → IsUnfailed story failed → IsUnfailed story2 failed2 → SameWay rooms s at_start story story2
+  one_way cuts h h2 calm calm2 =
+      let told = h.told ∙ (cuts_do_not_show rooms s a b cuts).0 ∙ sym h2.told in
+      same_way rooms s at_start story story2 failed failed2 told h.fair h2.fair calm.wire calm2.wire calm.filing calm2.filing (story_accepted rooms s a story h.told)
+
 pub one_run : OneRun
 one_run rooms s a b story story2 failed failed2 sent sent2 files files2 state ended cuts run run2 calm calm2 =
-    let told = run.story_is.told ∙ (cuts_do_not_show rooms s a b cuts).0 ∙ sym run2.story_is.told in
-    let accepted = story_accepted rooms s a story run.story_is.told in
-    let way = same_way rooms s at_start story story2 failed failed2 told run.story_is.fair run2.story_is.fair calm.wire calm2.wire calm.filing calm2.filing accepted in (
+    let way = one_way rooms s a b story story2 failed failed2 cuts run.story_is run2.story_is calm calm2 in (
       run.sent_is ∙ way.sent ∙ sym run2.sent_is,
       run.files_are ∙ way.files ∙ sym run2.files_are,
       run.state_is ∙ ap (λ (p : Progress). p.state) way.progress ∙ sym run2.state_is,
@@ -214,8 +223,37 @@ unfailed rooms s taken report old new x none = record {
   filing = omega (arith, x.count, none.filing);
 }
 
+none_after : (story : List Happened) (failed : Bool) → filing_failures story failed ≡ 0 → failed ≡ false
+none_after [] failed k = not_counted failed k
+none_after (h ∷ story) failed k = none_after story failed (omega (arith, k))
+
+-- the stream is the same
+stream_together : (piece : List ℕ) (inputs : List Received) → stream_of (put_together piece inputs) ≡ piece ++ stream_of inputs
+stream_together piece [] = refl
+stream_together piece (Bytes more ∷ inputs) = stream_together (piece ++ more) inputs ∙ append_assoc piece more (stream_of inputs)
+stream_together piece (Close ∷ inputs) = ap (λ (xs : List ℕ). piece ++ xs) (stream_together [] inputs)
+stream_together piece (Expiry ∷ inputs) = ap (λ (xs : List ℕ). piece ++ xs) (stream_together [] inputs)
+stream_together piece (UserAbort ∷ inputs) = ap (λ (xs : List ℕ). piece ++ xs) (stream_together [] inputs)
+
+one_stream : (a b : List Received) → DifferInCuts a b → stream_of a ≡ stream_of b
+one_stream a b cuts = sym (stream_together [] a) ∙ ap stream_of cuts ∙ stream_together [] b
+
+one_reached : (rooms : Rooms) (s : Settings) (a b : List Received) (story story2 : List Happened) (failed failed2 : Bool) → failed ≡ failed2 → progress_of rooms s at_start story ≡ progress_of rooms s at_start story2 → stream_of a ≡ stream_of b
+    → reached rooms s a story failed ≡ reached rooms s b story2 failed2
+one_reached rooms s a b story story2 failed failed2 f p stream = λ i. record { progress = absorb (f i) (p i); rest = rest_of (stream i) }
+
 pub cuts_give_the_same : CutsGiveTheSame
 cuts_give_the_same rooms s a b one other old new old2 new2 cuts x y none none2 =
-    let same = one_run rooms s a b x.story y.story x.failed y.failed x.sent y.sent x.files y.files x.state y.state cuts x.run y.run
-    (unfailed rooms s a one old new x none) (unfailed rooms s b other old2 new2 y none2) in
-    record { sent = same.0; files = same.1; state = same.2; standing = x.standing ∙ ap standing_of same.2 ∙ sym y.standing }
+    let calm = unfailed rooms s a one old new x none in
+    let calm2 = unfailed rooms s b other old2 new2 y none2 in
+    let same = one_run rooms s a b x.story y.story x.failed y.failed x.sent y.sent x.files y.files x.state y.state cuts x.run y.run calm calm2 in
+    let way = one_way rooms s a b x.story y.story x.failed y.failed cuts x.run.story_is y.run.story_is calm calm2 in
+    let failed = none_after x.story x.failed calm.filing ∙ sym (none_after y.story y.failed calm2.filing) in
+    let there = one_reached rooms s a b x.story y.story x.failed y.failed failed way.progress (one_stream a b cuts) in
+    record {
+      sent = same.0;
+      files = same.1;
+      state = same.2;
+      standing = x.standing ∙ ap standing_of same.2 ∙ sym y.standing;
+      held = held_is_one rooms s (reached rooms s a x.story x.failed) one.held other.held x.held (subst (λ (r : Reached). Held rooms s r other.held) (sym there) y.held);
+    }

@@ -1,7 +1,7 @@
 -- A run: which inputs were taken, and what came of them.
-use Rattle.std.specs.Prelude.{◌≡◌, ◌≢◌, ℕ, zero, suc, ◌+◌, ◌<◌, ◌≤◌, Bool, false, List, [], length, take, Option, Some}
+use Rattle.std.specs.Prelude.{◌≡◌, ◌≢◌, ℕ, zero, suc, ◌+◌, ◌*◌, ◌<◌, ◌≤◌, Bool, false, List, [], length, take, Option, Some}
 use Rattle.acceptor.specs.declared.state.State.{State}
-use Rattle.acceptor.specs.declared.state.State.TheVariants.{Sta1, Sta13}
+use Rattle.acceptor.specs.declared.state.State.TheVariants.{Sta1, Sta6, Sta13}
 use Rattle.negotiate.specs.Settings.{Settings}
 use Rattle.part10.specs.Store.{told_after}
 use Rattle.engine.specs.declared.report.Standing.{Standing}
@@ -42,7 +42,8 @@ standing_of Sta13 = standing.Closing
 standing_of state = standing.Open
 
 -- What came of the inputs: a story of them gives the bytes that were sent, the files that were put, how the association
--- stands and what it holds; and so often the wire and the filing failed. No draft is left.
+-- stands and what it holds, once it is accepted 544 bytes at most beside a message; and so often the wire and the filing
+-- failed. No draft is left.
 pub record Answered (rooms : Rooms) (s : Settings) (taken : List Received) (report : Report) (old new : Devices) : Type 0 where
   pub story : List Happened
   pub failed : Bool
@@ -53,6 +54,7 @@ pub record Answered (rooms : Rooms) (s : Settings) (taken : List Received) (repo
   pub last : EndsLast rooms s taken story
   pub standing : report.standing ≡ standing_of state
   pub held : Held rooms s (reached rooms s taken story failed) report.held
+  pub accepted_room : state ≡ Sta6 → report.held ≤ 544 + rooms.command + rooms.values + 16 * rooms.depth
   pub line : new.line ≡ line_with sent (wire_failures story) old.line
   pub told : new.store.told ≡ told_after (filed files) old.store.told
   pub count : new.store.failures ≡ old.store.failures + filing_failures story failed

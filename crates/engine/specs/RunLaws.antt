@@ -57,15 +57,16 @@ pub record NoneFailed (old new : Devices) : Type 0 where
   pub wire : new.line.failures ≡ old.line.failures
   pub filing : new.store.failures ≡ old.store.failures
 
--- the same bytes sent, the same files, and the same standing
+-- the same bytes sent, the same files, the same standing, and as many bytes held
 pub record SameOutcome (rooms : Rooms) (s : Settings) (a b : List Received) (one other : Report) (old new old2 new2 : Devices) (x : Answered rooms s a one old new) (y : Answered rooms s b other old2 new2) : Type 0 where
   pub sent : x.sent ≡ y.sent
   pub files : x.files ≡ y.files
   pub state : x.state ≡ y.state
   pub standing : one.standing ≡ other.standing
+  pub held : one.held ≡ other.held
 
 -- Two runs whose inputs differ only in how the stream between the other inputs is cut, and in which no device fails, send
--- the same bytes, put the same files and stand alike.
+-- the same bytes, put the same files, stand alike and hold as many bytes.
 abbrev pub CutsGiveTheSame : Type 0
 CutsGiveTheSame =
     (rooms : Rooms) (s : Settings) (a b : List Received) (one other : Report) (old new old2 new2 : Devices)

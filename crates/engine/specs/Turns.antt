@@ -1,5 +1,6 @@
 -- A run turn by turn: what was taken and what came of it between two of them, and what one turn does.
-use Rattle.std.specs.Prelude.{◌≡◌, ℕ, Bool, false, List, length, Option, Some, None}
+use Rattle.std.specs.Prelude.{◌≡◌, ℕ, ◌+◌, ◌*◌, ◌≤◌, Bool, false, List, length, Option, Some, None}
+use Rattle.acceptor.specs.declared.state.State.TheVariants.{Sta6}
 use Rattle.negotiate.specs.Settings.{Settings}
 use Rattle.part10.specs.Store.{Store}
 use Rattle.engine.specs.Devices.{Devices}
@@ -50,7 +51,9 @@ pub record TookInput (rooms : Rooms) (s : Settings) (source_old source_now : Sup
   pub moved : (inputs : List Received) (story : List Happened) (failed : Bool) → Stands rooms s inputs story failed seen_old old.store
       → Moved rooms s inputs story failed (input_of kind bytes) seen_old seen_new old new
 
--- the report of an association that is seen so: how it stands, and how many bytes it holds where it stands as its inputs say
+-- the report of an association that is seen so: how it stands, and how many bytes it holds where it stands as its inputs
+-- say, once it is accepted 544 bytes at most beside a message
 pub record Reports (rooms : Rooms) (s : Settings) (seen : Fields) (store : Store) (report : Report) : Type 0 where
   pub standing : report.standing ≡ standing_of seen.kept.state
   pub held : (inputs : List Received) (story : List Happened) (failed : Bool) → Stands rooms s inputs story failed seen store → Held rooms s (reached rooms s inputs story failed) report.held
+  pub accepted_room : seen.kept.state ≡ Sta6 → report.held ≤ 544 + rooms.command + rooms.values + 16 * rooms.depth

@@ -8,7 +8,7 @@ ghost use Rattle.engine.specs.StoreLaws.{AVerdictIsThere, AVerdictIsOne, NoGoodI
 ghost use Rattle.engine.specs.RunLaws.{EveryGoodImageIsFiled, OneRun, CutsGiveTheSame};
 ghost use Rattle.engine.specs.TurnLaws.{TurnsBegin, OneTurnMore, TurnsAreARun, EndedHasNoDraft};
 ghost use Rattle.engine.specs.OutputLaws.{FewMarks, BoundedOutput, FewBytesButAnswers};
-ghost use Rattle.engine.specs.Laws.{EntriesAppend, CutsDoNotShow, NothingAfterTheEnd};
+ghost use Rattle.engine.specs.Laws.{EntriesAppend, CutsDoNotShow, NothingAfterTheEnd, HeldIsOne};
 ghost use Rattle.engine.specs.Examples.{ARequestAboveTheRoom, BytesThatAreNoPdu, DataAboveTheMaximum, AfterTheEnd, AnotherCalledTitle, RecordedEcho, HeldWhileTheEchoComes, AGoodPdvBeforeABadOne};
 
 /// The timeline with more inputs is the old one with their entries appended.
@@ -27,7 +27,7 @@ pub fn a_run_without_failures_is_one()
 {}
 
 /// However the stream is cut: two runs over the same bytes and the same other inputs, in which no device
-/// fails, send the same bytes, put the same files and stand alike.
+/// fails, send the same bytes, put the same files, stand alike and hold as many bytes.
 pub fn cuts_give_the_same()
     ensures { CutsGiveTheSame }
 {}
@@ -70,6 +70,12 @@ pub fn bounded_output()
 /// But for the answer to a request and the reply to a message an entry sends 30 bytes at most.
 pub fn few_bytes_but_answers()
     ensures { FewBytesButAnswers }
+{}
+
+/// The number of held bytes is one: what `Association::held` returns, and `run` reports, is all that the
+/// definition names.
+pub fn the_number_of_held_bytes_is_one()
+    ensures { HeldIsOne }
 {}
 
 /// There is a verdict on every store.

@@ -7,6 +7,7 @@ pub returns-clause-reports : goal.returns-clause-reports
 returns-clause-reports g c store = record {
   standing = c.of.ensures ∙ ap standing_of c.state.ensures;
   held = λ inputs story failed h. c.held.ensures.held inputs story failed store h;
+  accepted_room = c.held.ensures.accepted_room;
 }
 
 pub state-requires : goal.state-requires

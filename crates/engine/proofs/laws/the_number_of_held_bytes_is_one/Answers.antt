@@ -1,0 +1,5 @@
+use Rattle.engine.proofs.OneHeld.{held_is_one}
+use Rattle.engine.proofs.laws.the_number_of_held_bytes_is_one.Goals as goal
+
+pub returns : goal.returns
+returns c = held_is_one
