@@ -41,8 +41,9 @@ pends_taken k store p kind body part held taken more h =
       refused_is = h.refused_is;
       body_is = more ∙ counted_more p.state k.refused p.refused (nat_eq kind 1) k.body body part h.refused_is t h.body_is;
       join_is = h.join_is;
-      agreed = λ six. let a = h.agreed six in record { caller = a.caller; maximum = a.maximum; contexts = a.contexts; count = a.count };
+      agreed = λ six. let a = h.agreed six in record { caller = a.caller; maximum = a.maximum; rows = a.rows; contexts = a.contexts; count = a.count };
       none_left = h.none_left;
+      unagreed = h.unagreed;
       walks = h.walks;
       draft = h.draft;
       failed_in = h.failed_in;
@@ -59,6 +60,7 @@ pends_untaken k store p kind body part dropped h =
       join_is = h.join_is;
       agreed = h.agreed;
       none_left = h.none_left;
+      unagreed = h.unagreed;
       walks = h.walks;
       draft = h.draft;
       failed_in = h.failed_in;

@@ -81,8 +81,9 @@ pends_refused q mid store body begun body2 begun2 b d h =
       refused_is = λ n. refl;
       body_is = h.body_is ∙ b ∙ not_counted (is_due q.state) body2;
       join_is = subst (λ (xs : List ℕ). ShowsMessage mid.room mid.join q.message xs) same h.join_is;
-      agreed = λ six. let a = h.agreed six in record { caller = a.caller; maximum = a.maximum; contexts = a.contexts; count = a.count };
+      agreed = λ six. let a = h.agreed six in record { caller = a.caller; maximum = a.maximum; rows = a.rows; contexts = a.contexts; count = a.count };
       none_left = h.none_left;
+      unagreed = h.unagreed;
       walks = subst (λ (xs : List ℕ). Walks mid.depth mid.most q.request (with_pdv xs q.message) mid.storing) same h.walks;
       draft = subst (λ (xs : List ℕ). IsDraft q.request (with_pdv xs q.message) q.filing_failed store (drafting_in mid.storing)) same h.draft;
       failed_in = h.failed_in;
@@ -90,7 +91,7 @@ pends_refused q mid store body begun body2 begun2 b d h =
 
 ended_refused : (p : Progress) (mid : Kept) (store : Store) (body begun body2 begun2 : List ℕ) → Pends mid store (left Sta1 p) body begun → Pends (record mid { refused = true }) store (left Sta1 p) body2 begun2
 ended_refused p mid store body begun body2 begun2 h =
-    record { state_is = h.state_is; refused_is = λ n. absurd cc; body_is = h.body_is; join_is = h.join_is; agreed = λ six. absurd cc; none_left = λ e. refl; walks = h.walks; draft = h.draft; failed_in = λ n. absurd cc }
+    record { state_is = h.state_is; refused_is = λ n. absurd cc; body_is = h.body_is; join_is = h.join_is; agreed = λ six. absurd cc; none_left = λ e. refl; unagreed = h.unagreed; walks = h.walks; draft = h.draft; failed_in = λ n. absurd cc }
 
 pub refused_by : (p : Progress) (g : Advance) (mid : Kept) (body begun body2 begun2 : List ℕ) (old new : Devices) → counted_body g.next body ≡ [] → counted_pdv g.next begun ≡ []
     → DoesDue p g mid body begun old new → DoesDue p (refusing g) (record mid { refused = true }) body2 begun2 old new

@@ -65,6 +65,7 @@ pends_dropped k store p body b c t h =
       join_is = subst (λ (xs : List ℕ). ShowsMessage k.room k.join p.message xs) same h.join_is;
       agreed = h.agreed;
       none_left = h.none_left;
+      unagreed = h.unagreed;
       walks = d.0;
       draft = d.1;
       failed_in = h.failed_in;
@@ -73,7 +74,7 @@ pends_dropped k store p body b c t h =
 -- ---- beside the message
 
 pub aside_of : (k : Kept) (store : Store) (p : Progress) (begun : List ℕ) → Pends k store p [] begun → Aside k p
-aside_of k store p begun h = record { state_is = h.state_is; refused_is = h.refused_is; body_is = h.body_is; agreed = h.agreed; none_left = h.none_left }
+aside_of k store p begun h = record { state_is = h.state_is; refused_is = h.refused_is; body_is = h.body_is; agreed = h.agreed; none_left = h.none_left; unagreed = h.unagreed }
 
 -- of another join the same is aside
 pub aside_joined : (k : Kept) (p : Progress) (j : Joining) → Aside k p → Aside (with_join j k) p
@@ -81,12 +82,13 @@ aside_joined k p j h = record {
   state_is = h.state_is;
   refused_is = h.refused_is;
   body_is = h.body_is;
-  agreed = λ six. let a = h.agreed six in record { caller = a.caller; maximum = a.maximum; contexts = a.contexts; count = a.count };
+  agreed = λ six. let a = h.agreed six in record { caller = a.caller; maximum = a.maximum; rows = a.rows; contexts = a.contexts; count = a.count };
   none_left = h.none_left;
+  unagreed = h.unagreed;
 }
 
 pub aside_absorbed : (k : Kept) (p : Progress) (failed : Bool) → Aside k p → Aside k (absorb failed p)
-aside_absorbed k p failed h = record { state_is = h.state_is; refused_is = h.refused_is; body_is = h.body_is; agreed = h.agreed; none_left = h.none_left }
+aside_absorbed k p failed h = record { state_is = h.state_is; refused_is = h.refused_is; body_is = h.body_is; agreed = h.agreed; none_left = h.none_left; unagreed = h.unagreed }
 
 pub pends_joined : (k : Kept) (store : Store) (p : Progress) (j : Joining) (stored : Stored) (begun : List ℕ) → Aside k p → ShowsMessage k.room j p.message (counted_pdv p begun)
     → Carried k.depth k.most stored store p.request (so_far p begun) p.filing_failed → (is_ended p.state ≡ false → p.filing_failed ≡ true → InStore p.request p.message)
@@ -96,8 +98,9 @@ pends_joined k store p j stored begun h shows c failed = record {
   refused_is = h.refused_is;
   body_is = h.body_is;
   join_is = shows;
-  agreed = λ six. let a = h.agreed six in record { caller = a.caller; maximum = a.maximum; contexts = a.contexts; count = a.count };
+  agreed = λ six. let a = h.agreed six in record { caller = a.caller; maximum = a.maximum; rows = a.rows; contexts = a.contexts; count = a.count };
   none_left = h.none_left;
+  unagreed = h.unagreed;
   walks = c.0;
   draft = c.1;
   failed_in = failed;
@@ -341,8 +344,9 @@ pends_going_on k store p j later begun h t shows is six =
       refused_is = h.refused_is;
       body_is = h.body_is;
       join_is = subst (λ (xs : List ℕ). ShowsMessage k.room j later xs) (sym none) shows;
-      agreed = λ six. let a = h.agreed six in record { caller = a.caller; maximum = a.maximum; contexts = a.contexts; count = a.count };
+      agreed = λ six. let a = h.agreed six in record { caller = a.caller; maximum = a.maximum; rows = a.rows; contexts = a.contexts; count = a.count };
       none_left = λ e. let x : is_established Sta6 ≡ false = sym (ap is_established (taken_state p t)) ∙ e in absurd cc;
+      unagreed = h.unagreed;
       walks = c.0;
       draft = c.1;
       failed_in = λ n e.

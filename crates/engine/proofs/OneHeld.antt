@@ -42,20 +42,20 @@ same_some : (x y : Context) → ◌≡◌ {A = Option Context} (Some x) (Some y)
 same_some x y e = cc
 
 -- the message is of one store alone
-of_one_store : (rooms : Rooms) (s : Settings) (request : List ℕ) (message : Begun) (n m : ℕ) (a b : InStore request message)
+of_one_store : (rooms : Rooms) (s : Settings) (request : List ℕ) (come : Begun) (n m : ℕ) (a b : InStore request come)
     → IsHeldOfSet a.context.syntax (limits rooms.depth s.max_data) a.set n → IsHeldOfSet b.context.syntax (limits rooms.depth s.max_data) b.set m → n ≡ m
-of_one_store rooms s request message n m a b h k =
+of_one_store rooms s request come n m a b h k =
     let same = in_set a.id b.id a.command b.command a.set b.set (sym a.begun ∙ b.begun) in
     let accepted = same_some a.context b.context (sym a.accepted ∙ ap (λ (id : ℕ). context_of (request_record request) id) same.0 ∙ b.accepted) in
     of_one_set a.context.syntax (limits rooms.depth s.max_data) a.set n m h
     (subst (λ (x : Context). IsHeldOfSet x.syntax (limits rooms.depth s.max_data) a.set m) (sym accepted)
     (subst (λ (x : List ℕ). IsHeldOfSet b.context.syntax (limits rooms.depth s.max_data) x m) (sym same.1) k))
 
-of_one_message : (rooms : Rooms) (s : Settings) (request : List ℕ) (message : Begun) (n m : ℕ) → IsHeldOfMessage rooms s request message n → IsHeldOfMessage rooms s request message m → n ≡ m
-of_one_message rooms s request message n m (walked a h) (walked b k) = of_one_store rooms s request message n m a b h k
-of_one_message rooms s request message n m (walked a h) (not_walked none) = absurd (none a)
-of_one_message rooms s request message n m (not_walked none) (walked b k) = absurd (none b)
-of_one_message rooms s request message n m (not_walked none) (not_walked none2) = refl
+of_one_message : (rooms : Rooms) (s : Settings) (request : List ℕ) (come : Begun) (n m : ℕ) → IsHeldOfMessage rooms s request come n → IsHeldOfMessage rooms s request come m → n ≡ m
+of_one_message rooms s request come n m (walked a h) (walked b k) = of_one_store rooms s request come n m a b h k
+of_one_message rooms s request come n m (walked a h) (not_walked none) = absurd (none a)
+of_one_message rooms s request come n m (not_walked none) (walked b k) = absurd (none b)
+of_one_message rooms s request come n m (not_walked none) (not_walked none2) = refl
 
 pub held_is_one : HeldIsOne
 held_is_one rooms s r n m h k = omega (arith, h.sum, k.sum, of_one_message rooms s r.progress.request (message_so_far r) h.of_set k.of_set h.walked k.walked)

@@ -158,6 +158,7 @@ stood p body old new store caller maximum rows h due is agreed =
       join_is = subst (λ (xs : List ℕ). ShowsMessage old.room old.join p.message xs) (not_taken p.state p.refused ∙ sym (not_taken Sta6 p.refused)) h.join_is;
       agreed = λ six. agreed;
       none_left = λ e. none;
+      unagreed = λ e. absurd cc;
       walks = c.0;
       draft = c.1;
       failed_in = λ n e. absurd (no_store p.request p.message none (h.failed_in (ap is_ended two) e));

@@ -81,6 +81,7 @@ pends_ended k store other p q body begun body2 begun2 e same m h =
           (subst (λ (xs : List ℕ). ShowsMessage k.room k.join p.message xs) (ended_pdv p.state p.refused begun e ∙ sym (ended_pdv q.state q.refused begun2 end)) h.join_is);
       agreed = λ six. let x : is_ended Sta6 ≡ true = sym (ap is_ended six) ∙ end in absurd cc;
       none_left = λ u. none;
+      unagreed = λ _. h.unagreed (ended_unestablished p.state e);
       failed_in = λ n. let x : true ≡ false = sym end ∙ n in absurd cc;
       walks = subst (λ (x : Stored). Walks k.depth k.most q.request (with_pdv (counted_pdv q begun2) q.message) x) (sym nothing) (walks_none k.depth k.most q.request _ so_far);
       draft = subst (λ (x : Stored). IsDraft q.request (with_pdv (counted_pdv q begun2) q.message) q.filing_failed other (drafting_in x)) (sym nothing) (draft_none q.request _ q.filing_failed other so_far);
@@ -119,6 +120,7 @@ pends_short k store p body b c l m h =
       join_is = shows_short k.room k.join p.message (counted_pdv p b) (counted_pdv p c) first second h.join_is;
       agreed = h.agreed;
       none_left = h.none_left;
+      unagreed = h.unagreed;
       failed_in = h.failed_in;
       walks = subst (λ (x : Begun). Walks k.depth k.most p.request x k.storing) same h.walks;
       draft = subst (λ (x : Begun). IsDraft p.request x p.filing_failed store (drafting_in k.storing)) same h.draft;

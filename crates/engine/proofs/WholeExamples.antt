@@ -106,8 +106,9 @@ it_stands_established = (
           refused_is = λ e. refl;
           body_is = refl;
           join_is = record { shows = refl; accepted = λ le. absurd (omega (arith, le)) };
-          agreed = λ e. record { caller = refl; maximum = refl; contexts = context_in-context_rows (request_record (drop 6 request)) (one_distinct 1); count = refl };
+          agreed = λ e. record { caller = refl; maximum = refl; rows = refl; contexts = context_in-context_rows (request_record (drop 6 request)) (one_distinct 1); count = refl };
           none_left = λ e. absurd cc;
+          unagreed = λ e. absurd cc;
           failed_in = λ still failed. absurd cc;
           walks = storing.not_walked (no_store_in _);
           draft = none_due (λ file due. no_store_in _ due.store);

@@ -4,7 +4,7 @@ ghost use Rattle.acceptor.specs.declared.state.State.TheVariants.{Sta2, Sta6};
 ghost use Rattle.arrayvec.specs.ArrayVec.{array_vec_len};
 ghost use Rattle.pdu.specs.Items.{request_record};
 ghost use Rattle.pdu.specs.Sent.{Sends};
-ghost use Rattle.negotiate.specs.ContextRows.{context_in, accepted_count};
+ghost use Rattle.negotiate.specs.ContextRows.{context_in, context_rows, accepted_count};
 ghost use Rattle.negotiate.specs.Contexts as contexts;
 ghost use Rattle.negotiate.specs.Settings.{settings_of};
 ghost use Rattle.negotiate.specs.Accept.{answer_bytes};
@@ -60,6 +60,7 @@ fn answer_request<W: Wire>(
     ensures caller { result.0 ≡ Sta6 → caller.new ≡ (request_record body.now).calling }
     ensures maximum { result.0 ≡ Sta6 → peer_max.new ≡ (request_record body.now).maximum }
     ensures contexts { result.0 ≡ Sta6 → (id : ℕ) → context_in table.new.items id ≡ contexts.context_of (request_record body.now) id }
+    ensures kept_rows { result.0 ≡ Sta6 → table.new.items ≡ context_rows (request_record body.now) }
     ensures count { result.0 ≡ Sta6 → length table.new.items ≡ accepted_count (request_record body.now) }
     ensures rows { (n : ℕ) → 32 + 4 * array_vec_len table.old ≤ n → length body.now + 12 ≤ n → 32 + 4 * array_vec_len table.new ≤ n }
     ensures answerable { (peer_max.old < 8 → peer_max.old ≡ 0) → peer_max.new < 8 → peer_max.new ≡ 0 }

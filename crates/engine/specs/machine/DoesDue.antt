@@ -16,7 +16,7 @@ use Rattle.dimse.specs.Messages.{NoMessage}
 use Rattle.dimse.specs.Joining.{ShowsMessage}
 use Rattle.engine.specs.Progress.{Progress, Advance}
 use Rattle.engine.specs.Run.{cut}
-use Rattle.engine.specs.machine.Pends.{Kept, Pends}
+use Rattle.engine.specs.machine.Pends.{Kept, Pends, IsUnagreed}
 
 -- the filing has the files that it had, and failed no more often
 pub record Unfiled (old new : Store) : Type 0 where
@@ -49,6 +49,7 @@ is_left Sta13 = true
 is_left state = false
 
 pub record IsLeft (kept : Kept) : Type 0 where
+  pub unagreed : IsUnagreed kept.caller kept.peer_max kept.table
   pub body : kept.body ≡ []
   pub join : ShowsMessage kept.room kept.join NoMessage []
   pub storing : kept.storing ≡ Nothing

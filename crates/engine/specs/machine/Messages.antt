@@ -19,7 +19,7 @@ use Rattle.engine.specs.Run.{Rooms, cut, counted}
 use Rattle.engine.specs.Fair.{InStore, IsVerdict}
 use Rattle.engine.specs.Drafts.{IsDraft}
 use Rattle.engine.specs.machine.Storing.{Stored, Walks, drafting_in}
-use Rattle.engine.specs.machine.Pends.{Kept, Pends, Agreed, counted_body}
+use Rattle.engine.specs.machine.Pends.{Kept, Pends, Agreed, IsUnagreed, counted_body}
 
 abbrev pub with_join : Joining → Kept → Kept
 with_join join kept = record kept { join = join }
@@ -33,6 +33,7 @@ pub record Aside (kept : Kept) (p : Progress) : Type 0 where
   pub refused_is : is_ended p.state ≡ false → kept.refused ≡ p.refused
   pub body_is : kept.body ≡ counted_body p []
   pub agreed : p.state ≡ Sta6 → Agreed kept (request_record p.request)
+  pub unagreed : is_established p.state ≡ false → IsUnagreed kept.caller kept.peer_max kept.table
   pub none_left : is_established p.state ≡ false → p.message ≡ NoMessage
 
 -- More of a message has come, in which a filing call had failed before or not: its data are walked and in the draft, no

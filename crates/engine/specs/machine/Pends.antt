@@ -1,12 +1,12 @@
 -- What the upper half of an association keeps, by where its timeline stands and what has come of the PDU that has begun.
-use Rattle.std.specs.Prelude.{◌≡◌, ℕ, ◌+◌, ◌*◌, ◌≤◌, Bool, true, false, not, ◌&&◌, List, [], length, nat_eq, if◌then◌else◌}
+use Rattle.std.specs.Prelude.{◌≡◌, ℕ, ◌+◌, ◌*◌, ◌≤◌, Bool, true, false, not, ◌&&◌, List, [], length, replicate, nat_eq, if◌then◌else◌}
 use Rattle.acceptor.specs.declared.state.State.{State}
 use Rattle.acceptor.specs.declared.state.State.TheVariants.{Sta2, Sta6}
 use Rattle.pdu.specs.Record.{RequestRecord}
 use Rattle.pdu.specs.Items.{request_record}
 use Rattle.negotiate.specs.Contexts.{context_of}
 use Rattle.negotiate.specs.declared.table.ContextRow.{ContextRow}
-use Rattle.negotiate.specs.ContextRows.{context_in, accepted_count}
+use Rattle.negotiate.specs.ContextRows.{context_in, context_rows, accepted_count}
 use Rattle.dimse.specs.Messages.{NoMessage}
 use Rattle.dimse.specs.Joining.{Joining, ShowsMessage}
 use Rattle.engine.specs.Progress.{Progress, is_due, is_established}
@@ -41,8 +41,15 @@ pub record Kept : Type 0 where
 pub record Agreed (kept : Kept) (r : RequestRecord) : Type 0 where
   pub caller : kept.caller ≡ r.calling
   pub maximum : kept.peer_max ≡ r.maximum
+  pub rows : kept.table ≡ context_rows r
   pub contexts : (id : ℕ) → context_in kept.table id ≡ context_of r id
   pub count : length kept.table ≡ accepted_count r
+
+-- nothing of a request: no title, no maximum length and no context
+pub record IsUnagreed (caller : List ℕ) (maximum : ℕ) (table : List ContextRow) : Type 0 where
+  pub no_caller : caller ≡ replicate 16 0
+  pub no_maximum : maximum ≡ 0
+  pub no_rows : table ≡ []
 
 -- ---- which bytes of a PDU that has begun are kept
 
@@ -58,13 +65,14 @@ abbrev pub body_in : ℕ → List ℕ → List ℕ
 body_in kind body = if nat_eq kind 1 then body else []
 
 -- The fields and the draft are those of this progress, where these bytes of a request's body and of a PDV have come: the body's or the
--- PDV's counted ones alone. Once the association has ended it is not known whether the PDU that has begun was refused.
+-- PDV's counted ones alone; and of a request its agreement, where it is accepted, and nothing before it and after it. Once the association has ended it is not known whether the PDU that has begun was refused.
 pub record Pends (kept : Kept) (store : Store) (p : Progress) (body begun : List ℕ) : Type 0 where
   pub state_is : kept.state ≡ p.state
   pub refused_is : is_ended p.state ≡ false → kept.refused ≡ p.refused
   pub body_is : kept.body ≡ counted_body p body
   pub join_is : ShowsMessage kept.room kept.join p.message (counted_pdv p begun)
   pub agreed : p.state ≡ Sta6 → Agreed kept (request_record p.request)
+  pub unagreed : is_established p.state ≡ false → IsUnagreed kept.caller kept.peer_max kept.table
   pub none_left : is_established p.state ≡ false → p.message ≡ NoMessage
   pub walks : Walks kept.depth kept.most p.request (with_pdv (counted_pdv p begun) p.message) kept.storing
   pub draft : IsDraft p.request (with_pdv (counted_pdv p begun) p.message) p.filing_failed store (drafting_in kept.storing)

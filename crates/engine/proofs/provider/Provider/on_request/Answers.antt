@@ -29,7 +29,7 @@ returns g c = record {
       (a.ensures.state ∙ ap (λ (b : List ℕ). (at_request s at_start b).next.state) bytes)
       (subst (λ (b : List ℕ). ComesTo a.result.0 a.result.1 (record given { body = b }) new (g.F.Filing.store c.args.filing.now) (g.F.Filing.store c.settle.new.filing)) c.clear.ensures c.settle.ensures.settles)
       (λ six. subst (λ (b : List ℕ). Agreed (record given { state = Sta6 }) (request_record b)) bytes
-      (record { caller = a.ensures.caller six; maximum = a.ensures.maximum six; contexts = a.ensures.contexts six; count = a.ensures.count six }))
+      (record { caller = a.ensures.caller six; maximum = a.ensures.maximum six; rows = a.ensures.kept_rows six; contexts = a.ensures.contexts six; count = a.ensures.count six }))
       (subst (λ (b : List ℕ). Sends (at_request s at_start b).sent a.result.1 (g.W.Wire.line c.args.wire.now) (g.W.Wire.line a.new.wire)) bytes a.ensures.sends)
       (subst (λ (b : List ℕ). OnErr a.result.1 (0 < length (at_request s at_start b).sent)) bytes a.ensures.due);
 }

@@ -6,7 +6,7 @@ use Rattle.engine.proofs.PendsLemmas.{opened}
 use Rattle.engine.proofs.provider.Provider.open.Goals as goal
 
 pub returns-clause-pends : goal.returns-clause-pends
-returns-clause-pends g c = λ store. opened _ store (ap (λ (x : Action × State). x.1) c.act-state.ensures.table) refl c.new-2.ensures c.new-3.ensures refl
+returns-clause-pends g c = λ store. opened _ store (ap (λ (x : Action × State). x.1) c.act-state.ensures.table) refl c.new-2.ensures c.new-3.ensures refl (record { no_caller = refl; no_maximum = refl; no_rows = c.new.ensures })
 
 pub invariant_of-result : goal.invariant_of-result
 invariant_of-result g c = record {
