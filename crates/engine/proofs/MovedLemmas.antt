@@ -20,7 +20,7 @@ use Rattle.engine.specs.Reached.{reached, begun_in}
 use Rattle.engine.specs.Held.{is_ended}
 use Rattle.engine.specs.Drafts.{IsThere, Drafts}
 use Rattle.engine.specs.Stands.{Shows, Stands, drafting}
-use Rattle.engine.specs.Moves.{Moved}
+use Rattle.engine.specs.Moves.{Moved, StaysCharged}
 use Rattle.engine.specs.machine.Pends.{Kept, Pends}
 use Rattle.engine.specs.machine.Storing.{drafting_in}
 use Rattle.engine.specs.machine.Does.{Does, DoesAll, push, still_failed}
@@ -41,6 +41,11 @@ stream_then (Close ∷ xs) ys = stream_then xs ys
 stream_then (Expiry ∷ xs) ys = stream_then xs ys
 stream_then (UserAbort ∷ xs) ys = stream_then xs ys
 
+pushed_charged : (failed : Bool) (story : List Happened) (last : Bool) → StaysCharged failed (push failed story) (still_failed failed story last)
+pushed_charged false story last = tt
+pushed_charged true [] last = refl
+pushed_charged true ((entry, o) ∷ story) last = refl
+
 module _ (rooms : Rooms) (s : Settings) where
   -- what the entries of the new input did
   pub moved_by : (inputs : List Received) (story : List Happened) (failed : Bool) (x : Received) (old_f f : Fields) (b g : List ℕ) (d e : Devices) → IsStory rooms s inputs story failed
@@ -58,6 +63,7 @@ module _ (rooms : Rooms) (s : Settings) where
       record {
         more = more;
         failed_then = last;
+        charged = pushed_charged failed a.story a.failed;
         stands = record {
           story_is = record {
             told = map-append (λ (y : Happened). y.0) story more ∙ ap (λ (es : List Entry). entries_of story ++ es) (push_entries failed a.story ∙ a.told) ∙ ap (λ (es : List Entry). es ++ entries (stream_of inputs) (x ∷ [])) h.told ∙ sym (entries_append inputs (x ∷ []));

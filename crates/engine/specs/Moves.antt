@@ -1,5 +1,5 @@
 -- What one more input does: how the association stands after it, and what its devices gained.
-use Rattle.std.specs.Prelude.{◌≡◌, Bool, List, [], ◌∷◌, ◌++◌}
+use Rattle.std.specs.Prelude.{◌≡◌, Bool, true, false, List, [], ◌∷◌, ◌++◌}
 use Rattle.negotiate.specs.Settings.{Settings}
 use Rattle.engine.specs.Devices.{Devices}
 use Rattle.engine.specs.Gains.{Gains}
@@ -11,10 +11,18 @@ use Rattle.engine.specs.Drafts.{Drafts}
 use Rattle.engine.specs.Stands.{Stands, drafting}
 use Rattle.engine.specs.machine.Shows.{Fields}
 
+-- A failure of the filing that was told before stays where it was told: with the entry that comes next, so with the store
+-- whose data had come; or, where none comes, it is still to be charged.
+abbrev pub StaysCharged : Bool → List Happened → Bool → Type 0
+StaysCharged false more failed_then = Unit {0}
+StaysCharged true [] failed_then = failed_then ≡ true
+StaysCharged true (h ∷ more) failed_then = h.1.filing ≡ true
+
 -- one more input came
 pub record Moved (rooms : Rooms) (s : Settings) (inputs : List Received) (story : List Happened) (failed : Bool) (input : Received) (seen_old seen_new : Fields) (old new : Devices) : Type 0 where
   pub more : List Happened
   pub failed_then : Bool
+  pub charged : StaysCharged failed more failed_then
   pub stands : Stands rooms s (inputs ++ input ∷ []) (story ++ more) failed_then seen_new new.store
   pub gains : Gains rooms s (progress_of rooms s at_start story) more failed failed_then old new
   pub drafts : Drafts (drafting seen_old) old.store (drafting seen_new) new.store
