@@ -19,5 +19,6 @@ pub mod ValueLemmas
 pub mod TokenLemmas
 pub mod DeframerLemmas
 pub mod CallLemmas
+pub mod StepLemmas
 pub mod LongestLemmas
 pub mod LoopLemmas

@@ -1,6 +1,6 @@
 -- What the crates above cite of this crate's lemmas: the laws of `pdu::laws` and `pdu::part_laws`, which are their contracts,
 -- in the words of the definitions alone.
-use Rattle.std.proofs.Common.{◌⊎◌, ◌≡◌, ℕ, ◌+◌, ◌-◌, ◌<◌, ◌≤◌, List, [], ◌∷◌, ◌++◌, length, Option, None, Result, Err, Ok}
+use Rattle.std.proofs.Common.{◌⊎◌, ◌≡◌, ℕ, ◌+◌, ◌-◌, ◌<◌, ◌≤◌, List, [], ◌∷◌, ◌++◌, length, map, Option, None, Some, Result, Err, Ok}
 use Rattle.std.specs.Io.KnownBytes.{append_known}
 use Rattle.byteorder.specs.Endian.{big_number}
 use Rattle.pdu.specs.declared.wire.WireFailed.{WireFailed}
@@ -9,7 +9,11 @@ use Rattle.pdu.specs.Record.{RequestRecord}
 use Rattle.pdu.specs.Request.{RequestText}
 use Rattle.pdu.specs.Refusal.{request_fault}
 use Rattle.pdu.specs.Frames.{IsRest, rest_of}
-use Rattle.pdu.specs.Marks.{Head, BadPdv, pdv_size, head_mark, pdv_mark, frame_kind, frame_length, new_marks}
+use Rattle.pdu.specs.declared.position.Position.{Position}
+use Rattle.pdu.specs.declared.event.Event.{Event}
+use Rattle.pdu.specs.Events.{OfBody, OfFragment, marks_among, ReportsMark}
+use Rattle.pdu.specs.Deframing.{Took}
+use Rattle.pdu.specs.Marks.{Mark, Head, BadPdv, pdv_size, head_mark, pdv_mark, frame_kind, frame_length, new_marks}
 use Rattle.pdu.specs.Spot.{Opening, Plain, InPdv, spot, room_left}
 use Rattle.pdu.specs.Parts.{SameFrame, SameHead, IsInData, IsUnfinishedPdv, GoesOn, Comes, leftover_marks, leftover_spot, body_spot}
 use Rattle.pdu.proofs.SentLemmas as sending
@@ -17,6 +21,7 @@ use Rattle.pdu.proofs.RequestLemmas as requests
 use Rattle.pdu.proofs.PdvLemmas as values
 use Rattle.pdu.proofs.FrameLemmas as frames
 use Rattle.pdu.proofs.BegunLemmas as parts
+use Rattle.pdu.proofs.StepLemmas as steps
 
 -- ---- wires: one text after another
 
@@ -110,3 +115,17 @@ fragment_part = parts.fragment_part
 pub fragment_done : (r c b : List ℕ) → IsRest r → spot r ≡ InPdv b → length c ≤ room_left r → 6 ≤ length b → length (b ++ c) ≡ pdv_size b
     → Comes r c (pdv_mark (b ++ c) ∷ leftover_marks (room_left r - length c)) (leftover_spot (room_left r - length c))
 fragment_done = parts.fragment_done
+
+-- ---- what a deframer's call reports, as marks
+
+pub marks_taken : (new : Position) (r : List ℕ) (due : List Mark) (c : List ℕ) (e : Option Event) → (t : Took new r due c e) → due ++ new_marks r c ≡ marks_among t.reported ++ t.later
+marks_taken = steps.marks_taken
+
+pub mark_taken : (new : Position) (r : List ℕ) (due : List Mark) (c : List ℕ) (e : Event) → (t : Took new r due c (Some e)) → (m : ReportsMark e t.reported) → due ++ new_marks r c ≡ m.mark ∷ t.later
+mark_taken = steps.mark_taken
+
+pub among_body : (bytes : List ℕ) → marks_among (map OfBody bytes) ≡ []
+among_body = steps.among_body
+
+pub among_fragment : (bytes : List ℕ) → marks_among (map OfFragment bytes) ≡ []
+among_fragment = steps.among_fragment

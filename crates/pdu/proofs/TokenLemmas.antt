@@ -35,13 +35,13 @@ tokens_then s (b ∷ p) q =
 
 -- ---- the marks among them
 
-among_both : (ts us : List Token) → marks_among (ts ++ us) ≡ marks_among ts ++ marks_among us
+pub among_both : (ts us : List Token) → marks_among (ts ++ us) ≡ marks_among ts ++ marks_among us
 among_both [] us = refl
 among_both (OfBody byte ∷ ts) us = among_both ts us
 among_both (OfFragment byte ∷ ts) us = among_both ts us
 among_both (Completes mark ∷ ts) us = ap (λ (ms : List Mark). mark ∷ ms) (among_both ts us)
 
-among_marks : (ms : List Mark) → marks_among (map Completes ms) ≡ ms
+pub among_marks : (ms : List Mark) → marks_among (map Completes ms) ≡ ms
 among_marks [] = refl
 among_marks (m ∷ ms) = ap (λ (ns : List Mark). m ∷ ns) (among_marks ms)
 

@@ -16,6 +16,7 @@ pub mod Left
 pub mod Events
 pub mod Deframing
 pub mod Deframed
+pub mod Steps
 pub mod Calls
 pub mod Request
 pub mod Refusal

@@ -1,5 +1,5 @@
 //! Cuts a stream of PDUs into events, in pieces that end anywhere.
-ghost use Rattle.std.specs.Prelude.{◌≡◌, ◌≤◌, ◌<◌, ◌-◌, ◌+◌, ◌++◌, ◌⊎◌, [], ℕ, List, length, take, Option, None, Some, IfSome};
+ghost use Rattle.std.specs.Prelude.{◌≡◌, ◌≤◌, ◌<◌, ◌-◌, ◌+◌, ◌*◌, ◌++◌, ◌⊎◌, [], ℕ, List, length, take, Option, None, Some, IfSome};
 ghost use Rattle.pdu.specs.machine.Positions.{head_bytes, left_least, left_of, fragment_due};
 
 mod fields;
@@ -24,6 +24,7 @@ impl Deframer {
     ghost use Rattle.pdu.specs.Frames.{IsRest};
     ghost use Rattle.pdu.specs.Deframing.{Took, Longest, Skipped, Skip, unfinished_heads};
     ghost use Rattle.pdu.specs.Deframed.{IsAt, Skips, position_of};
+    ghost use Rattle.pdu.specs.Steps.{Steps, body_kind, events_due, stands_in_head};
 
     /// A stream of which nothing has come.
     pub fn new() -> Self
@@ -41,6 +42,8 @@ impl Deframer {
         ensures took { (r : List ℕ) (due : List Mark) → IsAt self.old r due → Took (position_of self.new) r due (take result.0 piece.now) result.1 }
         ensures longest { (r : List ℕ) → IsAt self.old r [] → Longest r (length piece.now) result.0 }
         ensures skipped { (r : List ℕ) → Skips self.old r → Skipped (position_of self.new) r (take result.0 piece.now) result.1 }
+        ensures steps { Steps (position_of self.old) result.0 (take result.0 piece.now) result.1 (position_of self.new) }
+        ensures fewer { IfSome result.1 (λ e. events_due (position_of self.new) < events_due (position_of self.old) + 4 * result.0) }
     {
         match find(&mut self.position, piece) {
             (count, Some((position, event))) => {
@@ -67,10 +70,29 @@ impl Deframer {
         self.position = Position::Skipped { kind, left };
     }
 
+    /// The type of the PDU whose body is lent; 0 where none is.
+    pub fn kind(&self) -> u8
+        ensures { result ≡ body_kind (position_of self.now) }
+    {
+        if let Position::Body { kind, .. } = &self.position {
+            *kind
+        } else {
+            0
+        }
+    }
+
+    /// Whether bytes of the head of a PDU have come, and no whole one.
+    pub fn is_in_head(&self) -> bool
+        ensures { result ≡ stands_in_head (position_of self.now) }
+    {
+        matches!(self.position, Position::Head(_))
+    }
+
     /// How many received bytes are held: those of an unfinished head.
     pub fn held(&self) -> usize
         ensures held { (r : List ℕ) (due : List Mark) → IsAt self.now r due → result ≡ unfinished_heads r }
         ensures skipping { (r : List ℕ) → Skips self.now r → result ≡ 0 }
+        ensures few { result < 6 }
     {
         match &self.position {
             Position::Head(bytes) => bytes.len(),

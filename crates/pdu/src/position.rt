@@ -1,5 +1,5 @@
 //! Where a stream of PDUs stands, and what the next bytes find there.
-ghost use Rattle.std.specs.Prelude.{◌≡◌, ◌≤◌, ◌<◌, ◌-◌, ◌+◌, ◌++◌, ◌⊎◌, min, [], ℕ, List, length, take, Option, None, Some, IfSome, MatchOption, true, false};
+ghost use Rattle.std.specs.Prelude.{◌≡◌, ◌≤◌, ◌<◌, ◌-◌, ◌+◌, ◌*◌, ◌++◌, ◌⊎◌, min, [], ℕ, List, length, take, Option, None, Some, IfSome, MatchOption, true, false};
 ghost use Rattle.arrayvec.specs.ArrayVec.{array_vec_len};
 ghost use Rattle.pdu.specs.declared.event.Event.TheVariants as event;
 ghost use Rattle.pdu.specs.declared.position.Position.TheVariants as position;
@@ -8,7 +8,8 @@ ghost use Rattle.pdu.specs.Marks as spelling;
 ghost use Rattle.pdu.specs.Marks.{Mark};
 ghost use Rattle.pdu.specs.Deframing.{At, AtHead, AtBody, AtPdvHead, AtFragment, IsOver, SkipsAt, Longest};
 ghost use Rattle.pdu.specs.machine.Positions.{IsSound};
-ghost use Rattle.pdu.specs.machine.Finds.{Finds, FindsEnd};
+ghost use Rattle.pdu.specs.machine.Finds.{Finds, FindsEnd, StepsTo};
+ghost use Rattle.pdu.specs.Steps.{FollowsHead, FollowsPdv, FollowsPdvHead, events_due};
 
 use crate::event::Event;
 use crate::head::{PduHead, PdvHead, read_pdu_head, read_pdv_head};
@@ -72,6 +73,7 @@ fn after_head(head: PduHead) -> Position
     ensures values { head.kind ≡ 4 → 0 < head.length → (r : List ℕ) (due : List Mark) → AtPdvHead head.length [] r due → At result r due }
     ensures other { (head.kind ≡ 4 → head.length ≡ 0) → result ≡ position.Body head.kind head.length }
     ensures sound { IsSound result }
+    ensures follows { FollowsHead head result }
 {
     if head.kind == P_DATA_TF && head.length > 0 {
         return Position::PdvHead {
@@ -91,6 +93,8 @@ fn after_pdv(left: u32) -> Position
     ensures leftover { spelling.is_leftover left ≡ true → result ≡ position.Leftover left }
     ensures another { 0 < left → spelling.is_leftover left ≡ false → (r : List ℕ) (due : List Mark) → AtPdvHead left [] r due → At result r due }
     ensures sound { IsSound result }
+    ensures follows { FollowsPdv result }
+    ensures few { events_due result ≤ 2 }
 {
     match left {
         0 => Position::Body {
@@ -110,6 +114,7 @@ fn after_pdv_head<'p>(head: PdvHead, left: u32) -> (Position, Event<'p>)
     ensures bad { (head.length < 2) ⊎ (left + 2 < head.length) → result ≡ (position.Body 4 left, event.BadPdv) }
     ensures good { 2 ≤ head.length → head.length ≤ left + 2 → result ≡ (position.Fragment left (head.length - 2), event.PdvHead head) }
     ensures sound { IsSound result.0 }
+    ensures follows { FollowsPdvHead head left result.1 result.0 }
 {
     if head.length < 2 || head.length - 2 > left {
         let kind = P_DATA_TF;
@@ -130,6 +135,8 @@ fn take_head<'p>(
     ensures short { result.1 ≡ None → array_vec_len bytes.new < 6 }
     ensures sound { IfSome result.1 (λ found. IsSound found.0) }
     ensures finds { (r : List ℕ) (due : List Mark) → AtHead bytes.old.items r due → Finds (position.Head bytes.new) r due (take result.0 piece.now) result.1 }
+    ensures steps { StepsTo (position.Head bytes.old) (position.Head bytes.new) result.0 (take result.0 piece.now) result.1 }
+    ensures fewer { IfSome result.1 (λ found. events_due found.0 < events_due (position.Head bytes.old) + 4 * result.0) }
 {
     let count = fill(bytes, 6, piece);
     match pdu_head(bytes) {
@@ -152,6 +159,8 @@ fn take_pdv_head<'p>(
     ensures some { result.1 ≡ None → 0 < left.new }
     ensures sound { IfSome result.1 (λ found. IsSound found.0) }
     ensures finds { (r : List ℕ) (due : List Mark) → AtPdvHead left.old bytes.old.items r due → Finds (position.PdvHead left.new bytes.new) r due (take result.0 piece.now) result.1 }
+    ensures steps { StepsTo (position.PdvHead left.old bytes.old) (position.PdvHead left.new bytes.new) result.0 (take result.0 piece.now) result.1 }
+    ensures fewer { IfSome result.1 (λ found. events_due found.0 < events_due (position.PdvHead left.old bytes.old) + 4 * result.0) }
 {
     let count = fill(bytes, *left as usize, piece);
     let rest = *left - count as u32;
@@ -175,6 +184,8 @@ fn take_body<'p>(kind: u8, left: u32, piece: &'p [u8]) -> (usize, Option<(Positi
     ensures sound { IfSome result.1 (λ found. IsSound found.0) }
     ensures longest { result.0 ≡ min (length piece.now) left }
     ensures finds { (r : List ℕ) (due : List Mark) → AtBody kind left r due → Finds (position.Body kind left) r due (take result.0 piece.now) result.1 }
+    ensures steps { StepsTo (position.Body kind left) (position.Body kind left) result.0 (take result.0 piece.now) result.1 }
+    ensures fewer { IfSome result.1 (λ found. events_due found.0 < events_due (position.Body kind left) + 4 * result.0) }
 {
     if left == 0 {
         return (
@@ -205,6 +216,8 @@ fn take_fragment<'p>(
     ensures sound { IfSome result.1 (λ found. IsSound found.0) }
     ensures longest { result.0 ≡ min (length piece.now) more }
     ensures finds { (r : List ℕ) (due : List Mark) → AtFragment left more r due → Finds (position.Fragment left more) r due (take result.0 piece.now) result.1 }
+    ensures steps { StepsTo (position.Fragment left more) (position.Fragment left more) result.0 (take result.0 piece.now) result.1 }
+    ensures fewer { IfSome result.1 (λ found. events_due found.0 < events_due (position.Fragment left more) + 4 * result.0) }
 {
     if more == 0 {
         return (0, Some((after_pdv(left), Event::PdvEnd)));
@@ -235,6 +248,8 @@ fn take_skipped<'p>(
     ensures sound { IfSome result.1 (λ found. IsSound found.0) }
     ensures counts { left.new + result.0 ≡ left.old }
     ensures finds { (r : List ℕ) (due : List Mark) → IsOver kind left.old r due → Finds (position.Skipped kind left.new) r due (take result.0 piece.now) result.1 }
+    ensures steps { StepsTo (position.Skipped kind left.old) (position.Skipped kind left.new) result.0 (take result.0 piece.now) result.1 }
+    ensures fewer { IfSome result.1 (λ found. events_due found.0 < events_due (position.Skipped kind left.old) + 4 * result.0) }
     ensures goes_on { 0 < left.new → result.1 ≡ None }
     ensures ends { left.new ≡ 0 → IfSome result.1 (λ found. (found.1 ≡ event.PduEnd kind) × At found.0 [] []) }
     ensures told { left.new ≡ 0 → result.1 ≡ None → ⊥ }
@@ -266,6 +281,8 @@ pub(crate) fn find<'p>(
     ensures finds { (r : List ℕ) (due : List Mark) → At place.old r due → Finds place.new r due (take result.0 piece.now) result.1 }
     ensures longest { (r : List ℕ) → At place.old r [] → Longest r (length piece.now) result.0 }
     ensures skipped { (r : List ℕ) → SkipsAt place.old r → FindsEnd place.new r (take result.0 piece.now) result.1 }
+    ensures steps { StepsTo place.old place.new result.0 (take result.0 piece.now) result.1 }
+    ensures fewer { IfSome result.1 (λ found. events_due found.0 < events_due place.old + 4 * result.0) }
 {
     match place {
         Position::Head(bytes) => take_head(bytes, piece),

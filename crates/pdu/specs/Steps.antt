@@ -1,0 +1,120 @@
+-- How a call moves a deframer, wherever it stands: by how many bytes it takes, which they are, and the event.
+use Rattle.std.specs.Prelude.{◌≡◌, ℕ, ◌+◌, ◌-◌, ◌≤◌, Bool, true, false, List, ◌++◌, length, Option, Some, None, nat_eq, if◌then◌else◌}
+use Rattle.pdu.specs.declared.head.PduHead.{PduHead}
+use Rattle.pdu.specs.declared.head.PdvHead.{PdvHead}
+use Rattle.pdu.specs.declared.position.Position.{Position}
+use Rattle.pdu.specs.declared.position.Position.TheVariants as position
+use Rattle.pdu.specs.declared.event.Event.{Event}
+use Rattle.pdu.specs.declared.event.Event.TheVariants as event
+use Rattle.pdu.specs.Types.{p_data_tf}
+use Rattle.pdu.specs.Heads.{pdu_head_of, pdv_head_of}
+
+-- ---- what is to come
+
+-- the type of the frame whose body is lent
+abbrev pub body_kind : Position → ℕ
+body_kind (position.Head bytes) = 0
+body_kind (position.Body kind left) = kind
+body_kind (position.PdvHead left bytes) = 0
+body_kind (position.Fragment left more) = 0
+body_kind (position.Leftover left) = 0
+body_kind (position.Skipped kind left) = 0
+
+-- how many bytes of that body are to come
+abbrev pub body_due : Position → ℕ
+body_due (position.Head bytes) = 0
+body_due (position.Body kind left) = left
+body_due (position.PdvHead left bytes) = 0
+body_due (position.Fragment left more) = 0
+body_due (position.Leftover left) = 0
+body_due (position.Skipped kind left) = 0
+
+-- how many bytes of a fragment are to come
+abbrev pub fragment_due : Position → ℕ
+fragment_due (position.Head bytes) = 0
+fragment_due (position.Body kind left) = 0
+fragment_due (position.PdvHead left bytes) = 0
+fragment_due (position.Fragment left more) = more
+fragment_due (position.Leftover left) = 0
+fragment_due (position.Skipped kind left) = 0
+
+-- how many events may come before the next byte is taken, at most
+abbrev pub events_due : Position → ℕ
+events_due (position.Head bytes) = 0
+events_due (position.Body kind left) = if nat_eq left 0 then 1 else 0
+events_due (position.PdvHead left bytes) = 0
+events_due (position.Fragment left more) = if nat_eq more 0 then 3 else 0
+events_due (position.Leftover left) = 2
+events_due (position.Skipped kind left) = if nat_eq left 0 then 1 else 0
+
+-- ---- where it stands then
+
+abbrev pub stands_in_head : Position → Bool
+stands_in_head (position.Head bytes) = true
+stands_in_head (position.Body kind left) = false
+stands_in_head (position.PdvHead left bytes) = false
+stands_in_head (position.Fragment left more) = false
+stands_in_head (position.Leftover left) = false
+stands_in_head (position.Skipped kind left) = false
+
+abbrev pub IsInHead : Position → Type 0
+IsInHead (position.Head bytes) = Unit {0}
+IsInHead other = ⊥
+
+abbrev pub IsInPdvHead : Position → Type 0
+IsInPdvHead (position.PdvHead left bytes) = Unit {0}
+IsInPdvHead other = ⊥
+
+abbrev pub FollowsHead : PduHead → Position → Type 0
+FollowsHead head (position.PdvHead left bytes) = head.kind ≡ p_data_tf
+FollowsHead head (position.Body kind left) = (kind ≡ head.kind) × (left ≡ head.length)
+FollowsHead head other = ⊥
+
+abbrev pub FollowsPdv : Position → Type 0
+FollowsPdv (position.Body kind left) = kind ≡ p_data_tf
+FollowsPdv (position.PdvHead left bytes) = Unit {0}
+FollowsPdv (position.Leftover left) = Unit {0}
+FollowsPdv other = ⊥
+
+-- after the head of a presentation data value, of whose frame this much is to come
+abbrev pub FollowsPdvHead : PdvHead → ℕ → Event → Position → Type 0
+FollowsPdvHead head left event.BadPdv new = new ≡ position.Body p_data_tf left
+FollowsPdvHead head left (event.PdvHead told) new = (told ≡ head) × (2 ≤ head.length) × (head.length ≤ left + 2) × (new ≡ position.Fragment left (head.length - 2))
+FollowsPdvHead head left other new = ⊥
+
+-- ---- a call
+
+-- the six bytes of a head are there
+pub record HeadIsWhole (six : List ℕ) (head : PduHead) (new : Position) : Type 0 where
+  pub all : length six ≡ 6
+  pub head_is : head ≡ pdu_head_of six
+  pub follows : FollowsHead head new
+
+pub record PdvHeadIsWhole (left n : ℕ) (six : List ℕ) (e : Event) (new : Position) : Type 0 where
+  pub all : length six ≡ 6
+  pub within : n ≤ left
+  pub follows : FollowsPdvHead (pdv_head_of six) (left - n) e new
+
+-- a part is lent, of which this much was to come
+pub record IsLent (part taken : List ℕ) (n most : ℕ) (new next : Position) : Type 0 where
+  pub part_is : part ≡ taken
+  pub within : n ≤ most
+  pub new_is : new ≡ next
+
+abbrev pub Steps : Position → ℕ → List ℕ → Option Event → Position → Type 0
+Steps (position.Head bytes) n taken None new = IsInHead new
+Steps (position.Head bytes) n taken (Some (event.PduHead head)) new = HeadIsWhole (bytes.items ++ taken) head new
+Steps (position.Body kind left) n taken None new = (n ≡ 0) × (new ≡ position.Body kind left)
+Steps (position.Body kind left) n taken (Some (event.Body part)) new = IsLent part.now taken n left new (position.Body kind (left - n))
+Steps (position.Body kind left) n taken (Some (event.PduEnd told)) new = (told ≡ kind) × (left ≡ 0) × IsInHead new
+Steps (position.PdvHead left bytes) n taken None new = IsInPdvHead new
+Steps (position.PdvHead left bytes) n taken (Some (event.PduEnd told)) new = (told ≡ p_data_tf) × (n ≡ left) × IsInHead new
+Steps (position.PdvHead left bytes) n taken (Some (event.PdvHead head)) new = PdvHeadIsWhole left n (bytes.items ++ taken) (event.PdvHead head) new
+Steps (position.PdvHead left bytes) n taken (Some event.BadPdv) new = PdvHeadIsWhole left n (bytes.items ++ taken) event.BadPdv new
+Steps (position.Fragment left more) n taken None new = (n ≡ 0) × (new ≡ position.Fragment left more)
+Steps (position.Fragment left more) n taken (Some (event.Fragment part)) new = IsLent part.now taken n more new (position.Fragment (left - n) (more - n))
+Steps (position.Fragment left more) n taken (Some event.PdvEnd) new = (more ≡ 0) × FollowsPdv new
+Steps (position.Leftover left) n taken (Some event.Leftover) new = new ≡ position.Body p_data_tf left
+Steps (position.Skipped kind left) n taken None new = Unit {0}
+Steps (position.Skipped kind left) n taken (Some (event.PduEnd told)) new = (told ≡ kind) × IsInHead new
+Steps old n taken other new = ⊥
