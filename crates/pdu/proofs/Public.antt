@@ -1,5 +1,5 @@
--- What the crates above cite of this crate's lemmas: the laws of `pdu::laws` and `pdu::part_laws`, which are their contracts,
--- in the words of the definitions alone.
+-- What the crates above cite of this crate's lemmas: the laws of `pdu::laws`, `pdu::part_laws` and
+-- `pdu::deframer_laws`, which are their contracts, in the words of the definitions alone.
 use Rattle.std.proofs.Common.{◌⊎◌, ◌≡◌, ℕ, ◌+◌, ◌-◌, ◌<◌, ◌≤◌, List, [], ◌∷◌, ◌++◌, length, map, Option, None, Some, Result, Err, Ok}
 use Rattle.std.specs.Io.KnownBytes.{append_known}
 use Rattle.byteorder.specs.Endian.{big_number}

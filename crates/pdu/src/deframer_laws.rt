@@ -1,9 +1,12 @@
 //! Laws of what a stream of PDUs makes known, and of calls of a deframer one after another. Each is the
 //! contract of a function that does nothing.
-ghost use Rattle.std.specs.Prelude.{◌≡◌, ◌++◌, [], ◌∷◌, ℕ, List, map};
+ghost use Rattle.std.specs.Prelude.{◌≡◌, ◌++◌, [], ◌∷◌, ℕ, List, Option, Some, map};
+ghost use Rattle.pdu.specs.declared.position.Position.{Position};
+ghost use Rattle.pdu.specs.declared.event.Event.{Event};
 ghost use Rattle.pdu.specs.Frames.{rest_of};
 ghost use Rattle.pdu.specs.Marks.{Mark, Head, PdvHead, Pdv, End, new_marks};
-ghost use Rattle.pdu.specs.Events.{Token, OfBody, OfFragment, Completes, tokens, marks_among};
+ghost use Rattle.pdu.specs.Events.{Token, OfBody, OfFragment, Completes, ReportsMark, tokens, marks_among};
+ghost use Rattle.pdu.specs.Deframing.{Took};
 ghost use Rattle.pdu.specs.Calls.{Calls};
 ghost use Rattle.pdu.specs.Examples.{release_twice, one_value};
 
@@ -32,4 +35,13 @@ pub fn calls_report_the_stream()
     ensures all { (r : List ℕ) (due : List Mark) (piece : List ℕ) (reported : List Token) (later : List Mark) → Calls r due piece reported later → map Completes due ++ tokens r piece ≡ reported ++ map Completes later }
     ensures tokens { (r piece : List ℕ) (reported : List Token) → Calls r [] piece reported [] → reported ≡ tokens r piece }
     ensures marks { (r piece : List ℕ) (reported : List Token) → Calls r [] piece reported [] → marks_among reported ≡ new_marks r piece }
+{}
+
+/// What was due and what a call's bytes complete is what it reports and what is due then: one mark where
+/// its event is that of a mark, and none where bytes are lent.
+pub fn a_call_reports_marks()
+    ensures taken { (new : Position) (r : List ℕ) (due : List Mark) (c : List ℕ) (e : Option Event) → (t : Took new r due c e) → due ++ new_marks r c ≡ marks_among t.reported ++ t.later }
+    ensures one { (new : Position) (r : List ℕ) (due : List Mark) (c : List ℕ) (e : Event) → (t : Took new r due c (Some e)) → (m : ReportsMark e t.reported) → due ++ new_marks r c ≡ m.mark ∷ t.later }
+    ensures bodies { (bytes : List ℕ) → marks_among (map OfBody bytes) ≡ [] }
+    ensures fragments { (bytes : List ℕ) → marks_among (map OfFragment bytes) ≡ [] }
 {}
