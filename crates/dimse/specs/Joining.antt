@@ -91,3 +91,9 @@ abbrev pub Joins : ℕ → Begun → Brought → Joining → Joining → Result 
 Joins room before (Goes later) old new result = (result ≡ Ok (goes_on before later)) × ShowsMessage room new later []
 Joins room before (Ends m) old new result = (result ≡ Ok joined.Message) × (new ≡ lending m.command)
 Joins room before (Refuses fault) old new result = (result ≡ Err fault) × (new ≡ old)
+
+-- the context in which a message has begun
+abbrev pub InContext : Begun → ℕ → Type 0
+InContext NoMessage id = Unit {0}
+InContext (InCommand context command) id = id ≡ context
+InContext (InSet context command set) id = id ≡ context

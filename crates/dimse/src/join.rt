@@ -2,7 +2,7 @@
 ghost use Rattle.std.specs.Prelude.{◌≡◌, ◌-◌, ◌≤◌, ◌^◌, ◌++◌, [], List, ℕ, length, OnOk, OnErr};
 ghost use Rattle.pdu.specs.Heads.{pdv_head_of};
 ghost use Rattle.dimse.specs.Messages.{Begun, NoMessage, brought, head_refusal};
-ghost use Rattle.dimse.specs.Joining.{ShowsMessage, Joins, ok_unless, pdv_of, without_set};
+ghost use Rattle.dimse.specs.Joining.{ShowsMessage, InContext, Joins, ok_unless, pdv_of, without_set};
 ghost use Rattle.dimse.specs.machine.Fields.{ended_as};
 
 use crate::fault::DimseFault;
@@ -141,6 +141,17 @@ impl<const C: usize> Join<C> {
         self.left = 0;
         self.last = false;
         Ok(joined)
+    }
+
+    /// Returns the presentation context of the message that has begun.
+    pub fn context(&self) -> u8
+        ensures { InContext self.now.message result }
+    {
+        match self.stage {
+            Stage::Between => self.context,
+            Stage::Command => self.context,
+            Stage::Set => self.context,
+        }
     }
 
     /// Returns the bytes of the command set so far; from its end until `clear`, all of them.
