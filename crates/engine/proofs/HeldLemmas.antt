@@ -1,7 +1,12 @@
 -- How many bytes are held.
-use Rattle.std.proofs.Common.{◌≡◌, ℕ, ◌+◌, ◌<◌, ◌≤◌, Bool, true, false, List, [], length, if◌then◌else◌, refl, sym, ap, ◌∙◌, arith, inl, inr}
-use Rattle.std.proofs.lemmas.Bool.{cases_Bool, lt-ltb, le-ltb}
-use Rattle.pdu.specs.Spot.{spot}
+use Rattle.std.proofs.Common.{◌⊎◌, ◌≡◌, ℕ, ◌+◌, ◌<◌, ◌≤◌, Bool, true, false, List, [], ◌∷◌, length, if◌then◌else◌, refl, sym, ap, ◌∙◌, arith, inl, inr}
+use Rattle.std.proofs.lemmas.Bool.{cases_Bool, cases_lt, lt-ltb, le-ltb}
+use Rattle.pdu.specs.declared.position.Position.{Position}
+use Rattle.pdu.specs.declared.position.Position.TheVariants as position
+use Rattle.pdu.specs.Marks.{Mark, Pdv, End}
+use Rattle.pdu.specs.Spot.{Spot, Opening, Plain, InPdv, spot}
+use Rattle.pdu.specs.Steps.{stands_in_head}
+use Rattle.pdu.specs.Deframing.{At, AtBody, in_body, after_body, AtFragment, in_fragment, after_fragment, unfinished_heads, unfinished_pdv_head}
 use Rattle.pdu.proofs.Public.{spot_opening}
 use Rattle.negotiate.specs.Settings.{Settings}
 use Rattle.dimse.specs.Messages.{Begun}
@@ -11,7 +16,6 @@ use Rattle.sequence.specs.Rules.{Limits}
 use Rattle.sequence.specs.Walk.{Told, Tells, going, refused}
 use Rattle.sequence.specs.Taken.{walker_syntax, limits_of, told_by}
 use Rattle.engine.specs.Stores.{limits}
-use Rattle.engine.specs.declared.framing.Framing.TheVariants as framing
 use Rattle.engine.specs.Run.{Rooms}
 use Rattle.engine.specs.Reached.{Reached, takes_pdvs, begun_in, begun_pdv, message_so_far}
 use Rattle.engine.specs.Held as holding
@@ -19,7 +23,7 @@ use Rattle.engine.specs.Held.{is_ended, unfinished, of_request, of_command, held
 use Rattle.engine.specs.Stands.{Shows}
 use Rattle.engine.specs.machine.Pends.{Kept, takes_pdvs_in, held_by}
 use Rattle.engine.specs.machine.Storing.{Stored, Walks, not_walked, walked, held_in}
-use Rattle.engine.specs.machine.Shows.{Fields, InHead, InBody, InPdvHead, InFragment}
+use Rattle.engine.specs.machine.Shows.{Fields}
 use Rattle.engine.specs.machine.HeldHeads.{heads_of}
 use Rattle.engine.proofs.KeptLemmas.{held_shown, held_ended}
 use Rattle.engine.proofs.ShownLemmas.{takes_shown, ended_stored}
@@ -30,22 +34,6 @@ few xs lt = rw (lt-ltb (length xs) 6 lt) refl
 many : (xs : List ℕ) → 6 ≤ length xs → unfinished xs ≡ 0
 many xs le = rw (le-ltb (length xs) 6 le) refl
 
--- of a PDV that has begun, where PDVs count
-abbrev pub pdv_part : Bool → List ℕ → ℕ
-pdv_part t pdv = if t then length pdv else 0
-
-begun_none : (t : Bool) → unfinished (if t then [] else []) ≡ 0
-begun_none true = refl
-begun_none false = refl
-
-begun_short : (t : Bool) (pdv : List ℕ) → length pdv < 6 → unfinished (if t then pdv else []) ≡ pdv_part t pdv
-begun_short true pdv lt = few pdv lt
-begun_short false pdv lt = refl
-
-begun_long : (t : Bool) (pdv : List ℕ) → 6 ≤ length pdv → unfinished (if t then pdv else []) ≡ 0
-begun_long true pdv le = many pdv le
-begun_long false pdv le = refl
-
 heads_ended : (r : Reached) → is_ended r.progress.state ≡ true → heads_of r ≡ 0
 heads_ended r e = rw e refl
 
@@ -54,40 +42,68 @@ heads_open r b n m e is first second =
     let begun : unfinished (begun_pdv r) ≡ m = ap (λ (x : List ℕ). unfinished (if takes_pdvs r.progress then x else [])) is ∙ second in
     rw e (omega (arith, first, begun))
 
-module _ (hd pv : List ℕ) (k : Kept) (store : Store) (r : Reached) where
-  pub heads_head : Shows (record { framing = framing.Head; head = hd; pdv = pv; kept = k }) store r → length hd ≡ heads_of r
-  heads_head h = elim (cases_Bool (is_ended r.progress.state)) [
-    | inl e ↦ ap length (h.headless e).1 ∙ sym (heads_ended r e)
+-- ---- heads
+
+unfinished_none : (t : Bool) → unfinished (if t then [] else []) ≡ 0
+unfinished_none true = refl
+unfinished_none false = refl
+
+headed_at : (q : Position) (r : List ℕ) → At q r [] → stands_in_head q ≡ false → 6 ≤ length r
+headed_at (position.Head bytes) r a e = absurd cc
+headed_at (position.Body kind left) r a e = go a where
+  go : AtBody kind left r [] → 6 ≤ length r
+  go (in_body lt i none) = i.headed
+  go (after_body o) = absurd (let wrong : [] ≡ End kind o.body ∷ [] = o.due_is in cc)
+headed_at (position.PdvHead left bytes) r a e = a.inside.headed
+headed_at (position.Fragment left more) r a e = go a where
+  go : AtFragment left more r [] → 6 ≤ length r
+  go (in_fragment lt f) = f.inside.headed
+  go (after_fragment zero x) = absurd (let wrong : [] ≡ Pdv x.context x.control x.fragment ∷ x.later = x.due_is in cc)
+headed_at (position.Leftover left) r a e = a.inside.headed
+headed_at (position.Skipped kind left) r a e = absurd (let wrong : [] ≡ End kind a.body ∷ [] = a.due_is in cc)
+
+in_head_short : (q : Position) (r : List ℕ) → At q r [] → stands_in_head q ≡ true → length r < 6
+in_head_short (position.Head bytes) r a e = a.short
+in_head_short (position.Body kind left) r a e = absurd cc
+in_head_short (position.PdvHead left bytes) r a e = absurd cc
+in_head_short (position.Fragment left more) r a e = absurd cc
+in_head_short (position.Leftover left) r a e = absurd cc
+in_head_short (position.Skipped kind left) r a e = absurd cc
+
+heads_of_pdv : (x : Spot) → unfinished_pdv_head x ≡ unfinished (begun_in x)
+heads_of_pdv Opening = refl
+heads_of_pdv Plain = refl
+heads_of_pdv (InPdv part) = refl
+
+module _ (q : Position) (k : Kept) (store : Store) (r : Reached) where
+  -- where an unfinished head counts
+  pub heads_counted : (n : ℕ) → (stands_in_head q ≡ true) ⊎ (takes_pdvs_in k ≡ true) → ((x : List ℕ) (due : List Mark) → At q x due → n ≡ unfinished_heads x) → Shows (record { position = q; kept = k }) store r → n ≡ heads_of r
+  heads_counted n why told h = elim (cases_Bool (is_ended r.progress.state)) [
+    | inl e ↦ told [] [] (h.headless e) ∙ sym (heads_ended r e)
     | inr e ↦
-        let f : InHead hd pv r.rest (spot r.rest) = h.frame.framed e in
-        let open_is : begun_in (spot r.rest) ≡ [] = ap begun_in (spot_opening r.rest f.short) in
-        omega (arith, ap length f.head_is, heads_open r [] (length r.rest) 0 e open_is (few r.rest f.short) (begun_none (takes_pdvs r.progress)))
+        let at = h.frame.framed e in
+        let is : n ≡ unfinished_heads r.rest = told r.rest [] at in
+        elim (cases_lt (length r.rest) 6) [
+          | inl lt ↦
+              let heads : unfinished_heads r.rest ≡ length r.rest = rw (lt-ltb (length r.rest) 6 lt) refl in
+              let open_is : begun_in (spot r.rest) ≡ [] = ap begun_in (spot_opening r.rest lt) in
+              omega (arith, is, heads, heads_open r [] (length r.rest) 0 e open_is (few r.rest lt) (unfinished_none (takes_pdvs r.progress)))
+          | inr ge ↦
+              let heads : unfinished_heads r.rest ≡ unfinished_pdv_head (spot r.rest) = rw (le-ltb (length r.rest) 6 ge) refl in
+              let takes_in : takes_pdvs_in k ≡ true = elim why [ inl w ↦ absurd (let lt = in_head_short q r.rest at w in omega (arith, lt, ge)) | inr w ↦ w ] in
+              let takes : takes_pdvs r.progress ≡ true = sym (takes_shown k store r.progress _ _ h.frame.pends) ∙ takes_in in
+              let second : unfinished (if takes_pdvs r.progress then begun_in (spot r.rest) else []) ≡ unfinished_pdv_head (spot r.rest) = rw takes (sym (heads_of_pdv (spot r.rest))) in
+              omega (arith, is, heads, heads_open r (begun_in (spot r.rest)) 0 (unfinished_pdv_head (spot r.rest)) e refl (many r.rest ge) second)
+        ]
   ]
 
-  pub heads_body : (l : ℕ) → Shows (record { framing = framing.Body l; head = hd; pdv = pv; kept = k }) store r → 0 ≡ heads_of r
-  heads_body l h = elim (cases_Bool (is_ended r.progress.state)) [
+  pub heads_not : stands_in_head q ≡ false → takes_pdvs_in k ≡ false → Shows (record { position = q; kept = k }) store r → 0 ≡ heads_of r
+  heads_not other none h = elim (cases_Bool (is_ended r.progress.state)) [
     | inl e ↦ sym (heads_ended r e)
     | inr e ↦
-        let f : InBody l hd pv r.rest (spot r.rest) = h.frame.framed e in
-        omega (arith, heads_open r [] 0 0 e (ap begun_in f.spot_is) (many r.rest f.headed) (begun_none (takes_pdvs r.progress)))
-  ]
-
-  pub heads_pdv : (l : ℕ) → length pv < 6 → Shows (record { framing = framing.PdvHead l; head = hd; pdv = pv; kept = k }) store r → pdv_part (takes_pdvs_in k) pv ≡ heads_of r
-  heads_pdv l lt h = elim (cases_Bool (is_ended r.progress.state)) [
-    | inl e ↦ let wrong : framing.PdvHead l ≡ framing.Head = (h.headless e).0 in absurd cc
-    | inr e ↦
-        let f : InPdvHead l hd pv r.rest (spot r.rest) = h.frame.framed e in
-        let takes : takes_pdvs_in k ≡ takes_pdvs r.progress = takes_shown k store r.progress _ _ h.frame.pends in
-        ap (λ (t : Bool). pdv_part t pv) takes
-        ∙ omega (arith, heads_open r pv 0 (pdv_part (takes_pdvs r.progress) pv) e (ap begun_in f.spot_is) (many r.rest f.headed) (begun_short (takes_pdvs r.progress) pv lt))
-  ]
-
-  pub heads_fragment : (l m : ℕ) → Shows (record { framing = framing.Fragment l m; head = hd; pdv = pv; kept = k }) store r → 0 ≡ heads_of r
-  heads_fragment l m h = elim (cases_Bool (is_ended r.progress.state)) [
-    | inl e ↦ sym (heads_ended r e)
-    | inr e ↦
-        let f : InFragment l m hd pv r.rest (spot r.rest) = h.frame.framed e in
-        omega (arith, heads_open r f.begun 0 0 e (ap begun_in f.spot_is) (many r.rest f.headed) (begun_long (takes_pdvs r.progress) f.begun f.long))
+        let takes : takes_pdvs r.progress ≡ false = sym (takes_shown k store r.progress _ _ h.frame.pends) ∙ none in
+        let second : unfinished (if takes_pdvs r.progress then begun_in (spot r.rest) else []) ≡ 0 = rw takes refl in
+        omega (arith, heads_open r (begun_in (spot r.rest)) 0 0 e refl (many r.rest (headed_at q r.rest (h.frame.framed e) other)) second)
   ]
 
 -- ---- the data set

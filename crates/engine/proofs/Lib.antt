@@ -12,8 +12,8 @@ pub mod EndedLemmas
 pub mod DataLemmas
 pub mod KeptLemmas
 pub mod DoesLemmas
-pub mod FoundLemmas
-pub mod ValueLemmas
+pub mod ShapeLemmas
+pub mod EventLemmas
 pub mod StillLemmas
 pub mod PartLemmas
 pub mod MovedLemmas

@@ -1,6 +1,8 @@
 -- What the heads and the fragments of PDVs come to.
 use Rattle.std.proofs.Common.{◌≡◌, ℕ, ◌≤◌, Bool, true, false, not, ◌&&◌, List, [], ◌++◌, length, drop, get_or, Option, Some, None, Result, Ok, Err, nat_eq, refl, ap, sym, subst, ◌∙◌, arith, if◌then◌else◌, inl, inr}
+use Rattle.std.proofs.lemmas.Bool.{cases_Bool, eqb-true}
 use Rattle.std.proofs.lemmas.Bool.Decides.{nat_tests}
+use Rattle.dimse.specs.declared.fault.DimseFault.TheVariants.{OtherContext}
 use Rattle.acceptor.specs.declared.state.State.{State}
 use Rattle.acceptor.specs.declared.state.State.TheVariants.{Sta1, Sta2, Sta3, Sta6, Sta8, Sta13}
 use Rattle.acceptor.specs.declared.event.Event.TheVariants as event
@@ -15,13 +17,12 @@ use Rattle.negotiate.specs.Contexts.{context_of}
 use Rattle.negotiate.specs.ContextRows.{context_in}
 use Rattle.part10.specs.Store.{Store}
 use Rattle.dimse.specs.declared.fault.DimseFault.{DimseFault}
-use Rattle.dimse.specs.declared.fault.DimseFault.TheVariants.{OtherContext}
 use Rattle.dimse.specs.declared.joined.Joined.{Joined}
 use Rattle.dimse.specs.declared.joined.Joined.TheVariants as joined
 use Rattle.dimse.specs.Command.{CommandRecord}
 use Rattle.dimse.specs.Reading.{command_in}
-use Rattle.dimse.specs.Messages.{Message, message_by, Begun, NoMessage, InCommand, InSet, Brought, Goes, Ends, Refuses, brought, refusal, head_refusal, with_command, message_row}
-use Rattle.dimse.specs.Joining.{Joining, ShowsMessage, Joins, ok_unless, without_set, pdv_of, goes_on, lending, with_fragment, with_pdv}
+use Rattle.dimse.specs.Messages.{Message, message_by, Begun, NoMessage, InCommand, InSet, Brought, Goes, Ends, Refuses, brought, refusal, head_refusal, if_context, with_command, message_row}
+use Rattle.dimse.specs.Joining.{Joining, ShowsMessage, InContext, Joins, ok_unless, without_set, pdv_of, goes_on, lending, with_fragment, with_pdv}
 use Rattle.engine.specs.Timeline.{At, Finding, good}
 use Rattle.engine.specs.Progress.{Progress, Advance, nothing, done, absorb, is_established}
 use Rattle.engine.specs.Reached.{takes_pdvs}
@@ -361,3 +362,19 @@ aborted_body p t = ap (λ (st : State). counted_body (done [] 0 (record p { stat
 
 pub tries_still : (p q : Progress) (k : Kept) (body begun : List ℕ) (d : Devices) → Pends k d.store q body begun → DoesDue p (nothing q) k body begun d d
 tries_still p q k body begun d h = tries_from p q (nothing q) k body begun d d (tries_nothing q k body begun d h)
+
+-- ---- the context of a value
+
+one_context : (first context : ℕ) (other : Option DimseFault) → if_context first context other ≡ None → context ≡ first
+one_context first context other e = elim (cases_Bool (nat_eq context first)) [
+  | inl t ↦ eqb-true context first t
+  | inr t ↦ absurd (let wrong : Some OtherContext ≡ None = sym (ap (λ (b : Bool). if b then other else Some OtherContext) t) ∙ e in cc)
+]
+
+-- a value has the context of the message that it is joined to
+pub pdv_context : (room : ℕ) (join : Joining) (m : Begun) (begun : List ℕ) (id : ℕ) → 6 ≤ length begun → ShowsMessage room join m begun → InContext join.message id → id ≡ get_or begun 4 0
+pdv_context room join m begun id six h is = go m (h.accepted six) (subst (λ (x : Begun). InContext (without_set x) id) (long_pdv begun m six) (subst (λ (j : Joining). InContext j.message id) h.shows is)) where
+  go : (x : Begun) → head_refusal room x (pdv_head_of begun) ≡ None → InContext (without_set (with_fragment (get_or begun 4 0) (drop 6 begun) x)) id → id ≡ get_or begun 4 0
+  go NoMessage fine e = e
+  go (InCommand first command) fine e = e ∙ sym (one_context first (get_or begun 4 0) _ fine)
+  go (InSet first command set) fine e = e ∙ sym (one_context first (get_or begun 4 0) _ fine)

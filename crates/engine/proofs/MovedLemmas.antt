@@ -8,8 +8,8 @@ use Rattle.pdu.specs.Marks.{Mark, new_marks}
 use Rattle.pdu.specs.Spot.{spot}
 use Rattle.pdu.proofs.Public.{rest_is_rest, rest_alone, new_rest, rest_rest}
 use Rattle.negotiate.specs.Settings.{Settings}
-use Rattle.engine.specs.declared.framing.Framing.{Framing}
-use Rattle.engine.specs.declared.framing.Framing.TheVariants as framing
+use Rattle.pdu.specs.declared.position.Position.{Position}
+use Rattle.pdu.specs.Deframing as deframing
 use Rattle.engine.specs.Inputs.{Received, Bytes, Close, Expiry, UserAbort, stream_of}
 use Rattle.engine.specs.Timeline.{Entry, At, Happened, entries, entries_of}
 use Rattle.engine.specs.Progress.{Progress, absorb, at_start}
@@ -24,7 +24,7 @@ use Rattle.engine.specs.Moves.{Moved, StaysCharged}
 use Rattle.engine.specs.machine.Pends.{Kept, Pends}
 use Rattle.engine.specs.machine.Storing.{drafting_in}
 use Rattle.engine.specs.machine.Does.{Does, DoesAll, push, still_failed}
-use Rattle.engine.specs.machine.Shows.{Fields, ShowsFrame, Framed, DoesPart, body_of}
+use Rattle.engine.specs.machine.Shows.{Fields, ShowsFrame, DoesPart, body_of}
 use Rattle.engine.proofs.TimelineLemmas.{entries_append}
 use Rattle.engine.proofs.StoryLemmas.{progress_then, fair_then, line_nothing, no_files}
 use Rattle.engine.proofs.DoesLemmas.{push_entries, push_wire, push_sent, push_files, push_fair, push_last, push_filing, push_progress, does_one}
@@ -84,7 +84,7 @@ module _ (rooms : Rooms) (s : Settings) where
   -- bytes came
   pub moved_bytes : (inputs : List Received) (story : List Happened) (failed : Bool) (piece : List ℕ) (old_f f : Fields) (d e : Devices) → IsStory rooms s inputs story failed
       → (t : DoesPart rooms s f (absorb failed (progress_of rooms s at_start story)) (rest_of (stream_of inputs)) piece d e)
-      → (is_ended f.kept.state ≡ true → (f.framing ≡ framing.Head) × (f.head ≡ [])) → Drafts (drafting old_f) d.store (drafting f) e.store → Moved rooms s inputs story failed (Bytes piece) old_f f d e
+      → (is_ended f.kept.state ≡ true → deframing.At f.position [] []) → Drafts (drafting old_f) d.store (drafting f) e.store → Moved rooms s inputs story failed (Bytes piece) old_f f d e
   moved_bytes inputs story failed piece old_f f d e h t headless same =
       let stream = stream_of inputs in
       let p = absorb failed (progress_of rooms s at_start story) in
@@ -100,8 +100,8 @@ module _ (rooms : Rooms) (s : Settings) where
   pub moved_other : (inputs : List Received) (story : List Happened) (failed : Bool) (x : Received) (entry : Entry) (old_f f : Fields) (d e : Devices) → IsStory rooms s inputs story failed
       → entries (stream_of inputs) (x ∷ []) ≡ entry ∷ [] → stream_of (x ∷ []) ≡ []
       → Does rooms s (absorb failed (progress_of rooms s at_start story)) entry f.kept (body_of (rest_of (stream_of inputs))) (begun_in (spot (rest_of (stream_of inputs)))) d e
-      → (is_ended f.kept.state ≡ false → Framed f.framing f.head f.pdv (rest_of (stream_of inputs)) (spot (rest_of (stream_of inputs))))
-      → (is_ended f.kept.state ≡ true → (f.framing ≡ framing.Head) × (f.head ≡ [])) → Drafts (drafting old_f) d.store (drafting f) e.store → Moved rooms s inputs story failed x old_f f d e
+      → (is_ended f.kept.state ≡ false → deframing.At f.position (rest_of (stream_of inputs)) [])
+      → (is_ended f.kept.state ≡ true → deframing.At f.position [] []) → Drafts (drafting old_f) d.store (drafting f) e.store → Moved rooms s inputs story failed x old_f f d e
   moved_other inputs story failed x entry old_f f d e h one none did framed headless same =
       let p = absorb failed (progress_of rooms s at_start story) in
       let rest = rest_of (stream_of inputs) in
@@ -145,13 +145,13 @@ module _ (rooms : Rooms) (s : Settings) where
       }) (record { there = there; own = λ mine. mine })
 
   -- nothing has come
-  pub stands_start : (hd pv : List ℕ) (k : Kept) (store : Store) → hd ≡ [] → pv ≡ [] → Pends k store at_start [] [] → Stands rooms s [] [] false (record { framing = framing.Head; head = hd; pdv = pv; kept = k }) store
-  stands_start hd pv k store e f h =
-      let fields : Fields = record { framing = framing.Head; head = hd; pdv = pv; kept = k } in
+  pub stands_start : (q : Position) (k : Kept) (store : Store) → deframing.At q [] [] → Pends k store at_start [] [] → Stands rooms s [] [] false (record { position = q; kept = k }) store
+  stands_start q k store at h =
+      let fields : Fields = record { position = q; kept = k } in
       let none : rest_of [] ≡ [] = rest_alone [] empty_rest in
       let pends : Pends k store at_start (body_of []) (begun_in (spot [])) = rw spot_none h in
       let shown : Shows fields store (record { progress = at_start; rest = [] }) = record {
-        frame = record { framed = λ _. record { short = omega arith; head_is = e; pdv_is = f }; pends = pends };
+        frame = record { framed = λ _. at; pends = pends };
         headless = λ ended. absurd cc;
       } in
       let now : Shows fields store (reached rooms s [] [] false) = subst (λ (r : List ℕ). Shows fields store (record { progress = at_start; rest = r })) (sym none) shown in
@@ -165,11 +165,10 @@ module _ (rooms : Rooms) (s : Settings) where
   pub record Dropped (f g : Fields) : Type 0 where
     pub kept : g.kept ≡ f.kept
     pub same : is_ended f.kept.state ≡ false → g ≡ f
-    pub framing_is : is_ended f.kept.state ≡ true → g.framing ≡ framing.Head
-    pub head_is : is_ended f.kept.state ≡ true → g.head ≡ []
+    pub headless : is_ended f.kept.state ≡ true → deframing.At g.position [] []
 
-  headless_then : (f g : Fields) → Dropped f g → is_ended g.kept.state ≡ true → (g.framing ≡ framing.Head) × (g.head ≡ [])
-  headless_then f g h e = let ended : is_ended f.kept.state ≡ true = ap (λ (k : Kept). is_ended k.state) (sym h.kept) ∙ e in (h.framing_is ended, h.head_is ended)
+  headless_then : (f g : Fields) → Dropped f g → is_ended g.kept.state ≡ true → deframing.At g.position [] []
+  headless_then f g h e = let ended : is_ended f.kept.state ≡ true = ap (λ (k : Kept). is_ended k.state) (sym h.kept) ∙ e in h.headless ended
 
   -- the draft is that of what is kept
   drafts_kept : (old_f f g : Fields) (old new : Store) → g.kept ≡ f.kept → Drafts (drafting old_f) old (drafting f) new → Drafts (drafting old_f) old (drafting g) new
@@ -177,27 +176,27 @@ module _ (rooms : Rooms) (s : Settings) where
 
   -- a call that takes bytes
   pub moved_feed : (inputs : List Received) (story : List Happened) (failed : Bool) (piece : List ℕ) (old_f f g : Fields) (d e : Devices) → Stands rooms s inputs story failed old_f d.store
-      → ((p : Progress) (r : List ℕ) → IsRest r → ShowsFrame old_f d.store p r → DoesPart rooms s f p r piece d e)
+      → is_ended old_f.kept.state ≡ false → ((p : Progress) (r : List ℕ) → IsRest r → is_ended p.state ≡ false → ShowsFrame old_f d.store p r → DoesPart rooms s f p r piece d e)
       → Dropped f g → Drafts (drafting old_f) d.store (drafting f) e.store → Moved rooms s inputs story failed (Bytes piece) old_f g d e
-  moved_feed inputs story failed piece old_f f g d e h takes dropped same =
+  moved_feed inputs story failed piece old_f f g d e h there takes dropped same =
       let stream = stream_of inputs in
       let p = absorb failed (progress_of rooms s at_start story) in
-      let took = takes p (rest_of stream) (rest_is_rest stream) h.shows.frame in
+      let took = takes p (rest_of stream) (rest_is_rest stream) (sym (ap is_ended h.shows.frame.pends.state_is) ∙ there) h.shows.frame in
       moved_bytes inputs story failed piece old_f g d e h.story_is (took_dropped rooms s f g p (rest_of stream) piece d e dropped.kept dropped.same took) (headless_then f g dropped)
       (drafts_kept old_f f g d.store e.store dropped.kept same)
 
   -- a call that takes another input
-  pub moved_call : (inputs : List Received) (story : List Happened) (failed : Bool) (x : Received) (entry : Entry) (fr : Framing) (hd pv : List ℕ) (k n : Kept) (g : Fields) (d e : Devices)
-      → Stands rooms s inputs story failed (record { framing = fr; head = hd; pdv = pv; kept = k }) d.store → is_ended k.state ≡ false
+  pub moved_call : (inputs : List Received) (story : List Happened) (failed : Bool) (x : Received) (entry : Entry) (ps : Position) (k n : Kept) (g : Fields) (d e : Devices)
+      → Stands rooms s inputs story failed (record { position = ps; kept = k }) d.store → is_ended k.state ≡ false
       → entries (stream_of inputs) (x ∷ []) ≡ entry ∷ [] → stream_of (x ∷ []) ≡ []
       → ((p : Progress) (body begun : List ℕ) → Pends k d.store p body begun → Does rooms s p entry n body begun d e)
-      → Dropped (record { framing = fr; head = hd; pdv = pv; kept = n }) g → Drafts (drafting_in k.storing) d.store (drafting_in n.storing) e.store
-      → Moved rooms s inputs story failed x (record { framing = fr; head = hd; pdv = pv; kept = k }) g d e
-  moved_call inputs story failed x entry fr hd pv k n g d e h there one none does dropped same =
+      → Dropped (record { position = ps; kept = n }) g → Drafts (drafting_in k.storing) d.store (drafting_in n.storing) e.store
+      → Moved rooms s inputs story failed x (record { position = ps; kept = k }) g d e
+  moved_call inputs story failed x entry ps k n g d e h there one none does dropped same =
       let p = absorb failed (progress_of rooms s at_start story) in
       let rest = rest_of (stream_of inputs) in
-      let framed : Framed fr hd pv rest (spot rest) = h.shows.frame.framed (sym (ap is_ended h.shows.frame.pends.state_is) ∙ there) in
+      let framed : deframing.At ps rest [] = h.shows.frame.framed (sym (ap is_ended h.shows.frame.pends.state_is) ∙ there) in
       let did : Does rooms s p entry g.kept (body_of rest) (begun_in (spot rest)) d e = subst (λ (y : Kept). Does rooms s p entry y (body_of rest) (begun_in (spot rest)) d e) (sym dropped.kept) (does p (body_of rest) (begun_in (spot rest)) h.shows.frame.pends) in
       moved_other inputs story failed x entry _ g d e h.story_is one none did
-      (λ still. subst (λ (y : Fields). Framed y.framing y.head y.pdv rest (spot rest)) (sym (dropped.same (ap (λ (y : Kept). is_ended y.state) (sym dropped.kept) ∙ still))) framed)
-      (headless_then _ g dropped) (drafts_kept (record { framing = fr; head = hd; pdv = pv; kept = k }) (record { framing = fr; head = hd; pdv = pv; kept = n }) g d.store e.store dropped.kept same)
+      (λ still. subst (λ (y : Fields). deframing.At y.position rest []) (sym (dropped.same (ap (λ (y : Kept). is_ended y.state) (sym dropped.kept) ∙ still))) framed)
+      (headless_then _ g dropped) (drafts_kept (record { position = ps; kept = k }) (record { position = ps; kept = n }) g d.store e.store dropped.kept same)

@@ -41,7 +41,7 @@ use Rattle.engine.specs.Requests.{keeping, accepting, declined, answered}
 use Rattle.engine.specs.Run.{Rooms, released, at_end, at_mark, at_entry, cut, gives, sent_of}
 use Rattle.engine.specs.Timeline.{At, Shut, TimedOut, Aborted, Entry, Finding, Happened, entries, entries_of}
 use Rattle.engine.specs.OutputLaws.{FewMarks, AnswersHave, BoundedOutput, answer_length, FewBytesButAnswers}
-use Rattle.engine.proofs.FoundLemmas.{more}
+use Rattle.engine.proofs.EventLemmas.{more}
 
 -- ---- one byte
 

@@ -100,7 +100,7 @@ it_stands_established = (
     story_is = record { told = calm_entries (entries [] request_inputs); fair = (calm_fair tt, (calm_fair tt, tt)); last = λ e. absurd cc };
     shows = record {
       frame = record {
-        framed = λ e. record { short = omega arith; head_is = refl; pdv_is = refl };
+        framed = λ e. record { short = omega arith; bytes_are = refl; none_due = refl };
         pends = record {
           state_is = refl;
           refused_is = λ e. refl;

@@ -1,6 +1,7 @@
 -- What contracts see of an association.
 use Rattle.std.specs.Prelude.{ℕ, Bool}
 use Rattle.acceptor.specs.declared.state.State.{State}
+use Rattle.pdu.specs.Deframed.{position_of}
 use Rattle.negotiate.specs.Settings.{Settings, settings_of}
 use Rattle.engine.specs.declared.association.Association.{Association}
 use Rattle.engine.specs.declared.running.Running.{Running}
@@ -9,7 +10,7 @@ use Rattle.engine.specs.machine.Storing.{stored_of, drafting_in}
 use Rattle.engine.specs.machine.Shows.{Fields}
 
 abbrev pub fields_of : {A C V D : ℕ} → Association A C V D → Fields
-fields_of a = record { framing = a.framing; head = a.head.items; pdv = a.pdv.items; kept = kept_of a.provider }
+fields_of a = record { position = position_of a.deframer; kept = kept_of a.provider }
 
 abbrev pub state_of : {A C V D : ℕ} → Association A C V D → State
 state_of a = a.provider.state

@@ -1,10 +1,10 @@
 -- An association stands as its inputs say. It is a fact about values as they are now: no history is stored.
 use Rattle.std.specs.Prelude.{◌≡◌, Bool, true, List, []}
+use Rattle.pdu.specs.Deframing.{At}
 use Rattle.negotiate.specs.Settings.{Settings}
 use Rattle.part10.specs.Store.{Store}
 use Rattle.engine.specs.Held.{is_ended}
 use Rattle.engine.specs.machine.Shows.{Fields, ShowsFrame}
-use Rattle.engine.specs.declared.framing.Framing.TheVariants as framing
 use Rattle.engine.specs.Inputs.{Received}
 use Rattle.engine.specs.Timeline.{Happened}
 use Rattle.engine.specs.Run.{Rooms}
@@ -18,7 +18,7 @@ use Rattle.engine.specs.Reached.{Reached, reached, message_so_far}
 -- It shows this progress and this PDU that has begun; once it has ended it keeps no byte of a head.
 pub record Shows (f : Fields) (store : Store) (r : Reached) : Type 0 where
   pub frame : ShowsFrame f store r.progress r.rest
-  pub headless : is_ended r.progress.state ≡ true → (f.framing ≡ framing.Head) × (f.head ≡ [])
+  pub headless : is_ended r.progress.state ≡ true → At f.position [] []
 
 -- the draft that is due where the timeline has led is in the filing
 abbrev pub IsDraftAt : Reached → Store → Bool → Type 0

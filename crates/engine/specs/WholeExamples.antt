@@ -19,7 +19,7 @@ use Rattle.dimse.specs.Status.{class_not_supported, data_set_mismatch}
 use Rattle.dimse.specs.Messages.{NoMessage}
 use Rattle.dimse.specs.Joining.{shown}
 use Rattle.negotiate.specs.declared.table.ContextRow.{ContextRow}
-use Rattle.engine.specs.declared.framing.Framing.TheVariants as framing
+use Rattle.pdu.specs.declared.position.Position.TheVariants as position
 use Rattle.engine.specs.machine.Shows.{Fields}
 use Rattle.engine.specs.machine.Storing.{Nothing}
 use Rattle.engine.specs.Stands.{Stands}
@@ -52,9 +52,7 @@ TheRequestIsHeld =
 -- what is kept with this table
 abbrev pub established : List ContextRow → Fields
 established table = record {
-  framing = framing.Head;
-  head = [];
-  pdv = [];
+  position = position.Head (record { items = [] });
   kept = record { room = 4096; depth = 64; most = 2 ^ 40; state = Sta6; refused = false; caller = codes "SCANNER1        "; peer_max = 16384; table = table; body = []; join = shown NoMessage []; storing = Nothing };
 }
 

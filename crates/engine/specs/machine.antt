@@ -8,7 +8,6 @@ pub mod Kept
 pub mod DoesDue
 pub mod Messages
 pub mod Does
-pub mod Counts
-pub mod Counted
+pub mod Events
 pub mod Shows
 pub mod HeldHeads

@@ -1,22 +1,18 @@
 //! One association of the acceptor.
 ghost use Rattle.std.specs.Prelude.{◌≡◌, ◌≤◌, ◌<◌, ◌+◌, ◌*◌, ◌-◌, ◌^◌};
-ghost use Rattle.arrayvec.specs.ArrayVec.{array_vec_len};
-ghost use Rattle.pdu.specs.Marks.{frame_kind};
-ghost use Rattle.engine.specs.machine.Counts.{due, head_least, head_most, pdv_least, pdv_most, left_of, body_due, pdvs_due, fragment_due};
+ghost use Rattle.pdu.specs.Deframed.{position_of};
+ghost use Rattle.pdu.specs.Steps.{body_kind, body_due, fragment_due};
 ghost use Rattle.engine.specs.machine.Kept.{kept_of};
 ghost use Rattle.engine.specs.machine.Pends.{BodyFits, FragmentFits};
 
 mod fields;
-mod parts;
-mod pdvs;
+mod taking;
 
-use crate::framing::Framing;
 use crate::provider::Provider;
 use acceptor::State;
-use arrayvec::ArrayVec;
 use negotiate::Config;
 use part10::Filing;
-use pdu::Wire;
+use pdu::{Deframer, Wire};
 
 /// An association with one peer, from the opening of the transport connection to its end (PS3.8
 /// section 9.2).
@@ -27,21 +23,11 @@ use pdu::Wire;
 /// 2^24.
 #[derive(Drop)]
 pub struct Association<const A: usize, const C: usize, const V: usize, const D: usize> {
-    framing: Framing,
-    /// The bytes of the head of the PDU that has begun.
-    head: ArrayVec<u8, 6>,
-    /// The bytes of the head of the PDV that has begun.
-    pdv: ArrayVec<u8, 6>,
+    /// Cuts the stream of the peer into events.
+    deframer: Deframer,
     provider: Provider<A, C, V, D>,
-    ghost some_due: { 0 < due framing },
-    ghost head_least: { head_least framing ≤ array_vec_len head },
-    ghost head_most: { array_vec_len head ≤ head_most framing },
-    ghost pdv_least: { pdv_least framing ≤ array_vec_len pdv },
-    ghost pdv_most: { array_vec_len pdv ≤ pdv_most framing },
-    ghost data: { 0 < pdvs_due framing → frame_kind head.items ≡ 4 },
-    ghost within: { fragment_due framing ≤ left_of framing },
-    ghost body_fits: { 0 < body_due framing → BodyFits (A - 12) (kept_of provider) (frame_kind head.items) (body_due framing) },
-    ghost fragment_fits: { 0 < fragment_due framing → FragmentFits (kept_of provider) (fragment_due framing) },
+    ghost body_fits: { BodyFits (A - 12) (kept_of provider) (body_kind (position_of deframer)) (body_due (position_of deframer)) },
+    ghost fragment_fits: { FragmentFits (kept_of provider) (fragment_due (position_of deframer)) },
 }
 
 impl<const A: usize, const C: usize, const V: usize, const D: usize> Association<A, C, V, D> {
@@ -50,7 +36,7 @@ impl<const A: usize, const C: usize, const V: usize, const D: usize> Association
     ghost use Rattle.acceptor.specs.Effect.{timer_runs};
     ghost use Rattle.negotiate.specs.Settings.{settings_of};
     ghost use Rattle.part10.specs.Store.{Store};
-    ghost use Rattle.engine.specs.declared.framing.Framing.TheVariants as framing;
+    ghost use Rattle.pdu.specs.Deframed.{IsAt};
     ghost use Rattle.engine.specs.Devices.{devices};
     ghost use Rattle.engine.specs.Drafts.{IsThere};
     ghost use Rattle.engine.specs.Fields.{drafting_of, fields_of, settings_in, state_of};
@@ -78,9 +64,7 @@ impl<const A: usize, const C: usize, const V: usize, const D: usize> Association
         ensures stands { (store : Store) → Stands (rooms_of A C V D) (settings_of config.now) [] [] false (fields_of result) store }
     {
         Association {
-            framing: Framing::Head,
-            head: ArrayVec::new(),
-            pdv: ArrayVec::new(),
+            deframer: Deframer::new(),
             provider: Provider::open(config),
         }
     }
@@ -203,17 +187,10 @@ impl<const A: usize, const C: usize, const V: usize, const D: usize> Association
         ensures value { (store : Store) (r : Reached) → Shows (fields_of self.now) store r → result ≡ heads_of r }
         ensures few { result ≤ 6 }
     {
-        match self.framing {
-            Framing::Head => self.head.len(),
-            Framing::Body { .. } => 0,
-            Framing::PdvHead { .. } => {
-                if self.provider.takes_pdvs() {
-                    self.pdv.len()
-                } else {
-                    0
-                }
-            }
-            Framing::Fragment { .. } => 0,
+        if self.deframer.is_in_head() || self.provider.takes_pdvs() {
+            self.deframer.held()
+        } else {
+            0
         }
     }
 
@@ -229,13 +206,10 @@ impl<const A: usize, const C: usize, const V: usize, const D: usize> Association
         ensures settings { settings_in self.new ≡ settings_in self.old }
         ensures kept { kept_of self.new.provider ≡ kept_of self.old.provider }
         ensures same { holding.is_ended self.old.provider.state ≡ false → fields_of self.new ≡ fields_of self.old }
-        ensures framing { holding.is_ended self.old.provider.state ≡ true → self.new.framing ≡ framing.Head }
-        ensures head { holding.is_ended self.old.provider.state ≡ true → self.new.head.items ≡ [] }
+        ensures headless { holding.is_ended self.old.provider.state ≡ true → IsAt self.new.deframer [] [] }
     {
         if self.is_ended() {
-            self.framing = Framing::Head;
-            self.head.clear();
-            self.pdv.clear();
+            self.deframer = Deframer::new();
         }
     }
 }

@@ -2,7 +2,7 @@
 #![tactic(auto)]
 
 mod association;
-mod framing;
+mod events;
 mod given;
 mod heads;
 pub mod laws;

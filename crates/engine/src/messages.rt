@@ -166,18 +166,19 @@ impl<const A: usize, const C: usize, const V: usize, const D: usize> Provider<A,
         self.settle(State::Sta6, sent, filing);
     }
 
-    /// A PDV of this context is whole.
-    pub(crate) fn on_pdv<W: Wire, F: Filing>(&mut self, context: u8, wire: &mut W, filing: &mut F)
+    /// A PDV is whole.
+    pub(crate) fn on_pdv<W: Wire, F: Filing>(&mut self, wire: &mut W, filing: &mut F)
         requires draft { IsThere (drafting_in (kept_of self.old).storing) (F.store filing.old) }
         ensures settings { settings_in self.new ≡ settings_in self.old }
         ensures drafts { Drafts (drafting_in (kept_of self.old).storing) (F.store filing.old) (drafting_in (kept_of self.new).storing) (F.store filing.new) }
-        ensures does { (p : Progress) (begun : List ℕ) → 6 ≤ length begun → length begun ≡ pdv_size begun → context ≡ get_or begun 4 0 → Pends (kept_of self.old) (F.store filing.old) p [] begun
+        ensures does { (p : Progress) (begun : List ℕ) → 6 ≤ length begun → length begun ≡ pdv_size begun → Pends (kept_of self.old) (F.store filing.old) p [] begun
             → Does (rooms_of A C V D) (settings_in self.old) p (At (Pdv (get_or begun 4 0) (get_or begun 5 0) (drop 6 begun))) (kept_of self.new) [] []
             (devices (W.line wire.old) (F.store filing.old)) (devices (W.line wire.new) (F.store filing.new)) }
     {
         if !self.takes_pdvs() {
             return;
         }
+        let context = self.join.context();
         match self.join.end() {
             Ok(Joined::More) => {}
             Ok(Joined::Message) => self.on_message(context, wire, filing),

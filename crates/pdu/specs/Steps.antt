@@ -65,6 +65,10 @@ abbrev pub IsInPdvHead : Position → Type 0
 IsInPdvHead (position.PdvHead left bytes) = Unit {0}
 IsInPdvHead other = ⊥
 
+abbrev pub IsSkipped : Position → Type 0
+IsSkipped (position.Skipped kind left) = Unit {0}
+IsSkipped other = ⊥
+
 abbrev pub FollowsHead : PduHead → Position → Type 0
 FollowsHead head (position.PdvHead left bytes) = head.kind ≡ p_data_tf
 FollowsHead head (position.Body kind left) = (kind ≡ head.kind) × (left ≡ head.length)
@@ -115,6 +119,6 @@ Steps (position.Fragment left more) n taken None new = (n ≡ 0) × (new ≡ pos
 Steps (position.Fragment left more) n taken (Some (event.Fragment part)) new = IsLent part.now taken n more new (position.Fragment (left - n) (more - n))
 Steps (position.Fragment left more) n taken (Some event.PdvEnd) new = (more ≡ 0) × FollowsPdv new
 Steps (position.Leftover left) n taken (Some event.Leftover) new = new ≡ position.Body p_data_tf left
-Steps (position.Skipped kind left) n taken None new = Unit {0}
+Steps (position.Skipped kind left) n taken None new = IsSkipped new
 Steps (position.Skipped kind left) n taken (Some (event.PduEnd told)) new = (told ≡ kind) × IsInHead new
 Steps old n taken other new = ⊥

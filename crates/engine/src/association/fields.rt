@@ -1,23 +1,21 @@
-//! The fields of an association, each with its type: bytes that came are held in `head`, `pdv`, `body`, `caller`, by
-//! the join and by the walker alone. A further field does not compile here before it is named.
+//! The fields of an association, each with its type: bytes that came are held by the deframer, in `body` and
+//! `caller`, by the join and by the walker alone. A further field does not compile here before it is named.
 
 use super::Association;
-use crate::framing::Framing;
 use crate::provider::Provider;
 use crate::stores::Storing;
 use acceptor::State;
 use arrayvec::ArrayVec;
 use dimse::Join;
 use negotiate::{Config, ContextRow};
+use pdu::Deframer;
 use sequence::Walker;
 
 fn fields<const A: usize, const C: usize, const V: usize, const D: usize>(
     association: &Association<A, C, V, D>,
 ) {
     let Association {
-        framing,
-        head,
-        pdv,
+        deframer,
         provider,
     } = association;
     let Provider {
@@ -31,8 +29,7 @@ fn fields<const A: usize, const C: usize, const V: usize, const D: usize>(
         join,
         storing,
     } = provider;
-    let _: &ArrayVec<u8, 6> = head;
-    let _: &ArrayVec<u8, 6> = pdv;
+    let _: &Deframer = deframer;
     let _: &Config = config;
     let _: &State = state;
     let _: &bool = refused;
@@ -41,19 +38,6 @@ fn fields<const A: usize, const C: usize, const V: usize, const D: usize>(
     let _: &ArrayVec<ContextRow, 128> = table;
     let _: &ArrayVec<u8, A> = body;
     let _: &Join<C> = join;
-    match framing {
-        Framing::Head => {}
-        Framing::Body { left } => {
-            let _: &u32 = left;
-        }
-        Framing::PdvHead { left } => {
-            let _: &u32 = left;
-        }
-        Framing::Fragment { left, more } => {
-            let _: &u32 = left;
-            let _: &u32 = more;
-        }
-    }
     match storing {
         Storing::Nothing => {}
         Storing::DataSet { walker, drafting } => {

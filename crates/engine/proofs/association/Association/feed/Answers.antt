@@ -10,8 +10,8 @@ returns-then-is_ended-clause-moved g c inputs story failed h = moved_still _ _ i
 pub returns-clause-moved : goal.returns-clause-moved
 returns-clause-moved g c inputs story failed h =
     let dropped = c.drop_heads.ensures in
-    moved_feed _ _ inputs story failed c.args.piece.now _ _ _ _ _ h c.take_all.ensures.took
-    (record { kept = dropped.kept; same = dropped.same; framing_is = dropped.framing; head_is = dropped.head }) c.take_all.ensures.drafts
+    moved_feed _ _ inputs story failed c.args.piece.now _ _ _ _ _ h (sym c.is_ended.ensures ∙ c.if-is_ended.false) c.take_all.ensures.took
+    (record { kept = dropped.kept; same = dropped.same; headless = dropped.headless }) c.take_all.ensures.drafts
 
 pub is_ended-requires : goal.is_ended-requires
 is_ended-requires g c = association_small c.args.self.now.provider

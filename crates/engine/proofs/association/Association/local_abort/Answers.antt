@@ -11,23 +11,13 @@ returns-then-is_ended-clause-moved g c inputs story failed h = moved_still _ _ i
 pub invariant_of-self : goal.invariant_of-self
 invariant_of-self g c =
     let was = c.args.self.now in
-    record {
-      some_due = was.some_due;
-      head_least = was.head_least;
-      head_most = was.head_most;
-      pdv_least = was.pdv_least;
-      pdv_most = was.pdv_most;
-      «data» = was.«data»;
-      within = was.within;
-      body_fits = λ some. c.on_local_abort.ensures.body_fits _ _ (was.body_fits some);
-      fragment_fits = λ some. c.on_local_abort.ensures.fragment_fits _ (was.fragment_fits some);
-    }
+    record { body_fits = c.on_local_abort.ensures.body_fits _ _ was.body_fits; fragment_fits = c.on_local_abort.ensures.fragment_fits _ was.fragment_fits }
 
 pub returns-clause-moved : goal.returns-clause-moved
 returns-clause-moved g c inputs story failed h =
     let dropped = c.drop_heads.ensures in
-    moved_call _ _ inputs story failed UserAbort Aborted _ _ _ _ _ _ _ _ h (sym c.is_ended.ensures ∙ c.if-is_ended.false) refl refl c.on_local_abort.ensures.does
-    (record { kept = dropped.kept; same = dropped.same; framing_is = dropped.framing; head_is = dropped.head }) c.on_local_abort.ensures.drafts
+    moved_call _ _ inputs story failed UserAbort Aborted _ _ _ _ _ _ h (sym c.is_ended.ensures ∙ c.if-is_ended.false) refl refl c.on_local_abort.ensures.does
+    (record { kept = dropped.kept; same = dropped.same; headless = dropped.headless }) c.on_local_abort.ensures.drafts
 
 pub is_ended-requires : goal.is_ended-requires
 is_ended-requires g c = association_small c.args.self.now.provider

@@ -17,14 +17,14 @@ use Rattle.engine.specs.machine.Kept.{kept_of, settings_in, rooms_of}
 use Rattle.engine.proofs.ShownLemmas.{takes_shown}
 use Rattle.engine.proofs.StoreLemmas.{Carried, carried, nothing_walked, no_store_yet, long_pdv, pdv_store}
 use Rattle.engine.proofs.DueLemmas.{does_by, does_nothing}
-use Rattle.engine.proofs.MessageLemmas.{entry_of, pdv_taken, pdv_dropped, pdv_comes, pends_dropped, goes_of, ends_of, refuses_of, due_of, counted_taken, pends_going_on, aside_of, aside_joined, taken_state, aborted_pdv, aborted_body, verdict_by, verdict_none, tries_still}
+use Rattle.engine.proofs.MessageLemmas.{entry_of, pdv_taken, pdv_dropped, pdv_comes, pends_dropped, goes_of, ends_of, refuses_of, due_of, counted_taken, pends_going_on, aside_of, aside_joined, taken_state, aborted_pdv, aborted_body, verdict_by, verdict_none, tries_still, pdv_context}
 use Rattle.engine.proofs.EndedLemmas.{does_concluded}
 use Rattle.engine.proofs.DataLemmas.{does_due}
 use Rattle.engine.proofs.SizeLemmas.{provider_small}
 use Rattle.engine.proofs.provider.Provider.on_pdv.Goals as goal
 
 pub returns-then-not-takes_pdvs-clause-does : goal.returns-then-not-takes_pdvs-clause-does
-returns-then-not-takes_pdvs-clause-does g c = λ p begun six whole id h.
+returns-then-not-takes_pdvs-clause-does g c = λ p begun six whole h.
     let rooms = rooms_of g.row.A g.row.C g.row.V g.row.D in
     let s = settings_in c.args.self.now in
     let k = kept_of c.args.self.now in
@@ -32,7 +32,7 @@ returns-then-not-takes_pdvs-clause-does g c = λ p begun six whole id h.
     does_nothing rooms s p (At (entry_of begun)) k [] [] _ (pdv_dropped rooms s p begun dropped) (verdict_none rooms s p begun dropped) (pends_dropped k _ p [] begun [] dropped h)
 
 pub returns-in-Ok-More-clause-does : goal.returns-in-Ok-More-clause-does
-returns-in-Ok-More-clause-does g c = λ p begun six whole id h.
+returns-in-Ok-More-clause-does g c = λ p begun six whole h.
     let rooms = rooms_of g.row.A g.row.C g.row.V g.row.D in
     let s = settings_in c.args.self.now in
     let k = kept_of c.args.self.now in
@@ -50,7 +50,7 @@ returns-in-Ok-More-clause-does g c = λ p begun six whole id h.
     (tries_still p (going_on later p) (with_join j k) [] [] _ (pends_going_on k so p j later begun h taken got.2 got.3 six))
 
 pub returns-in-Ok-Message-clause-does : goal.returns-in-Ok-Message-clause-does
-returns-in-Ok-Message-clause-does g c = λ p begun six whole id h.
+returns-in-Ok-Message-clause-does g c = λ p begun six whole h.
     let rooms = rooms_of g.row.A g.row.C g.row.V g.row.D in
     let s = settings_in c.args.self.now in
     let k = kept_of c.args.self.now in
@@ -65,13 +65,13 @@ returns-in-Ok-Message-clause-does g c = λ p begun six whole id h.
     let m = got.0 in
     let come = with_pdv begun p.message in
     let same : j.command ≡ m.command = ap (λ (x : Joining). x.command) got.2 in
-    let here : c.args.context ≡ m.context = id ∙ sym got.4 in
+    let here : c.context-context.result ≡ m.context = pdv_context g.row.C k.join p.message begun c.context-context.result six was c.context-context.ensures ∙ sym got.4 in
     let kept = subst (λ (xs : List ℕ). Carried k.depth k.most k.storing so p.request (with_pdv xs p.message) p.filing_failed) (counted_taken p begun taken) (carried k so p [] begun h) in
     does_concluded rooms s p begun m come (kept_of c.on_message.new.self) _ _ taken got.1 (λ st. pdv_store p.request begun p.message six st)
     (c.on_message.ensures.concludes p m come (aside_joined k p j (aside_of k so p begun h)) got.3 same here kept.0 kept.1)
 
 pub returns-in-Ok-DataDue-clause-does : goal.returns-in-Ok-DataDue-clause-does
-returns-in-Ok-DataDue-clause-does g c = λ p begun six whole id h.
+returns-in-Ok-DataDue-clause-does g c = λ p begun six whole h.
     let rooms = rooms_of g.row.A g.row.C g.row.V g.row.D in
     let s = settings_in c.args.self.now in
     let k = kept_of c.args.self.now in
@@ -89,7 +89,7 @@ returns-in-Ok-DataDue-clause-does g c = λ p begun six whole id h.
     let kept = subst (λ (xs : List ℕ). Carried k.depth k.most k.storing so p.request (with_pdv xs p.message) p.filing_failed) (counted_taken p begun taken) (carried k so p [] begun h) in
     let none = nothing_walked (λ st. no_store_yet p.request (with_pdv begun p.message) (get_or begun 4 0) due.command (long_pdv begun p.message six ∙ due.came) st) kept.0 in
     let command : j.command ≡ due.command = ap (λ (x : Joining). x.command) got.2.shows ∙ ap command_bytes due.later_is in
-    let same : InSet c.args.context j.command [] ≡ later = ap (λ (n : ℕ). InSet n j.command []) id ∙ ap (λ (xs : List ℕ). InSet (get_or begun 4 0) xs []) command ∙ sym due.later_is in
+    let same : InSet c.context-context.result j.command [] ≡ later = ap (λ (n : ℕ). InSet n j.command []) (pdv_context g.row.C k.join p.message begun c.context-context.result six was c.context-context.ensures) ∙ ap (λ (xs : List ℕ). InSet (get_or begun 4 0) xs []) command ∙ sym due.later_is in
     let proceeds = c.on_store_command.ensures.proceeds p.request ((aside_joined k p j (aside_of k so p begun h)).agreed (taken_state p taken)) none (λ x e. due.announced x (ap command_in (sym command) ∙ e)) in
     subst (λ (x : Kept). Does rooms s p (At (entry_of begun)) x [] [] (devices (g.W.Wire.line c.args.wire.now) so) (devices (g.W.Wire.line c.args.wire.now) (g.F.Filing.store c.on_store_command.new.filing)))
     (sym c.on_store_command.ensures.kept)
@@ -97,7 +97,7 @@ returns-in-Ok-DataDue-clause-does g c = λ p begun six whole id h.
     (subst (λ (x : Begun). Proceeds g.row.D c.args.self.now.config.max_data p.request x false z so (g.F.Filing.store c.on_store_command.new.filing)) same proceeds))
 
 pub returns-in-Err-clause-does : goal.returns-in-Err-clause-does
-returns-in-Err-clause-does g c = λ p begun six whole id h.
+returns-in-Err-clause-does g c = λ p begun six whole h.
     let rooms = rooms_of g.row.A g.row.C g.row.V g.row.D in
     let s = settings_in c.args.self.now in
     let k = kept_of c.args.self.now in

@@ -1,0 +1,45 @@
+-- What a call does that takes an event of the stream, and the room that it needs and leaves.
+use Rattle.std.specs.Prelude.{◌≡◌, ℕ, ◌+◌, ◌-◌, ◌≤◌, List, [], ◌++◌, length, drop, get_or}
+use Rattle.pdu.specs.declared.event.Event.{Event}
+use Rattle.pdu.specs.declared.event.Event.TheVariants as event
+use Rattle.pdu.specs.Heads.{pdv_head_of}
+use Rattle.pdu.specs.Marks.{Head, Pdv, BadPdv, Leftover, End, head_mark, pdv_size}
+use Rattle.negotiate.specs.Settings.{Settings}
+use Rattle.engine.specs.Timeline.{At}
+use Rattle.engine.specs.Progress.{Progress}
+use Rattle.engine.specs.Devices.{Devices}
+use Rattle.engine.specs.Run.{Rooms}
+use Rattle.engine.specs.machine.Pends.{Kept, Pends, BodyFits, FragmentFits, body_in}
+use Rattle.engine.specs.machine.Does.{Does, Appends}
+
+-- by the event, where bodies of PDUs of this type are lent
+abbrev pub Takes : Rooms → Settings → Kept → Kept → ℕ → Event → Devices → Devices → Type 0
+Takes rooms s old new kind (event.PduHead head) d e = (p : Progress) → Pends old d.store p [] [] → Does rooms s p (At (Head head.kind head.length)) new [] [] d e
+Takes rooms s old new kind (event.Body part) d e = (e ≡ d) × ((p : Progress) (body : List ℕ) → Pends old d.store p (body_in kind body) [] → Pends new d.store p (body_in kind (body ++ part.now)) [])
+Takes rooms s old new kind (event.PdvHead head) d e = (p : Progress) (begun : List ℕ) → length begun ≡ 6 → head ≡ pdv_head_of begun → Pends old d.store p [] [] → Does rooms s p (At (head_mark begun)) new [] begun d e
+Takes rooms s old new kind (event.Fragment part) d e = (p : Progress) (begun : List ℕ) → 6 ≤ length begun → Pends old d.store p [] begun → Appends rooms s p new [] (begun ++ part.now) d e
+Takes rooms s old new kind event.PdvEnd d e = (p : Progress) (begun : List ℕ) → 6 ≤ length begun → length begun ≡ pdv_size begun → Pends old d.store p [] begun
+    → Does rooms s p (At (Pdv (get_or begun 4 0) (get_or begun 5 0) (drop 6 begun))) new [] [] d e
+Takes rooms s old new kind event.BadPdv d e = (p : Progress) → Pends old d.store p [] [] → Does rooms s p (At BadPdv) new [] [] d e
+Takes rooms s old new kind event.Leftover d e = (p : Progress) → Pends old d.store p [] [] → Does rooms s p (At Leftover) new [] [] d e
+Takes rooms s old new kind (event.PduEnd whole) d e = (p : Progress) (body : List ℕ) → Pends old d.store p (body_in whole body) [] → Does rooms s p (At (End whole body)) new [] [] d e
+
+abbrev pub HasRoom : ℕ → Kept → ℕ → Event → Type 0
+HasRoom room kept kind (event.PduHead head) = Unit {0}
+HasRoom room kept kind (event.Body part) = BodyFits room kept kind (length part.now)
+HasRoom room kept kind (event.PdvHead head) = 2 ≤ head.length
+HasRoom room kept kind (event.Fragment part) = FragmentFits kept (length part.now)
+HasRoom room kept kind event.PdvEnd = Unit {0}
+HasRoom room kept kind event.BadPdv = Unit {0}
+HasRoom room kept kind event.Leftover = Unit {0}
+HasRoom room kept kind (event.PduEnd whole) = Unit {0}
+
+abbrev pub LeavesRoom : ℕ → Kept → Kept → ℕ → Event → Type 0
+LeavesRoom room old new kind (event.PduHead head) = BodyFits room new head.kind head.length
+LeavesRoom room old new kind (event.Body part) = (m : ℕ) → BodyFits room old kind (length part.now + m) → BodyFits room new kind m
+LeavesRoom room old new kind (event.PdvHead head) = FragmentFits new (head.length - 2)
+LeavesRoom room old new kind (event.Fragment part) = (m : ℕ) → FragmentFits old (length part.now + m) → FragmentFits new m
+LeavesRoom room old new kind event.PdvEnd = Unit {0}
+LeavesRoom room old new kind event.BadPdv = Unit {0}
+LeavesRoom room old new kind event.Leftover = Unit {0}
+LeavesRoom room old new kind (event.PduEnd whole) = Unit {0}

@@ -1,0 +1,42 @@
+//! What each event of the stream does to an association.
+ghost use Rattle.std.specs.Prelude.{◌≡◌, ◌-◌};
+
+use crate::provider::Provider;
+use part10::Filing;
+use pdu::{Event, Wire};
+
+impl<const A: usize, const C: usize, const V: usize, const D: usize> Provider<A, C, V, D> {
+    ghost use Rattle.engine.specs.Devices.{devices};
+    ghost use Rattle.engine.specs.Drafts.{IsThere, Drafts};
+    ghost use Rattle.engine.specs.machine.Storing.{drafting_in};
+    ghost use Rattle.engine.specs.machine.Events.{Takes, HasRoom, LeavesRoom};
+    ghost use Rattle.engine.specs.machine.Kept.{kept_of, settings_in, rooms_of};
+
+    /// Takes an event of the stream, where the bodies that are lent are of PDUs of this type.
+    pub(crate) fn on_event<W: Wire, F: Filing>(
+        &mut self,
+        event: Event<'_>,
+        kind: u8,
+        wire: &mut W,
+        filing: &mut F,
+    )
+        requires draft { IsThere (drafting_in (kept_of self.old).storing) (F.store filing.old) }
+        requires room { HasRoom (A - 12) (kept_of self.old) kind event }
+        ensures settings { settings_in self.new ≡ settings_in self.old }
+        ensures drafts { Drafts (drafting_in (kept_of self.old).storing) (F.store filing.old) (drafting_in (kept_of self.new).storing) (F.store filing.new) }
+        ensures room { LeavesRoom (A - 12) (kept_of self.old) (kept_of self.new) kind event.entry }
+        ensures takes { Takes (rooms_of A C V D) (settings_in self.old) (kept_of self.old) (kept_of self.new) kind event.entry
+            (devices (W.line wire.old) (F.store filing.old)) (devices (W.line wire.new) (F.store filing.new)) }
+    {
+        match event {
+            Event::PduHead(head) => self.on_head(head.kind, head.length, wire, filing),
+            Event::Body(part) => self.on_body(kind, part),
+            Event::PdvHead(head) => self.on_pdv_head(head, wire, filing),
+            Event::Fragment(part) => self.on_data(part, wire, filing),
+            Event::PdvEnd => self.on_pdv(wire, filing),
+            Event::BadPdv => self.on_bad(wire, filing),
+            Event::Leftover => self.on_leftover(wire, filing),
+            Event::PduEnd(kind) => self.on_end(kind, wire, filing),
+        }
+    }
+}
