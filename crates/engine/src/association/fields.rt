@@ -14,10 +14,7 @@ use sequence::Walker;
 fn fields<const A: usize, const C: usize, const V: usize, const D: usize>(
     association: &Association<A, C, V, D>,
 ) {
-    let Association {
-        deframer,
-        provider,
-    } = association;
+    let Association { deframer, provider } = association;
     let Provider {
         config,
         state,
