@@ -6,7 +6,7 @@ RECORDING := crates/cli/data/recordings/echo.bin
 PREFIX ?= /usr/local
 DESTDIR ?=
 
-.PHONY: run test interop bench check must-fail fmt gate-table clean install uninstall deb
+.PHONY: run test interop bench docs check must-fail fmt gate-table clean install uninstall deb
 
 run: dcmbox
 	./dcmbox replay $(RECORDING) --out .
@@ -19,13 +19,15 @@ dcmbox: FORCE
 .PHONY: FORCE
 FORCE:
 
-# Looks at what the crates cite of each other and at the index of the definitions, proves every crate and its
-# tests from nothing, tries the must-fail edits, runs the tests and the program, and then tries the program
-# from outside: with invalid arguments and missing files, under strace, with the tools of DCMTK, and as a
-# Debian package. What of strace, DCMTK and lintian is missing it installs.
+# Looks at what the crates cite of each other and whether the documents that scripts make are fresh, tries the scripts
+# that look, proves every crate and its tests from nothing, tries the must-fail edits, runs the tests and the program,
+# and then tries the program from outside: with invalid arguments and missing files, under strace, with the tools of
+# DCMTK, and as a Debian package. What of strace, DCMTK and lintian is missing it installs.
 test:
 	tests/layers.sh
 	tests/definitions.py
+	tests/booklet.py
+	tests/scripts.py
 	rt ci
 	tests/program.sh $(PROGRAM)
 	tests/interop.sh $(PROGRAM)
@@ -38,6 +40,11 @@ interop:
 # The program beside DCMTK's storescp and a floor that checks nothing: prints tables of ratios.
 bench: dcmbox
 	bench/bench.py ./dcmbox
+
+# Makes anew what scripts make of the documents: the index of definitions and the booklet.
+docs:
+	tests/definitions.py --write
+	tests/booklet.py --write
 
 # One crate, with what earlier checks left: make check CRATE=pdu
 check:

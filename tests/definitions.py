@@ -1,28 +1,31 @@
 #!/usr/bin/env python3
-"""Holds docs/DEFINITIONS.md against the words that the public contracts reach.
+"""Holds docs/DEFINITIONS_INDEX.md against the words that the public contracts reach.
 
-definitions.py           fails where the page's index of words isn't what the contracts reach, or where a word that
-                         they reach stands in specs/machine
-definitions.py --write   writes the index anew
+definitions.py              fails where the page's index of words isn't what the contracts reach, where a row by hand has a
+                            word that doesn't exist, or where a word that they reach stands in specs/machine
+definitions.py --write      writes the index anew
+definitions.py --tree DIR   holds another tree
 
-A public contract is one of a function that its crate makes public, of a method of such a type or trait, or what an impl
-of such a trait shows of its type. It reaches the words that its clauses cite, and what their definitions cite in turn.
+A public contract is one of a function that its crate makes public, of a method of such a type or trait, what a public
+ghost field of such a struct is, or what an impl of such a trait shows of its type. It reaches the words that its clauses
+cite, and what their definitions cite in turn.
 """
 import pathlib
 import re
 import sys
 
 ROOT = pathlib.Path(__file__).resolve().parent.parent
-PAGE = ROOT / "docs/DEFINITIONS.md"
+PAGE = "docs/DEFINITIONS_INDEX.md"
 BEGIN, END = "<!-- index of words: made by tests/definitions.py --write -->", "<!-- end of the index -->"
 
 # Crates whose contracts may stand on words of specs/machine.
 ON_MACHINERY = {"engine"}
 
-HEADER = re.compile(r"^(?:(?:abbrev|unfoldable) )*(?:pub )?(?:(?:record|data|instance|syntax) )?([\w'-]+)(?= :| \(| \{|$)")
+NAME = r"(?:◌[^\s◌]+◌|[\w'-]+)"
+HEADER = re.compile(rf"^(?:(?:abbrev|unfoldable) )*(?:pub )?(?:(?:record|data|instance|syntax) )?({NAME})(?= :| \(| \{{|$)")
 KEYWORD = re.compile(r"^(?:abbrev|unfoldable|pub|record|data)\b")
 SPEC_USE = re.compile(r"use Rattle\.(\w+)\.specs\.([\w.]+?)\.\{([^}]*)\}")
-SPEC_ALIAS = re.compile(r"use Rattle\.(\w+)\.specs\.([\w.]+) as (\w+)")
+SPEC_ALIAS = re.compile(r"use Rattle\.(\w+)(?:\.specs)?((?:\.\w+)*) as (\w+)")
 TOKEN = re.compile(r"[\w'-]+(?:\.[\w'-]+)*")
 
 
@@ -34,11 +37,18 @@ def imports(text):
     """The words that a text imports from specs, by the name that it uses, and the modules that it names otherwise."""
     words, modules = {}, {}
     for crate, module, names in SPEC_USE.findall(text):
-        for name in re.split(r"[,\s]+", names):
-            words[name] = (crate, module, name)
+        for name in names.split(","):
+            original, _, alias = name.strip().partition(" as ")
+            if original:
+                words[alias or original] = (crate, module, original)
     for crate, module, alias in SPEC_ALIAS.findall(text):
-        modules[alias] = (crate, module)
+        modules[alias] = (crate, module.strip("."))
     return words, modules
+
+
+def under(crate, module, parts):
+    """What a path of parts below a module may name."""
+    return {(crate, ".".join(filter(None, [module, *parts[:at]])), parts[at]) for at in range(len(parts))}
 
 
 def cited(text, words, modules):
@@ -47,9 +57,16 @@ def cited(text, words, modules):
         parts = token.split(".")
         if parts[0] in words:
             found.add(words[parts[0]])
-        if parts[0] in modules and len(parts) > 1:
-            found.add((*modules[parts[0]], parts[1]))
+        if parts[0] in modules:
+            found |= under(*modules[parts[0]], parts[1:])
+        if parts[0] == "Rattle" and parts[2:3] == ["specs"]:
+            found |= under(parts[1], "", parts[3:])
         found.update(words[part] for part in parts[1:] if part in words and part[0].isupper())
+    for name, word in words.items():
+        if name[0] == "◌" and word[0] != "std":
+            symbol = name.strip("◌")
+            if re.search(rf"(?<!\S){re.escape(symbol)}(?!\S)", text) or (symbol == ">>=" and "←" in text):
+                found.add(word)
     return found
 
 
@@ -71,7 +88,7 @@ class Definitions:
             self.passed_on[(crate, module, name)] = target
         bodies, order, name, in_mutual = {}, [], None, False
         for line in text.splitlines():
-            if re.match(r"(pub )?use ", line):
+            if re.match(r"(unfoldable )?(pub )?use |infix", line):
                 continue
             if re.match(r"\S", line):
                 in_mutual = re.match(r"(abbrev )?mutual$", line.strip()) is not None
@@ -120,37 +137,80 @@ def public_items(crate):
     return names, set(re.findall(r"pub mod (\w+);", text))
 
 
-def public_clauses(path, names, is_public):
-    """The text of each clause of a public function of a file, and of what its impls show."""
-    holder, is_model, shown, in_clause, lines = None, False, None, False, []
-    for line in without_comments(path.read_text(), "//").splitlines():
-        outer = re.match(r"(?:pub )?(impl|trait)\b(.*)", line)
-        if outer:
-            head = re.sub(r"<[^<>]*>", "", re.sub(r"<[^<>]*>", "", re.sub(r"<[^<>]*>", "", outer[2])))
-            words = re.findall(r"\w+", head)
-            shows_all = outer[1] == "trait" or "for" in words
-            is_model = words[:2] == ["Model", "for"]
-            holder = is_public or any(word in names for word in words)
-            shown = None
-        elif re.match(r"\S", line) and not line.startswith(("}", "{", ")", ">")):
-            holder, shown = None, None
-        function = re.match(r"(\s*)(?:pub\(\w+\) )?(pub )?(?:const |unsafe )*fn (\w+)", line)
-        if function:
-            at_root = function[1] == ""
-            shown = (at_root and function[2] and (is_public or function[3] in names)) or (not at_root and holder and (function[2] or shows_all))
-            in_clause = False
-        clause = re.match(r"\s*(requires|ensures)\b", line)
+def closing(text, at):
+    """The place after the brace that closes the one at this place."""
+    depth = 0
+    for place in range(at, len(text)):
+        depth += {"{": 1, "}": -1}.get(text[place], 0)
+        if depth == 0:
+            return place + 1
+    return len(text)
+
+
+CLAUSE = re.compile(r"\b(?:requires|ensures)(?:\s+\w+)?\s*(?=\{)")
+
+
+def clauses(text, at):
+    """The clauses of the function whose `fn` stands at this place, up to its body."""
+    found, depth = [], 0
+    while at < len(text):
+        clause = CLAUSE.match(text, at) if depth == 0 else None
         if clause:
-            in_clause = True
-        elif re.match(r"\s*[{}]\s*$", line) or re.match(r"\s*(let|match|if|for|while)\b", line):
-            in_clause = False
-        if in_clause and shown:
-            lines.append(line)
+            end = closing(text, clause.end())
+            found.append(text[clause.end() : end])
+            at = end
+        elif depth == 0 and text[at] in "{;":
+            break
+        else:
+            depth += {"(": 1, "[": 1, ")": -1, "]": -1}.get(text[at], 0)
+            at += 1
+    return found
+
+
+def ghost(text, at):
+    """What a ghost item or field shows, whose name ends at this place."""
+    braces = re.compile(r"[^{;]*(\{)?").match(text, at)
+    return text[at : closing(text, braces.start(1))] if braces[1] else braces[0]
+
+
+OUTER = re.compile(r"^(pub )?(?:unsafe )?(impl|trait|struct|enum)\b([^{;]*)([{;]?)", re.M)
+FUNCTION = re.compile(r"^([ \t]*)(pub )?(?:pub\(\w+\) )?(?:const |unsafe )*fn (\w+)", re.M)
+GHOST = re.compile(r"^[ \t]+(pub )?ghost (?!use\b)(\w+)", re.M)
+
+
+def named_in(head):
+    """The names of an item's head, without its parameters and the bounds after them."""
+    head = re.split(r"\bwhere\b", head.replace("->", ""))[0]
+    while re.search(r"<[^<>]*>", head):
+        head = re.sub(r"<[^<>]*>", "", head)
+    return re.findall(r"\w+", head)
+
+
+def public_clauses(path, names, is_public):
+    """The text of each clause of a public function of a file, and of what its public types and impls show."""
+    text = without_comments(path.read_text(), "//")
+    found, inside = [], []
+    for item in OUTER.finditer(text):
+        end = text.find("\n}", item.end()) if item[4] == "{" else item.end()
+        end = len(text) if end < 0 else end
+        inside.append((item.start(), end))
+        words = named_in(item[3])
+        if not (is_public or any(word in names for word in words)):
+            continue
+        is_type, shows_all = item[2] in ("struct", "enum"), item[2] == "trait" or "for" in words
+        if is_type and not item[1]:
+            continue
+        for function in FUNCTION.finditer(text, item.end(), end):
+            if function[2] or shows_all:
+                found += clauses(text, function.end())
         # What a Model keeps of private fields is the crate's own; the type of its values is seen.
-        ghost = re.match(r"\s+ghost (?!use)(\w+)\b.*[=:]", line)
-        if holder and ghost and (not is_model or ghost[1] == "Value"):
-            lines.append(line)
-    return "\n".join(lines)
+        for shown in GHOST.finditer(text, item.end(), end):
+            if shown[1] or not is_type and (words[:2] != ["Model", "for"] or shown[2] == "Value"):
+                found.append(ghost(text, shown.end()))
+    for function in FUNCTION.finditer(text):
+        if function[1] == "" and function[2] and (is_public or function[3] in names):
+            found += clauses(text, function.end())
+    return "\n".join(found)
 
 
 def reached(definitions):
@@ -194,24 +254,52 @@ def index(direct, by):
     return "\n".join(lines + [END])
 
 
+def public_types(crate):
+    """The types that a crate's code declares as public."""
+    files = (ROOT / "crates" / crate / "src").glob("**/*.rt")
+    return {name for path in files for name in re.findall(r"^pub (?:struct|enum|trait) (\w+)", path.read_text(), re.M)}
+
+
+def missing_words(front, definitions):
+    """The words in the first column of the tables by hand that the crate that heads the table doesn't define."""
+    missing, crate = [], None
+    for line in front.splitlines():
+        if line.startswith("## "):
+            named = re.search(r"\(`(\w+)`\)", line)
+            crate = named[1] if named else None
+            own = {word[2] for of in (definitions.cites, definitions.home) for word in of if word[0] == crate}
+            own |= public_types(crate) if crate else set()
+        if crate and line.startswith("| ") and not line.startswith("| Definition"):
+            cell = line.split("|")[1]
+            words = re.findall(r"`([^`]+)`", re.sub(r"`[^|]*` of clap", "", cell))
+            missing += [f"{crate}: {word}" for word in words if word not in own]
+    return missing
+
+
 def main():
+    global ROOT
+    arguments = sys.argv[1:]
+    if arguments[:1] == ["--tree"]:
+        ROOT, arguments = pathlib.Path(arguments[1]).resolve(), arguments[2:]
     definitions = Definitions()
     direct, by = reached(definitions)
-    page = PAGE.read_text()
+    page = (ROOT / PAGE).read_text()
     made = index(direct, by)
-    if sys.argv[1:] == ["--write"]:
-        front = page.split(BEGIN)[0] if BEGIN in page else page.rstrip() + "\n\n"
-        PAGE.write_text(front + made + "\n")
+    front = page.split(BEGIN)[0] if BEGIN in page else page.rstrip() + "\n\n"
+    if arguments == ["--write"]:
+        (ROOT / PAGE).write_text(front + made + "\n")
         return 0
-    failed = False
-    for word, cause in sorted(by.items()):
-        if word[1].startswith("machine") and word[0] not in ON_MACHINERY:
-            print(f"{'.'.join(word)} is machinery, and a public contract reaches it by {cause}")
-            failed = True
+    faults = [
+        f"{'.'.join(word)} is machinery, and a public contract reaches it by {cause}"
+        for word, cause in sorted(by.items())
+        if word[1].startswith("machine") and word[0] not in ON_MACHINERY
+    ]
+    faults += [f"{PAGE}: a row names a word that is no definition: {word}" for word in missing_words(front, definitions)]
     if made not in page:
-        print("docs/DEFINITIONS.md: its index isn't what the public contracts reach: run tests/definitions.py --write")
-        failed = True
-    return int(failed)
+        faults.append(f"{PAGE}: its index isn't what the public contracts reach: run tests/definitions.py --write")
+    for fault in faults:
+        print(fault)
+    return int(bool(faults))
 
 
 if __name__ == "__main__":

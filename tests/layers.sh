@@ -2,9 +2,20 @@
 # A crate cites of the crates below it their definitions, their contracts and the lemmas of their module
 # `Public`, and no other lemma. Each lemma of `Public` is the contract of a law. `specs/machine` is a crate's own:
 # no other crate names it, and no definition outside it stands on it, so that a public clause does not either.
+# So that this is seen, no file names a crate's definitions, proofs or machine as a whole.
+# Usage: layers.sh [TREE]
 set -eu
-cd "$(dirname "$0")/.."
+cd "${1:-$(dirname "$0")/..}"
 failed=0
+
+whole=$(find crates -name out -prune -o \( -name '*.antt' -o -name '*.rt' \) -print0 |
+    xargs -0 grep -nE 'use (Rattle\.)?[a-z0-9_]+((\.|::)(specs|proofs))?((\.|::)machine)?( as [A-Za-z_]+|(\.|::)(\{|\*))' |
+    grep -E 'Rattle\.|::(specs|proofs)' || true)
+if [ -n "$whole" ]; then
+    echo "$whole"
+    echo "names the definitions or the proofs of a crate as a whole"
+    failed=1
+fi
 
 for crate in crates/*/; do
     own=$(basename "$crate")

@@ -1,0 +1,211 @@
+#!/usr/bin/env python3
+"""Tries the scripts that look at the tree: each on a small tree that is right, and on that tree with one fault.
+
+scripts.py    fails where a script takes a tree with a fault, refuses it with another text, or refuses the right tree
+
+The small tree has two crates: `low`, whose contract cites the definitions `Small`, `◌or_else◌` and `◌>>=◌`, and which
+keeps the word `Loop` in its machine, and `high`, which cites `Small`. The scripts that make documents are tried on a
+copy of this tree's documents, definitions and code.
+"""
+import pathlib
+import shutil
+import subprocess
+import sys
+import tempfile
+
+TESTS = pathlib.Path(__file__).resolve().parent
+
+TREE = {
+    "crates.txt": "low: the lower one\nhigh: the upper one\n",
+    "crates/low/specs/Lib.antt": "pub mod Small\npub mod machine\n",
+    "crates/low/specs/machine.antt": "pub mod Loop\n",
+    "crates/low/specs/machine/Loop.antt": "-- The loop.\n\nabbrev pub Loop : Type 0\nLoop = Unit {0}\n",
+    "crates/low/specs/Small.antt": """-- Small numbers (PS3.5 7.1).
+use Rattle.std.specs.Prelude.{ℕ, Option, nat_le}
+
+-- at most 9
+abbrev pub Small : ℕ → Type 0
+Small n = nat_le n 9
+
+-- the first of two that is there
+infixr 20 ◌or_else◌
+abbrev pub ◌or_else◌ : Option ℕ → Option ℕ → Option ℕ
+first or_else second = first
+
+-- what comes after a number that is there
+infixl 10 ◌>>=◌
+abbrev pub ◌>>=◌ : Option ℕ → (ℕ → Option ℕ) → Option ℕ
+first >>= next = first
+""",
+    "crates/low/proofs/Public.antt": "use Rattle.low.specs.Small.{Small}\n\npub small : Small 3\nsmall = refl\n",
+    "crates/low/proofs/laws/small/Answers.antt": "use Rattle.low.proofs.Public.{small}\n",
+    "crates/low/src/lib.rt": "mod number;\npub use crate::number::{Number, Pair, Reader, few};\n",
+    "crates/low/src/number.rt": """ghost use Rattle.low.specs.Small.{Small, ◌or_else◌, ◌>>=◌};
+
+pub struct Number {
+    value: u8,
+}
+
+pub struct Pair<R: Read> {
+    first: u8,
+    reader: R,
+}
+
+pub trait Reader {
+    fn read(&self) -> u8;
+}
+
+/// Returns a few.
+pub fn few(room: [u8; 4]) -> u8
+    requires room { (n : ℕ) →
+        let m = n in
+        Small m }
+    ensures either { None or_else Some result ≡ Some result }
+    ensures first { (Some 3 >>= λ n. Some n) ≡ Some 3 }
+{
+    3
+}
+
+impl<R: Read> Reader for Pair<R>
+where
+    R: Clone,
+{
+    fn read(&self) -> u8 {
+        3
+    }
+}
+""",
+    "crates/high/specs/Lib.antt": "pub mod Great\n",
+    "crates/high/specs/Great.antt": """-- Great numbers (own).
+use Rattle.low.specs.Small.{Small}
+
+-- no small one
+abbrev pub Great : ℕ → Type 0
+Great n = Small n → ⊥
+""",
+    "crates/high/src/lib.rt": """ghost use Rattle.high.specs.Great.{Great};
+pub use crate::{great};
+
+/// Returns a great number.
+pub fn great() -> u8
+    ensures { Great result }
+{
+    200
+}
+""",
+    "docs/DEFINITIONS_INDEX.md": """# Index of definitions
+
+## Numbers (`low`)
+
+| Definition | In one sentence |
+|---|---|
+| `Small`, `Number` | at most 9 |
+
+""",
+}
+
+LOOP = "ghost use Rattle.low.specs.machine.Loop.{Loop};\n"
+NUMBER = "crates/low/src/number.rt"
+MACHINERY = "low.machine.Loop.Loop is machinery, and a public contract reaches it by"
+
+
+def with_loop(old, new):
+    """An edit of the lower crate's code after which a contract cites the machine."""
+    return [(NUMBER, old, new), (NUMBER, "ghost use", LOOP + "ghost use")]
+
+
+# Each fault: what it is, the script that has to refuse it, the edits (file, old, new) that make it, and the refusal.
+FAULTS = [
+    ("a method of an impl with a where clause", "definitions.py", with_loop("read(&self) -> u8 {", "read(&self) -> u8\n        ensures { Loop }\n    {"), MACHINERY),
+    ("a public ghost field of a public struct", "definitions.py", with_loop("value: u8,", "value: u8,\n    pub ghost loops: { Loop },"), MACHINERY),
+    ("a clause whose line before begins with let", "definitions.py", with_loop("Small m }", "Small m × Loop }"), MACHINERY),
+    ("a clause whose line before begins with if", "definitions.py", with_loop("let m = n in\n        Small m }", "if m\n        then Loop }"), MACHINERY),
+    ("a clause whose line before begins with match", "definitions.py", with_loop("let m = n in\n        Small m }", "match m\n        Loop }"), MACHINERY),
+    ("an ensures of a trait's method", "definitions.py", with_loop("fn read(&self) -> u8;", "fn read(&self) -> u8\n        ensures { Loop };"), MACHINERY),
+    ("a clause after an array of the signature", "definitions.py", with_loop("ensures either { ", "ensures either { Loop × "), MACHINERY),
+    ("an operator whose definition stands on the machine", "definitions.py", [("crates/low/specs/Small.antt", "first or_else second = first", "first or_else second = Loop"), ("crates/low/specs/Small.antt", "use Rattle.std", "use Rattle.low.specs.machine.Loop.{Loop}\nuse Rattle.std")], MACHINERY),
+    ("do, whose bind stands on the machine", "definitions.py", [("crates/low/specs/Small.antt", "first >>= next = first", "first >>= next = Loop"), ("crates/low/specs/Small.antt", "use Rattle.std", "use Rattle.low.specs.machine.Loop.{Loop}\nuse Rattle.std"), (NUMBER, "(Some 3 >>= λ n. Some n)", "(do { n ← Some 3; Some n })")], MACHINERY),
+    ("the machine as a whole by another name", "definitions.py", [(NUMBER, "Small m }", "engine.Loop.Loop }"), (NUMBER, "ghost use", "ghost use Rattle.low.specs.machine as engine;\nghost use")], MACHINERY),
+    ("a word by its whole path", "definitions.py", [(NUMBER, "Small m }", "Rattle.low.specs.machine.Loop.Loop }")], MACHINERY),
+    ("a stale index", "definitions.py", [(NUMBER, "Small m }", "m ≡ m }")], "its index isn't what the public contracts reach"),
+    ("an operator that the index misses", "definitions.py", [("docs/DEFINITIONS_INDEX.md", ", `◌or_else◌`", "")], "its index isn't what the public contracts reach"),
+    ("a row of a word that doesn't exist", "definitions.py", [("docs/DEFINITIONS_INDEX.md", "| `Small`, `Number` |", "| `Small`, `Smaller` |")], "a row names a word that is no definition: low: Smaller"),
+    ("a definition that stands on the machine", "layers.sh", [("crates/low/specs/Small.antt", "use Rattle.std", "use Rattle.low.specs.machine.Loop.{Loop}\nuse Rattle.std")], "low: a definition stands on the machine"),
+    ("a definition that names the machine as a whole", "layers.sh", [("crates/low/specs/Small.antt", "use Rattle.std", "use Rattle.low.specs.machine as loops\nuse Rattle.std")], "names the definitions or the proofs of a crate as a whole"),
+    ("the definitions of a crate by another name", "layers.sh", [("crates/high/specs/Great.antt", "use Rattle.low.specs.Small.{Small}", "use Rattle.low.specs as low")], "names the definitions or the proofs of a crate as a whole"),
+    ("the proofs of a crate by another name", "layers.sh", [("crates/high/specs/Great.antt", "use Rattle.low", "use Rattle.low.proofs as lemmas\nuse Rattle.low")], "names the definitions or the proofs of a crate as a whole"),
+    ("a crate by another name", "layers.sh", [("crates/high/specs/Great.antt", "use Rattle.low", "use Rattle.low as low\nuse Rattle.low")], "names the definitions or the proofs of a crate as a whole"),
+    ("the machine of another crate", "layers.sh", [("crates/high/specs/Great.antt", "use Rattle.low", "use Rattle.low.specs.machine.Loop.{Loop}\nuse Rattle.low")], "high: names the machine of another crate"),
+    ("a lemma of another crate", "layers.sh", [("crates/high/specs/Great.antt", "use Rattle.low", "use Rattle.low.proofs.Lemmas.{small}\nuse Rattle.low")], "cites a lemma of low that is not in its module Public"),
+    ("a public lemma of no law", "layers.sh", [("crates/low/proofs/laws/small/Answers.antt", "{small}", "{large}")], "small is the contract of no law"),
+]
+
+SENTENCES, RAN = "tests/booklet/sentences.json", "crates/engine/specs/Ran.antt"
+
+# The same of the scripts that make documents, over a copy of this tree.
+COPY_FAULTS = [
+    ("a booklet made by hand", "booklet.py", [("docs/DEFINITIONS.md", "# Definitions", "# All definitions")], "docs/DEFINITIONS.md isn't what the specs give"),
+    ("a definition that has changed", "booklet.py", [(RAN, "pub record Ran ", "pub record Ran  ")], "docs/DEFINITIONS.md isn't what the specs give"),
+    ("a definition without a sentence", "booklet.py", [("crates/acceptor/specs/Table.antt", "abbrev pub table :", "abbrev pub other : ℕ\nother = 1\n\nabbrev pub table :")], "acceptor.Table.table: this definition has no sentence"),
+    ("a sentence for no definition", "booklet.py", [(SENTENCES, '"acceptor.sending"', '"acceptor.receiving"')], "acceptor.receiving is reached by no part"),
+    ("a law that is gone", "booklet.py", [(SENTENCES, "dicomdir::rows_are_grouped", "dicomdir::rows_are_sorted")], "there is no law rows_are_sorted in dicomdir"),
+]
+
+
+def run(script, tree):
+    """The script's exit status and what it printed, over a tree."""
+    command = [TESTS / script, "--tree", tree] if script.endswith(".py") else [TESTS / script, tree]
+    done = subprocess.run(command, capture_output=True, text=True, timeout=60)
+    return done.returncode, done.stdout + done.stderr
+
+
+def make(tree):
+    """Writes the right tree."""
+    for name, text in TREE.items():
+        path = tree / name
+        path.parent.mkdir(parents=True, exist_ok=True)
+        path.write_text(text)
+    subprocess.run([TESTS / "definitions.py", "--tree", tree, "--write"], check=True)
+
+
+def copy(tree):
+    """Copies this tree, without what a check leaves."""
+    for name in ("crates.txt", "crates", "docs", "tests", "man", "packaging", "README.md", "Makefile"):
+        source = TESTS.parent / name
+        if source.is_dir():
+            shutil.copytree(source, tree / name, ignore=shutil.ignore_patterns("out", "proofs", "data", "must-fail"))
+        else:
+            shutil.copy(source, tree / name)
+
+
+def refusal(script, edits, start):
+    """The script's status and text over a tree with these edits."""
+    with tempfile.TemporaryDirectory() as folder:
+        tree = pathlib.Path(folder)
+        start(tree)
+        for name, old, new in edits:
+            text = (tree / name).read_text()
+            if old not in text:
+                return 0, f"the tree's {name} has no {old!r}"
+            (tree / name).write_text(text.replace(old, new, 1))
+        return run(script, tree)
+
+
+def main():
+    passed = failed = 0
+    tries = [(f"{script} takes the small tree", script, [], None, make) for script in ("definitions.py", "layers.sh")]
+    tries += [(f"{fault[1]} refuses {fault[0]}", *fault[1:], make) for fault in FAULTS]
+    tries += [(f"{fault[1]} refuses {fault[0]}", *fault[1:], copy) for fault in COPY_FAULTS]
+    for what, script, edits, expected, start in tries:
+        status, text = refusal(script, edits, start)
+        if (status == 0 and not text) if expected is None else (status == 1 and expected in text):
+            passed += 1
+        else:
+            failed += 1
+            print(f"FAILED: {what}: status {status}\n{text}")
+    print(f"{passed} passed, {failed} failed")
+    return int(failed > 0)
+
+
+if __name__ == "__main__":
+    sys.exit(main())
