@@ -27,8 +27,10 @@ test:
 	tests/layers.sh
 	tests/definitions.py
 	tests/booklet.py
+	tests/tables.py
 	tests/scripts.py
 	rt ci
+	tests/tables.py --program $(PROGRAM)
 	tests/program.sh $(PROGRAM)
 	tests/interop.sh $(PROGRAM)
 	tests/package.sh $(PROGRAM)
@@ -41,9 +43,11 @@ interop:
 bench: dcmbox
 	bench/bench.py ./dcmbox
 
-# Makes anew what scripts make of the documents: the index of definitions and the booklet.
+# Makes anew what scripts make of the documents: the index of definitions, the booklet, and the tables of options,
+# limits, statuses and faults.
 docs:
 	tests/definitions.py --write
+	tests/tables.py --write
 	tests/booklet.py --write
 
 # One crate, with what earlier checks left: make check CRATE=pdu

@@ -1,4 +1,4 @@
-# Completion of dcmbox in bash.
+# Completion of dcmbox in bash. Made by tests/tables.py from docs/tables.json.
 _dcmbox() {
   local current=${COMP_WORDS[COMP_CWORD]} previous=${COMP_WORDS[COMP_CWORD - 1]} options
   COMPREPLY=()
@@ -23,8 +23,10 @@ _dcmbox() {
   case ${COMP_WORDS[1]} in
     serve) options='--port --out --bind --ae --caller --timeout --idle --max-pdu --max-data --per --no-sync --once --help' ;;
     replay) options='--out --ae --cut --per --help' ;;
+    show) options='--help' ;;
+    check) options='--help' ;;
     index) options='--uid --keep --help' ;;
-    show | check | checkdir) options='--help' ;;
+    checkdir) options='--help' ;;
     help) options='serve replay show check index checkdir' ;;
     *) return ;;
   esac

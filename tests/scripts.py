@@ -148,6 +148,13 @@ COPY_FAULTS = [
     ("a definition that has changed", "booklet.py", [(RAN, "pub record Ran ", "pub record Ran  ")], "docs/DEFINITIONS.md isn't what the specs give"),
     ("a definition without a sentence", "booklet.py", [("crates/acceptor/specs/Table.antt", "abbrev pub table :", "abbrev pub other : ℕ\nother = 1\n\nabbrev pub table :")], "acceptor.Table.table: this definition has no sentence"),
     ("a sentence for no definition", "booklet.py", [(SENTENCES, '"acceptor.sending"', '"acceptor.receiving"')], "acceptor.receiving is reached by no part"),
+    ("a fault that the code has not", "tables.py", [("docs/tables.json", '"number": 62, "name": "TwiceReached"', '"number": 62, "name": "TwiceNamed"')], "dicomdir has no fault 62 TwiceNamed"),
+    ("another default", "tables.py", [("docs/tables.json", '"default": "16384"', '"default": "16385"')], "--max-pdu is not what serve has"),
+    ("another help", "tables.py", [("crates/arguments/src/command.rt", "Ends after one association", "Ends after two associations")], "--once is not what serve has"),
+    ("an option that the table misses", "tables.py", [("docs/tables.json", '"no-sync", "once"]', '"no-sync"]')], "serve has --once, too"),
+    ("a limit that the code has not", "tables.py", [("crates/commands/src/limits.rt", "COMMAND: usize = 1024", "COMMAND: usize = 2048")], "Command set: the code has 2,048, and not 1,024 bytes"),
+    ("a table that was changed by hand", "tables.py", [("docs/CONFORMANCE.md", "| Command set | 1,024 bytes |", "| Command set | 2,048 bytes |")], "docs/CONFORMANCE.md isn't what docs/tables.json gives"),
+    ("a completion that was changed by hand", "tables.py", [("packaging/dcmbox.bash", "--once", "--twice")], "packaging/dcmbox.bash isn't what docs/tables.json gives"),
     ("a law that is gone", "booklet.py", [(SENTENCES, "dicomdir::rows_are_grouped", "dicomdir::rows_are_sorted")], "there is no law rows_are_sorted in dicomdir"),
 ]
 
