@@ -28,6 +28,7 @@ test:
 	tests/definitions.py
 	tests/booklet.py
 	tests/tables.py
+	tests/names.py
 	tests/scripts.py
 	rt ci
 	tests/tables.py --program $(PROGRAM)
@@ -43,12 +44,13 @@ interop:
 bench: dcmbox
 	bench/bench.py ./dcmbox
 
-# Makes anew what scripts make of the documents: the index of definitions, the booklet, and the tables of options,
-# limits, statuses and faults.
+# Makes anew what scripts make of the documents: the index of definitions, the booklet, the tables of options, limits,
+# statuses and faults, and the list of names that mean two things.
 docs:
 	tests/definitions.py --write
 	tests/tables.py --write
 	tests/booklet.py --write
+	tests/names.py --write
 
 # One crate, with what earlier checks left: make check CRATE=pdu
 check:
