@@ -23,6 +23,7 @@ pub mod NodesInUseExamples
 pub mod machine
 pub mod Followed
 pub mod TreeNodes
+pub mod KeyTable
 pub mod Keys
 pub mod KeysOf
 pub mod RowOf

@@ -1,6 +1,6 @@
 -- The row of a file, or why it has none (this product's own profile; which values the records of a directory have is
 -- that of PS3.3 section F.5).
-use Rattle.std.specs.Prelude.{◌≡◌, ℕ, ◌^◌, List, [], ◌∷◌, ◌++◌, Result, Err, unwrap_or}
+use Rattle.std.specs.Prelude.{◌≡◌, ℕ, ◌^◌, List, [], ◌++◌, Result, Err, map, unwrap_or}
 use Rattle.element.specs.declared.syntax.Syntax.{Syntax}
 use Rattle.element.specs.declared.tag.Tag.{Tag}
 use Rattle.element.specs.Header.{number}
@@ -16,31 +16,14 @@ use Rattle.sequence.specs.Wanted.{Values, value_of, kept_of}
 use Rattle.sequence.specs.Ending.{Fails}
 use Rattle.dicomdir.specs.declared.skip.Skip.{Skip}
 use Rattle.dicomdir.specs.declared.skip.Skip.TheVariants as skip
+use Rattle.dicomdir.specs.KeyTable.{key_table, want_of}
 use Rattle.dicomdir.specs.Record.{tag}
 use Rattle.dicomdir.specs.Row.{Row}
 use Rattle.dicomdir.specs.Keys.{checked_row}
 
-abbrev pub want : Tag → ℕ → Want
-want t room = record { tag = t; room = room }
-
--- the elements that a row has of the data set, each with the room for a value of its VR: UI, SH and CS 64 bytes,
--- DA, TM and IS 32, LO 256, PN 512
+-- the elements that a row has of the data set, each with the greatest size of its value
 abbrev pub row_wants : List Want
-row_wants =
-    want (tag 0x0008 0x0005) 64
-    ∷ want (tag 0x0008 0x0020) 32
-    ∷ want (tag 0x0008 0x0030) 32
-    ∷ want (tag 0x0008 0x0050) 64
-    ∷ want (tag 0x0008 0x0060) 64
-    ∷ want (tag 0x0008 0x1030) 256
-    ∷ want (tag 0x0010 0x0010) 512
-    ∷ want (tag 0x0010 0x0020) 256
-    ∷ want (tag 0x0020 0x000d) 64
-    ∷ want (tag 0x0020 0x000e) 64
-    ∷ want (tag 0x0020 0x0010) 64
-    ∷ want (tag 0x0020 0x0011) 32
-    ∷ want (tag 0x0020 0x0013) 32
-    ∷ []
+row_wants = map want_of key_table
 
 -- what the data set is held to: these rooms, 64 open levels and 2^48 bytes
 abbrev pub row_limits : Limits

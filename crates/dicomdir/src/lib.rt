@@ -13,6 +13,7 @@ mod file_id;
 mod first_seen;
 mod found;
 mod kept_files;
+mod key_table;
 mod keys;
 pub mod laws;
 mod level;

@@ -1,5 +1,5 @@
 //! Reads the row of a directory from a file.
-ghost use Rattle.std.specs.Prelude.{◌≡◌, ◌<◌, ◌≤◌, ℕ, List, [], length, take, option_map, OnOk, IfOk, IfErr, IfSome};
+ghost use Rattle.std.specs.Prelude.{◌≡◌, ◌<◌, ◌≤◌, ℕ, List, [], length, map, take, option_map, OnOk, IfOk, IfErr, IfSome};
 ghost use Rattle.std.specs.Io.KnownBytes.{Consumes, IsAtEnd};
 ghost use Rattle.element.specs.declared.syntax.Syntax.{Syntax};
 ghost use Rattle.element.specs.Numbers.{IsBytes};
@@ -9,14 +9,17 @@ ghost use Rattle.sequence.specs.Taken.{StandsAt, told_by, limits_of};
 ghost use Rattle.sequence.specs.Stored.{wanted_tags};
 ghost use Rattle.dicomdir.specs.declared.skip.Skip.TheVariants as skip;
 ghost use Rattle.dicomdir.specs.RowOf.{row_wants, row_limits, row_from, key_in, RowRead};
+ghost use Rattle.dicomdir.specs.KeyTable.{want_of};
 ghost use Rattle.dicomdir.specs.KeysOf.{keys_row};
 ghost use Rattle.dicomdir.specs.machine.RowReading.{IsSameSet, TookWhole, WalkFails};
 
 use crate::data_set::walk_piece;
 use crate::file_id::FileId;
+use crate::key_table::{KeyRule, key_table};
 use crate::keys::Keys;
 use crate::row::Row;
 use crate::skip::Skip;
+use arrayvec::ArrayVec;
 use element::Tag;
 use part10::{MetaFault, read_meta};
 use sequence::{Walker, Want, Wanted};
@@ -29,32 +32,26 @@ const PIECE: usize = 4096;
 /// A walker that keeps what a row has of a data set of at most 64 open levels.
 type RowWalker = Walker<2048, 64>;
 
-fn want(tag: Tag, room: u32) -> Want
-    ensures { result ≡ record { tag = tag; room = room } }
+/// Returns what a walk keeps for these keys.
+fn wants_of(rules: &[KeyRule]) -> ArrayVec<Want, 16>
+    requires { length rules.now ≤ 16 }
+    ensures { result.items ≡ map want_of rules.now }
 {
-    Want { tag, room }
+    let mut wants = ArrayVec::new();
+    for rule in rules {
+        wants.push(Want {
+            tag: rule.tag,
+            room: rule.room,
+        });
+    }
+    wants
 }
 
-/// Returns the elements of the data set that a row has, each with the room for a value of its VR.
+/// Returns the elements of the data set that a row has, each with the greatest size of its value.
 fn wanted() -> Wanted
     ensures { wanted_tags result ≡ row_wants }
 {
-    let wants = [
-        want(Tag(0x0008, 0x0005), 64),
-        want(Tag(0x0008, 0x0020), 32),
-        want(Tag(0x0008, 0x0030), 32),
-        want(Tag(0x0008, 0x0050), 64),
-        want(Tag(0x0008, 0x0060), 64),
-        want(Tag(0x0008, 0x1030), 256),
-        want(Tag(0x0010, 0x0010), 512),
-        want(Tag(0x0010, 0x0020), 256),
-        want(Tag(0x0020, 0x000d), 64),
-        want(Tag(0x0020, 0x000e), 64),
-        want(Tag(0x0020, 0x0010), 64),
-        want(Tag(0x0020, 0x0011), 32),
-        want(Tag(0x0020, 0x0013), 32),
-    ];
-    match Wanted::of(&wants) {
+    match Wanted::of(wants_of(key_table()).as_slice()) {
         Some(wanted) => wanted,
         None => unreachable!(),
     }

@@ -1,0 +1,187 @@
+//! The keys that directory records have of a data set.
+ghost use Rattle.std.specs.Prelude.{◌≡◌};
+ghost use Rattle.dicomdir.specs.KeyTable as table;
+
+use crate::level::Level;
+use element::Tag;
+
+/// When a record has a key, and whether the key has a value (PS3.5 section 7.4).
+#[derive(Clone, Copy)]
+pub(crate) enum KeyType {
+    /// Always, with a value.
+    Type1,
+    /// Where the data set has it.
+    Type1C,
+    /// Always; the value may be empty.
+    Type2,
+}
+
+/// The levels of the records that have a key.
+#[derive(Clone, Copy)]
+pub(crate) struct Levels {
+    pub(crate) patient: bool,
+    pub(crate) study: bool,
+    pub(crate) series: bool,
+    pub(crate) image: bool,
+}
+
+impl Levels {
+    const EACH: Levels = Levels {
+        patient: true,
+        study: true,
+        series: true,
+        image: true,
+    };
+
+    const PATIENT: Levels = Levels {
+        patient: true,
+        study: false,
+        series: false,
+        image: false,
+    };
+
+    const STUDY: Levels = Levels {
+        patient: false,
+        study: true,
+        series: false,
+        image: false,
+    };
+
+    const SERIES: Levels = Levels {
+        patient: false,
+        study: false,
+        series: true,
+        image: false,
+    };
+
+    const IMAGE: Levels = Levels {
+        patient: false,
+        study: false,
+        series: false,
+        image: true,
+    };
+
+    /// Returns whether the level is one of them.
+    pub(crate) fn has(self, level: Level) -> bool
+        ensures { result ≡ table.has_level self level }
+    {
+        match level {
+            Level::Patient => self.patient,
+            Level::Study => self.study,
+            Level::Series => self.series,
+            Level::Image => self.image,
+        }
+    }
+}
+
+/// A key: its tag, its VR, the greatest size of its value, and which records have it.
+#[derive(Clone, Copy)]
+pub(crate) struct KeyRule {
+    pub(crate) tag: Tag,
+    pub(crate) vr: [u8; 2],
+    pub(crate) room: u32,
+    pub(crate) kind: KeyType,
+    pub(crate) levels: Levels,
+}
+
+/// The keys of all records, in the order of their tags (PS3.3 section F.5).
+const KEY_TABLE: [KeyRule; 13] = [
+    KeyRule {
+        tag: Tag(0x0008, 0x0005),
+        vr: *b"CS",
+        room: 64,
+        kind: KeyType::Type1C,
+        levels: Levels::EACH,
+    },
+    KeyRule {
+        tag: Tag(0x0008, 0x0020),
+        vr: *b"DA",
+        room: 32,
+        kind: KeyType::Type1,
+        levels: Levels::STUDY,
+    },
+    KeyRule {
+        tag: Tag(0x0008, 0x0030),
+        vr: *b"TM",
+        room: 32,
+        kind: KeyType::Type1,
+        levels: Levels::STUDY,
+    },
+    KeyRule {
+        tag: Tag(0x0008, 0x0050),
+        vr: *b"SH",
+        room: 64,
+        kind: KeyType::Type2,
+        levels: Levels::STUDY,
+    },
+    KeyRule {
+        tag: Tag(0x0008, 0x0060),
+        vr: *b"CS",
+        room: 64,
+        kind: KeyType::Type1,
+        levels: Levels::SERIES,
+    },
+    KeyRule {
+        tag: Tag(0x0008, 0x1030),
+        vr: *b"LO",
+        room: 256,
+        kind: KeyType::Type2,
+        levels: Levels::STUDY,
+    },
+    KeyRule {
+        tag: Tag(0x0010, 0x0010),
+        vr: *b"PN",
+        room: 512,
+        kind: KeyType::Type2,
+        levels: Levels::PATIENT,
+    },
+    KeyRule {
+        tag: Tag(0x0010, 0x0020),
+        vr: *b"LO",
+        room: 256,
+        kind: KeyType::Type1,
+        levels: Levels::PATIENT,
+    },
+    KeyRule {
+        tag: Tag(0x0020, 0x000d),
+        vr: *b"UI",
+        room: 64,
+        kind: KeyType::Type1,
+        levels: Levels::STUDY,
+    },
+    KeyRule {
+        tag: Tag(0x0020, 0x000e),
+        vr: *b"UI",
+        room: 64,
+        kind: KeyType::Type1,
+        levels: Levels::SERIES,
+    },
+    KeyRule {
+        tag: Tag(0x0020, 0x0010),
+        vr: *b"SH",
+        room: 64,
+        kind: KeyType::Type1,
+        levels: Levels::STUDY,
+    },
+    KeyRule {
+        tag: Tag(0x0020, 0x0011),
+        vr: *b"IS",
+        room: 32,
+        kind: KeyType::Type1,
+        levels: Levels::SERIES,
+    },
+    KeyRule {
+        tag: Tag(0x0020, 0x0013),
+        vr: *b"IS",
+        room: 32,
+        kind: KeyType::Type1,
+        levels: Levels::IMAGE,
+    },
+];
+
+/// Returns the keys of all records, in the order of their tags.
+pub(crate) fn key_table() -> &'static [KeyRule]
+    ensures { result.now ≡ table.key_table }
+{
+    &KEY_TABLE
+}
