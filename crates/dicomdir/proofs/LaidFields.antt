@@ -1,13 +1,14 @@
 -- Elements that are written with a VR whose length takes two bytes, and with even values, are laid down as the standard has it.
-use Rattle.std.proofs.Common.{◌≡◌, ℕ, ◌+◌, ◌%◌, ◌<◌, ◌≤◌, Bool, true, false, not, ◌||◌, List, [], ◌∷◌, ◌++◌, length, Some, refl, arith, codes, eqb-true, nat_eq, nat_lt, if◌then◌else◌}
-use Rattle.std.proofs.lemmas.Bool.{and_from}
+use Rattle.std.proofs.Common.{◌≡◌, ℕ, ◌+◌, ◌%◌, ◌<◌, ◌≤◌, Bool, true, false, not, cond, ◌&&◌, ◌||◌, List, [], ◌∷◌, ◌++◌, length, get_or, Some, refl, ap, arith, codes, eqb-true, nat_eq, nat_lt, if◌then◌else◌}
+use Rattle.std.proofs.lemmas.Bool.{and_from, and_parts}
 use Rattle.std.proofs.lemmas.Bool.Decides.{nat_tests}
 use Rattle.std.proofs.lemmas.List.{length-append}
 use Rattle.element.specs.declared.tag.Tag.{Tag}
 use Rattle.element.specs.declared.syntax.Syntax.TheVariants.{Explicit}
 use Rattle.element.specs.Header.{number, is_marker, is_plain, header_bytes, header_fits, fits_vr}
 use Rattle.element.specs.Padding.{padded}
-use Rattle.element.specs.Vr.{is_short_vr}
+use Rattle.element.specs.Numbers.{le}
+use Rattle.element.specs.Vr.{is_capital, is_short_vr}
 use Rattle.sequence.specs.Shape.{shape, is_vr, undefined_length, is_undefined}
 use Rattle.sequence.specs.Tree.{Elements, no_elements}
 use Rattle.dicomdir.specs.Directory.{header_size, size_of}
@@ -29,6 +30,51 @@ pub record IsFixed (last : ℕ) (t : Tag) (vr : List ℕ) : Type 0 where
   pub no_file : not (nat_eq t.0 2) ≡ true
   pub no_sequence : is_vr (codes "SQ") vr ≡ false
   pub eight : (n : ℕ) → header_size (record { tag = t; vr = Some vr; length = n }) ≡ 8
+
+-- whether they are so: the VR's length takes two bytes
+abbrev pub is_fixed : ℕ → Tag → List ℕ → Bool
+is_fixed last t vr =
+    ((nat_lt t.0 65536 && nat_lt t.1 65536) && (is_vr_or_none (Some vr) && not (is_plain Explicit t)))
+    && (((nat_lt last (number t) && not (is_marker t)) && (not (nat_eq t.0 0) && not (nat_eq t.0 2)))
+    && (not (is_vr (codes "SQ") vr) && is_short_vr vr))
+
+none_of : (b : Bool) → not b ≡ true → b ≡ false
+none_of true e = absurd cc
+none_of false e = refl
+
+short_header : (t : Tag) (vr : List ℕ) (n : ℕ) → is_short_vr vr ≡ true → length vr ≡ 2 → header_size (record { tag = t; vr = Some vr; length = n }) ≡ 8
+short_header t vr n short two =
+    let is : header_size (record { tag = t; vr = Some vr; length = n }) ≡ length ((le t.0 2 ++ le t.1 2) ++ (vr ++ le n 2)) =
+    ap (λ (b : Bool). length ((le t.0 2 ++ le t.1 2) ++ cond b (vr ++ le n 2) (vr ++ (0 ∷ 0 ∷ le n 4)))) short in
+    let a = length-append vr (le n 2) in
+    let last : length (le n 2) ≡ 2 = refl in
+    let front : length ((le t.0 2 ++ le t.1 2) ++ (vr ++ le n 2)) ≡ 4 + length (vr ++ le n 2) = omega arith in
+    omega (arith, is, a, last, front, two)
+
+pub fixed_from : (last : ℕ) (t : Tag) (vr : List ℕ) → is_fixed last t vr ≡ true → IsFixed last t vr
+fixed_from last t vr e =
+    let whole = and_parts ((nat_lt t.0 65536 && nat_lt t.1 65536) && (is_vr_or_none (Some vr) && not (is_plain Explicit t))) _ e in
+    let front = and_parts (nat_lt t.0 65536 && nat_lt t.1 65536) (is_vr_or_none (Some vr) && not (is_plain Explicit t)) whole.0 in
+    let tag = and_parts _ _ front.0 in
+    let letters = and_parts (is_vr_or_none (Some vr)) (not (is_plain Explicit t)) front.1 in
+    let back = and_parts ((nat_lt last (number t) && not (is_marker t)) && (not (nat_eq t.0 0) && not (nat_eq t.0 2))) _ whole.1 in
+    let place = and_parts (nat_lt last (number t) && not (is_marker t)) _ back.0 in
+    let order = and_parts (nat_lt last (number t)) (not (is_marker t)) place.0 in
+    let groups = and_parts _ _ place.1 in
+    let kind = and_parts (not (is_vr (codes "SQ") vr)) (is_short_vr vr) back.1 in
+    let two = and_parts (is_capital (get_or vr 0 0) && is_capital (get_or vr 1 0)) (nat_eq (length vr) 2) letters.0 in
+    record {
+      group = tag.0;
+      element = tag.1;
+      vr_good = letters.0;
+      plain = none_of (is_plain Explicit t) letters.1;
+      rising = order.0;
+      no_marker = order.1;
+      no_command = groups.0;
+      no_file = groups.1;
+      no_sequence = none_of (is_vr (codes "SQ") vr) kind.0;
+      eight = λ n. short_header t vr n kind.1 (eqb-true (length vr) 2 two.1);
+    }
 
 -- these elements are laid down after the tag with number `last`, and take an even count of bytes
 pub record IsGood (last : ℕ) (es : Elements) : Type 0 where

@@ -1,5 +1,6 @@
 -- The records of a row are laid down as the standard has it, with any offsets.
-use Rattle.std.proofs.Common.{◌≡◌, ℕ, ◌<◌, ◌≤◌, ◌^◌, true, false, ◌&&◌, ◌||◌, List, [], length, nat_le, nat_lt, ltb-true, Option, Some, None, is_some, refl, sym, ap, ◌∙◌, arith, codes}
+use Rattle.std.proofs.Common.{◌≡◌, ℕ, ◌<◌, ◌≤◌, ◌^◌, Bool, true, false, not, cond, ◌&&◌, ◌||◌, List, [], ◌∷◌, length, nat_le, nat_lt, nat_eq, ltb-true, Option, Some, None, is_some, refl, sym, ap, ◌∙◌, arith, codes}
+use Rattle.std.specs.List.{list_all}
 use Rattle.std.proofs.lemmas.Bool.{and_parts, and_from, leb-true}
 use Rattle.std.proofs.lemmas.Bool.Decides.{nat_tests}
 use Rattle.element.specs.declared.header.Header.{Header}
@@ -15,17 +16,25 @@ use Rattle.element.specs.Uid.{is_uid}
 use Rattle.element.specs.Vr.{is_short}
 use Rattle.dictionary.specs.Syntaxes.{syntax_uid}
 use Rattle.sequence.specs.Tree.{Elements, no_elements, value, sequence}
-use Rattle.dicomdir.specs.Directory.{carried_node, next_offset, lower_offset, has_record, has_file_id}
+use Rattle.sequence.specs.Wanted.{Values, value_of}
+use Rattle.dicomdir.specs.declared.key_table.KeyRule.{KeyRule}
+use Rattle.dicomdir.specs.declared.key_table.KeyType.{KeyType}
+use Rattle.dicomdir.specs.declared.key_table.KeyType.TheVariants.{Type1, Type1C, Type2}
+use Rattle.dicomdir.specs.declared.level.Level.{Level}
+use Rattle.dicomdir.specs.declared.level.Level.TheVariants.{Patient, Study, Series, Image}
+use Rattle.dicomdir.specs.Directory.{missing, found, carried_node, next_offset, lower_offset, has_record, has_file_id}
 use Rattle.dicomdir.specs.FileId.{file_id_of}
-use Rattle.dicomdir.specs.Keys.{IsRow, optional_size, fits_rooms, fits_patient, fits_study, fits_study_text, fits_series}
+use Rattle.dicomdir.specs.KeyTable.{has_level, key_table}
+use Rattle.dicomdir.specs.Keys.{IsRow, optional_size, fits_room}
 use Rattle.dicomdir.specs.Layout.{with_offsets}
+use Rattle.dicomdir.specs.Levels.{is_image}
 use Rattle.dicomdir.specs.Linked.{fits}
-use Rattle.dicomdir.specs.Record.{tag, record_elements, character_set_key, text_key, uid_key, patient_record, study_record, series_record, image_record}
+use Rattle.dicomdir.specs.Record.{tag, record_elements, padding_for, key_field_of, written, key_fields, kind_of, file_fields, record_for, patient_record, study_record, series_record, image_record}
 use Rattle.dicomdir.specs.Row.{Row}
 use Rattle.dicomdir.proofs.FileIds.{file_id_room}
 use Rattle.dicomdir.proofs.FileIdText.{file_id_back}
 use Rattle.dicomdir.proofs.Laid.{is_laid, is_header, is_element, is_value, is_sequence}
-use Rattle.dicomdir.proofs.LaidFields.{IsFixed, IsGood, good_none, good_field, good_value, good_key}
+use Rattle.dicomdir.proofs.LaidFields.{IsFixed, IsGood, is_fixed, fixed_from, good_none, good_field, good_value, good_key}
 use Rattle.dicomdir.proofs.RecordLemmas.{syntax_uid_short}
 
 fixed_00000000_00041400 : IsFixed 0x00000000 (tag 0x0004 0x1400) (codes "UL")
@@ -44,62 +53,6 @@ fixed_00041420_00041430 : IsFixed 0x00041420 (tag 0x0004 0x1430) (codes "CS")
 unfolding is_short
 fixed_00041420_00041430 = record { group = refl; element = refl; vr_good = refl; plain = refl; rising = refl; no_marker = refl; no_command = refl; no_file = refl; no_sequence = refl; eight = λ n. refl }
 
-fixed_00041430_00080005 : IsFixed 0x00041430 (tag 0x0008 0x0005) (codes "CS")
-unfolding is_short
-fixed_00041430_00080005 = record { group = refl; element = refl; vr_good = refl; plain = refl; rising = refl; no_marker = refl; no_command = refl; no_file = refl; no_sequence = refl; eight = λ n. refl }
-
-fixed_00041512_00080005 : IsFixed 0x00041512 (tag 0x0008 0x0005) (codes "CS")
-unfolding is_short
-fixed_00041512_00080005 = record { group = refl; element = refl; vr_good = refl; plain = refl; rising = refl; no_marker = refl; no_command = refl; no_file = refl; no_sequence = refl; eight = λ n. refl }
-
-fixed_00080005_00100010 : IsFixed 0x00080005 (tag 0x0010 0x0010) (codes "PN")
-unfolding is_short
-fixed_00080005_00100010 = record { group = refl; element = refl; vr_good = refl; plain = refl; rising = refl; no_marker = refl; no_command = refl; no_file = refl; no_sequence = refl; eight = λ n. refl }
-
-fixed_00100010_00100020 : IsFixed 0x00100010 (tag 0x0010 0x0020) (codes "LO")
-unfolding is_short
-fixed_00100010_00100020 = record { group = refl; element = refl; vr_good = refl; plain = refl; rising = refl; no_marker = refl; no_command = refl; no_file = refl; no_sequence = refl; eight = λ n. refl }
-
-fixed_00080005_00080020 : IsFixed 0x00080005 (tag 0x0008 0x0020) (codes "DA")
-unfolding is_short
-fixed_00080005_00080020 = record { group = refl; element = refl; vr_good = refl; plain = refl; rising = refl; no_marker = refl; no_command = refl; no_file = refl; no_sequence = refl; eight = λ n. refl }
-
-fixed_00080020_00080030 : IsFixed 0x00080020 (tag 0x0008 0x0030) (codes "TM")
-unfolding is_short
-fixed_00080020_00080030 = record { group = refl; element = refl; vr_good = refl; plain = refl; rising = refl; no_marker = refl; no_command = refl; no_file = refl; no_sequence = refl; eight = λ n. refl }
-
-fixed_00080030_00080050 : IsFixed 0x00080030 (tag 0x0008 0x0050) (codes "SH")
-unfolding is_short
-fixed_00080030_00080050 = record { group = refl; element = refl; vr_good = refl; plain = refl; rising = refl; no_marker = refl; no_command = refl; no_file = refl; no_sequence = refl; eight = λ n. refl }
-
-fixed_00080050_00081030 : IsFixed 0x00080050 (tag 0x0008 0x1030) (codes "LO")
-unfolding is_short
-fixed_00080050_00081030 = record { group = refl; element = refl; vr_good = refl; plain = refl; rising = refl; no_marker = refl; no_command = refl; no_file = refl; no_sequence = refl; eight = λ n. refl }
-
-fixed_00081030_0020000d : IsFixed 0x00081030 (tag 0x0020 0x000d) (codes "UI")
-unfolding is_short
-fixed_00081030_0020000d = record { group = refl; element = refl; vr_good = refl; plain = refl; rising = refl; no_marker = refl; no_command = refl; no_file = refl; no_sequence = refl; eight = λ n. refl }
-
-fixed_0020000d_00200010 : IsFixed 0x0020000d (tag 0x0020 0x0010) (codes "SH")
-unfolding is_short
-fixed_0020000d_00200010 = record { group = refl; element = refl; vr_good = refl; plain = refl; rising = refl; no_marker = refl; no_command = refl; no_file = refl; no_sequence = refl; eight = λ n. refl }
-
-fixed_00080005_00080060 : IsFixed 0x00080005 (tag 0x0008 0x0060) (codes "CS")
-unfolding is_short
-fixed_00080005_00080060 = record { group = refl; element = refl; vr_good = refl; plain = refl; rising = refl; no_marker = refl; no_command = refl; no_file = refl; no_sequence = refl; eight = λ n. refl }
-
-fixed_00080060_0020000e : IsFixed 0x00080060 (tag 0x0020 0x000e) (codes "UI")
-unfolding is_short
-fixed_00080060_0020000e = record { group = refl; element = refl; vr_good = refl; plain = refl; rising = refl; no_marker = refl; no_command = refl; no_file = refl; no_sequence = refl; eight = λ n. refl }
-
-fixed_0020000e_00200011 : IsFixed 0x0020000e (tag 0x0020 0x0011) (codes "IS")
-unfolding is_short
-fixed_0020000e_00200011 = record { group = refl; element = refl; vr_good = refl; plain = refl; rising = refl; no_marker = refl; no_command = refl; no_file = refl; no_sequence = refl; eight = λ n. refl }
-
-fixed_00080005_00200013 : IsFixed 0x00080005 (tag 0x0020 0x0013) (codes "IS")
-unfolding is_short
-fixed_00080005_00200013 = record { group = refl; element = refl; vr_good = refl; plain = refl; rising = refl; no_marker = refl; no_command = refl; no_file = refl; no_sequence = refl; eight = λ n. refl }
-
 fixed_00041430_00041500 : IsFixed 0x00041430 (tag 0x0004 0x1500) (codes "CS")
 unfolding is_short
 fixed_00041430_00041500 = record { group = refl; element = refl; vr_good = refl; plain = refl; rising = refl; no_marker = refl; no_command = refl; no_file = refl; no_sequence = refl; eight = λ n. refl }
@@ -115,55 +68,6 @@ fixed_00041510_00041511 = record { group = refl; element = refl; vr_good = refl;
 fixed_00041511_00041512 : IsFixed 0x00041511 (tag 0x0004 0x1512) (codes "UI")
 unfolding is_short
 fixed_00041511_00041512 = record { group = refl; element = refl; vr_good = refl; plain = refl; rising = refl; no_marker = refl; no_command = refl; no_file = refl; no_sequence = refl; eight = λ n. refl }
-
--- no key is longer than its room
-record Sizes (row : Row) : Type 0 where
-  pub character_set : optional_size row.character_set ≤ 1024
-  pub patient_name : length row.patient_name ≤ 1024
-  pub patient_id : length row.patient_id ≤ 1024
-  pub study_date : length row.study_date ≤ 1024
-  pub study_time : length row.study_time ≤ 1024
-  pub accession_number : length row.accession_number ≤ 1024
-  pub study_description : length row.study_description ≤ 1024
-  pub study_instance_uid : length row.study_instance_uid ≤ 1024
-  pub study_id : length row.study_id ≤ 1024
-  pub modality : length row.modality ≤ 1024
-  pub series_instance_uid : length row.series_instance_uid ≤ 1024
-  pub series_number : length row.series_number ≤ 1024
-  pub instance_number : length row.instance_number ≤ 1024
-
-sizes : (row : Row) → fits_rooms row ≡ true → Sizes row
-sizes row e =
-    let whole = and_parts (fits_patient row && fits_study row) _ e in
-    let front = and_parts (fits_patient row) (fits_study row) whole.0 in
-    let back = and_parts (fits_study_text row) _ whole.1 in
-    let last = and_parts (fits_series row) _ back.1 in
-    let patient = and_parts _ _ front.0 in
-    let names = and_parts _ _ patient.1 in
-    let study = and_parts _ _ front.1 in
-    let times = and_parts _ _ study.1 in
-    let text = and_parts _ _ back.0 in
-    let ids = and_parts _ _ text.1 in
-    let series = and_parts _ _ last.0 in
-    let numbers = and_parts _ _ series.1 in
-    record {
-      character_set = wide _ _ patient.0 (omega arith);
-      patient_name = wide _ _ names.0 (omega arith);
-      patient_id = wide _ _ names.1 (omega arith);
-      study_date = wide _ _ study.0 (omega arith);
-      study_time = wide _ _ times.0 (omega arith);
-      accession_number = wide _ _ times.1 (omega arith);
-      study_description = wide _ _ text.0 (omega arith);
-      study_instance_uid = wide _ _ ids.0 (omega arith);
-      study_id = wide _ _ ids.1 (omega arith);
-      modality = wide _ _ series.0 (omega arith);
-      series_instance_uid = wide _ _ numbers.0 (omega arith);
-      series_number = wide _ _ numbers.1 (omega arith);
-      instance_number = wide _ _ last.1 (omega arith);
-    }
-  where
-    wide : (n m : ℕ) → nat_le n m ≡ true → m ≤ 1024 → n ≤ 1024
-    wide n m e le = let lt = leb-true n m e in omega (arith, lt, le)
 
 uid_room : (text : List ℕ) → is_uid text ≡ true → length text ≤ 1024
 uid_room text e =
@@ -203,52 +107,92 @@ rising_more last more es le good = record { laid = later last more es le good.la
         let front = and_parts (is_element more h) _ parts.0 in
         and_from _ _ (and_from _ _ (before last more h le front.0) front.1) parts.1
 
-good_character_set : (cs : Option (List ℕ)) (es : Elements) → optional_size cs ≤ 1024 → IsGood 0x00080005 es → IsGood 0x00041512 (character_set_key cs es)
-good_character_set None es short good = rising_more 0x00041512 0x00080005 es (omega arith) good
-good_character_set (Some v) es short good = good_key 0x00041512 (tag 0x0008 0x0005) (codes "CS") 32 v es fixed_00041512_00080005 short good
+-- the keys rise, their VRs are short, and none has more than 1024 bytes
+abbrev are_fixed : ℕ → List KeyRule → Bool
+are_fixed last [] = true
+are_fixed last (rule ∷ rules) = (is_fixed last rule.tag rule.vr && nat_le rule.room 1024) && are_fixed (number rule.tag) rules
 
-good_patient : (row : Row) (next lower : ℕ) → Sizes row → IsGood 0 (with_offsets next lower (patient_record row))
-good_patient row next lower s =
-    good_start next lower (codes "PATIENT") _ (omega arith)
-    (rising_more 0x00041430 0x00041512 _ (omega arith)
-    (good_character_set row.character_set _ s.character_set
-    (good_key 0x00080005 (tag 0x0010 0x0010) (codes "PN") 32 row.patient_name _ fixed_00080005_00100010 s.patient_name
-    (good_key 0x00100010 (tag 0x0010 0x0020) (codes "LO") 32 row.patient_id _ fixed_00100010_00100020 s.patient_id
-    (good_none 0x00100020)))))
+table_fixed : are_fixed 0x00041512 key_table ≡ true
+unfolding is_short
+table_fixed = refl
 
-good_study : (row : Row) (next lower : ℕ) → Sizes row → IsGood 0 (with_offsets next lower (study_record row))
-good_study row next lower s =
-    good_start next lower (codes "STUDY") _ (omega arith)
-    (rising_more 0x00041430 0x00041512 _ (omega arith)
-    (good_character_set row.character_set _ s.character_set
-    (good_key 0x00080005 (tag 0x0008 0x0020) (codes "DA") 32 row.study_date _ fixed_00080005_00080020 s.study_date
-    (good_key 0x00080020 (tag 0x0008 0x0030) (codes "TM") 32 row.study_time _ fixed_00080020_00080030 s.study_time
-    (good_key 0x00080030 (tag 0x0008 0x0050) (codes "SH") 32 row.accession_number _ fixed_00080030_00080050 s.accession_number
-    (good_key 0x00080050 (tag 0x0008 0x1030) (codes "LO") 32 row.study_description _ fixed_00080050_00081030 s.study_description
-    (good_key 0x00081030 (tag 0x0020 0x000d) (codes "UI") 0 row.study_instance_uid _ fixed_00081030_0020000d s.study_instance_uid
-    (good_key 0x0020000d (tag 0x0020 0x0010) (codes "SH") 32 row.study_id _ fixed_0020000d_00200010 s.study_id
-    (good_none 0x00200010)))))))))
+written_size : (kind : KeyType) (o : Option (List ℕ)) → optional_size (written kind o) ≤ optional_size o
+written_size Type1 None = omega arith
+written_size Type1 (Some v) = omega arith
+written_size Type1C o = omega arith
+written_size Type2 None = omega arith
+written_size Type2 (Some v) = omega arith
 
-good_series : (row : Row) (next lower : ℕ) → Sizes row → IsGood 0 (with_offsets next lower (series_record row))
-good_series row next lower s =
-    good_start next lower (codes "SERIES") _ (omega arith)
-    (rising_more 0x00041430 0x00041512 _ (omega arith)
-    (good_character_set row.character_set _ s.character_set
-    (good_key 0x00080005 (tag 0x0008 0x0060) (codes "CS") 32 row.modality _ fixed_00080005_00080060 s.modality
-    (good_key 0x00080060 (tag 0x0020 0x000e) (codes "UI") 0 row.series_instance_uid _ fixed_00080060_0020000e s.series_instance_uid
-    (good_key 0x0020000e (tag 0x0020 0x0011) (codes "IS") 32 row.series_number _ fixed_0020000e_00200011 s.series_number
-    (good_none 0x00200011))))))
+good_key_of : (last : ℕ) (rule : KeyRule) (o : Option (List ℕ)) (es : Elements) → IsFixed last rule.tag rule.vr → optional_size o ≤ 1024 → IsGood (number rule.tag) es → IsGood last (key_field_of rule o es)
+good_key_of last rule None es fixed short good = rising_more last (number rule.tag) es (let lt = ltb-true last (number rule.tag) fixed.rising in omega (arith, lt)) good
+good_key_of last rule (Some v) es fixed short good = good_key last rule.tag rule.vr (padding_for rule.vr) v es fixed short good
 
-good_image : (row : Row) (next lower : ℕ) → IsRow row → Sizes row → IsGood 0 (with_offsets next lower (image_record row))
-good_image row next lower is s =
-    good_start next lower (codes "IMAGE") _ (omega arith)
-    (good_value 0x00041430 (tag 0x0004 0x1500) (codes "CS") 32 row.file_id _ fixed_00041430_00041500 (let room = file_id_room row.file_id is.file_id in omega (arith, room))
+good_keys : (level : Level) (last : ℕ) (rules : List KeyRule) (values : Values) → are_fixed last rules ≡ true → list_all (fits_room values) rules ≡ true → IsGood last (key_fields level rules values)
+good_keys level last [] values f e = good_none last
+good_keys level last (rule ∷ rules) values f e =
+    let parts = and_parts (is_fixed last rule.tag rule.vr && nat_le rule.room 1024) _ f in
+    let here = and_parts (is_fixed last rule.tag rule.vr) (nat_le rule.room 1024) parts.0 in
+    let fits = and_parts (fits_room values rule) _ e in
+    let fixed = fixed_from last rule.tag rule.vr here.0 in
+    let more = good_keys level (number rule.tag) rules values parts.1 fits.1 in
+    let lt = ltb-true last (number rule.tag) fixed.rising in
+    let room : rule.room ≤ 1024 = leb-true rule.room 1024 here.1 in
+    let size : optional_size (value_of values (number rule.tag)) ≤ rule.room = leb-true _ _ fits.0 in
+    let less = written_size rule.kind (value_of values (number rule.tag)) in
+    by (has_level rule.levels level)
+    (good_key_of last rule (written rule.kind (value_of values (number rule.tag))) _ fixed (omega (arith, room, size, less)) more)
+    (rising_more last (number rule.tag) _ (omega (arith, lt)) more)
+  where
+    by : (b : Bool) → IsGood last (key_field_of rule (written rule.kind (value_of values (number rule.tag))) (key_fields level rules values)) → IsGood last (key_fields level rules values)
+        → IsGood last (cond b (key_field_of rule (written rule.kind (value_of values (number rule.tag))) (key_fields level rules values)) (key_fields level rules values))
+    by true one none = one
+    by false one none = none
+
+good_row : (level : Level) (row : Row) → IsRow row → IsGood 0x00041512 (key_fields level key_table row.values)
+good_row level row is = good_keys level 0x00041512 key_table row.values table_fixed is.fits
+
+good_file : (level : Level) (row : Row) → IsRow row → IsGood 0x00041430 (file_fields level row (key_fields level key_table row.values))
+good_file Patient row is = rising_more 0x00041430 0x00041512 _ (omega arith) (good_row Patient row is)
+good_file Study row is = rising_more 0x00041430 0x00041512 _ (omega arith) (good_row Study row is)
+good_file Series row is = rising_more 0x00041430 0x00041512 _ (omega arith) (good_row Series row is)
+good_file Image row is =
+    good_value 0x00041430 (tag 0x0004 0x1500) (codes "CS") 32 row.file_id _ fixed_00041430_00041500 (let room = file_id_room row.file_id is.file_id in omega (arith, room))
     (good_value 0x00041500 (tag 0x0004 0x1510) (codes "UI") 0 row.class _ fixed_00041500_00041510 (uid_room row.class is.class)
     (good_value 0x00041510 (tag 0x0004 0x1511) (codes "UI") 0 row.instance _ fixed_00041510_00041511 (uid_room row.instance is.instance)
     (good_value 0x00041511 (tag 0x0004 0x1512) (codes "UI") 0 (syntax_uid row.syntax) _ fixed_00041511_00041512 (let room = syntax_uid_short row.syntax in omega (arith, room))
-    (good_character_set row.character_set _ s.character_set
-    (good_key 0x00080005 (tag 0x0020 0x0013) (codes "IS") 32 row.instance_number _ fixed_00080005_00200013 s.instance_number
-    (good_none 0x00200013)))))))
+    (good_row Image row is))))
+
+good_record : (level : Level) (row : Row) (next lower : ℕ) → IsRow row → IsGood 0 (with_offsets next lower (record_for level row))
+good_record level row next lower is = good_start next lower (kind_of level) _ (short level) (good_file level row is)
+  where
+    short : (level : Level) → length (kind_of level) ≤ 1024
+    short Patient = omega arith
+    short Study = omega arith
+    short Series = omega arith
+    short Image = omega arith
+
+-- no key is a file ID
+
+abbrev are_others : List KeyRule → Bool
+are_others rules = list_all (λ rule. not (nat_eq (number rule.tag) 0x00041500)) rules
+
+no_file_id : (level : Level) (rules : List KeyRule) (values : Values) (place : ℕ) → are_others rules ≡ true → found 0x00041500 place (key_fields level rules values) ≡ missing
+no_file_id level [] values place e = refl
+no_file_id level (rule ∷ rules) values place e =
+    let parts = and_parts (not (nat_eq (number rule.tag) 0x00041500)) _ e in
+    by (has_level rule.levels level) (written rule.kind (value_of values (number rule.tag)))
+    (not_same (nat_eq (number rule.tag) 0x00041500) parts.0)
+    (λ p. no_file_id level rules values p parts.1)
+  where
+    not_same : (b : Bool) → not b ≡ true → b ≡ false
+    not_same true e = absurd cc
+    not_same false e = refl
+
+    by : (b : Bool) (o : Option (List ℕ)) → nat_eq (number rule.tag) 0x00041500 ≡ false → ((p : ℕ) → found 0x00041500 p (key_fields level rules values) ≡ missing)
+        → found 0x00041500 place (cond b (key_field_of rule o (key_fields level rules values)) (key_fields level rules values)) ≡ missing
+    by false o other none = none place
+    by true None other none = none place
+    by true (Some v) other none = rw other (none _)
 
 -- what the tree's nodes are: with any offsets they are good, and say what they say without them
 pub record IsNode (level : ℕ) (es : Elements) : Type 0 where
@@ -262,78 +206,57 @@ pub record IsNode (level : ℕ) (es : Elements) : Type 0 where
 pub number_back : (n : ℕ) → n < 2 ^ 32 → Some (little_number 4 (le n 4)) ≡ Some n
 number_back n small = ap (λ (x : ℕ). Some x) (ap (little_number 4) (sym (append-nil (le n 4))) ∙ little_number-reads_back 4 n [] small)
 
-patient_node_by : (cs : Option (List ℕ)) (name id : List ℕ)
-    → ((next lower : ℕ) → IsGood 0 (with_offsets next lower (record_elements (codes "PATIENT") (character_set_key cs (text_key (tag 0x0010 0x0010) (codes "PN") name (text_key (tag 0x0010 0x0020) (codes "LO") id no_elements))))))
-    → IsNode 1 (record_elements (codes "PATIENT") (character_set_key cs (text_key (tag 0x0010 0x0010) (codes "PN") name (text_key (tag 0x0010 0x0020) (codes "LO") id no_elements))))
-patient_node_by None name id good = record {
+abbrev node_level : Level → ℕ
+node_level Patient = 1
+node_level Study = 2
+node_level Series = 3
+node_level Image = 4
+
+-- a record that has no file ID
+plain_node : (level : Level) (keys : Elements) → is_image level ≡ false → ((next lower : ℕ) → IsGood 0 (with_offsets next lower (record_elements (kind_of level) keys)))
+    → ((place : ℕ) → found 0x00041500 place keys ≡ missing) → IsNode (node_level level) (record_elements (kind_of level) keys)
+plain_node Patient keys e good none = record {
   good = good;
-  carries = λ n l. refl;
+  carries = λ n l. rw (none _, none _) refl;
   names_next = λ n l small. number_back n small;
   names_lower = λ n l small. number_back l small;
-  whole = λ n l. refl;
+  whole = λ n l. rw (none _) refl;
   fit = refl;
 }
-patient_node_by (Some v) name id good = record {
+plain_node Study keys e good none = record {
   good = good;
-  carries = λ n l. refl;
+  carries = λ n l. rw (none _, none _) refl;
   names_next = λ n l small. number_back n small;
   names_lower = λ n l small. number_back l small;
-  whole = λ n l. refl;
+  whole = λ n l. rw (none _) refl;
   fit = refl;
 }
+plain_node Series keys e good none = record {
+  good = good;
+  carries = λ n l. rw (none _, none _) refl;
+  names_next = λ n l small. number_back n small;
+  names_lower = λ n l small. number_back l small;
+  whole = λ n l. rw (none _) refl;
+  fit = refl;
+}
+plain_node Image keys e good none = absurd cc
+
+plain_row : (level : Level) (row : Row) → is_image level ≡ false → IsRow row → ((next lower : ℕ) → IsGood 0 (with_offsets next lower (record_elements (kind_of level) (key_fields level key_table row.values))))
+    → IsNode (node_level level) (record_elements (kind_of level) (key_fields level key_table row.values))
+plain_row level row e is good = plain_node level (key_fields level key_table row.values) e good (λ place. no_file_id level key_table row.values place refl)
 
 pub patient_node : (row : Row) → IsRow row → IsNode 1 (patient_record row)
-patient_node row is = patient_node_by row.character_set row.patient_name row.patient_id (λ n l. good_patient row n l (sizes row is.fits))
-
-study_node_by : (cs : Option (List ℕ)) (date time accession description uid id : List ℕ)
-    → ((next lower : ℕ) → IsGood 0 (with_offsets next lower (record_elements (codes "STUDY") (character_set_key cs (text_key (tag 0x0008 0x0020) (codes "DA") date (text_key (tag 0x0008 0x0030) (codes "TM") time (text_key (tag 0x0008 0x0050) (codes "SH") accession (text_key (tag 0x0008 0x1030) (codes "LO") description (uid_key (tag 0x0020 0x000d) uid (text_key (tag 0x0020 0x0010) (codes "SH") id no_elements))))))))))
-    → IsNode 2 (record_elements (codes "STUDY") (character_set_key cs (text_key (tag 0x0008 0x0020) (codes "DA") date (text_key (tag 0x0008 0x0030) (codes "TM") time (text_key (tag 0x0008 0x0050) (codes "SH") accession (text_key (tag 0x0008 0x1030) (codes "LO") description (uid_key (tag 0x0020 0x000d) uid (text_key (tag 0x0020 0x0010) (codes "SH") id no_elements))))))))
-study_node_by None date time accession description uid id good = record {
-  good = good;
-  carries = λ n l. refl;
-  names_next = λ n l small. number_back n small;
-  names_lower = λ n l small. number_back l small;
-  whole = λ n l. refl;
-  fit = refl;
-}
-study_node_by (Some v) date time accession description uid id good = record {
-  good = good;
-  carries = λ n l. refl;
-  names_next = λ n l small. number_back n small;
-  names_lower = λ n l small. number_back l small;
-  whole = λ n l. refl;
-  fit = refl;
-}
+patient_node row is = plain_row Patient row refl is (λ n l. good_record Patient row n l is)
 
 pub study_node : (row : Row) → IsRow row → IsNode 2 (study_record row)
-study_node row is = study_node_by row.character_set row.study_date row.study_time row.accession_number row.study_description row.study_instance_uid row.study_id (λ n l. good_study row n l (sizes row is.fits))
-
-series_node_by : (cs : Option (List ℕ)) (modality uid count : List ℕ)
-    → ((next lower : ℕ) → IsGood 0 (with_offsets next lower (record_elements (codes "SERIES") (character_set_key cs (text_key (tag 0x0008 0x0060) (codes "CS") modality (uid_key (tag 0x0020 0x000e) uid (text_key (tag 0x0020 0x0011) (codes "IS") count no_elements)))))))
-    → IsNode 3 (record_elements (codes "SERIES") (character_set_key cs (text_key (tag 0x0008 0x0060) (codes "CS") modality (uid_key (tag 0x0020 0x000e) uid (text_key (tag 0x0020 0x0011) (codes "IS") count no_elements)))))
-series_node_by None modality uid count good = record {
-  good = good;
-  carries = λ n l. refl;
-  names_next = λ n l small. number_back n small;
-  names_lower = λ n l small. number_back l small;
-  whole = λ n l. refl;
-  fit = refl;
-}
-series_node_by (Some v) modality uid count good = record {
-  good = good;
-  carries = λ n l. refl;
-  names_next = λ n l small. number_back n small;
-  names_lower = λ n l small. number_back l small;
-  whole = λ n l. refl;
-  fit = refl;
-}
+study_node row is = plain_row Study row refl is (λ n l. good_record Study row n l is)
 
 pub series_node : (row : Row) → IsRow row → IsNode 3 (series_record row)
-series_node row is = series_node_by row.character_set row.modality row.series_instance_uid row.series_number (λ n l. good_series row n l (sizes row is.fits))
+series_node row is = plain_row Series row refl is (λ n l. good_record Series row n l is)
 
 pub image_node : (row : Row) → IsRow row → IsNode 4 (image_record row)
 image_node row is = record {
-  good = λ n l. good_image row n l is (sizes row is.fits);
+  good = λ n l. good_record Image row n l is;
   carries = λ n l. refl;
   names_next = λ n l small. number_back n small;
   names_lower = λ n l small. number_back l small;

@@ -12,7 +12,8 @@ use Rattle.std.specs.Borrow.{Bor}
 use Rattle.dicomdir.specs.Grouping.{groups_of, rows_at, row_groups}
 use Rattle.dicomdir.specs.Laying.{StopsFor, place_from_end, entry_text, laid_text, forest_text, has_none, Adds, groups_forest, Lays}
 use Rattle.dicomdir.specs.Layout.{spelled, spelled_items, with_offsets, record_item}
-use Rattle.dicomdir.specs.Levels.{record_for, key_for, forest_for, lower_level, is_image}
+use Rattle.dicomdir.specs.Record.{record_for}
+use Rattle.dicomdir.specs.Levels.{key_for, forest_for, lower_level, is_image}
 use Rattle.dicomdir.specs.Places.{record_size, forest_size, with_places, first_record_place, last_record_place, last_record_place_after}
 use Rattle.dicomdir.specs.RecordText.{record_text}
 use Rattle.dicomdir.specs.Row.{Row}
@@ -132,9 +133,12 @@ forest_is Series rows h = nodes_are (key_for Series) (record_for Series) (forest
 forest_is Image rows h = absurd cc
 
 -- a record takes the bytes that its size says
+item_length : (es : Elements) → length (spelled_items (record_item 0 0 es no_items)) ≡ record_size es
+item_length es = let n = append-nil (spelled (with_offsets 0 0 es)) in rw n (omega arith)
+
 pub record_length : (level : Level) (row : Row) → length (record_text level row 0 0) ≡ record_size (record_for level row)
 unfolding record_text
-record_length level row = let n = append-nil (spelled (with_offsets 0 0 (record_for level row))) in rw n (omega arith)
+record_length level row = item_length (record_for level row)
 
 named : {A : Type 0} (forest : Forest Elements) (e0 e1 : List (LaidRecord A)) (s0 s1 f l first last : ℕ) → Lays forest e0 e1 s0 s1 f l → first ≡ f → last ≡ l → Lays forest e0 e1 s0 s1 first last
 named forest e0 e1 s0 s1 f l first last lays a b = rw (a, b) lays

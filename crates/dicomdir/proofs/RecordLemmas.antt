@@ -1,16 +1,23 @@
 -- The bytes of a record are those of its elements, one after the other.
-use Rattle.std.proofs.Common.{◌≡◌, ℕ, ◌≤◌, ◌+◌, Bool, true, false, ◌&&◌, cond, List, [], ◌∷◌, ◌++◌, length, Option, Some, None, codes, refl, sym, ap, ◌∙◌, append_assoc, arith}
-use Rattle.std.proofs.lemmas.List.{append-nil}
+use Rattle.std.proofs.Common.{◌≡◌, ℕ, ◌≤◌, ◌<◌, ◌+◌, Bool, true, false, ◌&&◌, cond, List, [], ◌∷◌, ◌++◌, length, get_or, drop, Option, Some, None, codes, refl, sym, ap, ◌∙◌, append_assoc, arith}
+use Rattle.std.specs.List.{list_all}
+use Rattle.std.proofs.lemmas.List.{append-nil, at_drop_more, at_drop_all}
 use Rattle.element.specs.declared.tag.Tag.{Tag}
 use Rattle.element.specs.declared.syntax.Syntax.{Syntax}
 use Rattle.element.specs.declared.syntax.Syntax.TheVariants.{Implicit, Explicit}
-use Rattle.element.specs.Header.{header_bytes}
+use Rattle.element.specs.Header.{number, header_bytes}
 use Rattle.element.specs.Numbers.{le}
 use Rattle.element.specs.Padding.{is_empty, without_trailing, is_padding, padded}
+use Rattle.element.specs.Vr.{is_short}
 use Rattle.dictionary.specs.Syntaxes.{syntax_uid}
 use Rattle.sequence.specs.Tree.{Elements, no_elements}
+use Rattle.sequence.specs.Wanted.{Values, value_of}
+use Rattle.dicomdir.specs.declared.key_table.KeyRule.{KeyRule}
+use Rattle.dicomdir.specs.declared.level.Level.{Level}
+use Rattle.dicomdir.specs.declared.level.Level.TheVariants.{Patient, Study, Series, Image}
+use Rattle.dicomdir.specs.KeyTable.{has_level, key_table}
 use Rattle.dicomdir.specs.Layout.{spelled, with_offsets}
-use Rattle.dicomdir.specs.Record.{tag, field, record_elements, character_set_key, text_key, uid_key, patient_record, study_record, series_record, image_record}
+use Rattle.dicomdir.specs.Record.{tag, field, record_elements, padding_for, key_field, key_field_of, written, key_fields, kind_of, file_fields, record_for}
 use Rattle.dicomdir.specs.Row.{Row, key}
 use Rattle.dicomdir.specs.RecordText as text
 
@@ -45,70 +52,95 @@ field_then t vr v {es} {rest} e =
 field_last : (t : Tag) (vr v : List ℕ) → Spells (field t vr v no_elements) (text.element_text t vr v)
 field_last t vr v = record { is = (field_then t vr v {es = no_elements} {rest = []} (record { is = refl })).is ∙ append-nil (text.element_text t vr v) }
 
-character_set_then : (cs : Option (List ℕ)) {es : Elements} {rest : List ℕ} → Spells es rest → Spells (character_set_key cs es) (text.character_set cs ++ rest)
-character_set_then None e = record { is = e.is }
-character_set_then (Some v) e = field_then (tag 0x0008 0x0005) (codes "CS") (padded 32 (key v)) e
-
-patient_text : (row : Row) → Spells (character_set_key row.character_set
-    (text_key (tag 0x0010 0x0010) (codes "PN") row.patient_name
-    (text_key (tag 0x0010 0x0020) (codes "LO") row.patient_id no_elements))) (text.patient row)
-patient_text row =
-    character_set_then row.character_set
-    (field_then (tag 0x0010 0x0010) (codes "PN") (padded 32 (key row.patient_name))
-    (field_last (tag 0x0010 0x0020) (codes "LO") (padded 32 (key row.patient_id))))
-
-study_text : (row : Row) → Spells (character_set_key row.character_set
-    (text_key (tag 0x0008 0x0020) (codes "DA") row.study_date
-    (text_key (tag 0x0008 0x0030) (codes "TM") row.study_time
-    (text_key (tag 0x0008 0x0050) (codes "SH") row.accession_number
-    (text_key (tag 0x0008 0x1030) (codes "LO") row.study_description
-    (uid_key (tag 0x0020 0x000d) row.study_instance_uid
-    (text_key (tag 0x0020 0x0010) (codes "SH") row.study_id no_elements))))))) (text.study row)
-study_text row =
-    character_set_then row.character_set
-    (field_then (tag 0x0008 0x0020) (codes "DA") (padded 32 (key row.study_date))
-    (field_then (tag 0x0008 0x0030) (codes "TM") (padded 32 (key row.study_time))
-    (field_then (tag 0x0008 0x0050) (codes "SH") (padded 32 (key row.accession_number))
-    (field_then (tag 0x0008 0x1030) (codes "LO") (padded 32 (key row.study_description))
-    (field_then (tag 0x0020 0x000d) (codes "UI") (padded 0 (key row.study_instance_uid))
-    (field_last (tag 0x0020 0x0010) (codes "SH") (padded 32 (key row.study_id))))))))
-
-series_text : (row : Row) → Spells (character_set_key row.character_set
-    (text_key (tag 0x0008 0x0060) (codes "CS") row.modality
-    (uid_key (tag 0x0020 0x000e) row.series_instance_uid
-    (text_key (tag 0x0020 0x0011) (codes "IS") row.series_number no_elements)))) (text.series_text row)
-series_text row =
-    character_set_then row.character_set
-    (field_then (tag 0x0008 0x0060) (codes "CS") (padded 32 (key row.modality))
-    (field_then (tag 0x0020 0x000e) (codes "UI") (padded 0 (key row.series_instance_uid))
-    (field_last (tag 0x0020 0x0011) (codes "IS") (padded 32 (key row.series_number)))))
-
 four : (a b c d e : List ℕ) → a ++ (b ++ (c ++ (d ++ e))) ≡ (a ++ (b ++ (c ++ d))) ++ e
 four a b c d e = simp append_assoc
 
-image_text : (row : Row) → Spells (field (tag 0x0004 0x1500) (codes "CS") (padded 32 row.file_id)
-    (field (tag 0x0004 0x1510) (codes "UI") (padded 0 row.class)
-    (field (tag 0x0004 0x1511) (codes "UI") (padded 0 row.instance)
-    (field (tag 0x0004 0x1512) (codes "UI") (padded 0 (syntax_uid row.syntax))
-    (character_set_key row.character_set
-    (text_key (tag 0x0020 0x0013) (codes "IS") row.instance_number no_elements)))))) (text.image row)
-image_text row =
-    let spells =
-    field_then (tag 0x0004 0x1500) (codes "CS") (padded 32 row.file_id)
+-- a key of a record, and those behind it
+
+pub key_text : (rule : KeyRule) (v : List ℕ) → spelled (key_field rule v no_elements) ≡ text.element_text rule.tag rule.vr (padded (padding_for rule.vr) (key v))
+key_text rule v = (field_last rule.tag rule.vr (padded (padding_for rule.vr) (key v))).is
+
+key_then : (rule : KeyRule) (o : Option (List ℕ)) (es : Elements) → spelled (key_field_of rule o es) ≡ spelled (key_field_of rule o no_elements) ++ spelled es
+key_then rule None es = refl
+key_then rule (Some v) es =
+    (field_then rule.tag rule.vr (padded (padding_for rule.vr) (key v)) {es = es} {rest = spelled es} (record { is = refl })).is
+    ∙ ap (λ z. z ++ spelled es) (sym (key_text rule v))
+
+-- one step of the loop over the keys
+
+abbrev own_text : KeyRule → Values → List ℕ
+own_text rule values = spelled (key_field_of rule (written rule.kind (value_of values (number rule.tag))) no_elements)
+
+pub keys_more : (level : Level) (rules : List KeyRule) (values : Values) (out new whole : List ℕ) (i : ℕ) (d : KeyRule) → i < length rules
+    → has_level (get_or rules i d).levels level ≡ true → new ≡ out ++ own_text (get_or rules i d) values
+    → out ++ spelled (key_fields level (drop i rules) values) ≡ whole → new ++ spelled (key_fields level (drop (i + 1) rules) values) ≡ whole
+keys_more level rules values out new whole i d lt has put h =
+    let rule = get_or rules i d in
+    let later = key_fields level (drop (i + 1) rules) values in
+    let step : spelled (key_fields level (drop i rules) values) ≡ own_text rule values ++ spelled later =
+    at_drop_more (λ r. spelled (key_fields level r values)) rules i d lt
+    ∙ ap (λ (b : Bool). spelled (cond b (key_field_of rule (written rule.kind (value_of values (number rule.tag))) later) later)) has
+    ∙ key_then rule (written rule.kind (value_of values (number rule.tag))) later in
+    ap (λ z. z ++ spelled later) put ∙ append_assoc out (own_text rule values) (spelled later) ∙ ap (λ z. out ++ z) (sym step) ∙ h
+
+pub keys_skip : (level : Level) (rules : List KeyRule) (values : Values) (out whole : List ℕ) (i : ℕ) (d : KeyRule) → i < length rules
+    → has_level (get_or rules i d).levels level ≡ false
+    → out ++ spelled (key_fields level (drop i rules) values) ≡ whole → out ++ spelled (key_fields level (drop (i + 1) rules) values) ≡ whole
+keys_skip level rules values out whole i d lt has h =
+    let rule = get_or rules i d in
+    let later = key_fields level (drop (i + 1) rules) values in
+    let step : spelled (key_fields level (drop i rules) values) ≡ spelled later =
+    at_drop_more (λ r. spelled (key_fields level r values)) rules i d lt
+    ∙ ap (λ (b : Bool). spelled (cond b (key_field_of rule (written rule.kind (value_of values (number rule.tag))) later) later)) has in
+    ap (λ z. out ++ z) (sym step) ∙ h
+
+pub keys_all : (level : Level) (rules : List KeyRule) (values : Values) (out whole : List ℕ) (i : ℕ) → length rules ≤ i
+    → out ++ spelled (key_fields level (drop i rules) values) ≡ whole → out ≡ whole
+keys_all level rules values out whole i past h =
+    sym (append-nil out) ∙ ap (λ z. out ++ z) (sym (at_drop_all (λ r. spelled (key_fields level r values)) rules i past)) ∙ h
+
+-- the room that the loop has left
+
+room_step : (level : Level) (rules : List KeyRule) (i : ℕ) (d : KeyRule) → i < length rules
+    → text.keys_room level (drop i rules) ≡ text.key_room level (get_or rules i d) + text.keys_room level (drop (i + 1) rules)
+room_step level rules i d lt = at_drop_more (λ r. text.keys_room level r) rules i d lt
+
+pub room_more : (level : Level) (rules : List KeyRule) (i : ℕ) (d : KeyRule) (before after most : ℕ) → i < length rules
+    → has_level (get_or rules i d).levels level ≡ true → after ≤ before + (get_or rules i d).room + 9
+    → before + text.keys_room level (drop i rules) ≤ most → after + text.keys_room level (drop (i + 1) rules) ≤ most
+room_more level rules i d before after most lt has put h =
+    let step = room_step level rules i d lt in
+    let room : text.key_room level (get_or rules i d) ≡ (get_or rules i d).room + 9 = ap (λ (b : Bool). cond b ((get_or rules i d).room + 9) 0) has in
+    omega (arith, step, room, put, h)
+
+pub room_skip : (level : Level) (rules : List KeyRule) (i : ℕ) (d : KeyRule) (before most : ℕ) → i < length rules → has_level (get_or rules i d).levels level ≡ false
+    → before + text.keys_room level (drop i rules) ≤ most → before + text.keys_room level (drop (i + 1) rules) ≤ most
+room_skip level rules i d before most lt has h = let step = room_step level rules i d lt in omega (arith, step, h)
+
+-- what an image's record says of its file
+pub file_text : (row : Row) → spelled (file_fields Image row no_elements) ≡ text.file row
+file_text row =
+    (field_then (tag 0x0004 0x1500) (codes "CS") (padded 32 row.file_id)
     (field_then (tag 0x0004 0x1510) (codes "UI") (padded 0 row.class)
     (field_then (tag 0x0004 0x1511) (codes "UI") (padded 0 row.instance)
-    (field_then (tag 0x0004 0x1512) (codes "UI") (padded 0 (syntax_uid row.syntax))
-    (character_set_then row.character_set
-    (field_last (tag 0x0020 0x0013) (codes "IS") (padded 32 (key row.instance_number))))))) in
-    record {
-      is = spells.is
-          ∙ four
-          (text.element_text (tag 0x0004 0x1500) (codes "CS") (padded 32 row.file_id))
-          (text.element_text (tag 0x0004 0x1510) (codes "UI") (padded 0 row.class))
-          (text.element_text (tag 0x0004 0x1511) (codes "UI") (padded 0 row.instance))
-          (text.element_text (tag 0x0004 0x1512) (codes "UI") (padded 0 (syntax_uid row.syntax)))
-          (text.character_set row.character_set ++ text.text_element (tag 0x0020 0x0013) (codes "IS") row.instance_number);
-    }
+    (field_last (tag 0x0004 0x1512) (codes "UI") (padded 0 (syntax_uid row.syntax)))))).is
+
+file_then : (level : Level) (row : Row) (es : Elements) → spelled (file_fields level row es) ≡ spelled (file_fields level row no_elements) ++ spelled es
+file_then Patient row es = refl
+file_then Study row es = refl
+file_then Series row es = refl
+file_then Image row es =
+    (field_then (tag 0x0004 0x1500) (codes "CS") (padded 32 row.file_id)
+    (field_then (tag 0x0004 0x1510) (codes "UI") (padded 0 row.class)
+    (field_then (tag 0x0004 0x1511) (codes "UI") (padded 0 row.instance)
+    (field_then (tag 0x0004 0x1512) (codes "UI") (padded 0 (syntax_uid row.syntax)) {es = es} {rest = spelled es} (record { is = refl }))))).is
+    ∙ four
+    (text.element_text (tag 0x0004 0x1500) (codes "CS") (padded 32 row.file_id))
+    (text.element_text (tag 0x0004 0x1510) (codes "UI") (padded 0 row.class))
+    (text.element_text (tag 0x0004 0x1511) (codes "UI") (padded 0 row.instance))
+    (text.element_text (tag 0x0004 0x1512) (codes "UI") (padded 0 (syntax_uid row.syntax)))
+    (spelled es)
+    ∙ ap (λ z. z ++ spelled es) (sym (file_text row))
 
 started : (next lower : ℕ) (kind : List ℕ) (es : Elements) (rest : List ℕ) → Spells es rest
     → spelled (with_offsets next lower (record_elements kind es)) ≡ text.start_text next lower (padded 32 kind) ++ rest
@@ -126,14 +158,38 @@ started next lower kind es rest e =
     (text.element_text (tag 0x0004 0x1430) (codes "CS") (padded 32 kind))
     rest
 
-pub patient_spelled : (next lower : ℕ) (row : Row) → spelled (with_offsets next lower (patient_record row)) ≡ text.start_text next lower (padded 32 (codes "PATIENT")) ++ text.patient row
-patient_spelled next lower row = started next lower (codes "PATIENT") _ (text.patient row) (patient_text row)
+pub record_spelled : (level : Level) (next lower : ℕ) (row : Row) → spelled (with_offsets next lower (record_for level row))
+    ≡ text.start_text next lower (padded 32 (kind_of level)) ++ (spelled (file_fields level row no_elements) ++ spelled (key_fields level key_table row.values))
+record_spelled level next lower row =
+    started next lower (kind_of level) (file_fields level row (key_fields level key_table row.values)) _ (record { is = file_then level row (key_fields level key_table row.values) })
 
-pub study_spelled : (next lower : ℕ) (row : Row) → spelled (with_offsets next lower (study_record row)) ≡ text.start_text next lower (padded 32 (codes "STUDY")) ++ text.study row
-study_spelled next lower row = started next lower (codes "STUDY") _ (text.study row) (study_text row)
+-- a record that is written by its parts
+pub record_whole : (level : Level) (next lower : ℕ) (row : Row) (empty kind start file whole : List ℕ) (rules : List KeyRule)
+    → empty ≡ [] → kind ≡ kind_of level → rules ≡ key_table → start ≡ empty ++ text.start_text next lower (padded 32 kind)
+    → file ≡ start ++ spelled (file_fields level row no_elements) → whole ≡ file ++ spelled (key_fields level rules row.values)
+    → whole ≡ spelled (with_offsets next lower (record_for level row))
+record_whole level next lower row empty kind start file whole rules none is table a b c =
+    let own : List ℕ = spelled (file_fields level row no_elements) in
+    let keys : List ℕ = spelled (key_fields level key_table row.values) in
+    let front : List ℕ = text.start_text next lower (padded 32 (kind_of level)) in
+    let start_is : start ≡ front = a ∙ ap (λ z. z ++ text.start_text next lower (padded 32 kind)) none ∙ ap (λ z. text.start_text next lower (padded 32 z)) is in
+    let file_is : file ≡ front ++ own = b ∙ ap (λ z. z ++ own) start_is in
+    c ∙ ap (λ z. file ++ spelled (key_fields level z row.values)) table ∙ ap (λ z. z ++ keys) file_is ∙ append_assoc front own keys ∙ sym (record_spelled level next lower row)
 
-pub series_spelled : (next lower : ℕ) (row : Row) → spelled (with_offsets next lower (series_record row)) ≡ text.start_text next lower (padded 32 (codes "SERIES")) ++ text.series_text row
-series_spelled next lower row = started next lower (codes "SERIES") _ (text.series_text row) (series_text row)
+-- what the longest record takes
 
-pub image_spelled : (next lower : ℕ) (row : Row) → spelled (with_offsets next lower (image_record row)) ≡ text.start_text next lower (padded 32 (codes "IMAGE")) ++ text.image row
-image_spelled next lower row = started next lower (codes "IMAGE") _ (text.image row) (image_text row)
+pub kind_short : (level : Level) → length (kind_of level) ≤ 7
+kind_short Patient = omega arith
+kind_short Study = omega arith
+kind_short Series = omega arith
+kind_short Image = omega arith
+
+pub record_fits : (level : Level) → text.file_room level + text.keys_room level key_table ≤ 859
+record_fits Patient = omega arith
+record_fits Study = omega arith
+record_fits Series = omega arith
+record_fits Image = omega arith
+
+pub short_table : list_all text.has_short_vr key_table ≡ true
+unfolding is_short
+short_table = refl

@@ -1,10 +1,10 @@
 -- A file has one row, and its keys fit.
-use Rattle.std.proofs.Common.{◌≡◌, ℕ, ◌≤◌, Bool, true, false, ◌&&◌, cond, List, [], ◌∷◌, ◌++◌, length, take, drop, Option, Some, None, Err, nat_eq, nat_le, unwrap_or, eqb-true, refl, sym, ap, subst, ◌∙◌, arith, append_assoc, codes}
+use Rattle.std.proofs.Common.{◌≡◌, ℕ, ◌≤◌, Bool, true, false, ◌&&◌, cond, List, [], ◌∷◌, ◌++◌, length, take, drop, Option, Some, None, Err, nat_eq, nat_le, unwrap_or, is_some, eqb-true, refl, sym, ap, subst, ◌∙◌, arith, append_assoc, codes}
 use Rattle.std.proofs.lemmas.List.{append_cancel_left, drop_at}
-use Rattle.std.proofs.lemmas.Bool.{le-leb}
+use Rattle.std.specs.List.{list_all}
+use Rattle.std.proofs.lemmas.Bool.{and_parts, le-leb}
 use Rattle.element.specs.declared.syntax.Syntax.{Syntax}
 use Rattle.element.specs.declared.syntax.Syntax.TheVariants.{Implicit, Explicit}
-use Rattle.element.specs.declared.tag.Tag.{Tag}
 use Rattle.element.specs.Header.{number}
 use Rattle.dictionary.specs.Syntaxes.{syntax_uid}
 use Rattle.part10.specs.File.{length_element}
@@ -21,9 +21,10 @@ use Rattle.sequence.specs.Ending.{IsWholeDataSet, Fails, breaks_rule, ends_early
 use Rattle.sequence.specs.Rules.{Limits}
 use Rattle.sequence.proofs.Public.{one_fault, one_tree, whole_breaks_no_rule}
 use Rattle.dicomdir.specs.declared.skip.Skip.TheVariants as skip
-use Rattle.dicomdir.specs.Record.{tag}
-use Rattle.dicomdir.specs.Keys.{checked_row, optional_size}
-use Rattle.dicomdir.specs.RowOf.{row_wants, row_limits, row_from, key_in, IsInstance, in_header, in_data_set, of_values}
+use Rattle.dicomdir.specs.declared.key_table.KeyRule.{KeyRule}
+use Rattle.dicomdir.specs.KeyTable.{key_table}
+use Rattle.dicomdir.specs.Keys.{checked_row, optional_size, fits_room}
+use Rattle.dicomdir.specs.RowOf.{row_wants, row_limits, row_from, with_value, values_for, IsInstance, in_header, in_data_set, of_values}
 use Rattle.dicomdir.specs.RowLaws.{OneRow, KeysFit}
 use Rattle.dicomdir.proofs.HeaderChecks.{not_same}
 
@@ -162,27 +163,47 @@ kept_fits ws (sequence h is es) t room v fit r e = kept_fits ws es t room v fit 
 kept_fits ws (value h w es) t room v fit r e =
     some_fits ws (number h.tag) t room w v (kept_of ws es) (is_wanted ws (number h.tag)) fit.0 r (λ f. kept_fits ws es t room v fit.1 r f) e
 
-size_fits : (ws : List Want) (es : Elements) (t room : ℕ) → FitRooms ws es → room_of ws t ≡ Some room → nat_le (optional_size (value_of (kept_of ws es) t)) room ≡ true
-size_fits ws es t room fit r = by (value_of (kept_of ws es) t) refl
+-- what a row takes of the values is among them
+taken_from : (rules : List KeyRule) (values : Values) (t : ℕ) (v : List ℕ) → value_of (values_for rules values) t ≡ Some v → value_of values t ≡ Some v
+taken_from [] values t v e = absurd cc
+taken_from (rule ∷ rules) values t v e = by (λ f. taken_from rules values t v f) (value_of values (number rule.tag)) refl e
   where
-    by : (o : Option (List ℕ)) → value_of (kept_of ws es) t ≡ o → nat_le (optional_size o) room ≡ true
-    by None e = le-leb 0 room (omega arith)
-    by (Some v) e = le-leb (length v) room (kept_fits ws es t room v fit r e)
+    here : (value_of (values_for rules values) t ≡ Some v → value_of values t ≡ Some v) → (w : List ℕ) (b : Bool) → nat_eq (number rule.tag) t ≡ b → value_of values (number rule.tag) ≡ Some w
+        → cond b (Some w) (value_of (values_for rules values) t) ≡ Some v → value_of values t ≡ Some v
+    here more w true same is e = ap (λ z. value_of values z) (sym (eqb-true _ _ same)) ∙ is ∙ e
+    here more w false other is e = more e
 
-key_fits : (ws : List Want) (es : Elements) (t : Tag) (room : ℕ) → FitRooms ws es → room_of ws (number t) ≡ Some room → nat_le (length (key_in (kept_of ws es) t)) room ≡ true
-key_fits ws es t room fit r = by (value_of (kept_of ws es) (number t)) refl
+    by : (value_of (values_for rules values) t ≡ Some v → value_of values t ≡ Some v) → (o : Option (List ℕ)) → value_of values (number rule.tag) ≡ o → value_of (with_value (number rule.tag) o (values_for rules values)) t ≡ Some v → value_of values t ≡ Some v
+    by more None is e = more e
+    by more (Some w) is e = here more w (nat_eq (number rule.tag) t) refl is e
+
+-- each key has its room
+abbrev has_room : List Want → KeyRule → Bool
+has_room ws rule = nat_eq (unwrap_or (room_of ws (number rule.tag)) 0) rule.room && is_some (room_of ws (number rule.tag))
+
+never : (b : Bool) → (b && false) ≡ true → ⊥
+never true e = absurd cc
+never false e = absurd cc
+
+room_is : (ws : List Want) (rule : KeyRule) → has_room ws rule ≡ true → room_of ws (number rule.tag) ≡ Some rule.room
+room_is ws rule e = by (room_of ws (number rule.tag)) e
   where
-    by : (o : Option (List ℕ)) → value_of (kept_of ws es) (number t) ≡ o → nat_le (length (unwrap_or o [])) room ≡ true
-    by None e = le-leb 0 room (omega arith)
-    by (Some v) e = le-leb (length v) room (kept_fits ws es (number t) room v fit r e)
+    by : (o : Option ℕ) → (nat_eq (unwrap_or o 0) rule.room && is_some o) ≡ true → o ≡ Some rule.room
+    by None e = absurd (never (nat_eq 0 rule.room) e)
+    by (Some n) e = let parts = and_parts (nat_eq n rule.room) true e in ap (λ z. Some z) (eqb-true n rule.room parts.0)
 
-both : {a b : Bool} → a ≡ true → b ≡ true → (a && b) ≡ true
-both e f = cc
+rooms_fit : (ws : List Want) (es : Elements) (taken rules : List KeyRule) → FitRooms ws es → list_all (has_room ws) rules ≡ true → list_all (fits_room (values_for taken (kept_of ws es))) rules ≡ true
+rooms_fit ws es taken [] fit e = refl
+rooms_fit ws es taken (rule ∷ rules) fit e =
+    let parts = and_parts (has_room ws rule) _ e in
+    both (by (value_of (values_for taken (kept_of ws es)) (number rule.tag)) refl (room_is ws rule parts.0)) (rooms_fit ws es taken rules fit parts.1)
+  where
+    by : (o : Option (List ℕ)) → value_of (values_for taken (kept_of ws es)) (number rule.tag) ≡ o → room_of ws (number rule.tag) ≡ Some rule.room → nat_le (optional_size o) rule.room ≡ true
+    by None is r = le-leb 0 rule.room (omega arith)
+    by (Some v) is r = le-leb (length v) rule.room (kept_fits ws es (number rule.tag) rule.room v fit r (taken_from taken (kept_of ws es) (number rule.tag) v is))
+
+    both : {a b : Bool} → a ≡ true → b ≡ true → (a && b) ≡ true
+    both e f = cc
 
 pub keys_fit : KeysFit
-keys_fit file_id class instance s es fit =
-    let fits : (t : Tag) (room : ℕ) → room_of row_wants (number t) ≡ Some room → nat_le (length (key_in (kept_of row_wants es) t)) room ≡ true = λ t room r. key_fits row_wants es t room fit r in
-    both (both (both (size_fits row_wants es (number (tag 0x0008 0x0005)) 64 fit refl) (both (fits (tag 0x0010 0x0010) 512 refl) (fits (tag 0x0010 0x0020) 256 refl)))
-    (both (fits (tag 0x0008 0x0020) 32 refl) (both (fits (tag 0x0008 0x0030) 32 refl) (fits (tag 0x0008 0x0050) 64 refl))))
-    (both (both (fits (tag 0x0008 0x1030) 256 refl) (both (fits (tag 0x0020 0x000d) 64 refl) (fits (tag 0x0020 0x0010) 64 refl)))
-    (both (both (fits (tag 0x0008 0x0060) 64 refl) (both (fits (tag 0x0020 0x000e) 64 refl) (fits (tag 0x0020 0x0011) 32 refl))) (fits (tag 0x0020 0x0013) 32 refl)))
+keys_fit file_id class instance s es fit = rooms_fit row_wants es key_table key_table fit refl

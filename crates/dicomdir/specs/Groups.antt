@@ -11,9 +11,11 @@ abbrev pub second_row : Row
 second_row = record one_image_row {
   file_id = codes "I0000002";
   instance = codes "1.2.3.1.2";
-  patient_id = codes "P1  ";
-  study_instance_uid = codes "1.2.3" ++ (0 ∷ []);
-  instance_number = codes "2";
+  values =
+      (0x00100020, codes "P1  ")
+      ∷ (0x0020000d, codes "1.2.3" ++ (0 ∷ []))
+      ∷ (0x00200013, codes "2")
+      ∷ one_image_row.values;
 }
 
 -- an image of another series of the study
@@ -21,7 +23,7 @@ abbrev pub third_row : Row
 third_row = record one_image_row {
   file_id = codes "I0000003";
   instance = codes "1.2.3.2.1";
-  series_instance_uid = codes "1.2.3.2";
+  values = (0x0020000e, codes "1.2.3.2") ∷ one_image_row.values;
 }
 
 -- the first instance once more
@@ -33,9 +35,11 @@ abbrev pub fourth_row : Row
 fourth_row = record one_image_row {
   file_id = codes "I0000005";
   instance = codes "1.2.4.1.1";
-  patient_id = codes "P2";
-  study_instance_uid = codes "1.2.4";
-  series_instance_uid = codes "1.2.4.1";
+  values =
+      (0x00100020, codes "P2")
+      ∷ (0x0020000d, codes "1.2.4")
+      ∷ (0x0020000e, codes "1.2.4.1")
+      ∷ one_image_row.values;
 }
 
 -- of the first four, seven records; of all, in another order, the tree with each level in first-seen order, each

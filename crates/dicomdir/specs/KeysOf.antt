@@ -1,11 +1,20 @@
 -- The row that a file ID, what a file header says, and keys make.
-use Rattle.std.specs.Prelude.{ℕ, List, option_map}
+use Rattle.std.specs.Prelude.{ℕ, List, map}
 use Rattle.element.specs.declared.syntax.Syntax.{Syntax}
+use Rattle.element.specs.Header.{number}
+use Rattle.sequence.specs.Wanted.{Values}
+use Rattle.dicomdir.specs.declared.keys.Entry.{Entry}
 use Rattle.dicomdir.specs.declared.keys.Keys.{Keys}
 use Rattle.dicomdir.specs.Row.{Row}
 
 abbrev pub RowValue : Type 0
 RowValue = Row
+
+abbrev pub entry_value : {A : Type 0} → Entry A → ℕ × List ℕ
+entry_value entry = (number entry.tag, entry.value.items)
+
+abbrev pub key_values : {A : Type 0} → Keys A → Values
+key_values keys = map entry_value keys.entries.items
 
 abbrev pub keys_row : {A : Type 0} → List ℕ → List ℕ → List ℕ → Syntax → Keys A → Row
 keys_row file_id class instance syntax keys = record {
@@ -13,17 +22,5 @@ keys_row file_id class instance syntax keys = record {
   class = class;
   instance = instance;
   syntax = syntax;
-  character_set = option_map (λ v. v.items) keys.character_set;
-  patient_name = keys.patient_name.items;
-  patient_id = keys.patient_id.items;
-  study_date = keys.study_date.items;
-  study_time = keys.study_time.items;
-  accession_number = keys.accession_number.items;
-  study_description = keys.study_description.items;
-  study_instance_uid = keys.study_instance_uid.items;
-  study_id = keys.study_id.items;
-  modality = keys.modality.items;
-  series_instance_uid = keys.series_instance_uid.items;
-  series_number = keys.series_number.items;
-  instance_number = keys.instance_number.items;
+  values = key_values keys;
 }

@@ -17,19 +17,19 @@ one_image_row = record {
   class = codes "1.2.840.10008.5.1.4.1.1.2";
   instance = codes "1.2.3.1.1";
   syntax = Explicit;
-  character_set = None;
-  patient_name = codes "DOE^JANE";
-  patient_id = codes "P1";
-  study_date = codes "20260101";
-  study_time = codes "120000";
-  accession_number = [];
-  study_description = codes "HEAD";
-  study_instance_uid = codes "1.2.3";
-  study_id = codes "S1";
-  modality = codes "CT";
-  series_instance_uid = codes "1.2.3.1";
-  series_number = codes "1";
-  instance_number = codes "1";
+  values =
+      (0x00080020, codes "20260101")
+      ∷ (0x00080030, codes "120000")
+      ∷ (0x00080060, codes "CT")
+      ∷ (0x00081030, codes "HEAD")
+      ∷ (0x00100010, codes "DOE^JANE")
+      ∷ (0x00100020, codes "P1")
+      ∷ (0x0020000d, codes "1.2.3")
+      ∷ (0x0020000e, codes "1.2.3.1")
+      ∷ (0x00200010, codes "S1")
+      ∷ (0x00200011, codes "1")
+      ∷ (0x00200013, codes "1")
+      ∷ [];
 }
 
 -- the file header, 266 bytes

@@ -1,31 +1,26 @@
 -- What a directory is built from: a row for each file. Which keys a record has is that of PS3.3 section F.5;
 -- which of them must not be empty is this product's own profile.
-use Rattle.std.specs.Prelude.{ℕ, List, [], ◌∷◌, Option, if◌then◌else◌}
+use Rattle.std.specs.Prelude.{ℕ, List, [], ◌∷◌, unwrap_or, if◌then◌else◌}
 use Rattle.std.specs.List.{list_any}
 use Rattle.std.specs.Str.{bytes_eq}
 use Rattle.element.specs.declared.syntax.Syntax.{Syntax}
+use Rattle.element.specs.declared.tag.Tag.{Tag}
+use Rattle.element.specs.Header.{number}
 use Rattle.element.specs.Padding.{is_padding, without_trailing}
+use Rattle.sequence.specs.Wanted.{Values, value_of}
 
--- the class, the instance and the syntax are those of the file header, the other values those of the data set
+-- the class, the instance and the syntax are those of the file header
 pub record Row : Type 0 where
   pub file_id : List ℕ
   pub class : List ℕ
   pub instance : List ℕ
   pub syntax : Syntax
-  -- where the data set has it
-  pub character_set : Option (List ℕ)
-  pub patient_name : List ℕ
-  pub patient_id : List ℕ
-  pub study_date : List ℕ
-  pub study_time : List ℕ
-  pub accession_number : List ℕ
-  pub study_description : List ℕ
-  pub study_instance_uid : List ℕ
-  pub study_id : List ℕ
-  pub modality : List ℕ
-  pub series_instance_uid : List ℕ
-  pub series_number : List ℕ
-  pub instance_number : List ℕ
+  -- those of the data set that records have, each after its tag's number
+  pub values : Values
+
+-- the value with this tag; empty where there is none
+abbrev pub key_in : Values → Tag → List ℕ
+key_in values t = unwrap_or (value_of values (number t)) []
 
 -- of a key's value, what is compared and written: spaces and 00H at its end do not count
 abbrev pub key : List ℕ → List ℕ

@@ -1,8 +1,7 @@
 -- The row of a file, or why it has none (this product's own profile; which values the records of a directory have is
 -- that of PS3.3 section F.5).
-use Rattle.std.specs.Prelude.{◌≡◌, ℕ, ◌^◌, List, [], ◌++◌, Result, Err, map, unwrap_or}
+use Rattle.std.specs.Prelude.{◌≡◌, ℕ, ◌^◌, List, [], ◌∷◌, ◌++◌, Option, Some, None, Result, Err, map}
 use Rattle.element.specs.declared.syntax.Syntax.{Syntax}
-use Rattle.element.specs.declared.tag.Tag.{Tag}
 use Rattle.element.specs.Header.{number}
 use Rattle.dictionary.specs.Syntaxes.{syntax_uid}
 use Rattle.part10.specs.declared.meta_fault.MetaFault.{MetaFault}
@@ -14,10 +13,10 @@ use Rattle.sequence.specs.Within.{Within}
 use Rattle.sequence.specs.Rules.{Limits}
 use Rattle.sequence.specs.Wanted.{Values, value_of, kept_of}
 use Rattle.sequence.specs.Ending.{Fails}
+use Rattle.dicomdir.specs.declared.key_table.KeyRule.{KeyRule}
 use Rattle.dicomdir.specs.declared.skip.Skip.{Skip}
 use Rattle.dicomdir.specs.declared.skip.Skip.TheVariants as skip
 use Rattle.dicomdir.specs.KeyTable.{key_table, want_of}
-use Rattle.dicomdir.specs.Record.{tag}
 use Rattle.dicomdir.specs.Row.{Row}
 use Rattle.dicomdir.specs.Keys.{checked_row}
 
@@ -29,9 +28,14 @@ row_wants = map want_of key_table
 abbrev pub row_limits : Limits
 row_limits = record { wanted = row_wants; depth = 64; bytes = 2 ^ 48 }
 
--- the value with this tag; empty where the data set has none
-abbrev pub key_in : Values → Tag → List ℕ
-key_in values t = unwrap_or (value_of values (number t)) []
+-- the values of these keys
+abbrev pub with_value : ℕ → Option (List ℕ) → Values → Values
+with_value n None others = others
+with_value n (Some v) others = (n, v) ∷ others
+
+abbrev pub values_for : List KeyRule → Values → Values
+values_for [] values = []
+values_for (rule ∷ rules) values = with_value (number rule.tag) (value_of values (number rule.tag)) (values_for rules values)
 
 -- the row of a file with this file ID and these values
 abbrev pub row_from : List ℕ → List ℕ → List ℕ → Syntax → Values → Row
@@ -40,19 +44,7 @@ row_from file_id class instance syntax values = record {
   class = class;
   instance = instance;
   syntax = syntax;
-  character_set = value_of values (number (tag 0x0008 0x0005));
-  patient_name = key_in values (tag 0x0010 0x0010);
-  patient_id = key_in values (tag 0x0010 0x0020);
-  study_date = key_in values (tag 0x0008 0x0020);
-  study_time = key_in values (tag 0x0008 0x0030);
-  accession_number = key_in values (tag 0x0008 0x0050);
-  study_description = key_in values (tag 0x0008 0x1030);
-  study_instance_uid = key_in values (tag 0x0020 0x000d);
-  study_id = key_in values (tag 0x0020 0x0010);
-  modality = key_in values (tag 0x0008 0x0060);
-  series_instance_uid = key_in values (tag 0x0020 0x000e);
-  series_number = key_in values (tag 0x0020 0x0011);
-  instance_number = key_in values (tag 0x0020 0x0013);
+  values = values_for key_table values;
 }
 
 -- the file is a file header that names a syntax that is taken, and what follows

@@ -3,8 +3,8 @@ use Rattle.std.specs.Prelude.{ℕ, suc, ◌+◌, List, [], ◌∷◌, ◌++◌, 
 use Rattle.std.specs.List.{list_any}
 use Rattle.std.specs.Str.{bytes_eq}
 use Rattle.sequence.specs.Tree.{Elements}
-use Rattle.dicomdir.specs.Row.{Row, key, without_doubles}
-use Rattle.dicomdir.specs.Record.{patient_record, study_record, series_record, image_record}
+use Rattle.dicomdir.specs.Row.{Row, key, key_in, without_doubles}
+use Rattle.dicomdir.specs.Record.{tag, patient_record, study_record, series_record, image_record}
 
 -- siblings: each node carries something, and has nodes below it
 pub data Forest (N : Type 0) : Type 0 where
@@ -46,11 +46,11 @@ images [] = no_nodes
 images (row ∷ rows) = node (image_record row) no_nodes (images rows)
 
 abbrev pub series : List Row → Forest Elements
-series rows = grouped (λ row. key row.series_instance_uid) series_record images rows
+series rows = grouped (λ row. key (key_in row.values (tag 0x0020 0x000e))) series_record images rows
 
 abbrev pub studies : List Row → Forest Elements
-studies rows = grouped (λ row. key row.study_instance_uid) study_record series rows
+studies rows = grouped (λ row. key (key_in row.values (tag 0x0020 0x000d))) study_record series rows
 
 -- the tree of these rows; a node is its record's elements but for the two offsets
 unfoldable pub TreeOf : List Row → Forest Elements
-TreeOf rows = grouped (λ row. key row.patient_id) patient_record studies (without_doubles [] rows)
+TreeOf rows = grouped (λ row. key (key_in row.values (tag 0x0010 0x0020))) patient_record studies (without_doubles [] rows)

@@ -7,7 +7,7 @@ ghost use Rattle.dicomdir.specs.machine.FirstSeen.{Puts, texts};
 use crate::Row;
 use crate::first_seen::{SeenKeys, see};
 use crate::level::Level;
-use element::unpadded;
+use element::{Tag, unpadded};
 use indexmap::IndexSet;
 use std::alloc::{AllocError, Allocator};
 
@@ -16,9 +16,9 @@ fn key_of<A: Allocator>(row: &Row<A>, level: Level) -> &[u8]
     ensures { result.now ≡ key_for level row.now }
 {
     unpadded(match level {
-        Level::Patient => row.patient_id(),
-        Level::Study => row.study_instance_uid(),
-        Level::Series => row.series_instance_uid(),
+        Level::Patient => row.key(Tag(0x0010, 0x0020)),
+        Level::Study => row.key(Tag(0x0020, 0x000d)),
+        Level::Series => row.key(Tag(0x0020, 0x000e)),
         Level::Image => row.instance(),
     })
 }

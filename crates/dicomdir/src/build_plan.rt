@@ -3,7 +3,8 @@ ghost use Rattle.std.specs.Prelude.{◌≡◌, ◌+◌, [], IfOk, IfErr, if◌th
 ghost use Rattle.dicomdir.specs.Grouping.{rows_at};
 ghost use Rattle.dicomdir.specs.Laying.{StopsFor, Adds, Lays};
 ghost use Rattle.dicomdir.specs.TreeOf.{images};
-ghost use Rattle.dicomdir.specs.Levels.{record_for, forest_for};
+ghost use Rattle.dicomdir.specs.Record.{record_for};
+ghost use Rattle.dicomdir.specs.Levels.{forest_for};
 ghost use Rattle.dicomdir.specs.Places.{record_size, forest_size};
 
 use crate::Row;

@@ -1,34 +1,56 @@
 //! Keys of directory records.
-use std::alloc::Allocator;
+ghost use Rattle.std.specs.Prelude.{◌≡◌, ◌++◌, ◌∷◌, [], option_map, OnOk, OnErr};
+ghost use Rattle.element.specs.Header.{number};
+ghost use Rattle.sequence.specs.Wanted.{value_of};
 
-/// The values of a data set that the records of a directory have (PS3.3 section F.5), with any
-/// padding that they came with. A value that the data set lacks is empty.
+use element::Tag;
+use std::alloc::{AllocError, Allocator};
+
+/// A value of a data set, with its tag.
+#[derive(Drop)]
+struct Entry<A: Allocator> {
+    tag: Tag,
+    value: Vec<u8, A>,
+}
+
+/// Values of a data set, each with its tag, and with any padding that it came with.
 #[derive(Drop)]
 pub struct Keys<A: Allocator> {
-    /// Specific Character Set (0008,0005), if the data set has it.
-    pub character_set: Option<Vec<u8, A>>,
-    /// Patient's Name (0010,0010).
-    pub patient_name: Vec<u8, A>,
-    /// Patient ID (0010,0020).
-    pub patient_id: Vec<u8, A>,
-    /// Study Date (0008,0020).
-    pub study_date: Vec<u8, A>,
-    /// Study Time (0008,0030).
-    pub study_time: Vec<u8, A>,
-    /// Accession Number (0008,0050).
-    pub accession_number: Vec<u8, A>,
-    /// Study Description (0008,1030).
-    pub study_description: Vec<u8, A>,
-    /// Study Instance UID (0020,000D).
-    pub study_instance_uid: Vec<u8, A>,
-    /// Study ID (0020,0010).
-    pub study_id: Vec<u8, A>,
-    /// Modality (0008,0060).
-    pub modality: Vec<u8, A>,
-    /// Series Instance UID (0020,000E).
-    pub series_instance_uid: Vec<u8, A>,
-    /// Series Number (0020,0011).
-    pub series_number: Vec<u8, A>,
-    /// Instance Number (0020,0013).
-    pub instance_number: Vec<u8, A>,
+    entries: Vec<Entry<A>, A>,
+}
+
+impl<A: Allocator> Keys<A> {
+    ghost use Rattle.dicomdir.specs.KeysOf.{key_values};
+
+    /// Returns no values.
+    pub fn new(alloc: A) -> Keys<A>
+        ensures { key_values result ≡ [] }
+    {
+        Keys {
+            entries: Vec::new(alloc),
+        }
+    }
+
+    /// Adds the value with this tag. Of several with one tag the first counts. Where there is no memory, the values
+    /// are as they were.
+    pub fn push(&mut self, tag: Tag, value: Vec<u8, A>) -> Result<(), AllocError>
+        ensures added { OnOk result (key_values self.new ≡ key_values self.old ++ (number tag, value.items) ∷ []) }
+        ensures kept { OnErr result (key_values self.new ≡ key_values self.old) }
+    {
+        self.entries.push(Entry { tag, value })?;
+        Ok(())
+    }
+
+    /// Returns the value with this tag, if there is one.
+    pub fn value(&self, tag: Tag) -> Option<&[u8]>
+        ensures { option_map (λ v. v.now) result ≡ value_of (key_values self.now) (number tag) }
+    {
+        let number = tag.number();
+        for entry in self.entries.as_slice() {
+            if entry.tag.number() == number {
+                return Some(entry.value.as_slice());
+            }
+        }
+        None
+    }
 }

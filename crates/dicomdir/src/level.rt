@@ -2,6 +2,7 @@
 ghost use Rattle.std.specs.Prelude.{◌≡◌};
 ghost use Rattle.dicomdir.specs.Levels.{lower_level};
 ghost use Rattle.dicomdir.specs.Levels as levels;
+ghost use Rattle.dicomdir.specs.Record.{kind_of};
 
 /// The level of a record: of a patient, of a study, of a series or of an image (PS3.3 section F.4).
 #[derive(Clone, Copy)]
@@ -28,6 +29,18 @@ impl Level {
             Level::Patient => Level::Study,
             Level::Study => Level::Series,
             Level::Series | Level::Image => Level::Image,
+        }
+    }
+
+    /// Returns the type of its records (PS3.3 section F.5).
+    pub(crate) fn kind(self) -> &'static [u8]
+        ensures { result.now ≡ kind_of self }
+    {
+        match self {
+            Level::Patient => b"PATIENT",
+            Level::Study => b"STUDY",
+            Level::Series => b"SERIES",
+            Level::Image => b"IMAGE",
         }
     }
 }

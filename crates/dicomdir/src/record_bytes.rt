@@ -1,17 +1,22 @@
 //! Lays down directory records.
-ghost use Rattle.std.specs.Prelude.{◌≡◌, ◌+◌, ◌≤◌, ◌++◌, ◌∷◌, [], List, ℕ, Some, codes, length, true, option_map};
+ghost use Rattle.std.specs.Prelude.{◌≡◌, ◌+◌, ◌≤◌, ◌++◌, length, true};
+ghost use Rattle.std.specs.List.{list_all};
 ghost use Rattle.arrayvec.specs.ArrayVec.{array_vec_len};
 ghost use Rattle.element.specs.Numbers.{le};
 ghost use Rattle.element.specs.Padding.{padded};
 ghost use Rattle.element.specs.Vr.{is_short_vr};
 ghost use Rattle.sequence.specs.Tree.{no_elements};
-ghost use Rattle.dicomdir.specs.Keys.{optional_size};
-ghost use Rattle.dicomdir.specs.Levels.{record_for};
+ghost use Rattle.element.specs.Header.{number};
+ghost use Rattle.sequence.specs.Wanted.{value_of};
+ghost use Rattle.dicomdir.specs.declared.level.Level.TheVariants.{Image};
+ghost use Rattle.dicomdir.specs.Keys.{fits_room};
 ghost use Rattle.dicomdir.specs.Layout.{spelled, with_offsets};
-ghost use Rattle.dicomdir.specs.Record.{patient_record, study_record, series_record, image_record};
+ghost use Rattle.dicomdir.specs.Record.{key_field, key_field_of, written, key_fields, file_fields, record_for};
+ghost use Rattle.dicomdir.specs.RecordText.{keys_room, has_short_vr};
 ghost use Rattle.dicomdir.specs.RecordText as text;
 
 use crate::Row;
+use crate::key_table::{KeyRule, KeyType, key_table};
 use crate::level::Level;
 use arrayvec::ArrayVec;
 use byteorder::{ByteOrder, LittleEndian};
@@ -49,25 +54,50 @@ pub(crate) fn put_element(out: &mut RecordBytes, tag: Tag, vr: [u8; 2], value: &
     }
 }
 
-/// Appends a key, padded anew by a space.
-#[tactic(auto, using(crate::proofs::RecordLemmas::key_length))]
-fn put_text(out: &mut RecordBytes, tag: Tag, vr: [u8; 2], value: &[u8])
+/// Appends a key, padded anew: an identifier by 00H, text by a space.
+#[tactic(auto, using(crate::proofs::RecordLemmas::key_length, crate::proofs::RecordLemmas::key_text))]
+fn put_key(out: &mut RecordBytes, rule: &KeyRule, value: &[u8])
     requires room { array_vec_len out.old + length value.now + 9 ≤ 1024 }
-    requires short { is_short_vr vr ≡ true }
-    ensures items { out.new.items ≡ out.old.items ++ text.text_element tag vr value.now }
+    requires short { is_short_vr rule.now.vr ≡ true }
+    ensures items { out.new.items ≡ out.old.items ++ spelled (key_field rule.now value.now no_elements) }
     ensures bound { array_vec_len out.new ≤ array_vec_len out.old + length value.now + 9 }
 {
-    put_element(out, tag, vr, unpadded(value), b' ');
+    let padding = if rule.vr.as_slice() == b"UI".as_slice() {
+        0
+    } else {
+        b' '
+    };
+    put_element(out, rule.tag, rule.vr, unpadded(value), padding);
 }
 
-/// Appends a unique identifier, padded anew by 00H.
-#[tactic(auto, using(crate::proofs::RecordLemmas::key_length), unfolding(element::specs::Vr::is_short))]
-fn put_uid(out: &mut RecordBytes, tag: Tag, value: &[u8])
-    requires room { array_vec_len out.old + length value.now + 9 ≤ 1024 }
-    ensures items { out.new.items ≡ out.old.items ++ text.key_element tag value.now }
-    ensures bound { array_vec_len out.new ≤ array_vec_len out.old + length value.now + 9 }
+/// Appends a key of a row, if a record has it.
+fn put_row_key<A: Allocator>(out: &mut RecordBytes, rule: &KeyRule, row: &Row<A>)
+    requires room { array_vec_len out.old + rule.now.room + 9 ≤ 1024 }
+    requires short { is_short_vr rule.now.vr ≡ true }
+    requires fits { fits_room row.now.values rule.now ≡ true }
+    ensures items { out.new.items ≡ out.old.items ++ spelled (key_field_of rule.now (written rule.now.kind (value_of row.now.values (number rule.now.tag))) no_elements) }
+    ensures bound { array_vec_len out.new ≤ array_vec_len out.old + rule.now.room + 9 }
 {
-    put_element(out, tag, *b"UI", unpadded(value), 0);
+    match (rule.kind, row.value(rule.tag)) {
+        (_, Some(value)) => put_key(out, rule, value),
+        (KeyType::Type1C, None) => {}
+        (KeyType::Type1 | KeyType::Type2, None) => put_key(out, rule, &[]),
+    }
+}
+
+/// Appends those of these keys that a record of the level has.
+fn put_keys<A: Allocator>(out: &mut RecordBytes, rules: &[KeyRule], level: Level, row: &Row<A>)
+    requires room { array_vec_len out.old + keys_room level rules.now ≤ 1024 }
+    requires short { list_all has_short_vr rules.now ≡ true }
+    requires fits { list_all (fits_room row.now.values) rules.now ≡ true }
+    ensures items { out.new.items ≡ out.old.items ++ spelled (key_fields level rules.now row.now.values) }
+    ensures bound { array_vec_len out.new ≤ array_vec_len out.old + keys_room level rules.now }
+{
+    for rule in rules {
+        if rule.levels.has(level) {
+            put_row_key(out, rule, row);
+        }
+    }
 }
 
 /// Appends the offsets, Record In-use Flag and Directory Record Type, which is given with its padding.
@@ -86,62 +116,12 @@ fn put_start(out: &mut RecordBytes, next: u32, lower: u32, kind: &[u8])
     put_element(out, Tag(0x0004, 0x1430), *b"CS", kind, b' ');
 }
 
-/// Appends Specific Character Set, if the row has it.
-#[tactic(auto, unfolding(element::specs::Vr::is_short))]
-fn put_character_set<A: Allocator>(out: &mut RecordBytes, row: &Row<A>)
-    requires room { array_vec_len out.old + 73 ≤ 1024 }
-    ensures items { out.new.items ≡ out.old.items ++ text.character_set row.now.character_set }
-    ensures bound { array_vec_len out.new ≤ array_vec_len out.old + 73 }
-{
-    if let Some(value) = row.character_set() {
-        put_text(out, Tag(0x0008, 0x0005), *b"CS", value);
-    }
-}
-
-#[tactic(auto, unfolding(element::specs::Vr::is_short))]
-fn put_patient<A: Allocator>(out: &mut RecordBytes, row: &Row<A>)
-    requires room { array_vec_len out.old ≤ 100 }
-    ensures items { out.new.items ≡ out.old.items ++ text.patient row.now }
-    ensures bound { array_vec_len out.new ≤ 960 }
-{
-    put_character_set(out, row);
-    put_text(out, Tag(0x0010, 0x0010), *b"PN", row.patient_name());
-    put_text(out, Tag(0x0010, 0x0020), *b"LO", row.patient_id());
-}
-
-#[tactic(auto, unfolding(element::specs::Vr::is_short))]
-fn put_study<A: Allocator>(out: &mut RecordBytes, row: &Row<A>)
-    requires room { array_vec_len out.old ≤ 100 }
-    ensures items { out.new.items ≡ out.old.items ++ text.study row.now }
-    ensures bound { array_vec_len out.new ≤ 960 }
-{
-    put_character_set(out, row);
-    put_text(out, Tag(0x0008, 0x0020), *b"DA", row.study_date());
-    put_text(out, Tag(0x0008, 0x0030), *b"TM", row.study_time());
-    put_text(out, Tag(0x0008, 0x0050), *b"SH", row.accession_number());
-    put_text(out, Tag(0x0008, 0x1030), *b"LO", row.study_description());
-    put_uid(out, Tag(0x0020, 0x000d), row.study_instance_uid());
-    put_text(out, Tag(0x0020, 0x0010), *b"SH", row.study_id());
-}
-
-#[tactic(auto, unfolding(element::specs::Vr::is_short))]
-fn put_series<A: Allocator>(out: &mut RecordBytes, row: &Row<A>)
-    requires room { array_vec_len out.old ≤ 100 }
-    ensures items { out.new.items ≡ out.old.items ++ text.series_text row.now }
-    ensures bound { array_vec_len out.new ≤ 960 }
-{
-    put_character_set(out, row);
-    put_text(out, Tag(0x0008, 0x0060), *b"CS", row.modality());
-    put_uid(out, Tag(0x0020, 0x000e), row.series_instance_uid());
-    put_text(out, Tag(0x0020, 0x0011), *b"IS", row.series_number());
-}
-
 /// Appends the file ID and what the file header says of the file.
 #[tactic(auto, using(crate::proofs::RecordLemmas::syntax_uid_short), unfolding(element::specs::Vr::is_short))]
-fn put_file<A: Allocator>(out: &mut RecordBytes, row: &Row<A>)
+fn put_image_file<A: Allocator>(out: &mut RecordBytes, row: &Row<A>)
     requires room { array_vec_len out.old ≤ 100 }
     ensures items { out.new.items ≡ out.old.items ++ text.file row.now }
-    ensures bound { array_vec_len out.new ≤ 500 }
+    ensures bound { array_vec_len out.new ≤ array_vec_len out.old + 400 }
 {
     let file_id = row.file_id();
     put_element(out, Tag(0x0004, 0x1500), *b"CS", file_id.text(), b' ');
@@ -156,72 +136,30 @@ fn put_file<A: Allocator>(out: &mut RecordBytes, row: &Row<A>)
     );
 }
 
-#[tactic(auto, unfolding(element::specs::Vr::is_short))]
-fn put_image<A: Allocator>(out: &mut RecordBytes, row: &Row<A>)
+/// Appends what the record of an image has besides its keys.
+fn put_file<A: Allocator>(out: &mut RecordBytes, level: Level, row: &Row<A>)
     requires room { array_vec_len out.old ≤ 100 }
-    ensures items { out.new.items ≡ out.old.items ++ text.image row.now }
-    ensures bound { array_vec_len out.new ≤ 960 }
+    ensures items { out.new.items ≡ out.old.items ++ spelled (file_fields level row.now no_elements) }
+    ensures bound { array_vec_len out.new ≤ array_vec_len out.old + text.file_room level }
 {
-    put_file(out, row);
-    put_character_set(out, row);
-    put_text(out, Tag(0x0020, 0x0013), *b"IS", row.instance_number());
-}
-
-#[tactic(auto, using(crate::proofs::RecordLemmas::patient_spelled), unfolding(element::specs::Vr::is_short))]
-fn patient_elements<A: Allocator>(row: &Row<A>, next: u32, lower: u32) -> RecordBytes
-    ensures items { result.items ≡ spelled (with_offsets next lower (patient_record row.now)) }
-    ensures bound { array_vec_len result ≤ 960 }
-{
-    let mut out = RecordBytes::new();
-    put_start(&mut out, next, lower, b"PATIENT");
-    put_patient(&mut out, row);
-    out
-}
-
-#[tactic(auto, using(crate::proofs::RecordLemmas::study_spelled), unfolding(element::specs::Vr::is_short))]
-fn study_elements<A: Allocator>(row: &Row<A>, next: u32, lower: u32) -> RecordBytes
-    ensures items { result.items ≡ spelled (with_offsets next lower (study_record row.now)) }
-    ensures bound { array_vec_len result ≤ 960 }
-{
-    let mut out = RecordBytes::new();
-    put_start(&mut out, next, lower, b"STUDY");
-    put_study(&mut out, row);
-    out
-}
-
-#[tactic(auto, using(crate::proofs::RecordLemmas::series_spelled), unfolding(element::specs::Vr::is_short))]
-fn series_elements<A: Allocator>(row: &Row<A>, next: u32, lower: u32) -> RecordBytes
-    ensures items { result.items ≡ spelled (with_offsets next lower (series_record row.now)) }
-    ensures bound { array_vec_len result ≤ 960 }
-{
-    let mut out = RecordBytes::new();
-    put_start(&mut out, next, lower, b"SERIES");
-    put_series(&mut out, row);
-    out
-}
-
-#[tactic(auto, using(crate::proofs::RecordLemmas::image_spelled), unfolding(element::specs::Vr::is_short))]
-fn image_elements<A: Allocator>(row: &Row<A>, next: u32, lower: u32) -> RecordBytes
-    ensures items { result.items ≡ spelled (with_offsets next lower (image_record row.now)) }
-    ensures bound { array_vec_len result ≤ 960 }
-{
-    let mut out = RecordBytes::new();
-    put_start(&mut out, next, lower, b"IMAGE");
-    put_image(&mut out, row);
-    out
+    match level {
+        Level::Patient | Level::Study | Level::Series => {}
+        Level::Image => put_image_file(out, row),
+    }
 }
 
 /// Returns the elements of a record with its offsets.
+#[tactic(auto, using(crate::proofs::RecordLemmas::record_spelled, crate::proofs::RecordLemmas::kind_short, crate::proofs::RecordLemmas::record_fits, crate::proofs::RecordLemmas::short_table))]
 fn record_elements<A: Allocator>(level: Level, row: &Row<A>, next: u32, lower: u32) -> RecordBytes
     ensures items { result.items ≡ spelled (with_offsets next lower (record_for level row.now)) }
     ensures bound { array_vec_len result ≤ 960 }
 {
-    match level {
-        Level::Patient => patient_elements(row, next, lower),
-        Level::Study => study_elements(row, next, lower),
-        Level::Series => series_elements(row, next, lower),
-        Level::Image => image_elements(row, next, lower),
-    }
+    let mut out = RecordBytes::new();
+    put_start(&mut out, next, lower, level.kind());
+    put_file(&mut out, level, row);
+    row.keeps();
+    put_keys(&mut out, key_table(), level, row);
+    out
 }
 
 /// Returns a record with its offsets: its item with a defined length (PS3.5 section 7.5.1).

@@ -1,5 +1,5 @@
 //! Reads the row of a directory from a file.
-ghost use Rattle.std.specs.Prelude.{◌≡◌, ◌<◌, ◌≤◌, ℕ, List, [], length, map, take, option_map, OnOk, IfOk, IfErr, IfSome};
+ghost use Rattle.std.specs.Prelude.{◌≡◌, ◌<◌, ◌≤◌, ℕ, List, [], ◌++◌, length, map, take, option_map, OnOk, IfOk, IfErr, IfSome};
 ghost use Rattle.std.specs.Io.KnownBytes.{Consumes, IsAtEnd};
 ghost use Rattle.element.specs.declared.syntax.Syntax.{Syntax};
 ghost use Rattle.element.specs.Numbers.{IsBytes};
@@ -8,9 +8,9 @@ ghost use Rattle.sequence.specs.Wanted.{value_of};
 ghost use Rattle.sequence.specs.Taken.{StandsAt, told_by, limits_of};
 ghost use Rattle.sequence.specs.Stored.{wanted_tags};
 ghost use Rattle.dicomdir.specs.declared.skip.Skip.TheVariants as skip;
-ghost use Rattle.dicomdir.specs.RowOf.{row_wants, row_limits, row_from, key_in, RowRead};
+ghost use Rattle.dicomdir.specs.RowOf.{row_wants, with_value, values_for, RowRead};
 ghost use Rattle.dicomdir.specs.KeyTable.{want_of};
-ghost use Rattle.dicomdir.specs.KeysOf.{keys_row};
+ghost use Rattle.dicomdir.specs.KeysOf.{key_values};
 ghost use Rattle.dicomdir.specs.machine.RowReading.{IsSameSet, TookWhole, WalkFails};
 
 use crate::data_set::walk_piece;
@@ -101,104 +101,42 @@ fn walk<R: Read>(walker: &mut RowWalker, reader: &mut R) -> Result<(), Skip>
     Err(Skip::Fault(MetaFault::ReadFailed.number()))
 }
 
-/// Copies the value with this tag, or nothing if the data set has none.
-fn key<A: Allocator>(alloc: A, walker: &RowWalker, tag: Tag) -> Result<Vec<u8, A>, Skip>
-    ensures value { IfOk result (λ value. value.items ≡ key_in (told_by walker.now).kept tag) }
-    ensures failed { IfErr result (λ reason. reason ≡ skip.OutOfMemory) }
-{
-    let value = match walker.kept(tag) {
-        Some(value) => value,
-        None => &[],
-    };
-    match Vec::from_slice(alloc, value) {
-        Ok(value) => Ok(value),
-        Err(_) => Err(Skip::OutOfMemory),
-    }
-}
-
-/// Copies Specific Character Set, if the data set has it.
-fn character_set<A: Allocator>(alloc: A, walker: &RowWalker) -> Result<Option<Vec<u8, A>>, Skip>
-    ensures value { IfOk result (λ value. option_map (λ v. v.items) value ≡ value_of (told_by walker.now).kept (number (record { 0 = 0x0008; 1 = 0x0005 }))) }
-    ensures failed { IfErr result (λ reason. reason ≡ skip.OutOfMemory) }
-{
-    let Some(value) = walker.kept(Tag(0x0008, 0x0005)) else {
-        return Ok(None);
-    };
-    match Vec::from_slice(alloc, value) {
-        Ok(value) => Ok(Some(value)),
-        Err(_) => Err(Skip::OutOfMemory),
-    }
-}
-
-/// Copies the values with three tags, each as `key` does.
-fn three_keys<A: Allocator + Copy>(
+/// Adds a copy of the value with this tag, if the walker has one.
+fn copy_key<A: Allocator + Copy>(
     alloc: A,
     walker: &RowWalker,
-    first: Tag,
-    second: Tag,
-    third: Tag,
-) -> Result<(Vec<u8, A>, Vec<u8, A>, Vec<u8, A>), Skip>
-    ensures first { IfOk result (λ r. r.0.items ≡ key_in (told_by walker.now).kept first) }
-    ensures second { IfOk result (λ r. r.1.items ≡ key_in (told_by walker.now).kept second) }
-    ensures third { IfOk result (λ r. r.2.items ≡ key_in (told_by walker.now).kept third) }
+    tag: Tag,
+    keys: &mut Keys<A>,
+) -> Result<(), Skip>
+    ensures added { OnOk result (key_values keys.new ≡ key_values keys.old ++ with_value (number tag) (value_of (told_by walker.now).kept (number tag)) []) }
     ensures failed { IfErr result (λ reason. reason ≡ skip.OutOfMemory) }
 {
-    Ok((
-        key(alloc, walker, first)?,
-        key(alloc, walker, second)?,
-        key(alloc, walker, third)?,
-    ))
+    let Some(value) = walker.kept(tag) else {
+        return Ok(());
+    };
+    let Ok(value) = Vec::from_slice(alloc, value) else {
+        return Err(Skip::OutOfMemory);
+    };
+    match keys.push(tag, value) {
+        Ok(()) => Ok(()),
+        Err(_) => Err(Skip::OutOfMemory),
+    }
 }
 
-/// Copies what a row has of the data set that the walker took.
-fn keys_of<A: Allocator + Copy>(alloc: A, walker: &RowWalker) -> Result<Keys<A>, Skip>
-    ensures values { IfOk result (λ keys. (file_id class instance : List ℕ) (syntax : Syntax) → keys_row file_id class instance syntax keys ≡ row_from file_id class instance syntax (told_by walker.now).kept) }
+/// Copies the values of these keys of the data set that the walker took.
+fn keys_of<A: Allocator + Copy>(
+    alloc: A,
+    walker: &RowWalker,
+    rules: &[KeyRule],
+) -> Result<Keys<A>, Skip>
+    ensures values { IfOk result (λ keys. key_values keys ≡ values_for rules.now (told_by walker.now).kept) }
     ensures failed { IfErr result (λ reason. reason ≡ skip.OutOfMemory) }
 {
-    let character_set = character_set(alloc, walker)?;
-    let (patient_name, patient_id, study_date) = three_keys(
-        alloc,
-        walker,
-        Tag(0x0010, 0x0010),
-        Tag(0x0010, 0x0020),
-        Tag(0x0008, 0x0020),
-    )?;
-    let (study_time, accession_number, study_description) = three_keys(
-        alloc,
-        walker,
-        Tag(0x0008, 0x0030),
-        Tag(0x0008, 0x0050),
-        Tag(0x0008, 0x1030),
-    )?;
-    let (study_instance_uid, study_id, modality) = three_keys(
-        alloc,
-        walker,
-        Tag(0x0020, 0x000d),
-        Tag(0x0020, 0x0010),
-        Tag(0x0008, 0x0060),
-    )?;
-    let (series_instance_uid, series_number, instance_number) = three_keys(
-        alloc,
-        walker,
-        Tag(0x0020, 0x000e),
-        Tag(0x0020, 0x0011),
-        Tag(0x0020, 0x0013),
-    )?;
-    Ok(Keys {
-        character_set,
-        patient_name,
-        patient_id,
-        study_date,
-        study_time,
-        accession_number,
-        study_description,
-        study_instance_uid,
-        study_id,
-        modality,
-        series_instance_uid,
-        series_number,
-        instance_number,
-    })
+    let mut keys = Keys::new(alloc);
+    for rule in rules {
+        copy_key(alloc, walker, rule.tag, &mut keys)?;
+    }
+    Ok(keys)
 }
 
 /// Reads the file that the reader gives from its first byte to its end, and returns its row: the class,
@@ -225,6 +163,6 @@ pub fn rows_of<A: Allocator + Copy, R: Read>(
     };
     let mut walker = RowWalker::new(meta.syntax, wanted(), 1 << 48);
     walk(&mut walker, reader)?;
-    let keys = keys_of(alloc, &walker)?;
+    let keys = keys_of(alloc, &walker, key_table())?;
     Row::new(*file_id, meta.class, meta.instance, meta.syntax, keys)
 }

@@ -1,7 +1,7 @@
 //! Directories that are built of rows and written, by the public calls of `dicomdir` alone.
 use crate::files::{Change, ONE_IMAGE, Record, has, one_image, two_images};
 use dicomdir::{FileId, Keys, Row, TreeRecord, build, check, write_dir};
-use element::{Syntax, Uid};
+use element::{Syntax, Tag, Uid};
 use std::alloc::{Allocator, Global};
 use std::test::Fail;
 
@@ -68,31 +68,32 @@ const OF_ANOTHER_PATIENT: File = File {
 
 pub(crate) const FILES: [File; 5] = [FIRST, SECOND, OF_ANOTHER_SERIES, DOUBLE, OF_ANOTHER_PATIENT];
 
-/// Copies a value, or returns an empty one where memory is refused. Then there is no row, since its last key must not be
+/// Returns the keys of a file, up to the first for which there is no memory. Then there is no row, since its last key must not be
 /// empty.
-fn copied<A: Allocator + Copy>(alloc: A, value: &[u8]) -> Vec<u8, A> {
-    match Vec::from_slice(alloc, value) {
-        Ok(copy) => copy,
-        Err(_) => Vec::new(alloc),
-    }
-}
-
 fn keys<A: Allocator + Copy>(alloc: A, file: &File) -> Keys<A> {
-    Keys {
-        character_set: None,
-        patient_name: copied(alloc, b"DOE^JANE"),
-        patient_id: copied(alloc, file.patient),
-        study_date: copied(alloc, b"20260101"),
-        study_time: copied(alloc, b"120000"),
-        accession_number: Vec::new(alloc),
-        study_description: copied(alloc, b"HEAD"),
-        study_instance_uid: copied(alloc, file.study),
-        study_id: copied(alloc, b"S1"),
-        modality: copied(alloc, b"CT"),
-        series_instance_uid: copied(alloc, file.series),
-        series_number: copied(alloc, b"1"),
-        instance_number: copied(alloc, file.number),
+    let values = [
+        (Tag(0x0010, 0x0010), b"DOE^JANE".as_slice()),
+        (Tag(0x0010, 0x0020), file.patient),
+        (Tag(0x0008, 0x0020), b"20260101".as_slice()),
+        (Tag(0x0008, 0x0030), b"120000".as_slice()),
+        (Tag(0x0008, 0x1030), b"HEAD".as_slice()),
+        (Tag(0x0020, 0x000d), file.study),
+        (Tag(0x0020, 0x0010), b"S1".as_slice()),
+        (Tag(0x0008, 0x0060), b"CT".as_slice()),
+        (Tag(0x0020, 0x000e), file.series),
+        (Tag(0x0020, 0x0011), b"1".as_slice()),
+        (Tag(0x0020, 0x0013), file.number),
+    ];
+    let mut keys = Keys::new(alloc);
+    for (tag, value) in values {
+        let Ok(copy) = Vec::from_slice(alloc, value) else {
+            return keys;
+        };
+        if keys.push(tag, copy).is_err() {
+            return keys;
+        }
     }
+    keys
 }
 
 fn row<A: Allocator + Copy>(alloc: A, file: &File) -> Option<Row<A>> {

@@ -59,7 +59,7 @@ fn is_of(
 ) -> Result<bool, Fail> {
     let file = changed(rt.alloc(), Syntax::Explicit, instance, tag, other)?;
     Ok(match row_of(rt, file.as_slice()) {
-        Ok(row) => same(row.instance(), instance) && same(row.series_instance_uid(), series),
+        Ok(row) => same(row.instance(), instance) && row.value(Tag(0x0020, 0x000e)) == Some(series),
         Err(_) => false,
     })
 }
@@ -111,7 +111,7 @@ fn the_first_missing_key(rt: HostRuntime) -> Result<(), Fail> {
 }
 
 fn has_character_set(row: &Row<Global>, value: Option<&[u8]>) -> bool {
-    row.character_set() == value
+    row.value(Tag(0x0008, 0x0005)) == value
 }
 
 /// Whether a file with this value of Specific Character Set has a row with it.

@@ -99,37 +99,32 @@ fn is_identified<A: Allocator>(row: &Row<A>, syntax: Syntax) -> bool {
         && row.syntax() == syntax
 }
 
-/// Whether the row has the image's keys of its patient.
-fn is_of_patient<A: Allocator>(row: &Row<A>) -> bool {
-    let Some(character_set) = row.character_set() else {
-        return false;
-    };
-    same(character_set, b"ISO_IR 100")
-        && same(row.patient_name(), b"DOE^JANE")
-        && same(row.patient_id(), b"P1")
-}
+/// The image's keys.
+static KEYS: [(Tag, &[u8]); 13] = [
+    (Tag(0x0008, 0x0005), b"ISO_IR 100"),
+    (Tag(0x0008, 0x0020), b"20260101"),
+    (Tag(0x0008, 0x0030), b"120000"),
+    (Tag(0x0008, 0x0050), b""),
+    (Tag(0x0008, 0x0060), b"CT"),
+    (Tag(0x0008, 0x1030), b"HEAD"),
+    (Tag(0x0010, 0x0010), b"DOE^JANE"),
+    (Tag(0x0010, 0x0020), b"P1"),
+    (Tag(0x0020, 0x000d), b"1.2.3\0"),
+    (Tag(0x0020, 0x000e), b"1.2.3.1\0"),
+    (Tag(0x0020, 0x0010), b"S1"),
+    (Tag(0x0020, 0x0011), b"1 "),
+    (Tag(0x0020, 0x0013), b"1 "),
+];
 
-/// Whether the row has the image's keys of its study.
-fn is_of_study<A: Allocator>(row: &Row<A>) -> bool {
-    same(row.study_date(), b"20260101")
-        && same(row.study_time(), b"120000")
-        && same(row.accession_number(), b"")
-        && same(row.study_description(), b"HEAD")
-        && same(row.study_instance_uid(), b"1.2.3\0")
-        && same(row.study_id(), b"S1")
-}
-
-/// Whether the row has the image's keys of its series and of itself.
-fn is_of_series<A: Allocator>(row: &Row<A>) -> bool {
-    same(row.modality(), b"CT")
-        && same(row.series_instance_uid(), b"1.2.3.1\0")
-        && same(row.series_number(), b"1 ")
-        && same(row.instance_number(), b"1 ")
+/// Whether the row has the image's keys.
+fn has_keys<A: Allocator>(row: &Row<A>) -> bool {
+    KEYS.iter()
+        .all(|(tag, value)| row.value(*tag) == Some(*value))
 }
 
 /// Whether the row is that of the image.
 pub(crate) fn is_image<A: Allocator>(row: &Row<A>, syntax: Syntax) -> bool {
-    is_identified(row, syntax) && is_of_patient(row) && is_of_study(row) && is_of_series(row)
+    is_identified(row, syntax) && has_keys(row)
 }
 
 /// The file ID of these rows.

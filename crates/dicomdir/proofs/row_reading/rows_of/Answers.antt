@@ -1,7 +1,7 @@
 use Rattle.std.proofs.Common.{◌≡◌, ◌∙◌, ◌^◌, ap}
 use Rattle.std.proofs.lemmas.Result.{err_from_is_err_and}
-use Rattle.sequence.specs.Taken.{limits_of}
-use Rattle.dicomdir.specs.RowOf.{row_limits}
+use Rattle.sequence.specs.Taken.{limits_of, told_by}
+use Rattle.dicomdir.specs.RowOf.{row_limits, values_for}
 use Rattle.dicomdir.specs.Keys.{checked_row}
 use Rattle.dicomdir.proofs.RowLemmas.{refused_header, refused_data_set, whole_file}
 use Rattle.dicomdir.proofs.row_reading.rows_of.Goals as goal
@@ -24,5 +24,5 @@ returns g c =
     record {
       row = whole_file c.walk.new.walker c.in-Ok.meta (g.R.Read.remaining c.args.reader.now) _ c.args.file_id.now c.new.result c.in-Ok.ensures.header
           (c.in_ok-walk.ensures.same.0 ∙ c.new-walker.ensures.syntax) (c.in_ok-walk.ensures.same.1 ∙ limits) c.in_ok-walk.ensures.whole
-          (c.new.ensures ∙ ap checked_row (c.in_ok-keys.ensures.values c.args.file_id.now c.in-Ok.meta.class c.in-Ok.meta.instance c.in-Ok.meta.syntax));
+          (c.new.ensures ∙ ap (λ values. checked_row (record { file_id = c.args.file_id.now; class = c.in-Ok.meta.class; instance = c.in-Ok.meta.instance; syntax = c.in-Ok.meta.syntax; values = values })) (c.in_ok-keys.ensures.values ∙ ap (λ rules. values_for rules (told_by c.walk.new.walker).kept) c.key_table.ensures));
     }
