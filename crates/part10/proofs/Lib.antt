@@ -1,6 +1,7 @@
 -- the lemmas that the crates above cite, and no others
 pub mod Public
 pub mod Bounds
+pub mod NumberLemmas
 pub mod MetaLemmas
 pub mod OneHeader
 pub mod Examples

@@ -1,4 +1,5 @@
 pub mod Store
+pub mod EntryNames
 pub mod File
 pub mod MetaText
 pub mod Examples

@@ -42,7 +42,7 @@ abbrev pub LeavesStore : {T E : Type 0} → (Shelf → Shelf) → Bool → Resul
 LeavesStore step drafting (Ok _) old new = new ≡ stepped step drafting old
 LeavesStore step drafting (Err _) old new = new ≡ failed old
 
--- what contracts see of a filing over memory
+-- what contracts see of a filing over memory or over a folder
 pub record MemoryState : Type 0 where
   pub files : List (List ℕ)
   pub draft : Option (List ℕ)

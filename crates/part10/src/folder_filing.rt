@@ -5,13 +5,16 @@ ghost use Rattle.part10.specs.Store.{or_nothing, store_of};
 use crate::filing::{Filing, FilingFailed};
 use crate::listing::{file_path, folder_path, last_place};
 use crate::naming::{Named, name_file};
+use crate::notes::DraftNotes;
 use crate::place::{Layout, Place};
 use crate::stored_file::StoredFile;
 use element::count::Count;
 use element::trace::Traces;
 use element::traced::Traced;
+use std::alloc::AllocError;
 use std::fs::{File, OpenFile, TryLockError};
 use std::io::{Error, ErrorKind, Write};
+use std::rc::Rc;
 use std::rt::Files;
 use std::{fs, io};
 
@@ -50,6 +53,7 @@ where
     committed: u32,
     dropped: u32,
     failures: Count,
+    notes: Rc<DraftNotes, R::A>,
 }
 
 /// Opens the folder and locks it.
@@ -104,6 +108,7 @@ where
         let draft_path = format!(in rt.alloc(); "{dir}/DRAFT")?;
         remove_left(&rt, draft_path.as_str())?;
         let dir = String::from_str(rt.alloc(), dir)?;
+        let notes = Rc::new(rt.alloc(), DraftNotes::new())?;
         Ok(FolderFiling {
             rt,
             dir,
@@ -117,6 +122,7 @@ where
             committed: 0,
             dropped: 0,
             failures: Count::new(),
+            notes,
         })
     }
 
@@ -138,6 +144,14 @@ where
     /// by another, or lost by a failed call. It stops at the greatest `u32`.
     pub fn dropped(&self) -> u32 {
         self.dropped
+    }
+
+    /// Returns the notes of what became of the last draft. They are shared with this value, which
+    /// goes on writing them.
+    ///
+    /// Fails if the notes have too many readers to be counted.
+    pub fn notes(&self) -> Result<Rc<DraftNotes, R::A>, AllocError> {
+        self.notes.clone()
     }
 
     /// Removes the file of a draft, so that nothing is written into a file that may have a name.
@@ -243,6 +257,7 @@ where
             return Err(error);
         }
         self.last = place;
+        self.notes.committed(place);
         if let Some(draft) = &self.draft {
             self.kept.push(draft.trace());
         }
@@ -273,11 +288,13 @@ where
         Ok(())
     }
 
-    fn fail(&mut self)
+    /// Notes the error, drops the draft and counts a failure.
+    fn fail(&mut self, error: Error)
         ensures draft { self.new.draft ≡ None }
         ensures same_files { self.new.kept.all ≡ self.old.kept.all }
         ensures counted { self.new.failures.total ≡ self.old.failures.total + 1 }
     {
+        self.notes.failed(error);
         self.drop_draft();
         self.failures.add_one();
     }
@@ -290,26 +307,28 @@ where
     ghost store = { λ f. store_of (record { files = f.kept.all; draft = option_map (λ d. d.trace.bytes) f.draft; failures = f.failures.total }) };
 
     fn begin(&mut self) -> Result<(), FilingFailed> {
-        if self.begin_draft().is_err() {
-            self.fail();
+        if let Err(error) = self.begin_draft() {
+            self.fail(error);
             return Err(FilingFailed);
         }
         Ok(())
     }
 
     fn append(&mut self, bytes: &[u8]) -> Result<(), FilingFailed> {
-        if let Some(draft) = &mut self.draft {
-            if draft.write_all(bytes).is_ok() {
-                return Ok(());
-            }
+        let written = match &mut self.draft {
+            Some(draft) => draft.write_all(bytes),
+            None => Err(Error::from(ErrorKind::NotFound)),
+        };
+        if let Err(error) = written {
+            self.fail(error);
+            return Err(FilingFailed);
         }
-        self.fail();
-        Err(FilingFailed)
+        Ok(())
     }
 
     fn commit(&mut self) -> Result<(), FilingFailed> {
-        if self.commit_draft().is_err() {
-            self.fail();
+        if let Err(error) = self.commit_draft() {
+            self.fail(error);
             return Err(FilingFailed);
         }
         Ok(())

@@ -1,7 +1,7 @@
 //! The names of received files and of their folders: a letter and seven digits.
-ghost use Rattle.std.specs.Prelude.{◌≤◌, IfSome};
+ghost use Rattle.std.specs.Prelude.{◌≡◌, ◌≤◌, IfSome, length};
+ghost use Rattle.part10.specs.EntryNames.{entry_number, first_letter, number_after};
 
-use crate::place::GREATEST;
 use std::alloc::Allocator;
 use std::fs::DirEntry;
 use std::rt::Files;
@@ -16,28 +16,43 @@ pub enum EntryKind {
     Folder,
 }
 
+/// Returns the number that seven digits spell, or `None` if one of the bytes is no digit.
+fn number_of(digits: &[u8]) -> Option<u32>
+    requires seven { length digits.now ≡ 7 }
+    ensures number { result ≡ number_after 0 digits.now }
+    ensures most { IfSome result (λ n. n ≤ 9999999) }
+{
+    let mut number: u32 = 0;
+    for byte in digits {
+        if *byte < b'0' || *byte > b'9' {
+            return None;
+        }
+        number = number * 10 + u32::from(*byte - b'0');
+    }
+    Some(number)
+}
+
 impl EntryKind {
     /// Returns the first letter of the names of this kind.
-    fn letter(self) -> char {
+    fn letter(self) -> u8
+        ensures { result ≡ first_letter self }
+    {
         match self {
-            EntryKind::File => 'I',
-            EntryKind::Folder => 'S',
+            EntryKind::File => b'I',
+            EntryKind::Folder => b'S',
         }
     }
 
     /// Returns the number in a name of this kind, or `None` if it is no such name.
     pub fn number_in(self, name: &str) -> Option<u32>
-        ensures { IfSome result (λ n. n ≤ 9999999) }
+        ensures number { result ≡ entry_number self name.now }
+        ensures most { IfSome result (λ n. n ≤ 9999999) }
     {
-        let digits = name.strip_prefix(self.letter())?;
-        if digits.len() != 7 || !digits.bytes().all(|byte| byte.is_ascii_digit()) {
+        let (first, digits) = name.as_bytes().split_first()?;
+        if *first != self.letter() || digits.len() != 7 {
             return None;
         }
-        let number: u32 = digits.parse().ok()?;
-        if number > GREATEST {
-            return None;
-        }
-        Some(number)
+        number_of(digits)
     }
 
     /// Returns the number of an entry of a folder, or `None` if it is not of this kind: by its name
@@ -67,6 +82,7 @@ pub struct EntryName {
 /// The letter and the seven digits, as `I0000001`.
 impl fmt::Display for EntryName {
     fn fmt<W: fmt::Write>(&self, f: &mut fmt::Formatter<W>) -> fmt::Result {
-        write!(f, "{}{:07}", self.kind.letter(), self.number)
+        let letter = char::from(self.kind.letter());
+        write!(f, "{letter}{:07}", self.number)
     }
 }

@@ -2,6 +2,9 @@
 ghost use Rattle.std.specs.Prelude.{◌≡◌};
 ghost use Rattle.part10.specs.machine.Places.{next_place};
 
+use crate::names::{EntryKind, EntryName};
+use std::fmt;
+
 /// The greatest number that seven digits spell.
 pub(crate) const GREATEST: u32 = 9_999_999;
 
@@ -25,7 +28,7 @@ pub struct Place {
 
 impl Place {
     /// Returns where the file after this one stands, or `None` if the numbers are used up.
-    pub fn next(self, layout: Layout) -> Option<Place>
+    pub(crate) fn next(self, layout: Layout) -> Option<Place>
         ensures { result ≡ next_place layout self }
     {
         let Place { folder, file } = self;
@@ -46,5 +49,24 @@ impl Place {
             folder: folder + 1,
             file: 1,
         })
+    }
+}
+
+/// The name of the file in its folder, as `I0000001` or `S0000001/I0000001`.
+impl fmt::Display for Place {
+    fn fmt<W: fmt::Write>(&self, f: &mut fmt::Formatter<W>) -> fmt::Result {
+        let Place { folder, file } = *self;
+        let file = EntryName {
+            kind: EntryKind::File,
+            number: file,
+        };
+        if folder == 0 {
+            return write!(f, "{file}");
+        }
+        let folder = EntryName {
+            kind: EntryKind::Folder,
+            number: folder,
+        };
+        write!(f, "{folder}/{file}")
     }
 }
