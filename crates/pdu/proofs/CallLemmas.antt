@@ -14,7 +14,7 @@ use Rattle.pdu.specs.Frames.{rest_of}
 use Rattle.pdu.specs.Marks.{Mark, Head, Pdv, BadPdv, Leftover, End, new_marks, head_mark, is_leftover, frame_kind, frame_length}
 use Rattle.pdu.specs.Spot.{Spot, Plain}
 use Rattle.pdu.specs.Events.{Token, OfBody, OfFragment, Completes, tokens, Reports}
-use Rattle.pdu.specs.Deframing.{Inside, IsOver, AtHead, AtBody, in_body, after_body, AtPdvHead, AtLeftover, AfterPdv, over, leftover, another, AtFragment, in_fragment, after_fragment, At, Took, Skip, end_alone, skipped}
+use Rattle.pdu.specs.Deframing.{Inside, IsOver, AtHead, AtBody, in_body, after_body, AtPdvHead, AtLeftover, AfterPdv, over, leftover, another, AtFragment, in_fragment, after_fragment, At, Took, AreInner, Skip, end_alone, skipped}
 use Rattle.pdu.proofs.FrameLemmas.{new_nothing, rest_alone}
 use Rattle.pdu.proofs.DeframerLemmas.{Now, Silent, head_comes, body_comes, end_due, over_rest, none_at, pdv_head_over, pdv_head_tokens_are, pdv_bad, pdv_good, fragment_comes, value_due, after_rest}
 
@@ -202,30 +202,37 @@ empty_at bytes e t f = subst (λ (b : List ℕ). AtHead b t []) (sym e) (none_at
 
 -- ---- a frame that is skipped
 
-skip_inside : (kind left : ℕ) (r : List ℕ) (due : List Mark) (s : Spot) → Inside kind left r s → Skip (position.Skipped kind left) r due
-skip_inside kind left r due s i = skipped (omega (arith, i.left_is, i.rest i.headed), i.rest, i.headed, i.kind_is, i.left_is)
+skip_inside : (kind left : ℕ) (r : List ℕ) (due : List Mark) (s : Spot) → AreInner due → Inside kind left r s → Skip (position.Skipped kind left) r due
+skip_inside kind left r due s are i = skipped are (omega (arith, i.left_is, i.rest i.headed), i.rest, i.headed, i.kind_is, i.left_is)
 
-skip_over : (kind left : ℕ) (r : List ℕ) (before due later : List Mark) → due ≡ before ++ later → IsOver kind left r later → Skip (position.Skipped kind left) r due
-skip_over kind left r before due later is o = end_alone before kind o.body (is ∙ ap (λ (ms : List Mark). before ++ ms) o.due_is) (record { none_left = o.none_left; rest = o.rest; body = o.body; due_is = refl })
+none_inner : (due : List Mark) → due ≡ [] → AreInner due
+none_inner due none = subst AreInner (sym none) tt
+
+skip_over : (kind left : ℕ) (r : List ℕ) (before due later : List Mark) → AreInner before → due ≡ before ++ later → IsOver kind left r later → Skip (position.Skipped kind left) r due
+skip_over kind left r before due later are is o =
+    end_alone before kind o.body are (is ∙ ap (λ (ms : List Mark). before ++ ms) o.due_is) (record { none_left = o.none_left; rest = o.rest; body = o.body; due_is = refl })
 
 pub skip_body : (kind left : ℕ) (r : List ℕ) (due : List Mark) → AtBody kind left r due → Skip (position.Skipped kind left) r due
-skip_body kind left r due (in_body lt i none) = skip_inside kind left r due Plain i
-skip_body kind left r due (after_body o) = skip_over kind left r [] due due refl o
+skip_body kind left r due (in_body lt i none) = skip_inside kind left r due Plain (none_inner due none) i
+skip_body kind left r due (after_body o) = skip_over kind left r [] due due tt refl o
 
 pub skip_pdv_head : (left : ℕ) (bytes r : List ℕ) (due : List Mark) → AtPdvHead left bytes r due → Skip (position.Skipped 4 left) r due
-skip_pdv_head left bytes r due a = skip_inside 4 left r due _ a.inside
+skip_pdv_head left bytes r due a = skip_inside 4 left r due _ (none_inner due a.none_due) a.inside
 
 pub skip_leftover : (left : ℕ) (r : List ℕ) (due : List Mark) → AtLeftover left r due → Skip (position.Skipped 4 left) r due
-skip_leftover left r due a = skip_inside 4 left r due Plain a.inside
+skip_leftover left r due a = skip_inside 4 left r due Plain (subst AreInner (sym a.due_is) (tt, tt)) a.inside
 
 pub skip_fragment : (left more : ℕ) (r : List ℕ) (due : List Mark) → AtFragment left more r due → Skip (position.Skipped 4 left) r due
-skip_fragment left more r due (in_fragment lt f) = skip_inside 4 left r due _ f.inside
+skip_fragment left more r due (in_fragment lt f) = skip_inside 4 left r due _ (none_inner due f.none_due) f.inside
 skip_fragment left more r due (after_fragment zero a) = go a.next
   where
+    with_value : AreInner a.later → AreInner due
+    with_value are = subst AreInner (sym a.due_is) (tt, are)
+
     go : AfterPdv left r a.later → Skip (position.Skipped 4 left) r due
-    go (over o) = skip_over 4 left r (Pdv a.context a.control a.fragment ∷ []) due a.later a.due_is o
-    go (leftover t l) = skip_inside 4 left r due _ l.inside
-    go (another lt t p) = skip_inside 4 left r due _ p.inside
+    go (over o) = skip_over 4 left r (Pdv a.context a.control a.fragment ∷ []) due a.later (tt, tt) a.due_is o
+    go (leftover t l) = skip_inside 4 left r due _ (with_value (subst AreInner (sym l.due_is) (tt, tt))) l.inside
+    go (another lt t p) = skip_inside 4 left r due _ (with_value (none_inner a.later p.none_due)) p.inside
 
 pub skip_again : (kind left : ℕ) (r : List ℕ) (due : List Mark) → IsOver kind left r due → Skip (position.Skipped kind left) r due
-skip_again kind left r due o = skip_over kind left r [] due due refl o
+skip_again kind left r due o = skip_over kind left r [] due due tt refl o

@@ -15,6 +15,7 @@ pub mod ExampleLemmas
 pub mod LaterLemmas
 pub mod ChunkLemmas
 pub mod BegunLemmas
+pub mod WithinLemmas
 pub mod ValueLemmas
 pub mod TokenLemmas
 pub mod DeframerLemmas

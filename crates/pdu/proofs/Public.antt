@@ -12,7 +12,7 @@ use Rattle.pdu.specs.Frames.{IsRest, rest_of}
 use Rattle.pdu.specs.declared.position.Position.{Position}
 use Rattle.pdu.specs.declared.event.Event.{Event}
 use Rattle.pdu.specs.Events.{OfBody, OfFragment, marks_among, ReportsMark}
-use Rattle.pdu.specs.Deframing.{Took}
+use Rattle.pdu.specs.Deframing.{Took, MarksWithin}
 use Rattle.pdu.specs.Marks.{Mark, Head, BadPdv, pdv_size, head_mark, pdv_mark, frame_kind, frame_length, new_marks}
 use Rattle.pdu.specs.Spot.{Opening, Plain, InPdv, spot, room_left}
 use Rattle.pdu.specs.Parts.{SameFrame, SameHead, IsInData, IsUnfinishedPdv, GoesOn, Comes, leftover_marks, leftover_spot, body_spot}
@@ -21,6 +21,7 @@ use Rattle.pdu.proofs.RequestLemmas as requests
 use Rattle.pdu.proofs.PdvLemmas as values
 use Rattle.pdu.proofs.FrameLemmas as frames
 use Rattle.pdu.proofs.BegunLemmas as parts
+use Rattle.pdu.proofs.WithinLemmas as within
 use Rattle.pdu.proofs.StepLemmas as steps
 
 -- ---- wires: one text after another
@@ -75,6 +76,9 @@ same_frame = frames.same_frame
 
 pub same_head : (bytes more : List ℕ) → 6 ≤ length bytes → SameHead bytes more
 same_head = values.same_head
+
+pub marks_within : (r c : List ℕ) → IsRest r → 6 ≤ length r → MarksWithin r c
+marks_within = within.marks_within
 
 pub spot_opening : (r : List ℕ) → length r < 6 → spot r ≡ Opening
 spot_opening = parts.spot_opening

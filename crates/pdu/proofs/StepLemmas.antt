@@ -2,9 +2,8 @@
 use Rattle.std.proofs.Common.{◌≡◌, ℕ, List, [], ◌∷◌, ◌++◌, map, Option, Some, sym, refl, ap, ◌∙◌}
 use Rattle.pdu.specs.declared.position.Position.{Position}
 use Rattle.pdu.specs.declared.event.Event.{Event}
-use Rattle.pdu.specs.declared.event.Event.TheVariants as event
 use Rattle.pdu.specs.Marks.{Mark, new_marks}
-use Rattle.pdu.specs.Events.{Token, OfBody, OfFragment, Completes, tokens, marks_among, event_of, Reports, ReportsMark}
+use Rattle.pdu.specs.Events.{Token, OfBody, OfFragment, Completes, tokens, marks_among, ReportsMark}
 use Rattle.pdu.specs.Deframing.{Took}
 use Rattle.pdu.proofs.TokenLemmas.{among_both, among_marks, marks_of_tokens}
 

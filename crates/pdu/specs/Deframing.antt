@@ -7,8 +7,9 @@ use Rattle.pdu.specs.declared.event.Event.{Event}
 use Rattle.pdu.specs.declared.event.Event.TheVariants as event
 use Rattle.pdu.specs.Types.{p_data_tf}
 use Rattle.pdu.specs.Frames.{IsFrame, IsRest, rest_of}
-use Rattle.pdu.specs.Marks.{Mark, Pdv, Leftover, End, pdv_size, is_leftover, frame_kind}
+use Rattle.pdu.specs.Marks.{Mark, Head, PdvHead, Pdv, BadPdv, Leftover, End, pdv_size, is_leftover, frame_kind, new_marks}
 use Rattle.pdu.specs.Spot.{Spot, Opening, Plain, InPdv, spot, room_left}
+use Rattle.pdu.specs.Parts.{end_mark}
 use Rattle.pdu.specs.Events.{Token, Completes, tokens, Reports}
 
 -- less than a frame of this type, whose head has come, of which this much is to come
@@ -111,12 +112,35 @@ pub data Skipped (new : Position) (r taken : List ℕ) (e : Option Event) : Type
   goes_on : e ≡ None → SkipsAt new (r ++ taken) → Skipped new r taken e
   ends : e ≡ Some (event.PduEnd (frame_kind r)) → IsFrame (r ++ taken) → At new [] [] → Skipped new r taken e
 
+-- a mark within a frame: neither its head nor its end
+abbrev pub IsInner : Mark → Type 0
+IsInner (Head kind n) = ⊥
+IsInner (PdvHead n context control) = Unit {0}
+IsInner (Pdv context control fragment) = Unit {0}
+IsInner BadPdv = Unit {0}
+IsInner Leftover = Unit {0}
+IsInner (End kind body) = ⊥
+
+abbrev pub AreInner : List Mark → Type 0
+AreInner [] = Unit {0}
+AreInner (m ∷ ms) = IsInner m × AreInner ms
+
+-- further bytes of a frame whose head came before have marks within it alone, and where they complete it, its end
+pub record EndsWithin (r c : List ℕ) : Type 0 where
+  pub inner : List Mark
+  pub are_inner : AreInner inner
+  pub marks : new_marks r c ≡ inner ++ end_mark (r ++ c) ∷ []
+
+pub record MarksWithin (r c : List ℕ) : Type 0 where
+  pub goes_on : IsRest (r ++ c) → AreInner (new_marks r c)
+  pub ends : IsFrame (r ++ c) → EndsWithin r c
+
 -- What the rest of a frame is skipped for: nothing before its head is whole; of a whole frame the end alone is due; else
--- the frame is skipped
+-- the frame is skipped. The marks that were due and are not are those within the frame.
 pub data Skip (new : Position) (r : List ℕ) (due : List Mark) : Type 0 where
   no_frame : length r < 6 → due ≡ [] → At new r [] → Skip new r due
-  end_alone : (before : List Mark) (kind : ℕ) (body : List ℕ) → due ≡ before ++ End kind body ∷ [] → At new r (End kind body ∷ []) → Skip new r due
-  skipped : SkipsAt new r → Skip new r due
+  end_alone : (before : List Mark) (kind : ℕ) (body : List ℕ) → AreInner before → due ≡ before ++ End kind body ∷ [] → At new r (End kind body ∷ []) → Skip new r due
+  skipped : AreInner due → SkipsAt new r → Skip new r due
 
 -- ---- how many bytes are held: those of an unfinished head
 

@@ -49,6 +49,15 @@ events_due (position.Skipped kind left) = if nat_eq left 0 then 1 else 0
 
 -- ---- where it stands then
 
+-- where the rest of a frame is skipped
+abbrev pub skip_of : Position → Position
+skip_of (position.Head bytes) = position.Head bytes
+skip_of (position.Body kind left) = position.Skipped kind left
+skip_of (position.PdvHead left bytes) = position.Skipped p_data_tf left
+skip_of (position.Fragment left more) = position.Skipped p_data_tf left
+skip_of (position.Leftover left) = position.Skipped p_data_tf left
+skip_of (position.Skipped kind left) = position.Skipped kind left
+
 abbrev pub stands_in_head : Position → Bool
 stands_in_head (position.Head bytes) = true
 stands_in_head (position.Body kind left) = false

@@ -24,7 +24,7 @@ impl Deframer {
     ghost use Rattle.pdu.specs.Frames.{IsRest};
     ghost use Rattle.pdu.specs.Deframing.{Took, Longest, Skipped, Skip, unfinished_heads};
     ghost use Rattle.pdu.specs.Deframed.{IsAt, Skips, position_of};
-    ghost use Rattle.pdu.specs.Steps.{Steps, body_kind, events_due, stands_in_head};
+    ghost use Rattle.pdu.specs.Steps.{Steps, body_kind, events_due, skip_of, stands_in_head};
 
     /// A stream of which nothing has come.
     pub fn new() -> Self
@@ -58,6 +58,7 @@ impl Deframer {
     pub fn skip_frame(&mut self)
         ensures skip { (r : List ℕ) (due : List Mark) → IsAt self.old r due → Skip (position_of self.new) r due }
         ensures skips { (r : List ℕ) → Skips self.old r → Skips self.new r }
+        ensures moves { position_of self.new ≡ skip_of (position_of self.old) }
     {
         let (kind, left) = match &self.position {
             Position::Head(_) => return,

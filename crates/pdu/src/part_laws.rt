@@ -7,12 +7,19 @@ ghost use Rattle.pdu.specs.Frames.{IsRest};
 ghost use Rattle.pdu.specs.Marks.{Head, BadPdv, pdv_size, head_mark, pdv_mark, frame_kind, frame_length};
 ghost use Rattle.pdu.specs.Spot.{Opening, Plain, InPdv, spot, room_left};
 ghost use Rattle.pdu.specs.Parts.{IsInData, IsUnfinishedPdv, SameFrame, SameHead, GoesOn, Comes, leftover_marks, leftover_spot, body_spot};
+ghost use Rattle.pdu.specs.Deframing.{MarksWithin};
 
 /// What a head says does not change with what follows it: that of a PDU, and that of a presentation
 /// data value.
 pub fn heads_are_final()
     ensures frame { (f more : List ℕ) → 6 ≤ length f → SameFrame f more }
     ensures value { (b more : List ℕ) → 6 ≤ length b → SameHead b more }
+{}
+
+/// After its head a PDU has neither a further head nor an end before its last byte, whose last mark is
+/// the end.
+pub fn a_part_of_a_pdu()
+    ensures { (r c : List ℕ) → IsRest r → 6 ≤ length r → MarksWithin r c }
 {}
 
 /// With less than six bytes a PDU stands in its head; where a presentation data value is unfinished, the
