@@ -14,7 +14,8 @@ use Rattle.pdu.specs.Frames.{rest_of}
 use Rattle.pdu.specs.Marks.{Mark, Head, Pdv, BadPdv, Leftover, End, new_marks, head_mark, is_leftover, frame_kind, frame_length}
 use Rattle.pdu.specs.Spot.{Spot, Plain}
 use Rattle.pdu.specs.Events.{Token, OfBody, OfFragment, Completes, tokens, Reports}
-use Rattle.pdu.specs.Deframing.{Inside, IsOver, AtHead, AtBody, in_body, after_body, AtPdvHead, AtLeftover, AfterPdv, over, leftover, another, AtFragment, in_fragment, after_fragment, At, Took, AreInner, Skip, end_alone, skipped}
+use Rattle.pdu.specs.Deframing.{Inside, IsOver, AtHead, AtBody, in_body, after_body, AtPdvHead, AtLeftover, AfterPdv, over, leftover, another, AtFragment, in_fragment, after_fragment, At, Took, AreInner, Skip, no_frame, end_alone, skipped}
+use Rattle.pdu.specs.Steps.{skip_of}
 use Rattle.pdu.proofs.FrameLemmas.{new_nothing, rest_alone}
 use Rattle.pdu.proofs.DeframerLemmas.{Now, Silent, head_comes, body_comes, end_due, over_rest, none_at, pdv_head_over, pdv_head_tokens_are, pdv_bad, pdv_good, fragment_comes, value_due, after_rest}
 
@@ -208,13 +209,13 @@ skip_inside kind left r due s are i = skipped are (omega (arith, i.left_is, i.re
 none_inner : (due : List Mark) → due ≡ [] → AreInner due
 none_inner due none = subst AreInner (sym none) tt
 
-skip_over : (kind left : ℕ) (r : List ℕ) (before due later : List Mark) → AreInner before → due ≡ before ++ later → IsOver kind left r later → Skip (position.Skipped kind left) r due
-skip_over kind left r before due later are is o =
-    end_alone before kind o.body are (is ∙ ap (λ (ms : List Mark). before ++ ms) o.due_is) (record { none_left = o.none_left; rest = o.rest; body = o.body; due_is = refl })
+skip_over : (kind left : ℕ) (r : List ℕ) (before due later : List Mark) → AreInner before → (0 < length before → kind ≡ 4) → due ≡ before ++ later → IsOver kind left r later → Skip (position.Skipped kind left) r due
+skip_over kind left r before due later are only is o =
+    end_alone before kind o.body are only (is ∙ ap (λ (ms : List Mark). before ++ ms) o.due_is) (record { none_left = o.none_left; rest = o.rest; body = o.body; due_is = refl })
 
 pub skip_body : (kind left : ℕ) (r : List ℕ) (due : List Mark) → AtBody kind left r due → Skip (position.Skipped kind left) r due
 skip_body kind left r due (in_body lt i none) = skip_inside kind left r due Plain (none_inner due none) i
-skip_body kind left r due (after_body o) = skip_over kind left r [] due due tt refl o
+skip_body kind left r due (after_body o) = skip_over kind left r [] due due tt (λ lt. absurd (omega arith)) refl o
 
 pub skip_pdv_head : (left : ℕ) (bytes r : List ℕ) (due : List Mark) → AtPdvHead left bytes r due → Skip (position.Skipped 4 left) r due
 skip_pdv_head left bytes r due a = skip_inside 4 left r due _ (none_inner due a.none_due) a.inside
@@ -230,9 +231,17 @@ skip_fragment left more r due (after_fragment zero a) = go a.next
     with_value are = subst AreInner (sym a.due_is) (tt, are)
 
     go : AfterPdv left r a.later → Skip (position.Skipped 4 left) r due
-    go (over o) = skip_over 4 left r (Pdv a.context a.control a.fragment ∷ []) due a.later (tt, tt) a.due_is o
+    go (over o) = skip_over 4 left r (Pdv a.context a.control a.fragment ∷ []) due a.later (tt, tt) (λ lt. refl) a.due_is o
     go (leftover t l) = skip_inside 4 left r due _ (with_value (subst AreInner (sym l.due_is) (tt, tt))) l.inside
     go (another lt t p) = skip_inside 4 left r due _ (with_value (none_inner a.later p.none_due)) p.inside
 
 pub skip_again : (kind left : ℕ) (r : List ℕ) (due : List Mark) → IsOver kind left r due → Skip (position.Skipped kind left) r due
-skip_again kind left r due o = skip_over kind left r [] due due tt refl o
+skip_again kind left r due o = skip_over kind left r [] due due tt (λ lt. absurd (omega arith)) refl o
+
+pub skip_at : (q : Position) (r : List ℕ) (due : List Mark) → At q r due → Skip (skip_of q) r due
+skip_at (position.Head bytes) r due a = no_frame a.short a.none_due (record { short = a.short; bytes_are = a.bytes_are; none_due = refl })
+skip_at (position.Body kind left) r due a = skip_body kind left r due a
+skip_at (position.PdvHead left bytes) r due a = skip_pdv_head left bytes.items r due a
+skip_at (position.Fragment left more) r due a = skip_fragment left more r due a
+skip_at (position.Leftover left) r due a = skip_leftover left r due a
+skip_at (position.Skipped kind left) r due a = skip_again kind left r due a

@@ -12,7 +12,8 @@ use Rattle.pdu.specs.Frames.{IsRest, rest_of}
 use Rattle.pdu.specs.declared.position.Position.{Position}
 use Rattle.pdu.specs.declared.event.Event.{Event}
 use Rattle.pdu.specs.Events.{OfBody, OfFragment, marks_among, ReportsMark}
-use Rattle.pdu.specs.Deframing.{Took, MarksWithin}
+use Rattle.pdu.specs.Deframing.{At, Took, Skip, MarksWithin}
+use Rattle.pdu.specs.Steps.{skip_of}
 use Rattle.pdu.specs.Marks.{Mark, Head, BadPdv, pdv_size, head_mark, pdv_mark, frame_kind, frame_length, new_marks}
 use Rattle.pdu.specs.Spot.{Opening, Plain, InPdv, spot, room_left}
 use Rattle.pdu.specs.Parts.{SameFrame, SameHead, IsInData, IsUnfinishedPdv, GoesOn, Comes, leftover_marks, leftover_spot, body_spot}
@@ -22,6 +23,7 @@ use Rattle.pdu.proofs.PdvLemmas as values
 use Rattle.pdu.proofs.FrameLemmas as frames
 use Rattle.pdu.proofs.BegunLemmas as parts
 use Rattle.pdu.proofs.WithinLemmas as within
+use Rattle.pdu.proofs.CallLemmas as calls
 use Rattle.pdu.proofs.StepLemmas as steps
 
 -- ---- wires: one text after another
@@ -133,3 +135,6 @@ among_body = steps.among_body
 
 pub among_fragment : (bytes : List ℕ) → marks_among (map OfFragment bytes) ≡ []
 among_fragment = steps.among_fragment
+
+pub skip_at : (q : Position) (r : List ℕ) (due : List Mark) → At q r due → Skip (skip_of q) r due
+skip_at = calls.skip_at

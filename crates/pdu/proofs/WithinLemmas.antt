@@ -43,11 +43,12 @@ marks_within r c rest headed =
               inner = new_pdv_marks (frame_length r) (drop 6 r) c;
               are_inner = new_inner (frame_length r) (drop 6 r) c;
               marks = (data_ends r c headed t rest w).0 ∙ ap (λ (m : Mark). new_pdv_marks (frame_length r) (drop 6 r) c ++ m ∷ []) (end_is r c headed);
+              rest = (data_ends r c headed t rest w).1;
             };
           }
       | inr t ↦
           record {
             goes_on = λ q. subst AreInner (sym (other_within r c headed t rest q).0) tt;
-            ends = λ w. record { inner = []; are_inner = tt; marks = (other_ends r c headed t rest w).0 ∙ ap (λ (m : Mark). m ∷ []) (end_is r c headed) };
+            ends = λ w. record { inner = []; are_inner = tt; marks = (other_ends r c headed t rest w).0 ∙ ap (λ (m : Mark). m ∷ []) (end_is r c headed); rest = (other_ends r c headed t rest w).1 };
           }
     ]

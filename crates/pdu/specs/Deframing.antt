@@ -1,6 +1,7 @@
 -- Where a deframer stands in a stream, and what a call of it does. The stream counts by its unfinished frame alone, and
 -- by the marks that its last byte completed and that no event has reported yet: those are due.
 use Rattle.std.specs.Prelude.{◌≡◌, ℕ, ◌+◌, ◌-◌, ◌<◌, ◌≤◌, min, true, false, List, [], ◌∷◌, ◌++◌, length, map, Option, Some, None, nat_lt, if◌then◌else◌}
+use Rattle.arrayvec.specs.ArrayVec.{array_vec_len}
 use Rattle.pdu.specs.declared.position.Position.{Position}
 use Rattle.pdu.specs.declared.position.Position.TheVariants as position
 use Rattle.pdu.specs.declared.event.Event.{Event}
@@ -130,6 +131,7 @@ pub record EndsWithin (r c : List ℕ) : Type 0 where
   pub inner : List Mark
   pub are_inner : AreInner inner
   pub marks : new_marks r c ≡ inner ++ end_mark (r ++ c) ∷ []
+  pub rest : rest_of (r ++ c) ≡ []
 
 pub record MarksWithin (r c : List ℕ) : Type 0 where
   pub goes_on : IsRest (r ++ c) → AreInner (new_marks r c)
@@ -139,10 +141,18 @@ pub record MarksWithin (r c : List ℕ) : Type 0 where
 -- the frame is skipped. The marks that were due and are not are those within the frame.
 pub data Skip (new : Position) (r : List ℕ) (due : List Mark) : Type 0 where
   no_frame : length r < 6 → due ≡ [] → At new r [] → Skip new r due
-  end_alone : (before : List Mark) (kind : ℕ) (body : List ℕ) → AreInner before → due ≡ before ++ End kind body ∷ [] → At new r (End kind body ∷ []) → Skip new r due
+  end_alone : (before : List Mark) (kind : ℕ) (body : List ℕ) → AreInner before → (0 < length before → kind ≡ p_data_tf) → due ≡ before ++ End kind body ∷ [] → At new r (End kind body ∷ []) → Skip new r due
   skipped : AreInner due → SkipsAt new r → Skip new r due
 
 -- ---- how many bytes are held: those of an unfinished head
+
+abbrev pub bytes_held : Position → ℕ
+bytes_held (position.Head bytes) = array_vec_len bytes
+bytes_held (position.Body kind left) = 0
+bytes_held (position.PdvHead left bytes) = array_vec_len bytes
+bytes_held (position.Fragment left more) = 0
+bytes_held (position.Leftover left) = 0
+bytes_held (position.Skipped kind left) = 0
 
 abbrev pub unfinished_pdv_head : Spot → ℕ
 unfinished_pdv_head Opening = 0

@@ -1,6 +1,7 @@
 //! Cuts a stream of PDUs into events, in pieces that end anywhere.
 ghost use Rattle.std.specs.Prelude.{◌≡◌, ◌≤◌, ◌<◌, ◌-◌, ◌+◌, ◌*◌, ◌++◌, ◌⊎◌, [], ℕ, List, length, take, Option, None, Some, IfSome};
-ghost use Rattle.pdu.specs.machine.Positions.{head_bytes, left_least, left_of, fragment_due};
+ghost use Rattle.pdu.specs.Deframing.{bytes_held};
+ghost use Rattle.pdu.specs.machine.Positions.{left_least, left_of, fragment_due};
 
 mod fields;
 
@@ -14,7 +15,7 @@ use arrayvec::ArrayVec;
 #[derive(Drop)]
 pub struct Deframer {
     position: Position,
-    ghost short: { head_bytes position < 6 },
+    ghost short: { bytes_held position < 6 },
     ghost some: { 0 < left_least position },
     ghost within: { fragment_due position ≤ left_of position },
 }
@@ -58,6 +59,7 @@ impl Deframer {
     pub fn skip_frame(&mut self)
         ensures skip { (r : List ℕ) (due : List Mark) → IsAt self.old r due → Skip (position_of self.new) r due }
         ensures skips { (r : List ℕ) → Skips self.old r → Skips self.new r }
+        ensures fewer { events_due (position_of self.new) ≤ events_due (position_of self.old) }
         ensures moves { position_of self.new ≡ skip_of (position_of self.old) }
     {
         let (kind, left) = match &self.position {
@@ -94,6 +96,7 @@ impl Deframer {
         ensures held { (r : List ℕ) (due : List Mark) → IsAt self.now r due → result ≡ unfinished_heads r }
         ensures skipping { (r : List ℕ) → Skips self.now r → result ≡ 0 }
         ensures few { result < 6 }
+        ensures bytes { result ≡ bytes_held (position_of self.now) }
     {
         match &self.position {
             Position::Head(bytes) => bytes.len(),

@@ -6,7 +6,8 @@ ghost use Rattle.pdu.specs.declared.event.Event.{Event};
 ghost use Rattle.pdu.specs.Frames.{rest_of};
 ghost use Rattle.pdu.specs.Marks.{Mark, Head, PdvHead, Pdv, End, new_marks};
 ghost use Rattle.pdu.specs.Events.{Token, OfBody, OfFragment, Completes, ReportsMark, tokens, marks_among};
-ghost use Rattle.pdu.specs.Deframing.{Took};
+ghost use Rattle.pdu.specs.Deframing.{At, Took, Skip};
+ghost use Rattle.pdu.specs.Steps.{skip_of};
 ghost use Rattle.pdu.specs.Calls.{Calls};
 ghost use Rattle.pdu.specs.Examples.{release_twice, one_value};
 
@@ -44,4 +45,10 @@ pub fn a_call_reports_marks()
     ensures one { (new : Position) (r : List ℕ) (due : List Mark) (c : List ℕ) (e : Event) → (t : Took new r due c (Some e)) → (m : ReportsMark e t.reported) → due ++ new_marks r c ≡ m.mark ∷ t.later }
     ensures bodies { (bytes : List ℕ) → marks_among (map OfBody bytes) ≡ [] }
     ensures fragments { (bytes : List ℕ) → marks_among (map OfFragment bytes) ≡ [] }
+{}
+
+/// Where the rest of a PDU is skipped, its end alone is still to be reported: what was due beside it are
+/// marks between its head and its end.
+pub fn a_skipped_pdu_has_its_end()
+    ensures { (q : Position) (r : List ℕ) (due : List Mark) → At q r due → Skip (skip_of q) r due }
 {}

@@ -1,17 +1,8 @@
 -- What the positions of a deframer promise by themselves.
 use Rattle.std.specs.Prelude.{ℕ, ◌<◌, ◌≤◌}
-use Rattle.arrayvec.specs.ArrayVec.{array_vec_len}
 use Rattle.pdu.specs.declared.position.Position.{Position}
 use Rattle.pdu.specs.declared.position.Position.TheVariants.{Head, Body, PdvHead, Fragment, Leftover, Skipped}
-
--- how many bytes of heads have come
-abbrev pub head_bytes : Position → ℕ
-head_bytes (Head bytes) = array_vec_len bytes
-head_bytes (Body kind left) = 0
-head_bytes (PdvHead left bytes) = array_vec_len bytes
-head_bytes (Fragment left more) = 0
-head_bytes (Leftover left) = 0
-head_bytes (Skipped kind left) = 0
+use Rattle.pdu.specs.Deframing.{bytes_held}
 
 -- how many bytes of the frame are to come, at least
 abbrev pub left_least : Position → ℕ
@@ -39,6 +30,6 @@ fragment_due (Leftover left) = 0
 fragment_due (Skipped kind left) = 0
 
 pub record IsSound (p : Position) : Type 0 where
-  pub short : head_bytes p < 6
+  pub short : bytes_held p < 6
   pub some : 0 < left_least p
   pub within : fragment_due p ≤ left_of p
