@@ -1,6 +1,7 @@
 //! Associations over TCP in one process: the log, and what a peer can't do to the box.
 use crate::files::config;
-use commands::{Layout, Serve, Timeouts, open_folder, serve_one};
+use commands::{Layout, Serve, open_folder, serve_one};
+use connection::Timeouts;
 use fixtures::bytes::joined;
 use fixtures::echo;
 use fixtures::folders::fresh;

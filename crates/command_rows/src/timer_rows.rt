@@ -1,5 +1,5 @@
 //! The ARTIM timer runs from its start, and starts anew with the answer that ends a request.
-use commands::{Timeouts, Timer};
+use connection::{Timeouts, Timer};
 use std::cell::Cell;
 use std::io;
 use std::io::ErrorKind;

@@ -19,9 +19,7 @@ mod replay;
 mod serve;
 mod settings;
 mod show;
-mod socket;
 mod texts;
-mod timer;
 mod walk;
 mod whole;
 
@@ -38,4 +36,3 @@ pub use settings::{
     Index, Layout, Per, Replay, Serve, index_settings, replay_settings, serve_settings,
 };
 pub use show::show_over;
-pub use timer::{Timeouts, Timer};

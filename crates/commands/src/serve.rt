@@ -1,20 +1,16 @@
 //! `dcmbox serve`: associations over TCP, one after the other.
-ghost use Rattle.std.specs.Prelude.{◌≡◌, [], IfOk, OnErr};
+ghost use Rattle.std.specs.Prelude.{◌≡◌, IfOk, OnErr};
 ghost use Rattle.negotiate.specs.Settings.{settings_of};
-ghost use Rattle.commands.specs.Served.{Exchanged, Came, CameOf};
+ghost use Rattle.connection.specs.Served.{Came, CameOf};
 
 use crate::error::ProgramError;
-use crate::limits::{COMMAND, DEPTH, REQUEST, VALUES};
 use crate::settings::Serve;
-use crate::socket::{SocketOptions, SocketSource, StreamWire};
-use element::trace::Trace;
-use engine::{Report, run};
+use connection::{Exchange, Observer, ReadEnd, Terms, exchange_over};
+use engine::Report;
 use jiff::Timestamp;
 use log::{Log, error, info};
 use part10::{Filing, FolderFiling};
-use std::cell::Cell;
 use std::fs::File;
-use std::io::{Read, Write};
 use std::net::{Net, SocketAddr, TcpListener, TcpStream};
 use std::rt::Files;
 use std::time::{Clock, Duration, Instant};
@@ -80,61 +76,18 @@ fn log_served<R: Log + Clock>(rt: &R, served: Served) {
     info!(rt; target: TARGET, "{line}");
 }
 
-/// What went over a connection.
-#[derive(Drop)]
-pub struct Exchange {
-    report: Report,
-    /// How many bytes were received.
-    received: u64,
-    /// What contracts see of the bytes that were read.
-    read: Trace,
-    /// What contracts see of the bytes that were sent.
-    sent: Trace,
-}
+/// Takes no notice of what goes over a connection.
+#[derive(Clone, Copy)]
+struct Unobserved;
 
-/// Runs an association over a source from which nothing was read and a wire over which nothing was
-/// sent; returns how it ended.
-///
-/// `served`: from the calls that read to those that write. Of the bytes that were read the definitions
-/// give the bytes that were sent, the files that were committed, and how the association stands.
-fn run_over<R: Clock, O: SocketOptions, D: Read + Drop, W: Write + Drop, F: Filing>(
-    source: &mut SocketSource<'_, R, O, D>,
-    wire: &mut StreamWire<'_, W>,
-    settings: &Serve,
-    filing: &mut F,
-) -> Report
-    requires nothing_read { source.old.given.named ≡ [] }
-    requires nothing_sent { wire.old.stream.trace.bytes ≡ [] }
-    ensures served { Exchanged (settings_of settings.now.config) result source.new.stream.trace.bytes wire.new.stream.trace.bytes (F.store filing.old) (F.store filing.new) }
-{
-    run::<REQUEST, COMMAND, VALUES, DEPTH, _, _, _>(
-        source,
-        &settings.config,
-        wire,
-        filing,
-        u64::MAX,
-    )
-}
+impl Observer for Unobserved {
+    fn received(&self, _bytes: &[u8]) {}
 
-/// Runs the association of a connection; returns what went over it.
-fn exchange_over<R: Clock, F: Filing>(
-    rt: &R,
-    stream: &TcpStream,
-    settings: &Serve,
-    filing: &mut F,
-) -> Exchange
-    ensures came { Came (settings_of settings.now.config) result (F.store filing.old) (F.store filing.new) }
-{
-    let has_sent = Cell::new(false);
-    let mut source = SocketSource::new(rt, stream, stream, settings.timeouts, &has_sent);
-    let mut wire = StreamWire::new(stream, &has_sent);
-    let report = run_over(&mut source, &mut wire, settings, filing);
-    Exchange {
-        report,
-        received: source.received(),
-        read: source.into_trace(),
-        sent: wire.into_trace(),
-    }
+    fn sent(&self, _bytes: &[u8]) {}
+
+    fn read_ended(&self, _end: ReadEnd) {}
+
+    fn send_failed(&self, _error: &io::Error) {}
 }
 
 /// Has a connection send what is written at once, and fail where its peer takes nothing for so long.
@@ -166,7 +119,11 @@ fn associate<R: Log + Clock, S: Files<File = File> + Alloc + Clone + Drop>(
     set_up(stream, settings.timeouts.idle)?;
     let started = Instant::now(rt)?;
     let (committed, dropped) = (filing.committed(), filing.dropped());
-    let exchange = exchange_over(rt, stream, settings, filing);
+    let terms = Terms {
+        config: &settings.config,
+        timeouts: settings.timeouts,
+    };
+    let exchange = exchange_over(rt, stream, &Unobserved, terms, filing);
     match started.elapsed(rt) {
         Ok(time) => log_served(
             rt,

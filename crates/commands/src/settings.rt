@@ -2,9 +2,9 @@
 ghost use Rattle.std.specs.Prelude.{◌<◌, ◌≤◌, ◌^◌, IfOk};
 
 use crate::limits::MOST_DATA;
-use crate::timer::Timeouts;
 use arguments::{IndexArguments, MOST_VALUES, ReplayArguments, ServeArguments, WordsError};
 use arrayvec::ArrayVec;
+use connection::Timeouts;
 use element::{AeTitle, Uid};
 use negotiate::Config;
 use std::alloc::Global;

@@ -10,7 +10,7 @@ use Rattle.engine.specs.declared.report.Report.{Report}
 use Rattle.engine.specs.Devices.{devices}
 use Rattle.engine.specs.Inputs.{Received, Bytes, Close, Expiry, UserAbort, Gives, stream_of, input_of, inputs_of}
 use Rattle.engine.specs.Ran.{Ran, standing_of}
-use Rattle.commands.specs.Served.{served_rooms, Exchanged}
+use Rattle.connection.specs.Served.{served_rooms, Exchanged}
 
 pub stream_more : (xs ys : List Received) → stream_of (xs ++ ys) ≡ stream_of xs ++ stream_of ys
 stream_more [] ys = refl

@@ -1,18 +1,16 @@
-//! The socket of a served association: where its inputs come from, and where it sends.
+//! Where the inputs of a served association come from.
 ghost use Rattle.std.specs.Prelude.{◌≡◌, ◌≢◌, ◌≤◌, [], ◌∷◌, ◌++◌, None, Some, length, take};
 ghost use Rattle.engine.specs.Inputs.{inputs_of, stream_of};
 
 use crate::limits::PIECE;
+use crate::observer::{Observer, ReadEnd, Shared};
 use crate::timer::{Timeouts, Timer};
 use acknowledge::acknowledge_at_once;
-use element::count::Count;
 use element::trace::Trace;
 use element::traced::Traced;
 use engine::{Given, Input, Source};
-use pdu::{Wire, WireFailed};
-use std::cell::Cell;
 use std::io;
-use std::io::{ErrorKind, Read, Write};
+use std::io::{ErrorKind, Read};
 use std::net::TcpStream;
 use std::time::{Clock, Duration};
 
@@ -38,13 +36,12 @@ impl SocketOptions for TcpStream {
 /// Takes the inputs of an association from a socket: a read that fails or ends is the transport's
 /// close; silence is the timer's expiry while the timer runs, else the local user's abort.
 #[derive(Drop)]
-pub struct SocketSource<'a, R: Clock, O: SocketOptions, D: Read + Drop> {
+pub struct SocketSource<'a, R: Clock, O: SocketOptions, D: Read + Drop, B: Observer> {
     rt: &'a R,
     options: &'a O,
     stream: Traced<D>,
     timer: Timer,
-    /// Whether the association has sent anything.
-    has_sent: &'a Cell<bool>,
+    shared: &'a Shared<'a, B>,
     /// The read timeout that the socket has.
     timeout: Option<Duration>,
     room: [u8; PIECE],
@@ -57,16 +54,16 @@ pub struct SocketSource<'a, R: Clock, O: SocketOptions, D: Read + Drop> {
     ghost whole: { stream_of (inputs_of given.named) ≡ stream.trace.bytes },
 }
 
-impl<'a, R: Clock, O: SocketOptions, D: Read + Drop> SocketSource<'a, R, O, D> {
-    /// Returns the source of a new association, whose wire notes in `has_sent` that it has sent. It
+impl<'a, R: Clock, O: SocketOptions, D: Read + Drop, B: Observer> SocketSource<'a, R, O, D, B> {
+    /// Returns the source of a new association, whose wire notes in `shared` that it has sent. It
     /// reads `stream`, whose socket has these options.
     pub fn new(
         rt: &'a R,
         options: &'a O,
         stream: D,
         timeouts: Timeouts,
-        has_sent: &'a Cell<bool>,
-    ) -> SocketSource<'a, R, O, D>
+        shared: &'a Shared<'a, B>,
+    ) -> SocketSource<'a, R, O, D, B>
         ensures nothing { result.given.named ≡ [] }
     {
         SocketSource {
@@ -74,7 +71,7 @@ impl<'a, R: Clock, O: SocketOptions, D: Read + Drop> SocketSource<'a, R, O, D> {
             options,
             stream: Traced::new(stream),
             timer: Timer::new(timeouts),
-            has_sent,
+            shared,
             timeout: None,
             room: [0; PIECE],
             len: 0,
@@ -109,17 +106,30 @@ impl<'a, R: Clock, O: SocketOptions, D: Read + Drop> SocketSource<'a, R, O, D> {
 
     /// Gives an input that has no bytes.
     #[tactic(auto, using(crate::proofs::ServedLemmas::still_whole))]
-    fn give(&mut self, input: Input) -> Input
+    fn give(&mut self, input: Input, end: ReadEnd) -> Input
         requires no_piece { input ≢ Input.Piece }
         ensures given { self.new.given.named ≡ self.old.given.named ++ (input, take self.new.len self.new.room) ∷ [] }
         ensures same { result ≡ input }
     {
+        self.shared.observer.read_ended(end);
         self.given.push(&input, &self.room[..self.len]);
         input
     }
+
+    /// Gives what a peer's silence is.
+    fn give_silence(&mut self, timer: bool) -> Input
+        ensures given { self.new.given.named ≡ self.old.given.named ++ (result, take self.new.len self.new.room) ∷ [] }
+    {
+        if timer {
+            self.give(Input::Expired, ReadEnd::Timer)
+        } else {
+            self.give(Input::LocalAbort, ReadEnd::Idle)
+        }
+    }
 }
 
-impl<R: Clock, O: SocketOptions, D: Read + Drop> Source for SocketSource<'_, R, O, D> {
+impl<R: Clock, O: SocketOptions, D: Read + Drop, B: Observer> Source
+    for SocketSource<'_, R, O, D, B> {
     ghost supply = { λ s. record { to_come = None; given = Some (inputs_of s.given.named) } };
 
     ghost last = { λ s. take s.len s.room };
@@ -127,79 +137,34 @@ impl<R: Clock, O: SocketOptions, D: Read + Drop> Source for SocketSource<'_, R, 
     #[tactic(auto, using(crate::proofs::ServedLemmas::whole_more, crate::proofs::ServedLemmas::gives_one))]
     fn next(&mut self, timer: bool) -> Input {
         for _ in 0..u64::MAX {
-            let has_sent = self.has_sent.get();
+            let has_sent = self.shared.has_sent.get();
             let Some(time) = self.timer.time_left(self.rt, timer, has_sent) else {
-                return self.give(Input::Expired);
+                return self.give(Input::Expired, ReadEnd::Timer);
             };
             if !self.wait(time) {
-                return self.give(Input::Closed);
+                return self.give(Input::Closed, ReadEnd::Failed);
             }
             self.options.acknowledge();
             match self.stream.read(&mut self.room) {
-                Ok(0) => return self.give(Input::Closed),
+                Ok(0) => return self.give(Input::Closed, ReadEnd::Closed),
                 Ok(len) => {
                     self.len = len;
                     self.received = self.received.saturating_add(len as u64);
+                    self.shared.observer.received(&self.room[..len]);
                     self.given.push(&Input::Piece, &self.room[..len]);
                     return Input::Piece;
                 }
                 Err(error) if error.kind() == ErrorKind::Interrupted => {}
                 Err(error) if error.kind() == ErrorKind::WouldBlock => {
-                    return self.give(if timer {
-                        Input::Expired
-                    } else {
-                        Input::LocalAbort
-                    });
+                    return self.give_silence(timer);
                 }
-                Err(_) => return self.give(Input::Closed),
+                Err(_) => return self.give(Input::Closed, ReadEnd::Failed),
             }
         }
-        self.give(Input::Closed)
+        self.give(Input::Closed, ReadEnd::Failed)
     }
 
     fn piece(&self) -> &[u8] {
         &self.room[..self.len]
-    }
-}
-
-/// Sends to a stream.
-#[derive(Drop)]
-pub struct StreamWire<'a, W: Write + Drop> {
-    stream: Traced<W>,
-    /// Whether anything was sent.
-    has_sent: &'a Cell<bool>,
-    failures: Count,
-}
-
-impl<'a, W: Write + Drop> StreamWire<'a, W> {
-    pub fn new(stream: W, has_sent: &'a Cell<bool>) -> StreamWire<'a, W>
-        ensures nothing { result.stream.trace.bytes ≡ [] }
-        ensures never { result.failures.total ≡ 0 }
-    {
-        StreamWire {
-            stream: Traced::new(stream),
-            has_sent,
-            failures: Count::new(),
-        }
-    }
-
-    /// Returns what contracts see of the bytes that were sent.
-    pub fn into_trace(self) -> Trace
-        ensures { result ≡ self.entry.stream.trace }
-    {
-        self.stream.into_trace()
-    }
-}
-
-impl<W: Write + Drop> Wire for StreamWire<'_, W> {
-    ghost line = { λ w. record { sent = Some w.stream.trace.bytes; failures = w.failures.total } };
-
-    fn send(&mut self, bytes: &[u8]) -> Result<(), WireFailed> {
-        self.has_sent.set(true);
-        if self.stream.write_all(bytes).is_err() {
-            self.failures.add_one();
-            return Err(WireFailed);
-        }
-        Ok(())
     }
 }

@@ -12,7 +12,7 @@ use Rattle.engine.specs.Ran.{Run, EndsLast, standing_of}
 use Rattle.engine.specs.Reached.{reached}
 use Rattle.engine.specs.Run.{Rooms, progress_of}
 use Rattle.engine.specs.Timeline.{Happened}
-use Rattle.commands.specs.declared.serve.Exchange.{Exchange}
+use Rattle.connection.specs.declared.exchange.Exchange.{Exchange}
 
 -- the rooms of each association of the program
 abbrev pub served_rooms : Rooms

@@ -1,0 +1,49 @@
+//! Who is shown what goes over a connection.
+use std::cell::Cell;
+use std::io;
+
+/// Why nothing more was read from a peer.
+#[derive(Clone, Copy, Debug, PartialEq, Eq)]
+pub enum ReadEnd {
+    /// The peer closed the connection.
+    Closed,
+    /// A read, or the call that sets its timeout, failed.
+    Failed,
+    /// The ARTIM timer expired (PS3.8 section 9.1.5).
+    Timer,
+    /// The peer of an established association sent nothing for the idle time.
+    Idle,
+}
+
+/// Is shown what goes over a connection, and can change none of it.
+pub trait Observer {
+    /// These bytes were received; the association takes them next.
+    fn received(&self, bytes: &[u8]);
+
+    /// These bytes were sent.
+    fn sent(&self, bytes: &[u8]);
+
+    /// Nothing more was read.
+    fn read_ended(&self, end: ReadEnd);
+
+    /// A send failed.
+    fn send_failed(&self, error: &io::Error);
+}
+
+/// What the source and the wire of one connection share.
+#[derive(Drop)]
+pub struct Shared<'a, B: Observer> {
+    pub observer: &'a B,
+    /// Whether the association has sent anything.
+    pub has_sent: Cell<bool>,
+}
+
+impl<'a, B: Observer> Shared<'a, B> {
+    /// Returns what a new connection shares: nothing was sent over it.
+    pub fn new(observer: &'a B) -> Shared<'a, B> {
+        Shared {
+            observer,
+            has_sent: Cell::new(false),
+        }
+    }
+}
