@@ -4,8 +4,8 @@ use Rattle.std.specs.Prelude.{ℕ, ◌%◌, Bool, true, false, not, ◌&&◌, �
 use Rattle.std.specs.List.{list_all, slice_split}
 use Rattle.element.specs.declared.kinds.Kind.{Kind}
 use Rattle.element.specs.declared.kinds.Kind.TheVariants.{Words, Longs, Doubles, Title, Code, Date, Time, Age, Integer, Decimal, Identifier, Free}
-use Rattle.element.specs.declared.parts.Rule.{Rule}
-use Rattle.element.specs.declared.parts.Rule.TheVariants.{Size, Longest, Characters, Form}
+use Rattle.element.specs.declared.parts.PartRule.{PartRule}
+use Rattle.element.specs.declared.parts.PartRule.TheVariants.{Size, Longest, Characters, Form}
 use Rattle.element.specs.declared.values.ValueFault.{ValueFault}
 use Rattle.element.specs.declared.values.ValueFault.TheVariants.{BadCharacter, WrongSize, TooLongValue, BadUid}
 use Rattle.element.specs.Padding.{is_empty}
@@ -77,7 +77,7 @@ has_form Identifier part = list_all is_component (slice_split is_dot part)
 has_form _ part = true
 
 -- whether a part is good by one rule; an empty one is
-abbrev pub obeys : Rule → Kind → List ℕ → Bool
+abbrev pub obeys : PartRule → Kind → List ℕ → Bool
 obeys Size kind part = is_empty part || has_size kind part
 obeys Longest kind part = is_empty part || is_short_enough kind part
 obeys Characters kind part = is_empty part || has_characters kind part
@@ -105,7 +105,7 @@ part_text Identifier part = part
 part_text _ part = title_text part
 
 -- whether each part is good by one rule; words have no parts
-abbrev pub parts_obey : Rule → Kind → List ℕ → Bool
+abbrev pub parts_obey : PartRule → Kind → List ℕ → Bool
 parts_obey rule Words value = true
 parts_obey rule Longs value = true
 parts_obey rule Doubles value = true

@@ -7,7 +7,7 @@ use crate::kinds::Kind;
 
 /// A rule that a part is tested by.
 #[derive(Clone, Copy)]
-pub(crate) enum Rule {
+pub(crate) enum PartRule {
     /// It has the fixed size of its kind.
     Size,
     /// It is no longer than its kind allows.
@@ -130,14 +130,14 @@ fn has_form(kind: Kind, part: &[u8]) -> bool
 }
 
 /// Returns whether a part obeys a rule; an empty one does.
-pub(crate) fn obeys(rule: Rule, kind: Kind, part: &[u8]) -> bool
+pub(crate) fn obeys(rule: PartRule, kind: Kind, part: &[u8]) -> bool
     ensures { result ≡ rules.obeys rule kind part.now }
 {
     part.is_empty()
         || match rule {
-            Rule::Size => has_size(kind, part),
-            Rule::Longest => is_short_enough(kind, part),
-            Rule::Characters => has_characters(kind, part),
-            Rule::Form => has_form(kind, part),
+            PartRule::Size => has_size(kind, part),
+            PartRule::Longest => is_short_enough(kind, part),
+            PartRule::Characters => has_characters(kind, part),
+            PartRule::Form => has_form(kind, part),
         }
 }

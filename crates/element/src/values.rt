@@ -6,7 +6,7 @@ ghost use Rattle.element.specs.Values as rules;
 use crate::Vr;
 use crate::kinds::{Kind, kind_of};
 use crate::padding::trimmed;
-use crate::parts::{Rule, obeys};
+use crate::parts::{PartRule, obeys};
 use std::fmt;
 
 /// Why a value breaks the rules of its VR.
@@ -84,14 +84,14 @@ fn part_text(kind: Kind, part: &[u8]) -> &[u8]
     }
 }
 
-fn each_part_obeys(rule: Rule, kind: Kind, text: &[u8]) -> bool
+fn each_part_obeys(rule: PartRule, kind: Kind, text: &[u8]) -> bool
     ensures { result ≡ list_all (λ part. rules.obeys rule kind (rules.part_text kind part)) (slice_split rules.is_backslash text.now) }
 {
     text.split(|byte| *byte == b'\\')
         .all(|part| obeys(rule, kind, part_text(kind, part)))
 }
 
-fn parts_obey(rule: Rule, kind: Kind, value: &[u8]) -> bool
+fn parts_obey(rule: PartRule, kind: Kind, value: &[u8]) -> bool
     ensures { result ≡ rules.parts_obey rule kind value.now }
 {
     match kind {
@@ -121,13 +121,13 @@ pub fn check_value(vr: Vr, value: &[u8]) -> Result<(), ValueFault>
     ensures { MatchResult result (λ _. rules.value_fault vr value.now ≡ None) (λ fault. rules.value_fault vr value.now ≡ Some fault) }
 {
     let kind = kind_of(vr);
-    if !is_whole_words(kind, value) || !parts_obey(Rule::Size, kind, value) {
+    if !is_whole_words(kind, value) || !parts_obey(PartRule::Size, kind, value) {
         Err(ValueFault::WrongSize)
-    } else if !parts_obey(Rule::Longest, kind, value) {
+    } else if !parts_obey(PartRule::Longest, kind, value) {
         Err(ValueFault::TooLongValue)
-    } else if !parts_obey(Rule::Characters, kind, value) {
+    } else if !parts_obey(PartRule::Characters, kind, value) {
         Err(ValueFault::BadCharacter)
-    } else if !parts_obey(Rule::Form, kind, value) {
+    } else if !parts_obey(PartRule::Form, kind, value) {
         Err(ValueFault::BadUid)
     } else {
         Ok(())

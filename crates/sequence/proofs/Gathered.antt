@@ -17,7 +17,7 @@ no_items (x ∷ t) e = absurd (omega (arith, e))
 
 -- a header that goes on has fewer than twelve bytes
 pub short_end : (lim : Limits) (spot : Spot) (bytes : List ℕ) (begun : ℕ) (e : End) → is_part e ≡ true → IsEnd lim spot bytes begun e → begun < length bytes → length bytes < 12
-short_end lim spot bytes begun (ends.Refused n number tag) p k more = absurd cc
+short_end lim spot bytes begun (ends.Refused n rule tag) p k more = absurd cc
 short_end lim spot bytes begun (ends.Whole n h sh) p k more = absurd cc
 short_end lim spot bytes begun ends.Part p k more =
     let q = k (length bytes) more (omega arith) in
@@ -26,12 +26,12 @@ short_end lim spot bytes begun ends.Part p k more =
     omega (arith, short, ap length all)
 
 pub kept_part : (e : End) (bytes : List ℕ) → is_part e ≡ true → kept_by e bytes ≡ bytes
-kept_part (ends.Refused n number tag) bytes p = absurd cc
+kept_part (ends.Refused n rule tag) bytes p = absurd cc
 kept_part (ends.Whole n h sh) bytes p = absurd cc
 kept_part ends.Part bytes p = refl
 
 pub kept_none : (e : End) (bytes : List ℕ) → is_part e ≡ false → kept_by e bytes ≡ []
-kept_none (ends.Refused n number tag) bytes p = refl
+kept_none (ends.Refused n rule tag) bytes p = refl
 kept_none (ends.Whole n h sh) bytes p = refl
 kept_none ends.Part bytes p = absurd cc
 

@@ -17,6 +17,8 @@ use Rattle.sequence.specs.machine.Keeping.{keeps, keep_header, keep_headed}
 use Rattle.sequence.specs.machine.State.{mode_of}
 use Rattle.sequence.specs.machine.Heading.{IsQuiet, IsEnd}
 use Rattle.sequence.specs.machine.Steps.{IsMade, IsTaken}
+use Rattle.sequence.specs.declared.rule.Rule.{Rule}
+use Rattle.sequence.specs.Names.{rule_number}
 use Rattle.sequence.proofs.Unbroken.{on_tail}
 use Rattle.sequence.proofs.Quiet.{take_both}
 use Rattle.sequence.proofs.Parts.{part_short}
@@ -108,15 +110,15 @@ module _ (lim : Limits) (f : Scope) (fs : List Scope) (p : ℕ) (t piece : List 
       ∙ ap (λ z. keep_headed lim (broken lim (spot_of f fs (p - length t)) z) f fs z values) (taken_text n (omega (arith, lt)))
 
   module _ (stage : Stage) (is : stage ≡ stages.Heading) (begun : ℕ) (begun-is : begun ≡ length t) where
-    pub refused_run : (n number : ℕ) (tag : Tag) → IsEnd lim (spot_of f fs (p - length t)) (t ++ piece) (length t) (ends.Refused n number tag) → at f fs (p - begun + n) (Stopped number (p - begun) tag) ≡ run lim (at f fs p (mode_of stage p t)) (take (n - begun) piece)
-    refused_run n number tag k =
-        subst (λ z. at f fs (p - z + n) (Stopped number (p - z) tag) ≡ run lim (at f fs p (mode_of stage p t)) (take (n - z) piece)) (sym begun-is)
-        (sym (ap (λ z. run lim (at f fs p (mode_of z p t)) (take (n - length t) piece)) is ∙ run_to n k.0.more k.0.some k.2 ∙ headed_refused lim f fs (p - length t + n) (p - length t) (take n (t ++ piece)) number tag k.1))
+    pub refused_run : (n : ℕ) (rule : Rule) (tag : Tag) → IsEnd lim (spot_of f fs (p - length t)) (t ++ piece) (length t) (ends.Refused n rule tag) → at f fs (p - begun + n) (Stopped (rule_number rule) (p - begun) tag) ≡ run lim (at f fs p (mode_of stage p t)) (take (n - begun) piece)
+    refused_run n rule tag k =
+        subst (λ z. at f fs (p - z + n) (Stopped (rule_number rule) (p - z) tag) ≡ run lim (at f fs p (mode_of stage p t)) (take (n - z) piece)) (sym begun-is)
+        (sym (ap (λ z. run lim (at f fs p (mode_of z p t)) (take (n - length t) piece)) is ∙ run_to n k.0.more k.0.some k.2 ∙ headed_refused lim f fs (p - length t + n) (p - length t) (take n (t ++ piece)) (rule_number rule) tag k.1))
 
-    pub refused_kept : (values : Values) (n number : ℕ) (tag : Tag) → IsEnd lim (spot_of f fs (p - length t)) (t ++ piece) (length t) (ends.Refused n number tag) → values ≡ keeps lim (at f fs p (mode_of stage p t)) values (take (n - begun) piece)
-    refused_kept values n number tag k =
+    pub refused_kept : (values : Values) (n : ℕ) (rule : Rule) (tag : Tag) → IsEnd lim (spot_of f fs (p - length t)) (t ++ piece) (length t) (ends.Refused n rule tag) → values ≡ keeps lim (at f fs p (mode_of stage p t)) values (take (n - begun) piece)
+    refused_kept values n rule tag k =
         subst (λ z. values ≡ keeps lim (at f fs p (mode_of stage p t)) values (take (n - z) piece)) (sym begun-is)
-        (sym (ap (λ z. keeps lim (at f fs p (mode_of z p t)) values (take (n - length t) piece)) is ∙ keeps_to values n k.0.more k.0.some k.2 ∙ kept_refused lim f fs (p - length t) (take n (t ++ piece)) values number tag k.1))
+        (sym (ap (λ z. keeps lim (at f fs p (mode_of z p t)) values (take (n - length t) piece)) is ∙ keeps_to values n k.0.more k.0.some k.2 ∙ kept_refused lim f fs (p - length t) (take n (t ++ piece)) values (rule_number rule) tag k.1))
 
     pub whole_run : (n : ℕ) (h : Header) (sh : Shape) → IsEnd lim (spot_of f fs (p - length t)) (t ++ piece) (length t) (ends.Whole n h sh) → take_header (p - begun + n) f fs h ≡ run lim (at f fs p (mode_of stage p t)) (take (n - begun) piece)
     whole_run n h sh k =
@@ -160,8 +162,8 @@ module _ (lim : Limits) (f : Scope) (fs : List Scope) (p : ℕ) (t piece : List 
         let end : p - begun + n ≡ p + (n - begun) = omega (arith, begun-is, k.0.more, behind) in
         told_by new place header (n - begun) h (subst (λ z. IsMade f.syntax t (take (n - z) piece) h) (sym begun-is) (made_by n h sh k u)) (subst (ArrivesAt (mode_of new place header)) end arrives)
 
-    pub refused_told : (n number : ℕ) (tag : Tag) (header : List ℕ) → IsEnd lim (spot_of f fs (p - length t)) (t ++ piece) (length t) (ends.Refused n number tag) → IsTaken f.syntax t piece p (n - begun) (stages.Stopped (record { number = number; place = p - begun; tag = tag })) header None
-    refused_told n number tag header k = (omega (arith, begun-is, behind), omega (arith, begun-is, k.0.more))
+    pub refused_told : (n : ℕ) (rule : Rule) (tag : Tag) (header : List ℕ) → IsEnd lim (spot_of f fs (p - length t)) (t ++ piece) (length t) (ends.Refused n rule tag) → IsTaken f.syntax t piece p (n - begun) (stages.Stopped (record { number = rule_number rule; place = p - begun; tag = tag })) header None
+    refused_told n rule tag header k = (omega (arith, begun-is, behind), omega (arith, begun-is, k.0.more))
 
     -- the header goes on
 

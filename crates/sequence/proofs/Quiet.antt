@@ -191,12 +191,12 @@ whole_unbroken lim spot t k h n size read ok =
 -- what is examined
 
 part_examined : (lim : Limits) (spot : Spot) (bytes : List ℕ) (a count : ℕ) (e : End) → is_part e ≡ true → IsExamined lim spot bytes a count e → a < count → count ≤ length bytes → IsQuiet lim spot (take count bytes)
-part_examined lim spot bytes a count (ends.Refused n number tag) p j = absurd cc
+part_examined lim spot bytes a count (ends.Refused n rule tag) p j = absurd cc
 part_examined lim spot bytes a count (ends.Whole n h sh) p j = absurd cc
 part_examined lim spot bytes a count ends.Part p j = j
 
 later_end : (lim : Limits) (spot : Spot) (bytes : List ℕ) (a count : ℕ) (e : End) → is_part e ≡ false → IsExamined lim spot bytes a count e → ((m : ℕ) → a < m → m < count → m ≤ length bytes → IsQuiet lim spot (take m bytes)) → IsEnd lim spot bytes a e
-later_end lim spot bytes a count (ends.Refused n number tag) p j quiet = (j.0, j.2, λ m lt lt2. quiet m lt (omega (arith, lt2, j.1)) (omega (arith, lt2, j.0.some)))
+later_end lim spot bytes a count (ends.Refused n rule tag) p j quiet = (j.0, j.2, λ m lt lt2. quiet m lt (omega (arith, lt2, j.1)) (omega (arith, lt2, j.0.some)))
 later_end lim spot bytes a count (ends.Whole n h sh) p j quiet = (j.0, j.2, λ m lt lt2. quiet m lt (omega (arith, lt2, j.1)) (omega (arith, lt2, j.0.some)))
 later_end lim spot bytes a count ends.Part p j quiet = absurd cc
 
@@ -240,7 +240,7 @@ module _ (lim : Limits) (spot : Spot) (bytes : List ℕ) (a : ℕ) (more : a ≤
       size_part k m n j lt most false e = quiet_by m (omega (arith, lt)) most (before_size k m n (leb-false k m e) most)
 
       pub size_end : (k : ℕ) (e : End) → need spot.syntax bytes ≡ Size k → IsExamined lim spot bytes a k e → IsEnd lim spot bytes a e
-      size_end k (ends.Refused c number tag) n j = later_end lim spot bytes a k (ends.Refused c number tag) refl j (λ m gt lt most. quiet_by m (omega (arith, gt)) most (before_size k m n lt most))
+      size_end k (ends.Refused c rule tag) n j = later_end lim spot bytes a k (ends.Refused c rule tag) refl j (λ m gt lt most. quiet_by m (omega (arith, gt)) most (before_size k m n lt most))
       size_end k (ends.Whole c h sh) n j = later_end lim spot bytes a k (ends.Whole c h sh) refl j (λ m gt lt most. quiet_by m (omega (arith, gt)) most (before_size k m n lt most))
       size_end k ends.Part n j = λ m lt most. size_part k m n j lt most (nat_le k m) refl
 
@@ -260,7 +260,7 @@ one_more lim spot bytes begun e none q k = subst (λ z. IsEnd lim spot bytes z e
     before m n gt lt rest false le = rest m (leb-false m 1 le) lt
 
     by : (e : End) → IsEnd lim spot bytes 1 e → IsEnd lim spot bytes 0 e
-    by (ends.Refused n number tag) k = (record { more = omega (arith, k.0.more); some = k.0.some; short = k.0.short }, k.1, λ m gt lt. before m n gt lt k.2 (nat_le m 1) refl)
+    by (ends.Refused n rule tag) k = (record { more = omega (arith, k.0.more); some = k.0.some; short = k.0.short }, k.1, λ m gt lt. before m n gt lt k.2 (nat_le m 1) refl)
     by (ends.Whole n h sh) k = (record { more = omega (arith, k.0.more); some = k.0.some; short = k.0.short }, k.1, λ m gt lt. before m n gt lt k.2 (nat_le m 1) refl)
     by ends.Part k = λ m gt most. before m (m + 1) gt (omega arith) (λ o lt lt2. k o lt (omega (arith, lt2, most))) (nat_le m 1) refl
 
@@ -289,7 +289,7 @@ quiet_front lim spot bytes k m n le ok lt =
 -- a whole header that is unbroken ends its bytes
 
 pub examined_end : (lim : Limits) (spot : Spot) (bytes : List ℕ) (begun k : ℕ) (e : End) → need spot.syntax bytes ≡ Size k → is_end e ≡ true → IsExamined lim spot bytes begun k e → IsEnd lim spot bytes begun e
-examined_end lim spot bytes begun k (ends.Refused n number tag) size e j = absurd cc
+examined_end lim spot bytes begun k (ends.Refused n rule tag) size e j = absurd cc
 examined_end lim spot bytes begun k ends.Part size e j = absurd cc
 examined_end lim spot bytes begun k (ends.Whole n h sh) size e j =
     let same : k ≡ n = sym j.1 in
@@ -327,8 +327,8 @@ twelve_part lim spot bytes begun m le k lt most false e =
     absurd (omega (arith, short, size, ap length same))
 
 pub twelve_end : (lim : Limits) (spot : Spot) (bytes : List ℕ) (begun : ℕ) (e : End) → begun ≤ 11 → IsEnd lim spot (take 12 bytes) begun e → IsEnd lim spot bytes begun e
-twelve_end lim spot bytes begun (ends.Refused n number tag) le k =
-    (twelve_count bytes begun n k.0, subst (λ z. IsRefused lim spot z number tag) (take-take n 12 bytes k.0.short) k.1, λ m lt lt2. subst (IsQuiet lim spot) (take-take m 12 bytes (omega (arith, lt2, k.0.short))) (k.2 m lt lt2))
+twelve_end lim spot bytes begun (ends.Refused n rule tag) le k =
+    (twelve_count bytes begun n k.0, subst (λ z. IsRefused lim spot z rule tag) (take-take n 12 bytes k.0.short) k.1, λ m lt lt2. subst (IsQuiet lim spot) (take-take m 12 bytes (omega (arith, lt2, k.0.short))) (k.2 m lt lt2))
 twelve_end lim spot bytes begun (ends.Whole n h sh) le k =
     (twelve_count bytes begun n k.0, subst (λ z. IsRead lim spot z h sh) (take-take n 12 bytes k.0.short) k.1, λ m lt lt2. subst (IsQuiet lim spot) (take-take m 12 bytes (omega (arith, lt2, k.0.short))) (k.2 m lt lt2))
 twelve_end lim spot bytes begun ends.Part le k = λ m lt most. twelve_part lim spot bytes begun m le k lt most (nat_le (length bytes) 12) refl

@@ -2,8 +2,8 @@ pub mod Shape
 pub mod Tree
 pub mod Open
 pub mod Wanted
-pub mod Rules
 pub mod Names
+pub mod Rules
 pub mod FirstFault
 pub mod Within
 pub mod Ending

@@ -12,6 +12,8 @@ use Rattle.sequence.specs.declared.shape.Shape.{Shape}
 use Rattle.sequence.specs.declared.shape.Shape.TheVariants.{Value, Sequence, NotAllowed}
 use Rattle.sequence.specs.Shape.{is_undefined, shape}
 use Rattle.sequence.specs.Wanted.{room_of}
+use Rattle.sequence.specs.Names.{rule_number}
+use Rattle.sequence.specs.declared.rule.Rule.TheVariants as rules
 
 -- what a data set is held to: the wanted tags with their rooms, so many open levels, and so many bytes
 pub record Limits : Type 0 where
@@ -23,51 +25,51 @@ pub record Limits : Type 0 where
 
 -- no two capital letters where a VR is due
 abbrev pub bad_vr : ℕ
-bad_vr = 10
+bad_vr = rule_number rules.BadVr
 
 -- a defined length that is odd
 abbrev pub odd_length : ℕ
-odd_length = 11
+odd_length = rule_number rules.OddLength
 
 -- a tag that is not above the last one of its data set
 abbrev pub not_rising : ℕ
-not_rising = 12
+not_rising = rule_number rules.Order
 
 -- group 0000 or 0002
 abbrev pub bad_group : ℕ
-bad_group = 13
+bad_group = rule_number rules.BadGroup
 
 -- an undefined length that the element may not have
 abbrev pub undefined_not_allowed : ℕ
-undefined_not_allowed = 14
+undefined_not_allowed = rule_number rules.UndefinedLength
 
 -- an item or a delimitation out of place, or something else where one is due
 abbrev pub unexpected_tag : ℕ
-unexpected_tag = 15
+unexpected_tag = rule_number rules.UnexpectedTag
 
 -- a delimitation whose length is not 0
 abbrev pub delimiter_length : ℕ
-delimiter_length = 16
+delimiter_length = rule_number rules.DelimiterLength
 
 -- past the end of a level of defined length
 abbrev pub overrun : ℕ
-overrun = 17
+overrun = rule_number rules.Overrun
 
 -- more open levels than the limit
 abbrev pub too_deep : ℕ
-too_deep = 18
+too_deep = rule_number rules.TooDeep
 
 -- more bytes than the limit
 abbrev pub too_long : ℕ
-too_long = 19
+too_long = rule_number rules.TooLong
 
 -- the text ends inside a header, a value or a level
 abbrev pub truncated : ℕ
-truncated = 20
+truncated = rule_number rules.Truncated
 
 -- a wanted value longer than its room
 abbrev pub kept_too_long : ℕ
-kept_too_long = 21
+kept_too_long = rule_number rules.KeptTooLong
 
 -- a broken rule's number and the tag of its fault
 abbrev pub Broken : Type 0

@@ -1,15 +1,14 @@
 //! Which rules a header, or its beginning, breaks.
-ghost use Rattle.std.specs.Prelude.{◌≡◌, ℕ, ◌<◌, ◌≤◌, ◌^◌, ◌+◌, ◌%◌, length, nat_le, nat_lt, nat_eq, ◌&&◌, not, None, IsTrue};
+ghost use Rattle.std.specs.Prelude.{◌≡◌, ◌<◌, ◌≤◌, ◌^◌, ◌+◌, ◌%◌, length, nat_le, nat_lt, nat_eq, ◌&&◌, not, None, IsTrue};
 ghost use Rattle.element.specs.Header.{is_marker};
 ghost use Rattle.sequence.specs.Shape.{is_undefined};
 ghost use Rattle.sequence.specs.Shape as shapes;
-ghost use Rattle.element.specs.Header.{tag_at, is_plain, need, is_whole, header_at};
 ghost use Rattle.sequence.specs.Rules as rules;
 ghost use Rattle.sequence.specs.machine.Heading.{broken_whole};
-ghost use Rattle.sequence.specs.machine.Judging.{limits_by};
+ghost use Rattle.sequence.specs.machine.Judging.{limits_by, numbered, broken_at_tag, broken_at_vr, broken_at_end};
 
-use crate::fault::Fault;
 use crate::reading::{Front, is_plain, is_whole};
+use crate::rule::Rule;
 use crate::shape::{Shape, UNDEFINED, shape_of};
 use crate::spot::{Bounds, Spot};
 use crate::wanted::Wanted;
@@ -30,19 +29,19 @@ pub fn passes(near: Option<u64>, count: u64) -> bool
     }
 }
 
-pub fn broken_due(spot: &Spot) -> Option<(u8, Tag)>
-    ensures { result ≡ rules.broken_due spot.now }
+pub fn broken_due(spot: &Spot) -> Option<(Rule, Tag)>
+    ensures { numbered result ≡ rules.broken_due spot.now }
 {
     if passes(spot.near, 8) {
-        Some((Fault::OVERRUN, Tag(0, 0)))
+        Some((Rule::Overrun, Tag(0, 0)))
     } else {
         None
     }
 }
 
 #[tactic(auto, unfolding(crate::specs::Rules::broken_tag))]
-pub fn broken_tag(spot: &Spot, tag: Tag) -> Option<(u8, Tag)>
-    ensures { result ≡ rules.broken_tag spot.now tag }
+pub fn broken_tag(spot: &Spot, tag: Tag) -> Option<(Rule, Tag)>
+    ensures { numbered result ≡ rules.broken_tag spot.now tag }
 {
     if spot.in_sequence {
         if same_tag(tag, Tag::ITEM)
@@ -50,32 +49,32 @@ pub fn broken_tag(spot: &Spot, tag: Tag) -> Option<(u8, Tag)>
         {
             None
         } else {
-            Some((Fault::UNEXPECTED_TAG, tag))
+            Some((Rule::UnexpectedTag, tag))
         }
     } else if tag.is_marker() {
         if same_tag(tag, Tag::ITEM_DELIMITATION) && spot.open_ended {
             None
         } else {
-            Some((Fault::UNEXPECTED_TAG, tag))
+            Some((Rule::UnexpectedTag, tag))
         }
     } else if tag.0 == 0 || tag.0 == 2 {
-        Some((Fault::BAD_GROUP, tag))
+        Some((Rule::BadGroup, tag))
     } else if tag.number() <= spot.last {
-        Some((Fault::NOT_RISING, tag))
+        Some((Rule::Order, tag))
     } else {
         None
     }
 }
 
-pub fn broken_need(spot: &Spot, need: Need, tag: Tag) -> Option<(u8, Tag)>
-    ensures { result ≡ rules.broken_need spot.now need tag }
+pub fn broken_need(spot: &Spot, need: Need, tag: Tag) -> Option<(Rule, Tag)>
+    ensures { numbered result ≡ rules.broken_need spot.now need tag }
 {
     match need {
         Need::More => None,
-        Need::BadVr => Some((Fault::BAD_VR, tag)),
+        Need::BadVr => Some((Rule::BadVr, tag)),
         Need::Size(size) => {
             if passes(spot.near, size as u64) {
-                Some((Fault::OVERRUN, tag))
+                Some((Rule::Overrun, tag))
             } else {
                 None
             }
@@ -186,34 +185,34 @@ pub fn broken_header(
     spot: &Spot,
     size: usize,
     header: &Header,
-) -> Option<(u8, Tag)>
+) -> Option<(Rule, Tag)>
     requires place { spot.now.place < 2 ^ 49 }
     requires size { size ≤ 12 }
-    ensures { result ≡ rules.broken_header (limits_by wanted.now.list.items bounds.now) spot.now size header.now }
+    ensures { numbered result ≡ rules.broken_header (limits_by wanted.now.list.items bounds.now) spot.now size header.now }
 {
     let tag = header.tag;
     let shape = shape_of(spot.syntax, header);
     if is_long_mark(header) {
-        Some((Fault::DELIMITER_LENGTH, tag))
+        Some((Rule::DelimiterLength, tag))
     } else if is_forbidden(header, shape) {
-        Some((Fault::UNDEFINED_NOT_ALLOWED, tag))
+        Some((Rule::UndefinedLength, tag))
     } else if is_odd(header) {
-        Some((Fault::ODD_LENGTH, tag))
+        Some((Rule::OddLength, tag))
     } else if is_overrun(spot, size, header) {
-        Some((Fault::OVERRUN, tag))
+        Some((Rule::Overrun, tag))
     } else if is_beyond(bounds, spot, size, header) {
-        Some((Fault::TOO_LONG, tag))
+        Some((Rule::TooLong, tag))
     } else if is_too_long(wanted, bounds, spot, header, shape) {
-        Some((Fault::KEPT_TOO_LONG, tag))
+        Some((Rule::KeptTooLong, tag))
     } else if is_too_deep(bounds, spot, header, shape) {
-        Some((Fault::TOO_DEEP, tag))
+        Some((Rule::TooDeep, tag))
     } else {
         None
     }
 }
 
-fn at_tag(spot: &Spot, bytes: &[u8]) -> Option<(u8, Tag)>
-    ensures { result ≡ rules.when (nat_le 4 (length bytes.now)) (rules.broken_tag spot.now (tag_at bytes.now)) }
+fn at_tag(spot: &Spot, bytes: &[u8]) -> Option<(Rule, Tag)>
+    ensures { numbered result ≡ broken_at_tag spot.now bytes.now }
 {
     if 4 <= bytes.len() {
         broken_tag(spot, read_tag(bytes))
@@ -222,8 +221,8 @@ fn at_tag(spot: &Spot, bytes: &[u8]) -> Option<(u8, Tag)>
     }
 }
 
-fn at_vr(spot: &Spot, bytes: &[u8]) -> Option<(u8, Tag)>
-    ensures { result ≡ rules.when (nat_le 6 (length bytes.now) && not (is_plain spot.now.syntax (tag_at bytes.now))) (rules.broken_need spot.now (need spot.now.syntax bytes.now) (tag_at bytes.now)) }
+fn at_vr(spot: &Spot, bytes: &[u8]) -> Option<(Rule, Tag)>
+    ensures { numbered result ≡ broken_at_vr spot.now bytes.now }
 {
     if 6 <= bytes.len() && !is_plain(spot.syntax, read_tag(bytes)) {
         broken_need(spot, need(spot.syntax, bytes), read_tag(bytes))
@@ -232,10 +231,10 @@ fn at_vr(spot: &Spot, bytes: &[u8]) -> Option<(u8, Tag)>
     }
 }
 
-fn at_end(wanted: &Wanted, bounds: &Bounds, spot: &Spot, bytes: &[u8]) -> Option<(u8, Tag)>
+fn at_end(wanted: &Wanted, bounds: &Bounds, spot: &Spot, bytes: &[u8]) -> Option<(Rule, Tag)>
     requires place { spot.now.place < 2 ^ 49 }
     requires size { length bytes.now ≤ 12 }
-    ensures { result ≡ rules.when (is_whole spot.now.syntax bytes.now) (rules.broken_header (limits_by wanted.now.list.items bounds.now) spot.now (length bytes.now) (header_at spot.now.syntax bytes.now)) }
+    ensures { numbered result ≡ broken_at_end (limits_by wanted.now.list.items bounds.now) spot.now bytes.now }
 {
     if is_whole(spot.syntax, bytes) {
         broken_header(
@@ -252,10 +251,10 @@ fn at_end(wanted: &Wanted, bounds: &Bounds, spot: &Spot, bytes: &[u8]) -> Option
 
 /// The first rule that is broken where these bytes of a header have come.
 #[tactic(auto, unfolding(crate::specs::Rules::broken))]
-pub fn broken(wanted: &Wanted, bounds: &Bounds, spot: &Spot, bytes: &[u8]) -> Option<(u8, Tag)>
+pub fn broken(wanted: &Wanted, bounds: &Bounds, spot: &Spot, bytes: &[u8]) -> Option<(Rule, Tag)>
     requires place { spot.now.place < 2 ^ 49 }
     requires size { length bytes.now ≤ 12 }
-    ensures { result ≡ rules.broken (limits_by wanted.now.list.items bounds.now) spot.now bytes.now }
+    ensures { numbered result ≡ rules.broken (limits_by wanted.now.list.items bounds.now) spot.now bytes.now }
 {
     if let Some(rule) = broken_due(spot) {
         return Some(rule);

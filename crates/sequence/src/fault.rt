@@ -1,14 +1,15 @@
 //! Refusals.
 ghost use Rattle.std.specs.Prelude.{◌≡◌};
-ghost use Rattle.sequence.specs.Names.{rule_name};
+ghost use Rattle.sequence.specs.Names.{rule_name, rule_number, rule_of};
 
+use crate::rule::Rule;
 use element::Tag;
 use std::fmt;
 
 /// A rule that a data set breaks. After it a walker refuses everything.
 #[derive(Clone, Copy, Debug, PartialEq, Eq)]
 pub struct Fault {
-    /// Which rule, by the constants of this type.
+    /// The number of the rule.
     pub number: u8,
     /// The first byte of the header that it concerns, counted from the data set's first byte; for 20, how many bytes
     /// came.
@@ -18,60 +19,67 @@ pub struct Fault {
 }
 
 impl Fault {
-    /// No two capital letters where a VR is due.
-    pub const BAD_VR: u8 = 10;
+    /// The number of `Rule::BadVr`.
+    pub const BAD_VR: u8 = Rule::BadVr as u8;
 
-    /// A defined length that is odd.
-    pub const ODD_LENGTH: u8 = 11;
+    /// The number of `Rule::OddLength`.
+    pub const ODD_LENGTH: u8 = Rule::OddLength as u8;
 
-    /// A tag that is not above the last one of its data set.
-    pub const NOT_RISING: u8 = 12;
+    /// The number of `Rule::Order`.
+    pub const NOT_RISING: u8 = Rule::Order as u8;
 
-    /// Group 0000 or 0002.
-    pub const BAD_GROUP: u8 = 13;
+    /// The number of `Rule::BadGroup`.
+    pub const BAD_GROUP: u8 = Rule::BadGroup as u8;
 
-    /// An undefined length that the element may not have.
-    pub const UNDEFINED_NOT_ALLOWED: u8 = 14;
+    /// The number of `Rule::UndefinedLength`.
+    pub const UNDEFINED_NOT_ALLOWED: u8 = Rule::UndefinedLength as u8;
 
-    /// An item or a delimitation out of place, or something else where one is due.
-    pub const UNEXPECTED_TAG: u8 = 15;
+    /// The number of `Rule::UnexpectedTag`.
+    pub const UNEXPECTED_TAG: u8 = Rule::UnexpectedTag as u8;
 
-    /// A delimitation whose length is not 0.
-    pub const DELIMITER_LENGTH: u8 = 16;
+    /// The number of `Rule::DelimiterLength`.
+    pub const DELIMITER_LENGTH: u8 = Rule::DelimiterLength as u8;
 
-    /// Past the end of a level of defined length.
-    pub const OVERRUN: u8 = 17;
+    /// The number of `Rule::Overrun`.
+    pub const OVERRUN: u8 = Rule::Overrun as u8;
 
-    /// More open levels than the limit.
-    pub const TOO_DEEP: u8 = 18;
+    /// The number of `Rule::TooDeep`.
+    pub const TOO_DEEP: u8 = Rule::TooDeep as u8;
 
-    /// More bytes than the limit.
-    pub const TOO_LONG: u8 = 19;
+    /// The number of `Rule::TooLong`.
+    pub const TOO_LONG: u8 = Rule::TooLong as u8;
 
-    /// The text ends inside a header, a value or a level.
-    pub const TRUNCATED: u8 = 20;
+    /// The number of `Rule::Truncated`.
+    pub const TRUNCATED: u8 = Rule::Truncated as u8;
 
-    /// A wanted value longer than its room.
-    pub const KEPT_TOO_LONG: u8 = 21;
+    /// The number of `Rule::KeptTooLong`.
+    pub const KEPT_TOO_LONG: u8 = Rule::KeptTooLong as u8;
+
+    /// Returns the fault that the header at this place breaks this rule.
+    pub(crate) fn new(rule: Rule, place: u64, tag: Tag) -> Fault
+        ensures { result ≡ record { number = rule_number rule; place = place; tag = tag } }
+    {
+        Fault {
+            number: rule.number(),
+            place,
+            tag,
+        }
+    }
+
+    /// Returns the rule, or `None` if no rule has this number.
+    pub fn rule(self) -> Option<Rule>
+        ensures { result ≡ rule_of self.number }
+    {
+        Rule::of(self.number)
+    }
 
     /// Returns the name of the rule, or `Unknown` if no rule has this number.
     pub fn name(self) -> &'static str
         ensures { result.now ≡ rule_name self.number }
     {
-        match self.number {
-            Fault::BAD_VR => "BadVr",
-            Fault::ODD_LENGTH => "OddLength",
-            Fault::NOT_RISING => "Order",
-            Fault::BAD_GROUP => "BadGroup",
-            Fault::UNDEFINED_NOT_ALLOWED => "UndefinedLength",
-            Fault::UNEXPECTED_TAG => "UnexpectedTag",
-            Fault::DELIMITER_LENGTH => "DelimiterLength",
-            Fault::OVERRUN => "Overrun",
-            Fault::TOO_DEEP => "TooDeep",
-            Fault::TOO_LONG => "TooLong",
-            Fault::TRUNCATED => "Truncated",
-            Fault::KEPT_TOO_LONG => "KeptTooLong",
-            _ => "Unknown",
+        match self.rule() {
+            Some(rule) => rule.name(),
+            None => "Unknown",
         }
     }
 }

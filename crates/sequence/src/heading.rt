@@ -6,6 +6,7 @@ ghost use Rattle.sequence.specs.machine.Heading.{IsExamined, IsQuiet, IsEnd, is_
 
 use crate::broken::{broken, is_unbroken};
 use crate::reading::{Front, is_whole, read_front};
+use crate::rule::Rule;
 use crate::shape::{Shape, shape_of};
 use crate::spot::{Bounds, Spot};
 use crate::wanted::Wanted;
@@ -15,8 +16,8 @@ use element::{Header, Need, Tag, need, read_header};
 /// Where a header ends in some bytes.
 #[derive(Clone, Copy)]
 pub enum End {
-    /// After so many bytes a rule is broken: its number, and the tag of the fault.
-    Refused(usize, u8, Tag),
+    /// After so many bytes this rule is broken; the tag of the fault.
+    Refused(usize, Rule, Tag),
     /// After so many bytes the header is whole; what follows it.
     Whole(usize, Header, Shape),
     /// The header goes on.
@@ -53,7 +54,7 @@ fn examine(
     }
     let front = &bytes[..count];
     match broken(wanted, bounds, spot, front) {
-        Some((number, tag)) => End::Refused(count, number, tag),
+        Some((rule, tag)) => End::Refused(count, rule, tag),
         None => {
             if is_whole(spot.syntax, front) {
                 let header = read_header(spot.syntax, front);

@@ -3,7 +3,8 @@
 ghost use Rattle.std.specs.Prelude.{◌≡◌, ◌∷◌, []};
 ghost use Rattle.sequence.specs.Rules.{bad_vr, odd_length, not_rising, bad_group, undefined_not_allowed, unexpected_tag, delimiter_length, overrun, too_deep, too_long, truncated, kept_too_long};
 ghost use Rattle.sequence.specs.Ending.{WholeBreaksNoRule, WholeHasNoFault, FaultIsFinal};
-ghost use Rattle.sequence.specs.Laws.{FaultStays, RefusalStays, RefusedStands, OneTree, OnePath, EndsAreNested, WholeHasOpenInside, OneFault, OneTelling, OneHolding, SomeTelling, NothingIsUnbroken, NoHeader, LeastHeader, BytesAreJoined};
+ghost use Rattle.sequence.specs.Laws.{FaultStays, RefusalStays, RefusedStands, OneTree, OnePath, EndsAreNested, WholeHasOpenInside, OneFault};
+ghost use Rattle.sequence.specs.Laws.{OneTelling, OneHolding, SomeTelling, NothingIsUnbroken, NoHeader, LeastHeader, BytesAreJoined};
 ghost use Rattle.sequence.specs.Examples.{TwoOpenLevels, FourLevels, PastItsItem, TooDeep, UnknownContent, OneStore, AlongOneStore, AlongFourLevels};
 
 use crate::fault::Fault;

@@ -2,9 +2,9 @@
 ghost use Rattle.std.specs.Prelude.{◌≡◌, ℕ, ◌<◌, ◌≤◌, ◌^◌, ◌+◌, ◌-◌, ◌&&◌, not, nat_eq, None, [], length, get_or, IsTrue, IfSome};
 ghost use Rattle.element.specs.Header.{number};
 ghost use Rattle.arrayvec.specs.ArrayVec.{array_vec_len};
-ghost use Rattle.sequence.specs.machine.Machine.{arrive, due, leave, stops_at, spot_of, less, is_none, begun, stop_of, set_scope, sequence_scope};
+ghost use Rattle.sequence.specs.machine.Machine.{leave, stops_at, spot_of, less, is_none, begun, stop_of, set_scope, sequence_scope};
 ghost use Rattle.sequence.specs.declared.level.Scope.{Scope};
-ghost use Rattle.sequence.specs.machine.Scopes.{top_of, below_of, nearest_from};
+ghost use Rattle.sequence.specs.machine.Scopes.{LeavesEnded, top_of, below_of, nearest_from};
 ghost use Rattle.sequence.specs.Fields.{scope_of};
 
 use crate::level::{Level, Scope};
@@ -28,7 +28,7 @@ pub fn ends_here<const D: usize>(levels: &ArrayVec<Level, D>, place: u64) -> boo
 /// Leaves the levels that end here.
 pub fn leave_ended<const D: usize>(levels: &mut ArrayVec<Level, D>, place: u64)
     requires { place < 2 ^ 64 - 1 }
-    ensures { (root : Scope) → root.stop ≡ None → arrive place (top_of root levels.old.items) (below_of root [] levels.old.items) ≡ due (top_of root levels.new.items) (below_of root [] levels.new.items) place }
+    ensures { LeavesEnded place levels.old.items levels.new.items }
 {
     while ends_here(levels, place) {
         levels.pop();

@@ -10,6 +10,7 @@ pub mod laws;
 mod level;
 mod levels;
 mod reading;
+mod rule;
 mod shape;
 mod spot;
 mod stage;
@@ -19,6 +20,7 @@ mod wanted;
 
 pub use fault::Fault;
 pub use level::Level;
+pub use rule::Rule;
 pub use shape::{Shape, shape_of};
 pub use step::Step;
 pub use walker::Walker;

@@ -1,8 +1,10 @@
 //! What a walk is in the middle of.
 ghost use Rattle.std.specs.Prelude.{◌≡◌};
+ghost use Rattle.sequence.specs.machine.Judging.{numbered};
 ghost use Rattle.sequence.specs.machine.Spare.{stage_by};
 
 use crate::fault::Fault;
+use crate::rule::Rule;
 use element::Tag;
 
 /// What a walk is in the middle of.
@@ -17,11 +19,11 @@ pub enum Stage {
 }
 
 /// What the walk is in, where a header is due, unless it broke a rule.
-pub fn stage_at(broken: Option<(u8, Tag)>, place: u64) -> Stage
-    ensures { result ≡ stage_by broken place }
+pub fn stage_at(broken: Option<(Rule, Tag)>, place: u64) -> Stage
+    ensures { result ≡ stage_by (numbered broken) place }
 {
     match broken {
         None => Stage::Heading,
-        Some((number, tag)) => Stage::Stopped(Fault { number, place, tag }),
+        Some((rule, tag)) => Stage::Stopped(Fault::new(rule, place, tag)),
     }
 }

@@ -18,6 +18,7 @@ use crate::heading::{End, header_end};
 use crate::keep::Keep;
 use crate::level::{Level, Scope};
 use crate::levels::{item_scope, leave_ended, sequence_scope, set_last, spot_at, top_scope};
+use crate::rule::Rule;
 use crate::shape::Shape;
 use crate::spot::Bounds;
 use crate::stage::{Stage, stage_at};
@@ -248,13 +249,9 @@ impl<const V: usize, const D: usize> Walker<V, D> {
             bytes: self.limit,
         };
         match header_end(self.kept.wanted(), &bounds, &spot, &mut self.header, piece) {
-            End::Refused(count, number, tag) => {
+            End::Refused(count, rule, tag) => {
                 self.place = start + count as u64;
-                self.stage = Stage::Stopped(Fault {
-                    number,
-                    place: start,
-                    tag,
-                });
+                self.stage = Stage::Stopped(Fault::new(rule, start, tag));
                 (count - begun, None)
             }
             End::Whole(count, header, shape) => {
@@ -368,20 +365,13 @@ impl<const V: usize, const D: usize> Walker<V, D> {
     {
         match self.stage {
             Stage::Stopped(fault) => Err(fault),
-            Stage::Value { tag, .. } => Err(Fault {
-                number: Fault::TRUNCATED,
-                place: self.place,
-                tag,
-            }),
+            Stage::Value { tag, .. } => Err(Fault::new(Rule::Truncated, self.place, tag)),
             Stage::Heading => {
                 if self.is_between() {
                     Ok(())
                 } else {
-                    Err(Fault {
-                        number: Fault::TRUNCATED,
-                        place: self.place,
-                        tag: begun_tag(self.header.as_slice()),
-                    })
+                    let tag = begun_tag(self.header.as_slice());
+                    Err(Fault::new(Rule::Truncated, self.place, tag))
                 }
             }
         }

@@ -9,6 +9,8 @@ use Rattle.sequence.specs.declared.level.Scope.{Scope}
 use Rattle.sequence.specs.declared.spot.Spot.{Spot}
 use Rattle.sequence.specs.declared.shape.Shape.{Shape}
 use Rattle.sequence.specs.Shape.{shape}
+use Rattle.sequence.specs.declared.rule.Rule.{Rule}
+use Rattle.sequence.specs.Names.{rule_number}
 use Rattle.sequence.specs.declared.reading.Front.{Front}
 use Rattle.sequence.specs.declared.heading.End.{End}
 use Rattle.sequence.specs.declared.heading.End.TheVariants as ends
@@ -16,12 +18,12 @@ use Rattle.sequence.specs.Rules.{Limits, Broken, broken_due, broken_tag, broken_
 use Rattle.sequence.specs.machine.Machine.{spot_of}
 
 abbrev pub is_part : End → Bool
-is_part (ends.Refused n number tag) = false
+is_part (ends.Refused n rule tag) = false
 is_part (ends.Whole n h sh) = false
 is_part ends.Part = true
 
 abbrev pub is_end : End → Bool
-is_end (ends.Refused n number tag) = false
+is_end (ends.Refused n rule tag) = false
 is_end (ends.Whole n h sh) = true
 is_end ends.Part = false
 
@@ -31,8 +33,8 @@ pub record IsQuiet (lim : Limits) (spot : Spot) (t : List ℕ) : Type 0 where
   pub part : is_whole spot.syntax t ≡ false
 
 -- the bytes t of a header break this rule
-abbrev pub IsRefused : Limits → Spot → List ℕ → ℕ → Tag → Type 0
-IsRefused lim spot t number tag = broken lim spot t ≡ Some (number, tag)
+abbrev pub IsRefused : Limits → Spot → List ℕ → Rule → Tag → Type 0
+IsRefused lim spot t rule tag = broken lim spot t ≡ Some (rule_number rule, tag)
 
 -- the bytes t are the header h, which breaks no rule, and this follows it
 pub record IsRead (lim : Limits) (spot : Spot) (t : List ℕ) (h : Header) (sh : Shape) : Type 0 where
@@ -49,19 +51,19 @@ pub record IsCount (a n c : ℕ) : Type 0 where
 
 -- what the first `count` bytes come to, where they are there and more than `begun`
 abbrev pub IsExamined : Limits → Spot → List ℕ → ℕ → ℕ → End → Type 0
-IsExamined lim spot bytes begun count (ends.Refused n number tag) = IsCount begun n (length bytes) × (n ≡ count) × IsRefused lim spot (take n bytes) number tag
+IsExamined lim spot bytes begun count (ends.Refused n rule tag) = IsCount begun n (length bytes) × (n ≡ count) × IsRefused lim spot (take n bytes) rule tag
 IsExamined lim spot bytes begun count (ends.Whole n h sh) = IsCount begun n (length bytes) × (n ≡ count) × IsRead lim spot (take n bytes) h sh
 IsExamined lim spot bytes begun count ends.Part = begun < count → count ≤ length bytes → IsQuiet lim spot (take count bytes)
 
 -- the first beginning of the bytes, longer than `begun`, that breaks a rule or is whole
 abbrev pub IsEnd : Limits → Spot → List ℕ → ℕ → End → Type 0
-IsEnd lim spot bytes begun (ends.Refused n number tag) = IsCount begun n (length bytes) × IsRefused lim spot (take n bytes) number tag × ((m : ℕ) → begun < m → m < n → IsQuiet lim spot (take m bytes))
+IsEnd lim spot bytes begun (ends.Refused n rule tag) = IsCount begun n (length bytes) × IsRefused lim spot (take n bytes) rule tag × ((m : ℕ) → begun < m → m < n → IsQuiet lim spot (take m bytes))
 IsEnd lim spot bytes begun (ends.Whole n h sh) = IsCount begun n (length bytes) × IsRead lim spot (take n bytes) h sh × ((m : ℕ) → begun < m → m < n → IsQuiet lim spot (take m bytes))
 IsEnd lim spot bytes begun ends.Part = (m : ℕ) → begun < m → m ≤ length bytes → IsQuiet lim spot (take m bytes)
 
 -- the bytes of a header that are kept: all of one that goes on
 abbrev pub kept_by : End → List ℕ → List ℕ
-kept_by (ends.Refused n number tag) bytes = []
+kept_by (ends.Refused n rule tag) bytes = []
 kept_by (ends.Whole n h sh) bytes = []
 kept_by ends.Part bytes = bytes
 

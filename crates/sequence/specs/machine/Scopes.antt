@@ -1,9 +1,9 @@
 -- The scopes of a list of levels, which has the innermost last.
-use Rattle.std.specs.Prelude.{ℕ, List, [], ◌∷◌, Option}
+use Rattle.std.specs.Prelude.{◌≡◌, ℕ, List, [], ◌∷◌, Option, None}
 use Rattle.sequence.specs.declared.level.Scope.{Scope}
 use Rattle.sequence.specs.declared.level.Level.{Level}
 use Rattle.sequence.specs.Fields.{scope_of}
-use Rattle.sequence.specs.machine.Machine.{nearer}
+use Rattle.sequence.specs.machine.Machine.{nearer, arrive, due}
 
 -- the innermost scope, over the root
 abbrev pub top_of : Scope → List Level → Scope
@@ -19,3 +19,8 @@ below_of root round (l ∷ ls) = below_of (scope_of l) (root ∷ round) ls
 abbrev pub nearest_from : Option ℕ → List Level → Option ℕ
 nearest_from near [] = near
 nearest_from near (l ∷ ls) = nearest_from (nearer (scope_of l).stop near) ls
+
+-- what is left of the levels at this place, over any root: those that end here are gone, and a header is due
+abbrev pub LeavesEnded : ℕ → List Level → List Level → Type 0
+LeavesEnded place old new = (root : Scope) → root.stop ≡ None
+    → arrive place (top_of root old) (below_of root [] old) ≡ due (top_of root new) (below_of root [] new) place

@@ -1,13 +1,16 @@
-use Rattle.std.proofs.Common.{◌≡◌, ◌+◌, ◌-◌, ◌<◌, ◌≤◌, ◌++◌, [], ◌∙◌, ℕ, length, take, true, eqb-true, false-eqb, length-append, ap, sym, subst, refl, arith, rules}
+use Rattle.std.proofs.Common.{◌≡◌, ◌+◌, ◌-◌, ◌<◌, ◌≤◌, ◌++◌, [], ◌∙◌, ℕ, length, take, true, None, eqb-true, false-eqb, length-append, ap, sym, subst, refl, arith, rules}
 use Rattle.std.proofs.lemmas.List.{length-take-le}
 use Rattle.element.specs.declared.header.Header.{Header}
 use Rattle.element.specs.Header.{number, is_marker}
 use Rattle.sequence.specs.declared.shape.Shape.{Shape}
+use Rattle.sequence.specs.declared.fault.Fault.{Fault}
+use Rattle.sequence.specs.declared.stage.Stage.TheVariants as stages
 use Rattle.sequence.specs.declared.heading.End.{End}
 use Rattle.sequence.specs.declared.heading.End.TheVariants as ends
 use Rattle.sequence.specs.Rules.{counted_length}
 use Rattle.sequence.specs.machine.Spare.{spare, owed}
-use Rattle.sequence.specs.machine.Machine.{State, ArrivesAt, spot_of, run}
+use Rattle.sequence.specs.machine.Machine.{State, ArrivesAt, Stopped, at, spot_of, run}
+use Rattle.sequence.specs.machine.Steps.{IsTaken}
 use Rattle.sequence.specs.machine.Keeping.{keeps}
 use Rattle.sequence.specs.machine.Scopes.{top_of, below_of}
 use Rattle.sequence.specs.machine.Judging.{limits_by}
@@ -56,16 +59,18 @@ some-piece g c = let some = false-eqb (length c.args.piece.now) 0 (sym (sym c.is
 pub returns-in-Refused : goal.returns-in-Refused
 returns-in-Refused g c =
     let begun = c.len-begun.ensures.value in
-    let k = end-is g (goal.at.returns-in-Refused g c).After-header_end (ends.Refused c.in-Refused.count c.in-Refused.number c.in-Refused.tag) c.in-Refused.is in
+    let k = end-is g (goal.at.returns-in-Refused g c).After-header_end (ends.Refused c.in-Refused.count c.in-Refused.rule c.in-Refused.tag) c.in-Refused.is in
     let size = length-append c.args.self.now.header.items c.args.piece.now in
     record {
       taken = omega (arith, k.0.some, size, begun);
       some = λ some. omega (arith, k.0.more, begun);
-      state = refused_run (limits_of c.args.self.now) (top c.args.self.now) (below c.args.self.now) c.args.self.now.place c.args.self.now.header.items c.args.piece.now c.args.self.now.behind c.args.self.now.stage c.requires c.len-begun.result c.len-begun.ensures.value c.in-Refused.count c.in-Refused.number c.in-Refused.tag (end-is g (goal.at.returns-in-Refused g c).After-header_end (ends.Refused c.in-Refused.count c.in-Refused.number c.in-Refused.tag) c.in-Refused.is);
+      state = ap (λ (f : Fault). at (top c.args.self.now) (below c.args.self.now) (c.args.self.now.place - c.len-begun.result + c.in-Refused.count) (Stopped f.number f.place f.tag)) c.new.ensures
+          ∙ refused_run (limits_of c.args.self.now) (top c.args.self.now) (below c.args.self.now) c.args.self.now.place c.args.self.now.header.items c.args.piece.now c.args.self.now.behind c.args.self.now.stage c.requires c.len-begun.result c.len-begun.ensures.value c.in-Refused.count c.in-Refused.rule c.in-Refused.tag (end-is g (goal.at.returns-in-Refused g c).After-header_end (ends.Refused c.in-Refused.count c.in-Refused.rule c.in-Refused.tag) c.in-Refused.is);
       same = record { syntax = refl; limit = refl; wanted = refl };
-      values = refused_kept (limits_of c.args.self.now) (top c.args.self.now) (below c.args.self.now) c.args.self.now.place c.args.self.now.header.items c.args.piece.now c.args.self.now.behind c.args.self.now.stage c.requires c.len-begun.result c.len-begun.ensures.value (kept_values c.args.self.now) c.in-Refused.count c.in-Refused.number c.in-Refused.tag (end-is g (goal.at.returns-in-Refused g c).After-header_end (ends.Refused c.in-Refused.count c.in-Refused.number c.in-Refused.tag) c.in-Refused.is);
+      values = refused_kept (limits_of c.args.self.now) (top c.args.self.now) (below c.args.self.now) c.args.self.now.place c.args.self.now.header.items c.args.piece.now c.args.self.now.behind c.args.self.now.stage c.requires c.len-begun.result c.len-begun.ensures.value (kept_values c.args.self.now) c.in-Refused.count c.in-Refused.rule c.in-Refused.tag (end-is g (goal.at.returns-in-Refused g c).After-header_end (ends.Refused c.in-Refused.count c.in-Refused.rule c.in-Refused.tag) c.in-Refused.is);
       place = omega (arith, begun, k.0.more, c.args.self.now.behind);
-      told = refused_told (limits_of c.args.self.now) (top c.args.self.now) (below c.args.self.now) c.args.self.now.place c.args.self.now.header.items c.args.piece.now c.args.self.now.behind c.args.self.now.stage c.requires c.len-begun.result c.len-begun.ensures.value c.in-Refused.count c.in-Refused.number c.in-Refused.tag c.header_end.new.header.items (end-is g (goal.at.returns-in-Refused g c).After-header_end (ends.Refused c.in-Refused.count c.in-Refused.number c.in-Refused.tag) c.in-Refused.is);
+      told = subst (λ z. IsTaken (top c.args.self.now).syntax c.args.self.now.header.items c.args.piece.now c.args.self.now.place (c.in-Refused.count - c.len-begun.result) (stages.Stopped z) c.header_end.new.header.items None) (sym c.new.ensures)
+          (refused_told (limits_of c.args.self.now) (top c.args.self.now) (below c.args.self.now) c.args.self.now.place c.args.self.now.header.items c.args.piece.now c.args.self.now.behind c.args.self.now.stage c.requires c.len-begun.result c.len-begun.ensures.value c.in-Refused.count c.in-Refused.rule c.in-Refused.tag c.header_end.new.header.items (end-is g (goal.at.returns-in-Refused g c).After-header_end (ends.Refused c.in-Refused.count c.in-Refused.rule c.in-Refused.tag) c.in-Refused.is));
     }
 
 -- no byte of a header that is refused or whole is kept
@@ -77,8 +82,8 @@ invariant_of-self g c =
     let b = (goal.at.invariant_of-self g c).After-header_end in
     let w = c.args.self.now in
     let begun = c.len-begun.ensures.value in
-    let k = end-is g b (ends.Refused c.in-Refused.count c.in-Refused.number c.in-Refused.tag) c.in-Refused.is in
-    let empty = emptied g b (ends.Refused c.in-Refused.count c.in-Refused.number c.in-Refused.tag) c.in-Refused.is refl in
+    let k = end-is g b (ends.Refused c.in-Refused.count c.in-Refused.rule c.in-Refused.tag) c.in-Refused.is in
+    let empty = emptied g b (ends.Refused c.in-Refused.count c.in-Refused.rule c.in-Refused.tag) c.in-Refused.is refl in
     let none = ap length empty in
     record {
       greatest_v = w.greatest_v;

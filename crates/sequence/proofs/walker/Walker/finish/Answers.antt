@@ -1,4 +1,6 @@
-use Rattle.std.proofs.Common.{◌∙◌, sym}
+use Rattle.std.proofs.Common.{◌∙◌, sym, subst}
+use Rattle.sequence.specs.Ending.{Fails}
+use Rattle.sequence.specs.Taken.{walker_syntax, limits_of}
 use Rattle.sequence.proofs.Holding.{walks}
 use Rattle.sequence.proofs.Finishing.{stopped_fails, reading_fails, between_ok, between_fails}
 use Rattle.sequence.proofs.Whole.{whole_has_no_fault}
@@ -11,18 +13,19 @@ pub returns-in-Stopped-clause-exactly : goal.returns-in-Stopped-clause-exactly
 returns-in-Stopped-clause-exactly g c b h whole = absurd (whole_has_no_fault _ _ b _ whole (stopped_fails c.args.self.now b (walks c.args.self.now b h) c.in-Stopped.fault c.in-Stopped.is))
 
 pub returns-in-Value-clause-fails : goal.returns-in-Value-clause-fails
-returns-in-Value-clause-fails g c b h = reading_fails c.args.self.now b (walks c.args.self.now b h) c.in-Value.tag c.in-Value.left c.in-Value.kept c.in-Value.is
+returns-in-Value-clause-fails g c b h =
+    subst (Fails (walker_syntax c.args.self.now) (limits_of c.args.self.now) b) (sym c.new.ensures) (reading_fails c.args.self.now b (walks c.args.self.now b h) c.in-Value.tag c.in-Value.left c.in-Value.kept c.in-Value.is)
 
 pub returns-in-Value-clause-exactly : goal.returns-in-Value-clause-exactly
-returns-in-Value-clause-exactly g c b h whole = absurd (whole_has_no_fault _ _ b _ whole (reading_fails c.args.self.now b (walks c.args.self.now b h) c.in-Value.tag c.in-Value.left c.in-Value.kept c.in-Value.is))
+returns-in-Value-clause-exactly g c b h whole = absurd (whole_has_no_fault _ _ b _ whole (subst (Fails (walker_syntax c.args.self.now) (limits_of c.args.self.now) b) (sym c.new.ensures) (reading_fails c.args.self.now b (walks c.args.self.now b h) c.in-Value.tag c.in-Value.left c.in-Value.kept c.in-Value.is)))
 
 pub returns-then-is_between-clause-whole : goal.returns-then-is_between-clause-whole
 returns-then-is_between-clause-whole g c e b h = between_ok c.args.self.now b (walks c.args.self.now b h) c.in-Heading.is (sym c.is_between.ensures ∙ c.if-is_between.true)
 
 pub returns-else-is_between-clause-fails : goal.returns-else-is_between-clause-fails
 returns-else-is_between-clause-fails g c b h =
-    between_fails c.args.self.now b (walks c.args.self.now b h) c.begun_tag.result c.as_slice.result.now c.in-Heading.is (sym c.is_between.ensures ∙ c.if-is_between.false) c.as_slice.ensures.value c.begun_tag.ensures
+    subst (Fails (walker_syntax c.args.self.now) (limits_of c.args.self.now) b) (sym c.new-else-is_between.ensures) (between_fails c.args.self.now b (walks c.args.self.now b h) c.begun_tag-tag.result c.as_slice.result.now c.in-Heading.is (sym c.is_between.ensures ∙ c.if-is_between.false) c.as_slice.ensures.value c.begun_tag-tag.ensures)
 
 pub returns-else-is_between-clause-exactly : goal.returns-else-is_between-clause-exactly
 returns-else-is_between-clause-exactly g c b h whole =
-    absurd (whole_has_no_fault _ _ b _ whole (between_fails c.args.self.now b (walks c.args.self.now b h) c.begun_tag.result c.as_slice.result.now c.in-Heading.is (sym c.is_between.ensures ∙ c.if-is_between.false) c.as_slice.ensures.value c.begun_tag.ensures))
+    absurd (whole_has_no_fault _ _ b _ whole (subst (Fails (walker_syntax c.args.self.now) (limits_of c.args.self.now) b) (sym c.new-else-is_between.ensures) (between_fails c.args.self.now b (walks c.args.self.now b h) c.begun_tag-tag.result c.as_slice.result.now c.in-Heading.is (sym c.is_between.ensures ∙ c.if-is_between.false) c.as_slice.ensures.value c.begun_tag-tag.ensures)))
