@@ -1,13 +1,31 @@
 -- An element that is read is the element that its bytes spell, and the other way round.
-use Rattle.std.proofs.Common.{◌≡◌, ℕ, ◌+◌, ◌-◌, ◌*◌, ◌%◌, ◌^◌, ◌<◌, ◌≤◌, Bool, true, false, cond, ◌&&◌, leb, eqb, List, ◌∷◌, ◌++◌, length, take, drop, Option, Some, None, refl, sym, ap, subst, ◌∙◌, arith, inl, inr, eq-eqb}
+use Rattle.std.proofs.Common.{◌≡◌, ℕ, ◌+◌, ◌-◌, ◌*◌, ◌%◌, ◌^◌, ◌<◌, ◌≤◌, Bool, true, false, cond, ◌&&◌, leb, eqb, List, ◌∷◌, ◌++◌, length, take, drop, nat_le, nat_lt, Option, Some, None, refl, sym, ap, subst, ◌∙◌, arith, inl, inr, eq-eqb}
+use Rattle.std.proofs.lemmas.Bool.Decides.{nat_tests}
 use Rattle.std.proofs.lemmas.Bool.{cases_lt, leb-true, le-leb, eqb-true}
-use Rattle.std.proofs.lemmas.List.{take_at, drop_at, take-append-drop, length-append, length-take, length-drop, get_or-drop, get_or-take, get_or_past}
+use Rattle.std.proofs.lemmas.List.{take_all, take_at, drop_at, take-append-drop, length-append, length-take, length-drop, get_or-drop, get_or-take, get_or_past}
 use Rattle.byteorder.specs.Endian.{little_number}
 use Rattle.byteorder.specs.Numbers.{little_number-reads_back}
 use Rattle.element.specs.Numbers.{le, IsBytes}
+use Rattle.element.specs.declared.syntax.Syntax.TheVariants.{Implicit}
+use Rattle.element.specs.declared.header.Header.{Header}
+use Rattle.element.specs.Header.{need, is_whole, header_at}
 use Rattle.element.proofs.Public.{two_cells, four_cells}
 use Rattle.dimse.specs.Command.{CommandElement, IsCommandElement, command_element_bytes}
 use Rattle.dimse.specs.Reading.{is_element, element_at}
+
+-- the header of eight bytes without a VR, and its parts
+
+pub whole_plain : (b : List ℕ) → 8 ≤ length b → is_whole Implicit b ≡ true
+unfolding is_whole need
+whole_plain b long =
+    let past_tag : nat_lt (length b) 4 ≡ false = grind (arith, nat_tests) in
+    let eight : nat_le 8 (length b) ≡ true = le-leb 8 (length b) long in
+    rw past_tag eight
+
+pub plain_parts : (b : List ℕ) → 8 ≤ length b → ((header_at Implicit b).tag.0 ≡ little_number 2 b) × ((header_at Implicit b).tag.1 ≡ little_number 2 (drop 2 b)) × ((header_at Implicit b).length ≡ little_number 4 (drop 4 b))
+unfolding header_at
+plain_parts (b0 ∷ b1 ∷ b2 ∷ b3 ∷ b4 ∷ b5 ∷ b6 ∷ b7 ∷ rest) long = (omega arith, omega arith, omega arith)
+plain_parts _ long = absurd (omega arith)
 
 abbrev pub front : ℕ → ℕ → List ℕ → List ℕ
 front number size rest = le 0 2 ++ (le number 2 ++ (le size 4 ++ rest))
@@ -43,6 +61,21 @@ element_again e rest h =
     let room : leb (little_number 4 (drop 4 b)) (length b - 8) ≡ true = le-leb _ _ (omega (arith, size-is, length-append e.value rest)) in
     let holds : is_element b ≡ true = all_hold _ _ _ _ long refl even room in
     ap element_at (bytes_front e rest) ∙ rw holds (read_front e.number size _ _ e.value rest refl number-is size-is)
+
+-- the element whose header is read, with its value in what follows
+pub element_read : (b : List ℕ) (h : Header) (value rest : List ℕ) → 8 ≤ length b → h ≡ header_at Implicit b → h.tag.0 ≡ 0 → h.length % 2 ≡ 0
+    → h.length ≤ length (take (length b - 8) (drop 8 b)) → value ≡ take h.length (take (length b - 8) (drop 8 b)) → rest ≡ drop h.length (take (length b - 8) (drop 8 b))
+    → Some (record { number = h.tag.1; value = value }, rest) ≡ element_at b
+unfolding element_at
+element_read b h value rest long e group even room v r =
+    let parts = plain_parts b long in
+    let after : take (length b - 8) (drop 8 b) ≡ drop 8 b = take_all (length b - 8) (drop 8 b) (omega (arith, length-drop 8 b)) in
+    let number-is : h.tag.1 ≡ little_number 2 (drop 2 b) = ap (λ (x : Header). x.tag.1) e ∙ parts.1 in
+    let size-is : h.length ≡ little_number 4 (drop 4 b) = ap (λ (x : Header). x.length) e ∙ parts.2 in
+    let group-is : little_number 2 b ≡ 0 = sym (ap (λ (x : Header). x.tag.0) e ∙ parts.0) ∙ group in
+    let least : little_number 4 (drop 4 b) ≤ length b - 8 = omega (arith, size-is, room, ap length after, length-drop 8 b) in
+    let holds : is_element b ≡ true = all_hold _ _ _ _ (le-leb 8 (length b) long) (eq-eqb _ _ group-is) (eq-eqb _ _ (ap (λ (n : ℕ). n % 2) (sym size-is) ∙ even)) (le-leb _ _ least) in
+    rw (v, r, after, number-is, size-is, holds) refl
 
 -- ---- and back
 

@@ -4,6 +4,7 @@ ghost use Rattle.dimse.specs.Detail as spelling;
 
 use arrayvec::ArrayVec;
 use element::Tag;
+use sequence::Rule;
 
 /// The room of an error comment: `fault`, two digits, two spaces and a name, padded.
 pub(crate) const COMMENT: usize = 26;
@@ -24,27 +25,27 @@ pub const CLASS_MISMATCH: u8 = 45;
 /// The instance of the data set is missing, unreadable or other than the command's.
 pub const INSTANCE_MISMATCH: u8 = 46;
 
+/// Whether a data set's fault against this rule is a limit of the receiver's: its status is another,
+/// which names no cause.
+fn is_limit(rule: Rule) -> bool
+    ensures { result ≡ spelling.is_limit rule }
+{
+    matches!(rule, Rule::TooDeep | Rule::TooLong)
+}
+
 /// Returns the name of the cause with this number, or `None` if it has none.
 pub fn cause_name(number: u8) -> Option<&'static str>
     ensures value { option_map (λ name. name.now) result ≡ spelling.cause_name number }
     ensures short { IfSome result (λ name. length name.now ≤ 16) }
 {
-    let name = match number {
-        10 => "BadVr",
-        11 => "OddLength",
-        12 => "Order",
-        13 => "BadGroup",
-        14 => "UndefinedLength",
-        15 => "UnexpectedTag",
-        16 => "DelimiterLength",
-        17 => "Overrun",
-        20 => "Truncated",
-        21 => "KeptTooLong",
-        45 => "ClassMismatch",
-        46 => "InstanceMismatch",
-        _ => return None,
-    };
-    Some(name)
+    match number {
+        CLASS_MISMATCH => Some("ClassMismatch"),
+        INSTANCE_MISMATCH => Some("InstanceMismatch"),
+        _ => match Rule::of(number) {
+            Some(rule) if !is_limit(rule) => Some(rule.name()),
+            _ => None,
+        },
+    }
 }
 
 /// Returns the error comment of a cause with this name.

@@ -4,21 +4,22 @@ ghost use Rattle.std.specs.Option.{is_some};
 ghost use Rattle.dimse.specs.Command.{CommandElement, command_value};
 ghost use Rattle.dimse.specs.Reading as spelling;
 
-use byteorder::{ByteOrder, LittleEndian};
+use element::{Syntax, Tag, read_header};
 
 /// Returns the element at the front, as its number in group 0000 and its value, and the bytes after
 /// it; or `None` if no whole element of group 0000 with an even length stands there.
-#[tactic(auto, unfolding(crate::specs::Reading::element_at))]
+#[tactic(auto, using(crate::proofs::ElementLemmas::whole_plain, crate::proofs::ElementLemmas::plain_parts), unfolding(crate::specs::Reading::element_at))]
 pub fn element_at(bytes: &[u8]) -> Option<(u16, &[u8], &[u8])>
     ensures { option_map (λ x. (record { number = x.0; value = x.1.now }, x.2.now)) result ≡ spelling.element_at bytes.now }
 {
-    if bytes.len() < 8 || LittleEndian::read_u16(bytes) != 0 {
+    if bytes.len() < 8 {
         return None;
     }
-    let number = LittleEndian::read_u16(&bytes[2..]);
-    let length = LittleEndian::read_u32(&bytes[4..]) as usize;
+    let header = read_header(Syntax::Implicit, bytes);
+    let Tag(group, number) = header.tag;
+    let length = header.length as usize;
     let rest = &bytes[8..];
-    if length % 2 != 0 || length > rest.len() {
+    if group != 0 || length % 2 != 0 || length > rest.len() {
         return None;
     }
     let (value, rest) = rest.split_at(length);

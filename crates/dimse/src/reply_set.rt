@@ -16,7 +16,7 @@ use crate::element_numbers::{
 use crate::status::{CANNOT_UNDERSTAND, DATA_SET_MISMATCH};
 use arrayvec::ArrayVec;
 use byteorder::{ByteOrder, LittleEndian};
-use element::{Tag, Uid};
+use element::{Header, Syntax, Tag, Uid, write_header};
 
 /// What a reply's command field has above its request's.
 const RESPONSE: u16 = 0x8000;
@@ -36,10 +36,14 @@ fn put_element<const N: usize>(set: &mut ArrayVec<u8, N>, number: u16, value: &[
     ensures items { set.new.items ≡ set.old.items ++ command_element_bytes (element number value.now) }
     ensures len { array_vec_len set.new ≡ array_vec_len set.old + 8 + length value.now }
 {
-    let mut header = [0u8; 8];
-    LittleEndian::write_u16(&mut header[2..4], number);
-    LittleEndian::write_u32(&mut header[4..], value.len() as u32);
-    let _header = set.try_extend_from_slice(&header);
+    let header = Header {
+        tag: Tag(0, number),
+        vr: None,
+        length: value.len() as u32,
+    };
+    let mut room = [0u8; 12];
+    let size = write_header(Syntax::Implicit, &header, &mut room);
+    let _header = set.try_extend_from_slice(&room[..size]);
     let _value = set.try_extend_from_slice(value);
 }
 
