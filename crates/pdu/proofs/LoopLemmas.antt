@@ -1,14 +1,14 @@
 -- Calls of a deframer, one after another, report the stream.
-use Rattle.std.proofs.Common.{◌≡◌, ℕ, List, [], ◌∷◌, ◌++◌, map, refl, sym, ap, ◌∙◌, append_assoc}
+use Rattle.std.proofs.Common.{◌≡◌, ℕ, List, [], ◌++◌, map, refl, sym, ap, ◌∙◌, append_assoc}
 use Rattle.std.proofs.lemmas.List.{append-nil}
 use Rattle.pdu.specs.Pieces.{pieces_of}
 use Rattle.pdu.specs.Frames.{frames_of, rest_of}
-use Rattle.pdu.specs.Marks.{Mark, Head, PdvHead, Pdv, End, marks, new_marks, pdv_marks}
+use Rattle.pdu.specs.Marks.{Mark, marks, new_marks, pdv_marks}
 use Rattle.pdu.specs.Spot.{spot}
 use Rattle.pdu.specs.Pdvs.{data_spot}
-use Rattle.pdu.specs.Events.{Token, OfBody, OfFragment, Completes, tokens, marks_among}
+use Rattle.pdu.specs.Events.{Token, Completes, tokens, marks_among}
 use Rattle.pdu.specs.Calls.{Calls, none, one_more}
-use Rattle.pdu.specs.Examples.{release_twice, one_value}
+use Rattle.pdu.specs.Examples.{release_twice, release_twice_tokens, one_value, one_value_tokens}
 use Rattle.pdu.proofs.TokenLemmas.{tokens_rest, tokens_then, marks_of_tokens}
 
 -- from the unfinished frame on
@@ -33,10 +33,10 @@ tokens_reported r piece reported c = sym (all_reported c ∙ append-nil reported
 pub marks_reported : (r piece : List ℕ) (reported : List Token) → Calls r [] piece reported [] → marks_among reported ≡ new_marks r piece
 marks_reported r piece reported c = ap marks_among (tokens_reported r piece reported c) ∙ marks_of_tokens r piece
 
-pub bodies_lent : tokens [] release_twice ≡ Completes (Head 5 4) ∷ OfBody 0 ∷ OfBody 0 ∷ OfBody 0 ∷ OfBody 0 ∷ Completes (End 5 (0 ∷ 0 ∷ 0 ∷ 0 ∷ [])) ∷ Completes (Head 5 4) ∷ []
+pub bodies_lent : tokens [] release_twice ≡ release_twice_tokens
 unfolding marks new_marks frames_of rest_of pieces_of spot
 bodies_lent = refl
 
-pub fragments_lent : tokens [] one_value ≡ Completes (Head 4 8) ∷ Completes (PdvHead 4 1 3) ∷ OfFragment 0xAA ∷ OfFragment 0xBB ∷ Completes (Pdv 1 3 (0xAA ∷ 0xBB ∷ [])) ∷ Completes (End 4 (0 ∷ 0 ∷ 0 ∷ 4 ∷ 1 ∷ 3 ∷ 0xAA ∷ 0xBB ∷ [])) ∷ []
+pub fragments_lent : tokens [] one_value ≡ one_value_tokens
 unfolding marks new_marks frames_of rest_of pieces_of pdv_marks spot data_spot
 fragments_lent = refl

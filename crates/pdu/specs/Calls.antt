@@ -1,10 +1,10 @@
 -- Calls of a deframer, one after another.
-use Rattle.std.specs.Prelude.{ℕ, List, [], ◌++◌, Option}
+use Rattle.std.specs.Prelude.{◌≡◌, ℕ, List, [], ◌++◌, map, Option}
 use Rattle.pdu.specs.declared.event.Event.{Event}
 use Rattle.pdu.specs.declared.position.Position.{Position}
 use Rattle.pdu.specs.Frames.{rest_of}
 use Rattle.pdu.specs.Marks.{Mark}
-use Rattle.pdu.specs.Events.{Token}
+use Rattle.pdu.specs.Events.{Token, Completes, tokens}
 use Rattle.pdu.specs.Deframing.{Took}
 
 -- from an unfinished frame and marks that are due, calls took these bytes, their events reported these tokens, and these
@@ -14,3 +14,8 @@ pub data Calls : List ℕ → List Mark → List ℕ → List Token → List Mar
   one_more : {new : Position} {r : List ℕ} {due : List Mark} {taken : List ℕ} {e : Option Event} {bytes : List ℕ} {reported : List Token} {later : List Mark}
       → (t : Took new r due taken e) → Calls (rest_of (r ++ taken)) t.later bytes reported later
       → Calls r due (taken ++ bytes) (t.reported ++ reported) later
+
+-- what was due and what the piece makes known is reported, but for what is due then
+abbrev pub CallsReportAll : Type 0
+CallsReportAll = (r : List ℕ) (due : List Mark) (piece : List ℕ) (reported : List Token) (later : List Mark) → Calls r due piece reported later
+    → map Completes due ++ tokens r piece ≡ reported ++ map Completes later

@@ -1,6 +1,7 @@
 -- Streams of bytes on which the definitions of marks are tried.
 use Rattle.std.specs.Prelude.{ℕ, List, [], ◌∷◌, drop}
 use Rattle.pdu.specs.Marks.{Mark, Head, PdvHead, Pdv, BadPdv, End}
+use Rattle.pdu.specs.Events.{Token, OfBody, OfFragment, Completes}
 
 -- 'GET / ', no PDU
 abbrev pub no_pdu : List ℕ
@@ -28,6 +29,16 @@ past_the_end = 4 ∷ 0 ∷ 0 ∷ 0 ∷ 0 ∷ 6 ∷ 0 ∷ 0 ∷ 0 ∷ 3 ∷ 1 ∷
 abbrev pub release_twice : List ℕ
 release_twice = 5 ∷ 0 ∷ 0 ∷ 0 ∷ 0 ∷ 4 ∷ 0 ∷ 0 ∷ 0 ∷ 0 ∷ 5 ∷ 0 ∷ 0 ∷ 0 ∷ 0 ∷ 4 ∷ []
 
+-- its tokens: the head, four bytes of the body, the end, and the head of the other
+abbrev pub release_twice_tokens : List Token
+release_twice_tokens = Completes (Head 5 4) ∷ OfBody 0 ∷ OfBody 0 ∷ OfBody 0 ∷ OfBody 0 ∷ Completes (End 5 (0 ∷ 0 ∷ 0 ∷ 0 ∷ [])) ∷ Completes (Head 5 4) ∷ []
+
 -- P-DATA of one presentation data value
 abbrev pub one_value : List ℕ
 one_value = 4 ∷ 0 ∷ 0 ∷ 0 ∷ 0 ∷ 8 ∷ 0 ∷ 0 ∷ 0 ∷ 4 ∷ 1 ∷ 3 ∷ 0xAA ∷ 0xBB ∷ []
+
+-- its tokens: both heads, the two bytes of the fragment, and both ends
+abbrev pub one_value_tokens : List Token
+one_value_tokens =
+    Completes (Head 4 8) ∷ Completes (PdvHead 4 1 3) ∷ OfFragment 0xAA ∷ OfFragment 0xBB
+    ∷ Completes (Pdv 1 3 (0xAA ∷ 0xBB ∷ [])) ∷ Completes (End 4 (drop 6 one_value)) ∷ []

@@ -11,9 +11,9 @@ pub mod Pdvs
 pub mod Marks
 pub mod Spot
 pub mod Parts
-pub mod Examples
 pub mod Left
 pub mod Events
+pub mod Examples
 pub mod Deframing
 pub mod Deframed
 pub mod Steps

@@ -4,12 +4,12 @@ ghost use Rattle.std.specs.Prelude.{◌≡◌, ◌++◌, [], ◌∷◌, ℕ, Lis
 ghost use Rattle.pdu.specs.declared.position.Position.{Position};
 ghost use Rattle.pdu.specs.declared.event.Event.{Event};
 ghost use Rattle.pdu.specs.Frames.{rest_of};
-ghost use Rattle.pdu.specs.Marks.{Mark, Head, PdvHead, Pdv, End, new_marks};
-ghost use Rattle.pdu.specs.Events.{Token, OfBody, OfFragment, Completes, ReportsMark, tokens, marks_among};
+ghost use Rattle.pdu.specs.Marks.{Mark, new_marks};
+ghost use Rattle.pdu.specs.Events.{Token, OfBody, OfFragment, ReportsMark, tokens, marks_among};
 ghost use Rattle.pdu.specs.Deframing.{At, Took, Skip};
 ghost use Rattle.pdu.specs.Steps.{skip_of};
-ghost use Rattle.pdu.specs.Calls.{Calls};
-ghost use Rattle.pdu.specs.Examples.{release_twice, one_value};
+ghost use Rattle.pdu.specs.Calls.{Calls, CallsReportAll};
+ghost use Rattle.pdu.specs.Examples.{release_twice, release_twice_tokens, one_value, one_value_tokens};
 
 /// What a stream makes known has its marks, each once and in their order.
 pub fn tokens_have_the_marks()
@@ -26,14 +26,14 @@ pub fn tokens_do_not_show_the_cut()
 /// A body is lent between the head and the end of its PDU, and a fragment between the head and the end
 /// of its presentation data value.
 pub fn bytes_are_lent_between_marks()
-    ensures bodies { tokens [] release_twice ≡ Completes (Head 5 4) ∷ OfBody 0 ∷ OfBody 0 ∷ OfBody 0 ∷ OfBody 0 ∷ Completes (End 5 (0 ∷ 0 ∷ 0 ∷ 0 ∷ [])) ∷ Completes (Head 5 4) ∷ [] }
-    ensures fragments { tokens [] one_value ≡ Completes (Head 4 8) ∷ Completes (PdvHead 4 1 3) ∷ OfFragment 0xAA ∷ OfFragment 0xBB ∷ Completes (Pdv 1 3 (0xAA ∷ 0xBB ∷ [])) ∷ Completes (End 4 (0 ∷ 0 ∷ 0 ∷ 4 ∷ 1 ∷ 3 ∷ 0xAA ∷ 0xBB ∷ [])) ∷ [] }
+    ensures bodies { tokens [] release_twice ≡ release_twice_tokens }
+    ensures fragments { tokens [] one_value ≡ one_value_tokens }
 {}
 
 /// Calls that take a piece, however they cut it, report what was due and what the piece makes known,
 /// up to what is due then: where nothing is due before and after, they report the marks of the piece.
 pub fn calls_report_the_stream()
-    ensures all { (r : List ℕ) (due : List Mark) (piece : List ℕ) (reported : List Token) (later : List Mark) → Calls r due piece reported later → map Completes due ++ tokens r piece ≡ reported ++ map Completes later }
+    ensures all { CallsReportAll }
     ensures tokens { (r piece : List ℕ) (reported : List Token) → Calls r [] piece reported [] → reported ≡ tokens r piece }
     ensures marks { (r piece : List ℕ) (reported : List Token) → Calls r [] piece reported [] → marks_among reported ≡ new_marks r piece }
 {}
