@@ -19,7 +19,7 @@ use Rattle.sequence.specs.Tree.{Elements, no_elements, value, sequence}
 use Rattle.sequence.specs.Wanted.{Values, value_of}
 use Rattle.dicomdir.specs.declared.key_table.KeyRule.{KeyRule}
 use Rattle.dicomdir.specs.declared.key_table.KeyType.{KeyType}
-use Rattle.dicomdir.specs.declared.key_table.KeyType.TheVariants.{Type1, Type1C, Type2}
+use Rattle.dicomdir.specs.declared.key_table.KeyType.TheVariants.{Type1, Type1C, Type2, Type3}
 use Rattle.dicomdir.specs.declared.level.Level.{Level}
 use Rattle.dicomdir.specs.declared.level.Level.TheVariants.{Patient, Study, Series, Image}
 use Rattle.dicomdir.specs.Directory.{missing, found, carried_node, next_offset, lower_offset, has_record, has_file_id}
@@ -122,6 +122,7 @@ written_size Type1 (Some v) = omega arith
 written_size Type1C o = omega arith
 written_size Type2 None = omega arith
 written_size Type2 (Some v) = omega arith
+written_size Type3 o = omega arith
 
 good_key_of : (last : ℕ) (rule : KeyRule) (o : Option (List ℕ)) (es : Elements) → IsFixed last rule.tag rule.vr → optional_size o ≤ 1024 → IsGood (number rule.tag) es → IsGood last (key_field_of rule o es)
 good_key_of last rule None es fixed short good = rising_more last (number rule.tag) es (let lt = ltb-true last (number rule.tag) fixed.rising in omega (arith, lt)) good

@@ -10,7 +10,7 @@ use Rattle.sequence.specs.Tree.{Elements, no_elements, value}
 use Rattle.sequence.specs.Wanted.{Values, value_of}
 use Rattle.dicomdir.specs.declared.key_table.KeyRule.{KeyRule}
 use Rattle.dicomdir.specs.declared.key_table.KeyType.{KeyType}
-use Rattle.dicomdir.specs.declared.key_table.KeyType.TheVariants.{Type1, Type1C, Type2}
+use Rattle.dicomdir.specs.declared.key_table.KeyType.TheVariants.{Type1, Type1C, Type2, Type3}
 use Rattle.dicomdir.specs.declared.level.Level.{Level}
 use Rattle.dicomdir.specs.declared.level.Level.TheVariants.{Patient, Study, Series, Image}
 use Rattle.dicomdir.specs.KeyTable.{has_level, key_table}
@@ -40,6 +40,7 @@ abbrev pub written : KeyType → Option (List ℕ) → Option (List ℕ)
 written Type1 v = Some (unwrap_or v [])
 written Type1C v = v
 written Type2 v = Some (unwrap_or v [])
+written Type3 v = v
 
 -- the keys of a record at a level, in the order of their tags
 abbrev pub key_fields : Level → List KeyRule → Values → Elements

@@ -14,6 +14,8 @@ pub(crate) enum KeyType {
     Type1C,
     /// Always; the value may be empty.
     Type2,
+    /// Where the data set has it; no record needs it.
+    Type3,
 }
 
 /// The levels of the records that have a key.

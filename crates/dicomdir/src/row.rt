@@ -68,7 +68,7 @@ fn is_missing<A: Allocator>(rule: &KeyRule, keys: &Keys<A>) -> bool
     match (rule.kind, keys.value(rule.tag)) {
         (KeyType::Type1, None) => true,
         (KeyType::Type1, Some(value)) => is_empty_key(value),
-        (KeyType::Type1C | KeyType::Type2, _) => false,
+        (KeyType::Type1C | KeyType::Type2 | KeyType::Type3, _) => false,
     }
 }
 
