@@ -32,6 +32,7 @@ use Rattle.engine.specs.machine.Pends.{Kept, Pends, body_in}
 use Rattle.engine.specs.machine.Does.{Does, DoesAll, Appends}
 use Rattle.engine.specs.machine.Shows.{Fields, ShowsDue, Handles, Pending, body_of}
 use Rattle.engine.specs.machine.Events.{Takes}
+use Rattle.engine.specs.machine.Skips.{reads}
 use Rattle.engine.proofs.ShownLemmas.{pends_short}
 use Rattle.engine.proofs.DoesLemmas.{does_none, does_one, does_appended}
 use Rattle.engine.proofs.ShapeLemmas.{EndsFrom, Shaped}
@@ -89,7 +90,7 @@ whole_mark b e =
 
 -- ---- marks
 
-no_marks : (a b : List Mark) → a ++ b ≡ [] → a ≡ []
+pub no_marks : (a b : List Mark) → a ++ b ≡ [] → a ≡ []
 no_marks [] b e = refl
 no_marks (m ∷ a) b e = absurd cc
 
@@ -189,7 +190,7 @@ quiet_plain q left is = subst Quiet (sym is) refl
 pends_as : (k : Kept) (store : Store) (p : Progress) (b f body begun : List ℕ) → body ≡ b → begun ≡ f → Pends k store p body begun → Pends k store p b f
 pends_as k store p b f body begun e h pends = subst (λ (x : List ℕ). Pends k store p b x) h (subst (λ (x : List ℕ). Pends k store p x begun) e pends)
 
-pending_none : (r : List ℕ) (due : List Mark) (body begun : List ℕ) → due ≡ [] → Pending r due body begun → (body ≡ body_of r) × (begun ≡ begun_in (spot r))
+pub pending_none : (r : List ℕ) (due : List Mark) (body begun : List ℕ) → due ≡ [] → Pending r due body begun → (body ≡ body_of r) × (begun ≡ begun_in (spot r))
 pending_none r due body begun e h = subst (λ (ms : List Mark). Pending r ms body begun) e h
 
 pends_open : (k : Kept) (store : Store) (p : Progress) (r : List ℕ) (due : List Mark) (body begun : List ℕ) → length r < 6 → due ≡ [] → Pending r due body begun → Pends k store p body begun → Pends k store p [] []
@@ -315,7 +316,7 @@ module _ (rooms : Rooms) (set : Settings) where
     begun = s.begun;
     does = does_short p (timeline.At m ∷ []) k s.begun d e s.short (does_one rooms set p (timeline.At m) k [] [] d e did);
     pending = s.pending;
-    is_at = at;
+    is_at = reads at;
     none_due = λ wrong. absurd cc;
   }
 
@@ -336,7 +337,7 @@ module _ (rooms : Rooms) (set : Settings) where
     begun = begun;
     does = does_one rooms set p (timeline.At m) k [] begun d e did;
     pending = pending;
-    is_at = at;
+    is_at = reads at;
     none_due = λ wrong. absurd cc;
   }
 
@@ -353,15 +354,15 @@ module _ (rooms : Rooms) (set : Settings) where
         begun = s.begun;
         does = does_short p [] k s.begun d d s.short (does_none rooms set p k [] [] d pends);
         pending = s.pending;
-        is_at = at;
+        is_at = reads at;
         none_due = λ _. refl;
       }
 
   -- ---- no event
 
-  pub handled_none : (q new : Position) (n : ℕ) (c : List ℕ) (k : Kept) (p : Progress) (r : List ℕ) (due : List Mark) (d : Devices) → length c ≡ n → Steps q n c None new → Took new r due c None
+  pub handled_none : (q new : Position) (n : ℕ) (c : List ℕ) (k : Kept) (p : Progress) (r : List ℕ) (due : List Mark) (d : Devices) → length c ≡ n → Steps q n c None new → At q r due → Took new r due c None
       → ShowsDue (record { position = q; kept = k }) d.store p r due → Handles rooms set (record { position = new; kept = k }) p r due c false d d
-  handled_none q new n c k p r due d size s t h = go q s h.is_at where
+  handled_none q new n c k p r due d size s here t h = go q s here where
     none_then : t.later ≡ []
     none_then = t.at_once refl
 
@@ -377,7 +378,7 @@ module _ (rooms : Rooms) (set : Settings) where
     stays : n ≡ 0 → Handles rooms set (record { position = new; kept = k }) p r due c false d d
     stays zero =
         let nothing : c ≡ [] = no_items c (size ∙ zero) in
-        let same : rest_of (r ++ c) ≡ r = ap (λ (x : List ℕ). rest_of (r ++ x)) nothing ∙ ap rest_of (append-nil r) ∙ rest_alone r (at_rest q r due h.is_at) in
+        let same : rest_of (r ++ c) ≡ r = ap (λ (x : List ℕ). rest_of (r ++ x)) nothing ∙ ap rest_of (append-nil r) ∙ rest_alone r (at_rest q r due here) in
         record {
           marks = [];
           later = [];
@@ -386,7 +387,7 @@ module _ (rooms : Rooms) (set : Settings) where
           begun = h.begun;
           does = does_none rooms set p k h.body h.begun d h.pends;
           pending = subst (λ (x : List ℕ). Pending x [] h.body h.begun) (sym same) (subst (λ (ms : List Mark). Pending r ms h.body h.begun) none h.pending);
-          is_at = at;
+          is_at = reads at;
           none_due = λ _. refl;
         }
 
@@ -446,7 +447,7 @@ module _ (rooms : Rooms) (set : Settings) where
         begun = [];
         does = does_none rooms set p k2 (body_of (r ++ c)) [] d (subst (λ (z : List ℕ). Pends k2 d.store p z []) (sym body_is) now);
         pending = due_then;
-        is_at = at;
+        is_at = reads at;
         none_due = λ wrong. absurd cc;
       }
 
@@ -518,7 +519,7 @@ module _ (rooms : Rooms) (set : Settings) where
         begun = b ++ c;
         does = does_appended rooms set p k2 [] (b ++ c) d d2 appended;
         pending = due_then;
-        is_at = at;
+        is_at = reads at;
         none_due = λ wrong. absurd cc;
       }
 
@@ -574,32 +575,32 @@ module _ (rooms : Rooms) (set : Settings) where
 
   -- ---- any event
 
-  pub handled_event : (q new : Position) (n : ℕ) (c : List ℕ) (e : Event) (k k2 : Kept) (p : Progress) (r : List ℕ) (due : List Mark) (d d2 : Devices) → length c ≡ n → Shaped q n c e new → Took new r due c (Some e)
+  pub handled_event : (q new : Position) (n : ℕ) (c : List ℕ) (e : Event) (k k2 : Kept) (p : Progress) (r : List ℕ) (due : List Mark) (d d2 : Devices) → length c ≡ n → Shaped q n c e new → At q r due → Took new r due c (Some e)
       → Takes rooms set k k2 (body_kind new) e d d2 → ShowsDue (record { position = q; kept = k }) d.store p r due → Handles rooms set (record { position = new; kept = k2 }) p r due c true d d2
-  handled_event q new n c (event.PduHead head) k k2 p r due d d2 size (bytes, is, w) t takes h =
-      handled_head new bytes.items c head k k2 p r due d d2 (subst (λ (x : Position). At x r due) is h.is_at) w t (takes p) h.body h.begun h.pending h.pends
-  handled_event q new n c (event.Body part) k k2 p r due d d2 size (kind, left, is, lent) t takes h =
+  handled_event q new n c (event.PduHead head) k k2 p r due d d2 size (bytes, is, w) here t takes h =
+      handled_head new bytes.items c head k k2 p r due d d2 (subst (λ (x : Position). At x r due) is here) w t (takes p) h.body h.begun h.pending h.pends
+  handled_event q new n c (event.Body part) k k2 p r due d d2 size (kind, left, is, lent) here t takes h =
       let some = t.reports.some in
       let all : due ++ new_marks r c ≡ t.later = marks_taken new r due c (Some (event.Body part)) t ∙ ap (λ (ms : List Mark). ms ++ t.later) (ap marks_among t.reports.lent ∙ among_body c) in
       let same : Takes rooms set k k2 kind (event.Body part) d d2 = subst (λ (x : Position). Takes rooms set k k2 (body_kind x) (event.Body part) d d2) lent.new_is takes in
       subst (λ (x : Devices). Handles rooms set (record { position = new; kept = k2 }) p r due c true d x) (sym same.0)
-      (handled_body new kind left n part.now c k k2 p r due d size lent some (t.prompt some) (subst (λ (x : Position). At x r due) is h.is_at) t.later all t.is_at (same.1 p) h.body h.begun h.pending h.pends)
-  handled_event q new n c (event.PdvHead head) k k2 p r due d d2 size (left, bytes, is, w) t takes h =
-      handled_pdv_head new left n bytes.items c head k k2 p r due d d2 size (subst (λ (x : Position). At x r due) is h.is_at) w t (takes p (bytes.items ++ c) w.all w.follows.0) h.body h.begun h.pending h.pends
-  handled_event q new n c (event.Fragment part) k k2 p r due d d2 size (left, due_more, is, lent) t takes h =
+      (handled_body new kind left n part.now c k k2 p r due d size lent some (t.prompt some) (subst (λ (x : Position). At x r due) is here) t.later all t.is_at (same.1 p) h.body h.begun h.pending h.pends)
+  handled_event q new n c (event.PdvHead head) k k2 p r due d d2 size (left, bytes, is, w) here t takes h =
+      handled_pdv_head new left n bytes.items c head k k2 p r due d d2 size (subst (λ (x : Position). At x r due) is here) w t (takes p (bytes.items ++ c) w.all w.follows.0) h.body h.begun h.pending h.pends
+  handled_event q new n c (event.Fragment part) k k2 p r due d d2 size (left, due_more, is, lent) here t takes h =
       let some = t.reports.some in
       let all : due ++ new_marks r c ≡ t.later = marks_taken new r due c (Some (event.Fragment part)) t ∙ ap (λ (ms : List Mark). ms ++ t.later) (ap marks_among t.reports.lent ∙ among_fragment c) in
-      handled_fragment new left due_more n part.now c k k2 p r due d d2 size lent some (t.prompt some) (subst (λ (x : Position). At x r due) is h.is_at) t.later all t.is_at (takes p) h.body h.begun h.pending h.pends
-  handled_event q new n c event.PdvEnd k k2 p r due d d2 size (left, due_more, is, zero, follows) t takes h =
-      let at = subst (λ (x : Position). At x r due) is h.is_at in
+      handled_fragment new left due_more n part.now c k k2 p r due d d2 size lent some (t.prompt some) (subst (λ (x : Position). At x r due) is here) t.later all t.is_at (takes p) h.body h.begun h.pending h.pends
+  handled_event q new n c event.PdvEnd k k2 p r due d d2 size (left, due_more, is, zero, follows) here t takes h =
+      let at = subst (λ (x : Position). At x r due) is here in
       handled_value_end new left due_more c k k2 p r due d d2 zero follows at at t (takes p) h.body h.begun h.pending h.pends
-  handled_event q new n c event.BadPdv k k2 p r due d d2 size (left, bytes, is, w) t takes h =
+  handled_event q new n c event.BadPdv k k2 p r due d d2 size (left, bytes, is, w) here t takes h =
       let told = t.reports in
       let all : due ++ new_marks r c ≡ BadPdv ∷ t.later = mark_taken new r due c event.BadPdv t told ∙ ap (λ (x : Mark). x ∷ t.later) (mark_of_bad told.mark told.same) in
       handled_quiet new k2 p r due c BadPdv t.later d d2 all (quiet_plain new (left - n) w.follows) t.is_at
-      (takes p (pends_in_pdv k d.store p left bytes.items r due h.body h.begun (subst (λ (x : Position). At x r due) is h.is_at) h.pending h.pends))
-  handled_event q new n c event.Leftover k k2 p r due d d2 size (left, is, e) t takes h =
-      let a = subst (λ (x : Position). At x r due) is h.is_at in
+      (takes p (pends_in_pdv k d.store p left bytes.items r due h.body h.begun (subst (λ (x : Position). At x r due) is here) h.pending h.pends))
+  handled_event q new n c event.Leftover k k2 p r due d d2 size (left, is, e) here t takes h =
+      let a = subst (λ (x : Position). At x r due) is here in
       let x = subst (λ (ms : List Mark). Pending r ms h.body h.begun) a.due_is h.pending in
       let told = t.reports in
       let all : due ++ new_marks r c ≡ told.mark ∷ t.later = mark_taken new r due c event.Leftover t told in
@@ -607,4 +608,4 @@ module _ (rooms : Rooms) (set : Settings) where
       let m_is : Leftover ≡ told.mark = first_mark Leftover told.mark (new_marks r c) t.later whole in
       handled_quiet new k2 p r due c told.mark t.later d d2 all (quiet_plain new left e) t.is_at
       (subst (λ (z : Mark). Does rooms set p (timeline.At z) k2 [] [] d d2) m_is (takes p (pends_as k d.store p [] [] h.body h.begun x.0 x.1 h.pends)))
-  handled_event q new n c (event.PduEnd told) k k2 p r due d d2 size (s, from) t takes h = handled_end q new told c k k2 p r due d d2 s from h.is_at t (takes p) h.body h.begun h.pending h.pends
+  handled_event q new n c (event.PduEnd told) k k2 p r due d d2 size (s, from) here t takes h = handled_end q new told c k k2 p r due d d2 s from here t (takes p) h.body h.begun h.pending h.pends

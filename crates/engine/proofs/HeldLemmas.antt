@@ -5,8 +5,7 @@ use Rattle.pdu.specs.declared.position.Position.{Position}
 use Rattle.pdu.specs.declared.position.Position.TheVariants as position
 use Rattle.pdu.specs.Marks.{Mark, Pdv, End}
 use Rattle.pdu.specs.Spot.{Spot, Opening, Plain, InPdv, spot}
-use Rattle.pdu.specs.Steps.{stands_in_head}
-use Rattle.pdu.specs.Deframing.{At, AtBody, in_body, after_body, AtFragment, in_fragment, after_fragment, unfinished_heads, unfinished_pdv_head}
+use Rattle.pdu.specs.Deframing.{At, SkipsAt, AtBody, in_body, after_body, AtFragment, in_fragment, after_fragment, unfinished_heads, unfinished_pdv_head}
 use Rattle.pdu.proofs.Public.{spot_opening}
 use Rattle.negotiate.specs.Settings.{Settings}
 use Rattle.dimse.specs.Messages.{Begun}
@@ -24,7 +23,9 @@ use Rattle.engine.specs.Stands.{Shows}
 use Rattle.engine.specs.machine.Pends.{Kept, takes_pdvs_in, held_by}
 use Rattle.engine.specs.machine.Storing.{Stored, Walks, not_walked, walked, held_in}
 use Rattle.engine.specs.machine.Shows.{Fields}
+use Rattle.engine.specs.machine.Skips.{in_pdv_head, StandsAt, reads, skips}
 use Rattle.engine.specs.machine.HeldHeads.{heads_of}
+use Rattle.engine.proofs.SkipLemmas.{skips_frame}
 use Rattle.engine.proofs.KeptLemmas.{held_shown, held_ended}
 use Rattle.engine.proofs.ShownLemmas.{takes_shown, ended_stored}
 
@@ -48,27 +49,20 @@ unfinished_none : (t : Bool) → unfinished (if t then [] else []) ≡ 0
 unfinished_none true = refl
 unfinished_none false = refl
 
-headed_at : (q : Position) (r : List ℕ) → At q r [] → stands_in_head q ≡ false → 6 ≤ length r
-headed_at (position.Head bytes) r a e = absurd cc
-headed_at (position.Body kind left) r a e = go a where
-  go : AtBody kind left r [] → 6 ≤ length r
-  go (in_body lt i none) = i.headed
+-- of a frame that stands past the head of a PDV
+no_pdv_head : (q : Position) (r : List ℕ) → At q r [] → in_pdv_head q ≡ false → 6 ≤ length r → unfinished_pdv_head (spot r) ≡ 0
+no_pdv_head (position.Head bytes) r a e six = absurd (let lt = a.short in omega (arith, lt, six))
+no_pdv_head (position.Body kind left) r a e six = go a where
+  go : AtBody kind left r [] → unfinished_pdv_head (spot r) ≡ 0
+  go (in_body lt i none) = ap unfinished_pdv_head i.spot_is
   go (after_body o) = absurd (let wrong : [] ≡ End kind o.body ∷ [] = o.due_is in cc)
-headed_at (position.PdvHead left bytes) r a e = a.inside.headed
-headed_at (position.Fragment left more) r a e = go a where
-  go : AtFragment left more r [] → 6 ≤ length r
-  go (in_fragment lt f) = f.inside.headed
+no_pdv_head (position.PdvHead left bytes) r a e six = absurd cc
+no_pdv_head (position.Fragment left more) r a e six = go a where
+  go : AtFragment left more r [] → unfinished_pdv_head (spot r) ≡ 0
+  go (in_fragment lt f) = ap unfinished_pdv_head f.inside.spot_is ∙ rw (le-ltb (length f.part) 6 f.headed) refl
   go (after_fragment zero x) = absurd (let wrong : [] ≡ Pdv x.context x.control x.fragment ∷ x.later = x.due_is in cc)
-headed_at (position.Leftover left) r a e = a.inside.headed
-headed_at (position.Skipped kind left) r a e = absurd (let wrong : [] ≡ End kind a.body ∷ [] = a.due_is in cc)
-
-in_head_short : (q : Position) (r : List ℕ) → At q r [] → stands_in_head q ≡ true → length r < 6
-in_head_short (position.Head bytes) r a e = a.short
-in_head_short (position.Body kind left) r a e = absurd cc
-in_head_short (position.PdvHead left bytes) r a e = absurd cc
-in_head_short (position.Fragment left more) r a e = absurd cc
-in_head_short (position.Leftover left) r a e = absurd cc
-in_head_short (position.Skipped kind left) r a e = absurd cc
+no_pdv_head (position.Leftover left) r a e six = ap unfinished_pdv_head a.inside.spot_is
+no_pdv_head (position.Skipped kind left) r a e six = absurd (let wrong : [] ≡ End kind a.body ∷ [] = a.due_is in cc)
 
 heads_of_pdv : (x : Spot) → unfinished_pdv_head x ≡ unfinished (begun_in x)
 heads_of_pdv Opening = refl
@@ -76,35 +70,43 @@ heads_of_pdv Plain = refl
 heads_of_pdv (InPdv part) = refl
 
 module _ (q : Position) (k : Kept) (store : Store) (r : Reached) where
-  -- where an unfinished head counts
-  pub heads_counted : (n : ℕ) → (stands_in_head q ≡ true) ⊎ (takes_pdvs_in k ≡ true) → ((x : List ℕ) (due : List Mark) → At q x due → n ≡ unfinished_heads x) → Shows (record { position = q; kept = k }) store r → n ≡ heads_of r
-  heads_counted n why told h = elim (cases_Bool (is_ended r.progress.state)) [
+  -- the deframer holds those that count: no head of a PDV is gathered where PDVs don't
+  pub heads_are : (n : ℕ) → (takes_pdvs_in k ≡ false → in_pdv_head q ≡ false) → ((x : List ℕ) (due : List Mark) → At q x due → n ≡ unfinished_heads x) → ((x : List ℕ) → SkipsAt q x → n ≡ 0)
+      → Shows (record { position = q; kept = k }) store r → n ≡ heads_of r
+  heads_are n headless told skipping h = elim (cases_Bool (is_ended r.progress.state)) [
     | inl e ↦ told [] [] (h.headless e) ∙ sym (heads_ended r e)
-    | inr e ↦
-        let at = h.frame.framed e in
-        let is : n ≡ unfinished_heads r.rest = told r.rest [] at in
-        elim (cases_lt (length r.rest) 6) [
-          | inl lt ↦
-              let heads : unfinished_heads r.rest ≡ length r.rest = rw (lt-ltb (length r.rest) 6 lt) refl in
-              let open_is : begun_in (spot r.rest) ≡ [] = ap begun_in (spot_opening r.rest lt) in
-              omega (arith, is, heads, heads_open r [] (length r.rest) 0 e open_is (few r.rest lt) (unfinished_none (takes_pdvs r.progress)))
-          | inr ge ↦
-              let heads : unfinished_heads r.rest ≡ unfinished_pdv_head (spot r.rest) = rw (le-ltb (length r.rest) 6 ge) refl in
-              let takes_in : takes_pdvs_in k ≡ true = elim why [ inl w ↦ absurd (let lt = in_head_short q r.rest at w in omega (arith, lt, ge)) | inr w ↦ w ] in
-              let takes : takes_pdvs r.progress ≡ true = sym (takes_shown k store r.progress _ _ h.frame.pends) ∙ takes_in in
-              let second : unfinished (if takes_pdvs r.progress then begun_in (spot r.rest) else []) ≡ unfinished_pdv_head (spot r.rest) = rw takes (sym (heads_of_pdv (spot r.rest))) in
-              omega (arith, is, heads, heads_open r (begun_in (spot r.rest)) 0 (unfinished_pdv_head (spot r.rest)) e refl (many r.rest ge) second)
-        ]
+    | inr e ↦ go e (h.frame.framed e)
   ]
+    where
+      takes_is : takes_pdvs_in k ≡ takes_pdvs r.progress
+      takes_is = takes_shown k store r.progress _ _ h.frame.pends
 
-  pub heads_not : stands_in_head q ≡ false → takes_pdvs_in k ≡ false → Shows (record { position = q; kept = k }) store r → 0 ≡ heads_of r
-  heads_not other none h = elim (cases_Bool (is_ended r.progress.state)) [
-    | inl e ↦ sym (heads_ended r e)
-    | inr e ↦
-        let takes : takes_pdvs r.progress ≡ false = sym (takes_shown k store r.progress _ _ h.frame.pends) ∙ none in
-        let second : unfinished (if takes_pdvs r.progress then begun_in (spot r.rest) else []) ≡ 0 = rw takes refl in
-        omega (arith, heads_open r (begun_in (spot r.rest)) 0 0 e refl (many r.rest (headed_at q r.rest (h.frame.framed e) other)) second)
-  ]
+      within : is_ended r.progress.state ≡ false → At q r.rest [] → 6 ≤ length r.rest → n ≡ unfinished_pdv_head (spot r.rest) → n ≡ heads_of r
+      within e at ge is = elim (cases_Bool (takes_pdvs_in k)) [
+        | inl t ↦
+            let takes : takes_pdvs r.progress ≡ true = sym takes_is ∙ t in
+            let second : unfinished (if takes_pdvs r.progress then begun_in (spot r.rest) else []) ≡ unfinished_pdv_head (spot r.rest) = rw takes (sym (heads_of_pdv (spot r.rest))) in
+            omega (arith, is, heads_open r (begun_in (spot r.rest)) 0 (unfinished_pdv_head (spot r.rest)) e refl (many r.rest ge) second)
+        | inr t ↦
+            let takes : takes_pdvs r.progress ≡ false = sym takes_is ∙ t in
+            let second : unfinished (if takes_pdvs r.progress then begun_in (spot r.rest) else []) ≡ 0 = rw takes refl in
+            omega (arith, is, no_pdv_head q r.rest at (headless t) ge, heads_open r (begun_in (spot r.rest)) 0 0 e refl (many r.rest ge) second)
+      ]
+
+      go : is_ended r.progress.state ≡ false → StandsAt q k r.rest [] → n ≡ heads_of r
+      go e (skips s u none) =
+          let takes : takes_pdvs r.progress ≡ false = sym takes_is ∙ u.pdvs in
+          let second : unfinished (if takes_pdvs r.progress then begun_in (spot r.rest) else []) ≡ 0 = rw takes refl in
+          omega (arith, skipping r.rest s, heads_open r (begun_in (spot r.rest)) 0 0 e refl (many r.rest (skips_frame q r.rest s).headed) second)
+      go e (reads at) = elim (cases_lt (length r.rest) 6) [
+        | inl lt ↦
+            let heads : unfinished_heads r.rest ≡ length r.rest = rw (lt-ltb (length r.rest) 6 lt) refl in
+            let open_is : begun_in (spot r.rest) ≡ [] = ap begun_in (spot_opening r.rest lt) in
+            omega (arith, told r.rest [] at, heads, heads_open r [] (length r.rest) 0 e open_is (few r.rest lt) (unfinished_none (takes_pdvs r.progress)))
+        | inr ge ↦
+            let heads : unfinished_heads r.rest ≡ unfinished_pdv_head (spot r.rest) = rw (le-ltb (length r.rest) 6 ge) refl in
+            within e at ge (told r.rest [] at ∙ heads)
+      ]
 
 -- ---- the data set
 

@@ -14,6 +14,7 @@ pub mod KeptLemmas
 pub mod DoesLemmas
 pub mod ShapeLemmas
 pub mod EventLemmas
+pub mod SkipLemmas
 pub mod StillLemmas
 pub mod PartLemmas
 pub mod MovedLemmas

@@ -24,11 +24,13 @@ use Rattle.engine.specs.Moves.{Moved, StaysCharged}
 use Rattle.engine.specs.machine.Pends.{Kept, Pends}
 use Rattle.engine.specs.machine.Storing.{drafting_in}
 use Rattle.engine.specs.machine.Does.{Does, DoesAll, push, still_failed}
+use Rattle.engine.specs.machine.Skips.{StandsAt, IsUncounted, reads, passed}
 use Rattle.engine.specs.machine.Shows.{Fields, ShowsFrame, DoesPart, body_of}
 use Rattle.engine.proofs.TimelineLemmas.{entries_append}
 use Rattle.engine.proofs.StoryLemmas.{progress_then, fair_then, line_nothing, no_files}
 use Rattle.engine.proofs.DoesLemmas.{push_entries, push_wire, push_sent, push_files, push_fair, push_last, push_filing, push_progress, does_one}
 use Rattle.engine.proofs.ShownLemmas.{pends_ended}
+use Rattle.engine.proofs.SkipLemmas.{stands_passed}
 use Rattle.engine.proofs.PartLemmas.{empty_rest, spot_none, took_dropped}
 use Rattle.engine.proofs.StillLemmas.{calm, ended_is, stays}
 
@@ -100,7 +102,7 @@ module _ (rooms : Rooms) (s : Settings) where
   pub moved_other : (inputs : List Received) (story : List Happened) (failed : Bool) (x : Received) (entry : Entry) (old_f f : Fields) (d e : Devices) → IsStory rooms s inputs story failed
       → entries (stream_of inputs) (x ∷ []) ≡ entry ∷ [] → stream_of (x ∷ []) ≡ []
       → Does rooms s (absorb failed (progress_of rooms s at_start story)) entry f.kept (body_of (rest_of (stream_of inputs))) (begun_in (spot (rest_of (stream_of inputs)))) d e
-      → (is_ended f.kept.state ≡ false → deframing.At f.position (rest_of (stream_of inputs)) [])
+      → (is_ended f.kept.state ≡ false → StandsAt f.position f.kept (rest_of (stream_of inputs)) [])
       → (is_ended f.kept.state ≡ true → deframing.At f.position [] []) → Drafts (drafting old_f) d.store (drafting f) e.store → Moved rooms s inputs story failed x old_f f d e
   moved_other inputs story failed x entry old_f f d e h one none did framed headless same =
       let p = absorb failed (progress_of rooms s at_start story) in
@@ -151,7 +153,7 @@ module _ (rooms : Rooms) (s : Settings) where
       let none : rest_of [] ≡ [] = rest_alone [] empty_rest in
       let pends : Pends k store at_start (body_of []) (begun_in (spot [])) = rw spot_none h in
       let shown : Shows fields store (record { progress = at_start; rest = [] }) = record {
-        frame = record { framed = λ _. at; pends = pends };
+        frame = record { framed = λ _. reads at; pends = pends };
         headless = λ ended. absurd cc;
       } in
       let now : Shows fields store (reached rooms s [] [] false) = subst (λ (r : List ℕ). Shows fields store (record { progress = at_start; rest = r })) (sym none) shown in
@@ -190,13 +192,14 @@ module _ (rooms : Rooms) (s : Settings) where
       → Stands rooms s inputs story failed (record { position = ps; kept = k }) d.store → is_ended k.state ≡ false
       → entries (stream_of inputs) (x ∷ []) ≡ entry ∷ [] → stream_of (x ∷ []) ≡ []
       → ((p : Progress) (body begun : List ℕ) → Pends k d.store p body begun → Does rooms s p entry n body begun d e)
-      → Dropped (record { position = ps; kept = n }) g → Drafts (drafting_in k.storing) d.store (drafting_in n.storing) e.store
+      → ((kind : ℕ) → IsUncounted k kind → IsUncounted n kind)
+      → Dropped (record { position = passed n ps; kept = n }) g → Drafts (drafting_in k.storing) d.store (drafting_in n.storing) e.store
       → Moved rooms s inputs story failed x (record { position = ps; kept = k }) g d e
-  moved_call inputs story failed x entry ps k n g d e h there one none does dropped same =
+  moved_call inputs story failed x entry ps k n g d e h there one none does still dropped same =
       let p = absorb failed (progress_of rooms s at_start story) in
       let rest = rest_of (stream_of inputs) in
-      let framed : deframing.At ps rest [] = h.shows.frame.framed (sym (ap is_ended h.shows.frame.pends.state_is) ∙ there) in
+      let framed : StandsAt (passed n ps) n rest [] = stands_passed ps k n rest still (h.shows.frame.framed (sym (ap is_ended h.shows.frame.pends.state_is) ∙ there)) in
       let did : Does rooms s p entry g.kept (body_of rest) (begun_in (spot rest)) d e = subst (λ (y : Kept). Does rooms s p entry y (body_of rest) (begun_in (spot rest)) d e) (sym dropped.kept) (does p (body_of rest) (begun_in (spot rest)) h.shows.frame.pends) in
       moved_other inputs story failed x entry _ g d e h.story_is one none did
-      (λ still. subst (λ (y : Fields). deframing.At y.position rest []) (sym (dropped.same (ap (λ (y : Kept). is_ended y.state) (sym dropped.kept) ∙ still))) framed)
-      (headless_then _ g dropped) (drafts_kept (record { position = ps; kept = k }) (record { position = ps; kept = n }) g d.store e.store dropped.kept same)
+      (λ still. subst (λ (y : Fields). StandsAt y.position y.kept rest []) (sym (dropped.same (ap (λ (y : Kept). is_ended y.state) (sym dropped.kept) ∙ still))) framed)
+      (headless_then _ g dropped) (drafts_kept (record { position = ps; kept = k }) (record { position = passed n ps; kept = n }) g d.store e.store dropped.kept same)

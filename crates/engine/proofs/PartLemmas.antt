@@ -4,7 +4,6 @@ use Rattle.std.proofs.lemmas.List.{append-nil, map-append}
 use Rattle.pdu.specs.Frames.{IsRest, rest_of}
 use Rattle.pdu.specs.Marks.{Mark, new_marks}
 use Rattle.pdu.specs.Spot.{Opening, spot}
-use Rattle.pdu.specs.Deframing as deframing
 use Rattle.pdu.proofs.Public.{new_then, new_rest, rest_rest, new_nothing, rest_alone}
 use Rattle.pdu.proofs.Public.{spot_opening}
 use Rattle.negotiate.specs.Settings.{Settings}
@@ -17,6 +16,7 @@ use Rattle.engine.specs.Run.{Rooms, progress_of}
 use Rattle.engine.specs.Reached.{begun_in}
 use Rattle.engine.specs.Held.{is_ended}
 use Rattle.engine.specs.machine.Pends.{Kept, Pends}
+use Rattle.engine.specs.machine.Skips.{StandsAt}
 use Rattle.engine.specs.machine.Shows.{Fields, ShowsFrame, ShowsDue, Handles, Pending, DoesPart, body_of}
 use Rattle.engine.proofs.DoesLemmas.{does_none, does_then}
 
@@ -66,7 +66,7 @@ module _ (rooms : Rooms) (s : Settings) where
         begun = y.begun;
         does = rw (map-append At x.marks y.marks) (does_then rooms s p (map At x.marks) (map At y.marks) f.kept g.kept x.body x.begun y.body y.begun t u v x.does y.does);
         pending = subst (λ (z : List ℕ). Pending z y.later y.body y.begun) where_then y.pending;
-        is_at = subst (λ (z : List ℕ). deframing.At g.position z y.later) where_then y.is_at;
+        is_at = subst (λ (z : List ℕ). StandsAt g.position g.kept z y.later) where_then y.is_at;
         none_due = y.none_due;
       }
 
@@ -85,7 +85,7 @@ module _ (rooms : Rooms) (s : Settings) where
         fair = x.does.fair;
         last = x.does.last;
         shows = record {
-          framed = λ _. subst (λ (ms : List Mark). deframing.At f.position rest ms) none x.is_at;
+          framed = λ _. subst (λ (ms : List Mark). StandsAt f.position f.kept rest ms) none x.is_at;
           pends = subst (λ (z : List ℕ). Pends f.kept u.store q (body_of rest) z) is.1 (subst (λ (z : List ℕ). Pends f.kept u.store q z x.begun) is.0 x.does.pends);
         };
         gains = x.does.gains;
@@ -103,7 +103,7 @@ module _ (rooms : Rooms) (s : Settings) where
         fair = x.fair;
         last = x.last;
         shows = record {
-          framed = λ still. subst (λ (h : Fields). deframing.At h.position rest []) (sym (same (ap is_ended x.shows.pends.state_is ∙ still))) (x.shows.framed still);
+          framed = λ still. subst (λ (h : Fields). StandsAt h.position h.kept rest []) (sym (same (ap is_ended x.shows.pends.state_is ∙ still))) (x.shows.framed still);
           pends = subst (λ (k : Kept). Pends k u.store q (body_of rest) (begun_in (spot rest))) (sym kept) x.shows.pends;
         };
         gains = x.gains;

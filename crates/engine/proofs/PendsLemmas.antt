@@ -1,5 +1,6 @@
 -- What an event makes of the fields.
-use Rattle.std.proofs.Common.{◌≡◌, ℕ, ◌+◌, ◌<◌, ◌≤◌, Bool, true, false, ◌&&◌, List, [], length, Option, Some, None, Result, Ok, Err, OnErr, refl, ap, sym, subst, ◌∙◌, if◌then◌else◌}
+use Rattle.std.proofs.Common.{◌≡◌, ℕ, ◌+◌, ◌<◌, ◌≤◌, Bool, true, false, not, ◌&&◌, nat_eq, List, [], length, Option, Some, None, Result, Ok, Err, OnErr, refl, ap, sym, subst, ◌∙◌, if◌then◌else◌, inl, inr}
+use Rattle.std.proofs.lemmas.Bool.{cases_Bool}
 use Rattle.acceptor.specs.declared.state.State.{State}
 use Rattle.acceptor.specs.declared.state.State.TheVariants.{Sta1, Sta2, Sta3, Sta6, Sta8, Sta13}
 use Rattle.acceptor.specs.declared.event.Event.{Event}
@@ -18,6 +19,7 @@ use Rattle.engine.specs.Devices.{Devices, devices, line_after, IsFront}
 use Rattle.engine.specs.Drafts.{IsDraft}
 use Rattle.engine.specs.machine.Storing.{Nothing, Walks, drafting_in}
 use Rattle.engine.specs.machine.Pends.{Kept, Pends, IsUnagreed, counted_body, counted_pdv, BodyFits, FragmentFits}
+use Rattle.engine.specs.machine.Skips.{IsUncounted}
 use Rattle.engine.specs.machine.DoesDue.{DoesDue, step_text, is_left, IsLeft, with_state, ComesTo, Stays}
 use Rattle.engine.proofs.StoreLemmas.{Carried, so_far, no_store, none_carried}
 
@@ -201,6 +203,31 @@ pub settles_fragment_fits : (n : State) (r : Result (Unit {0}) WireFailed) (old 
 settles_fragment_fits n r old new so sn m s stays h =
     λ six. subst (λ (k : Kept). k.refused ≡ false → m ≤ k.join.left) (sym (not_left n r old new so sn s stays (ap is_left six)))
     (h (sym (ap (λ (k : Kept). k.state) (not_left n r old new so sn s stays (ap is_left six))) ∙ six))
+
+left_pdvs : (st : State) (r : Bool) → is_left st ≡ true → (is_established st && not r) ≡ false
+left_pdvs Sta1 r e = refl
+left_pdvs Sta2 r e = absurd cc
+left_pdvs Sta3 r e = absurd cc
+left_pdvs Sta6 r e = absurd cc
+left_pdvs Sta8 r e = absurd cc
+left_pdvs Sta13 r e = refl
+
+left_body : (st : State) (counts : Bool) → is_left st ≡ true → (is_due st && counts) ≡ false
+left_body Sta1 counts e = refl
+left_body Sta2 counts e = absurd cc
+left_body Sta3 counts e = absurd cc
+left_body Sta6 counts e = absurd cc
+left_body Sta8 counts e = absurd cc
+left_body Sta13 counts e = refl
+
+-- what did not count doesn't count then
+pub settles_uncounted : (n : State) (r : Result (Unit {0}) WireFailed) (old new : Kept) (so sn : Store) (kind : ℕ) → ComesTo n r old new so sn → (is_left n ≡ false → n ≡ old.state)
+    → IsUncounted old kind → IsUncounted new kind
+settles_uncounted n r old new so sn kind s stays u =
+    elim (cases_Bool (is_left new.state)) [
+      | inl t ↦ record { pdvs = left_pdvs new.state new.refused t; body = left_body new.state (not new.refused && nat_eq kind 1) t }
+      | inr t ↦ subst (λ (k : Kept). IsUncounted k kind) (sym (not_left n r old new so sn s stays t)) u
+    ]
 
 -- ---- a PDU begins
 

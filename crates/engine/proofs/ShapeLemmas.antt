@@ -85,10 +85,10 @@ shaped (position.Skipped kind left) n c (event.PduEnd told) new s = (s.1, s.0)
 
 -- ---- room
 
-no_body : (room : ℕ) (k : Kept) (kind n : ℕ) → (kind ≡ 1 → ⊥) → BodyFits room k kind n
+pub no_body : (room : ℕ) (k : Kept) (kind n : ℕ) → (kind ≡ 1 → ⊥) → BodyFits room k kind n
 no_body room k kind n other = λ due taken one. absurd (other one)
 
-no_fragment : (k : Kept) → FragmentFits k 0
+pub no_fragment : (k : Kept) → FragmentFits k 0
 no_fragment k = λ six taken. omega arith
 
 abbrev pub FitsAt : ℕ → Kept → Position → Type 0

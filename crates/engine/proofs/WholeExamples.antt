@@ -40,6 +40,7 @@ use Rattle.engine.specs.Recording.{request, accept, reply, released}
 use Rattle.engine.specs.Examples.{rooms, settings, calm}
 use Rattle.engine.specs.WholeExamples.{unsupported, echo_inputs, request_inputs, TheEchoRuns, TheRequestIsHeld, ItStandsEstablished, VerdictsOnStores, ct_context, store_of}
 use Rattle.negotiate.specs.Settings.{Settings}
+use Rattle.engine.specs.machine.Skips.{reads}
 
 calm_entries : (es : List Entry) → entries_of (calm es) ≡ es
 calm_entries [] = refl
@@ -100,7 +101,7 @@ it_stands_established = (
     story_is = record { told = calm_entries (entries [] request_inputs); fair = (calm_fair tt, (calm_fair tt, tt)); last = λ e. absurd cc };
     shows = record {
       frame = record {
-        framed = λ e. record { short = omega arith; bytes_are = refl; none_due = refl };
+        framed = λ e. reads (record { short = omega arith; bytes_are = refl; none_due = refl });
         pends = record {
           state_is = refl;
           refused_is = λ e. refl;

@@ -1,16 +1,23 @@
 -- What contracts see of an association.
-use Rattle.std.specs.Prelude.{ℕ, Bool}
+use Rattle.std.specs.Prelude.{ℕ, ◌+◌, Bool}
 use Rattle.acceptor.specs.declared.state.State.{State}
 use Rattle.pdu.specs.Deframed.{position_of}
+use Rattle.pdu.specs.Deframing.{bytes_held}
 use Rattle.negotiate.specs.Settings.{Settings, settings_of}
 use Rattle.engine.specs.declared.association.Association.{Association}
 use Rattle.engine.specs.declared.running.Running.{Running}
 use Rattle.engine.specs.machine.Kept.{kept_of}
+use Rattle.engine.specs.machine.Pends.{held_by}
 use Rattle.engine.specs.machine.Storing.{stored_of, drafting_in}
 use Rattle.engine.specs.machine.Shows.{Fields}
 
 abbrev pub fields_of : {A C V D : ℕ} → Association A C V D → Fields
 fields_of a = record { position = position_of a.deframer; kept = kept_of a.provider }
+
+-- How many received bytes the fields hold: the deframer's unfinished head; and of the provider 20 and 4 for each context
+-- of an accepted request, what has come of a request's body, the command set of a message, and what a walk holds.
+abbrev pub held_in : Fields → ℕ
+held_in f = bytes_held f.position + held_by f.kept
 
 abbrev pub state_of : {A C V D : ℕ} → Association A C V D → State
 state_of a = a.provider.state

@@ -9,5 +9,6 @@ pub mod DoesDue
 pub mod Messages
 pub mod Does
 pub mod Events
+pub mod Skips
 pub mod Shows
 pub mod HeldHeads

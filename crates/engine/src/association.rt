@@ -1,9 +1,10 @@
 //! One association of the acceptor.
-ghost use Rattle.std.specs.Prelude.{◌≡◌, ◌≤◌, ◌<◌, ◌+◌, ◌*◌, ◌-◌, ◌^◌};
+ghost use Rattle.std.specs.Prelude.{◌≡◌, ◌≤◌, ◌<◌, ◌+◌, ◌*◌, ◌-◌, ◌^◌, false};
 ghost use Rattle.pdu.specs.Deframed.{position_of};
 ghost use Rattle.pdu.specs.Steps.{body_kind, body_due, fragment_due};
 ghost use Rattle.engine.specs.machine.Kept.{kept_of};
-ghost use Rattle.engine.specs.machine.Pends.{BodyFits, FragmentFits};
+ghost use Rattle.engine.specs.machine.Pends.{BodyFits, FragmentFits, takes_pdvs_in};
+ghost use Rattle.engine.specs.machine.Skips.{in_pdv_head};
 
 mod fields;
 mod taking;
@@ -28,6 +29,7 @@ pub struct Association<const A: usize, const C: usize, const V: usize, const D: 
     provider: Provider<A, C, V, D>,
     ghost body_fits: { BodyFits (A - 12) (kept_of provider) (body_kind (position_of deframer)) (body_due (position_of deframer)) },
     ghost fragment_fits: { FragmentFits (kept_of provider) (fragment_due (position_of deframer)) },
+    ghost headless: { takes_pdvs_in (kept_of provider) ≡ false → in_pdv_head (position_of deframer) ≡ false },
 }
 
 impl<const A: usize, const C: usize, const V: usize, const D: usize> Association<A, C, V, D> {
@@ -39,14 +41,13 @@ impl<const A: usize, const C: usize, const V: usize, const D: usize> Association
     ghost use Rattle.pdu.specs.Deframed.{IsAt};
     ghost use Rattle.engine.specs.Devices.{devices};
     ghost use Rattle.engine.specs.Drafts.{IsThere};
-    ghost use Rattle.engine.specs.Fields.{drafting_of, fields_of, settings_in, state_of};
+    ghost use Rattle.engine.specs.Fields.{drafting_of, fields_of, held_in, settings_in, state_of};
     ghost use Rattle.engine.specs.Held as holding;
     ghost use Rattle.engine.specs.Held.{Held};
     ghost use Rattle.engine.specs.Inputs.{Received, Bytes, Close, Expiry, UserAbort};
     ghost use Rattle.engine.specs.Moves.{Moved, StaysEnded};
-    ghost use Rattle.engine.specs.Reached.{Reached, reached};
-    ghost use Rattle.engine.specs.Stands.{Stands, Shows};
-    ghost use Rattle.engine.specs.machine.HeldHeads.{heads_of};
+    ghost use Rattle.engine.specs.Reached.{reached};
+    ghost use Rattle.engine.specs.Stands.{Stands};
     ghost use Rattle.engine.specs.Timeline.{Happened};
     ghost use Rattle.engine.specs.machine.Kept.{rooms_of};
 
@@ -91,16 +92,17 @@ impl<const A: usize, const C: usize, const V: usize, const D: usize> Association
         self.provider.drafting()
     }
 
-    /// How many received bytes are held: of unfinished heads, of a request's body, what is kept of an
-    /// accepted request, the command set of a message, and what a walk holds of its data set.
+    /// How many received bytes are held: of an unfinished head, of a request's body, what is kept of an
+    /// accepted request, the command set of a message, and what a walk holds of its data set. No other is.
     pub fn held(&self) -> usize
         ensures held { (inputs : List Received) (story : List Happened) (failed : Bool) (store : Store)
             → Stands (rooms_of A C V D) (settings_in self.now) inputs story failed (fields_of self.now) store
             → Held (rooms_of A C V D) (settings_in self.now) (reached (rooms_of A C V D) (settings_in self.now) inputs story failed) result }
+        ensures sum { result ≡ held_in (fields_of self.now) }
         ensures room { result ≤ A + C + V + 16 * D }
         ensures accepted_room { state_of self.now ≡ Sta6 → result ≤ 544 + C + V + 16 * D }
     {
-        self.heads_held() + self.provider.held()
+        self.deframer.held() + self.provider.held()
     }
 
     /// Takes the next bytes of the stream.
@@ -141,6 +143,7 @@ impl<const A: usize, const C: usize, const V: usize, const D: usize> Association
             return;
         }
         self.provider.on_closed(wire, filing);
+        self.provider.skip_uncounted(&mut self.deframer);
         self.drop_heads();
     }
 
@@ -160,6 +163,7 @@ impl<const A: usize, const C: usize, const V: usize, const D: usize> Association
             return;
         }
         self.provider.on_expired(wire, filing);
+        self.provider.skip_uncounted(&mut self.deframer);
         self.drop_heads();
     }
 
@@ -179,19 +183,8 @@ impl<const A: usize, const C: usize, const V: usize, const D: usize> Association
             return;
         }
         self.provider.on_local_abort(wire, filing);
+        self.provider.skip_uncounted(&mut self.deframer);
         self.drop_heads();
-    }
-
-    /// How many bytes of unfinished heads are held; those of a PDV where PDVs count.
-    fn heads_held(&self) -> usize
-        ensures value { (store : Store) (r : Reached) → Shows (fields_of self.now) store r → result ≡ heads_of r }
-        ensures few { result ≤ 6 }
-    {
-        if self.deframer.is_in_head() || self.provider.takes_pdvs() {
-            self.deframer.held()
-        } else {
-            0
-        }
     }
 
     /// Whether the association has ended.

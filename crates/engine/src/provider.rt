@@ -11,7 +11,7 @@ use arrayvec::ArrayVec;
 use dimse::Join;
 use negotiate::{Config, ContextRow};
 use part10::Filing;
-use pdu::{Wire, WireFailed};
+use pdu::{Deframer, Wire, WireFailed};
 
 /// An association above its framing: the acceptor's state, what is kept of a request and of a
 /// message, and what the service provider and the local user do at each mark of the stream.
@@ -60,6 +60,9 @@ impl<const A: usize, const C: usize, const V: usize, const D: usize> Provider<A,
     ghost use Rattle.engine.specs.machine.Storing.{drafting_in};
     ghost use Rattle.engine.specs.machine.DoesDue.{IsLeft, Unfiled};
     ghost use Rattle.engine.specs.machine.Pends.{Pends, held_by, BodyFits, FragmentFits, takes_pdvs_in, counted_body, counted_pdv};
+    ghost use Rattle.pdu.specs.Deframed.{position_of};
+    ghost use Rattle.pdu.specs.Steps.{events_due};
+    ghost use Rattle.engine.specs.machine.Skips.{IsUncounted, passed};
     ghost use Rattle.engine.specs.machine.DoesDue.{DoesDue, ComesTo, Stays};
     ghost use Rattle.engine.specs.machine.Does.{Does};
     ghost use Rattle.engine.specs.machine.Kept.{kept_of, settings_in, rooms_of};
@@ -99,6 +102,18 @@ impl<const A: usize, const C: usize, const V: usize, const D: usize> Provider<A,
             State::Sta6 => !self.refused,
             _ => false,
         }
+    }
+
+    /// Lets the rest of the PDU that has begun go by where neither its body nor its PDVs count: no head
+    /// of a PDV is gathered in it.
+    pub(crate) fn skip_uncounted(&self, deframer: &mut Deframer)
+        ensures passes { position_of deframer.new ≡ passed (kept_of self.now) (position_of deframer.old) }
+        ensures fewer { events_due (position_of deframer.new) ≤ events_due (position_of deframer.old) }
+    {
+        if self.takes_pdvs() || self.takes_body(deframer.kind()) {
+            return;
+        }
+        deframer.skip_frame();
     }
 
     /// Whether the draft of a store is in the filing.
@@ -180,6 +195,7 @@ impl<const A: usize, const C: usize, const V: usize, const D: usize> Provider<A,
         ensures body { self.old.body.items ≡ [] → self.new.body.items ≡ [] }
         ensures body_fits { (kind m : ℕ) → BodyFits (A - 12) (kept_of self.old) kind m → BodyFits (A - 12) (kept_of self.new) kind m }
         ensures fragment_fits { (m : ℕ) → FragmentFits (kept_of self.old) m → FragmentFits (kept_of self.new) m }
+        ensures uncounted { (kind : ℕ) → IsUncounted (kept_of self.old) kind → IsUncounted (kept_of self.new) kind }
         ensures tries { (p : Progress) (body begun : List ℕ) → Pends (kept_of self.old) (F.store filing.old) p body begun
             → DoesDue p (done (answer_text answering.entry) reason p event) (kept_of self.new) body begun (devices (W.line wire.old) (F.store filing.old)) (devices (W.line wire.new) (F.store filing.new)) }
     {
@@ -253,6 +269,7 @@ impl<const A: usize, const C: usize, const V: usize, const D: usize> Provider<A,
         requires draft { IsThere (drafting_in (kept_of self.old).storing) (F.store filing.old) }
         ensures body_fits { (kind m : ℕ) → BodyFits (A - 12) (kept_of self.old) kind m → BodyFits (A - 12) (kept_of self.new) kind m }
         ensures fragment_fits { (m : ℕ) → FragmentFits (kept_of self.old) m → FragmentFits (kept_of self.new) m }
+        ensures uncounted { (kind : ℕ) → IsUncounted (kept_of self.old) kind → IsUncounted (kept_of self.new) kind }
         ensures settings { settings_in self.new ≡ settings_in self.old }
         ensures drafts { Drafts (drafting_in (kept_of self.old).storing) (F.store filing.old) (drafting_in (kept_of self.new).storing) (F.store filing.new) }
         ensures does { (p : Progress) (body begun : List ℕ) → Pends (kept_of self.old) (F.store filing.old) p body begun → Does (rooms_of A C V D) (settings_in self.old) p Shut (kept_of self.new) body begun
@@ -266,6 +283,7 @@ impl<const A: usize, const C: usize, const V: usize, const D: usize> Provider<A,
         requires draft { IsThere (drafting_in (kept_of self.old).storing) (F.store filing.old) }
         ensures body_fits { (kind m : ℕ) → BodyFits (A - 12) (kept_of self.old) kind m → BodyFits (A - 12) (kept_of self.new) kind m }
         ensures fragment_fits { (m : ℕ) → FragmentFits (kept_of self.old) m → FragmentFits (kept_of self.new) m }
+        ensures uncounted { (kind : ℕ) → IsUncounted (kept_of self.old) kind → IsUncounted (kept_of self.new) kind }
         ensures settings { settings_in self.new ≡ settings_in self.old }
         ensures drafts { Drafts (drafting_in (kept_of self.old).storing) (F.store filing.old) (drafting_in (kept_of self.new).storing) (F.store filing.new) }
         ensures does { (p : Progress) (body begun : List ℕ) → Pends (kept_of self.old) (F.store filing.old) p body begun → Does (rooms_of A C V D) (settings_in self.old) p TimedOut (kept_of self.new) body begun
@@ -279,6 +297,7 @@ impl<const A: usize, const C: usize, const V: usize, const D: usize> Provider<A,
         requires draft { IsThere (drafting_in (kept_of self.old).storing) (F.store filing.old) }
         ensures body_fits { (kind m : ℕ) → BodyFits (A - 12) (kept_of self.old) kind m → BodyFits (A - 12) (kept_of self.new) kind m }
         ensures fragment_fits { (m : ℕ) → FragmentFits (kept_of self.old) m → FragmentFits (kept_of self.new) m }
+        ensures uncounted { (kind : ℕ) → IsUncounted (kept_of self.old) kind → IsUncounted (kept_of self.new) kind }
         ensures settings { settings_in self.new ≡ settings_in self.old }
         ensures drafts { Drafts (drafting_in (kept_of self.old).storing) (F.store filing.old) (drafting_in (kept_of self.new).storing) (F.store filing.new) }
         ensures does { (p : Progress) (body begun : List ℕ) → Pends (kept_of self.old) (F.store filing.old) p body begun → Does (rooms_of A C V D) (settings_in self.old) p Aborted (kept_of self.new) body begun

@@ -105,7 +105,7 @@ impl<const A: usize, const C: usize, const V: usize, const D: usize> Provider<A,
     ghost use Rattle.engine.specs.machine.Kept.{kept_of, settings_in, rooms_of};
 
     /// Whether the body of a PDU of this type is kept.
-    fn takes_body(&self, kind: u8) -> bool
+    pub(crate) fn takes_body(&self, kind: u8) -> bool
         ensures { result ≡ takes_body_in (kept_of self.now) kind }
     {
         match self.state {

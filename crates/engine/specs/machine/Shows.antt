@@ -4,7 +4,6 @@ use Rattle.pdu.specs.declared.position.Position.{Position}
 use Rattle.pdu.specs.Frames.{rest_of}
 use Rattle.pdu.specs.Marks.{Mark, Head, PdvHead, Pdv, BadPdv, Leftover, End, pdv_size, pdv_mark, frame_kind, new_marks}
 use Rattle.pdu.specs.Spot.{spot}
-use Rattle.pdu.specs.Deframing.{At}
 use Rattle.negotiate.specs.Settings.{Settings}
 use Rattle.engine.specs.Timeline as timeline
 use Rattle.engine.specs.Timeline.{Happened, entries_of}
@@ -16,6 +15,7 @@ use Rattle.engine.specs.Reached.{begun_in}
 use Rattle.engine.specs.Held.{is_ended}
 use Rattle.engine.specs.Gains.{Gains}
 use Rattle.engine.specs.machine.Pends.{Kept, Pends, body_in}
+use Rattle.engine.specs.machine.Skips.{StandsAt}
 use Rattle.part10.specs.Store.{Store}
 use Rattle.engine.specs.machine.Does.{DoesAll}
 
@@ -31,7 +31,7 @@ pub record Fields : Type 0 where
 
 -- it shows this progress and this frame; once it has ended, no frame
 pub record ShowsFrame (f : Fields) (store : Store) (p : Progress) (r : List ℕ) : Type 0 where
-  pub framed : is_ended p.state ≡ false → At f.position r []
+  pub framed : is_ended p.state ≡ false → StandsAt f.position f.kept r []
   pub pends : Pends f.kept store p (body_of r) (begun_in (spot r))
 
 -- a part of the stream was taken
@@ -58,7 +58,7 @@ Pending r (End kind whole ∷ later) body begun = (body ≡ body_in kind whole) 
 
 -- it shows this progress and this frame, with these marks that are due
 pub record ShowsDue (f : Fields) (store : Store) (p : Progress) (r : List ℕ) (due : List Mark) : Type 0 where
-  pub is_at : At f.position r due
+  pub is_at : StandsAt f.position f.kept r due
   pub body : List ℕ
   pub begun : List ℕ
   pub pending : Pending r due body begun
@@ -74,5 +74,5 @@ pub record Handles (rooms : Rooms) (s : Settings) (f : Fields) (p : Progress) (r
   pub begun : List ℕ
   pub does : DoesAll rooms s p (map timeline.At marks) f.kept body begun old new
   pub pending : Pending (rest_of (r ++ c)) later body begun
-  pub is_at : At f.position (rest_of (r ++ c)) later
+  pub is_at : StandsAt f.position f.kept (rest_of (r ++ c)) later
   pub none_due : more ≡ false → later ≡ []

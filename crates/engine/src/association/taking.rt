@@ -43,6 +43,7 @@ impl<const A: usize, const C: usize, const V: usize, const D: usize> Association
         };
         let kind = self.deframer.kind();
         self.provider.on_event(event, kind, wire, filing);
+        self.provider.skip_uncounted(&mut self.deframer);
         (count, true)
     }
 

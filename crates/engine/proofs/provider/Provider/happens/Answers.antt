@@ -4,7 +4,7 @@ use Rattle.acceptor.specs.declared.state.State.{State}
 use Rattle.engine.specs.machine.Answers.{answer_text}
 use Rattle.engine.specs.machine.DoesDue.{ComesTo, Stays, is_left}
 use Rattle.engine.specs.machine.Kept.{kept_of}
-use Rattle.engine.proofs.PendsLemmas.{happened, settles_body, settles_body_fits, settles_fragment_fits}
+use Rattle.engine.proofs.PendsLemmas.{happened, settles_body, settles_body_fits, settles_fragment_fits, settles_uncounted}
 use Rattle.engine.proofs.provider.Provider.happens.Goals as goal
 
 pub returns-clause-tries : goal.returns-clause-tries
@@ -25,4 +25,9 @@ returns-clause-body_fits g c = λ kind m h.
 pub returns-clause-fragment_fits : goal.returns-clause-fragment_fits
 returns-clause-fragment_fits g c = λ m h.
     settles_fragment_fits c.step-next.result.0 c.step-next.result.1 (kept_of c.args.self.now) (kept_of c.settle.new.self) _ _ m c.settle.ensures.settles
+    (subst (λ (st : State). is_left st ≡ false → st ≡ c.args.self.now.state) (sym c.step-next.ensures.state) c.requires.stays) h
+
+pub returns-clause-uncounted : goal.returns-clause-uncounted
+returns-clause-uncounted g c = λ kind h.
+    settles_uncounted c.step-next.result.0 c.step-next.result.1 (kept_of c.args.self.now) (kept_of c.settle.new.self) _ _ kind c.settle.ensures.settles
     (subst (λ (st : State). is_left st ≡ false → st ≡ c.args.self.now.state) (sym c.step-next.ensures.state) c.requires.stays) h
