@@ -6,7 +6,7 @@ RECORDING := crates/cli/data/recordings/echo.bin
 PREFIX ?= /usr/local
 DESTDIR ?=
 
-.PHONY: run test interop bench docs check must-fail fmt gate-table clean install uninstall deb
+.PHONY: run test interop bench probe docs check must-fail fmt gate-table clean install uninstall deb
 
 run: dcmbox
 	./dcmbox replay $(RECORDING) --out .
@@ -43,6 +43,11 @@ interop:
 # The program beside DCMTK's storescp and a floor that checks nothing: prints tables of ratios.
 bench: dcmbox
 	bench/bench.py ./dcmbox
+
+# The program beside DCMTK's storescp (and Orthanc, with ORTHANC=its program), asked from outside: prints the table of
+# docs/COMPARISON.md.
+probe: dcmbox
+	bench/probe.py ./dcmbox $(if $(ORTHANC),--orthanc $(ORTHANC))
 
 # Makes anew what scripts make of the documents: the index of definitions, the booklet, the tables of options, limits,
 # statuses and faults, and the list of names that mean two things.

@@ -7,7 +7,7 @@ tables.py --write            writes the documents anew
 tables.py --program PROGRAM  compares the options with what the program says of itself, too
 tables.py --tree DIR         does so for another tree
 
-Between markers it makes parts of man/dcmbox.1 and docs/CONFORMANCE.md; it makes
+Between markers it makes parts of man/dcmbox.1, docs/CONFORMANCE.md and docs/TOUR.md; it makes
 packaging/dcmbox.bash whole.
 """
 import json
@@ -238,6 +238,7 @@ PARTS = {
         "statuses of a store": store_statuses(),
         "faults of a store": store_faults(),
     },
+    "docs/TOUR.md": {"exit statuses": program_statuses()},
 }
 
 
