@@ -18,9 +18,6 @@ ROOT = pathlib.Path(__file__).resolve().parent.parent
 PAGE = "docs/DEFINITIONS_INDEX.md"
 BEGIN, END = "<!-- index of words: made by tests/definitions.py --write -->", "<!-- end of the index -->"
 
-# Crates whose contracts may stand on words of specs/machine.
-ON_MACHINERY = {"engine"}
-
 NAME = r"(?:◌[^\s◌]+◌|[\w'-]+)"
 HEADER = re.compile(rf"^(?:(?:abbrev|unfoldable) )*(?:pub )?(?:(?:record|data|instance|syntax) )?({NAME})(?= :| \(| \{{|$)")
 KEYWORD = re.compile(r"^(?:abbrev|unfoldable|pub|record|data)\b")
@@ -292,7 +289,7 @@ def main():
     faults = [
         f"{'.'.join(word)} is machinery, and a public contract reaches it by {cause}"
         for word, cause in sorted(by.items())
-        if word[1].startswith("machine") and word[0] not in ON_MACHINERY
+        if word[1].startswith("machine")
     ]
     faults += [f"{PAGE}: a row names a word that is no definition: {word}" for word in missing_words(front, definitions)]
     if made not in page:

@@ -40,8 +40,7 @@ for crate in crates/*/; do
         echo "$own: names the machine of another crate"
         failed=1
     fi
-    # the definitions of `engine` stand on its machine until the association is rebuilt
-    if [ "$own" != engine ] && [ -d "${crate}specs" ]; then
+    if [ -d "${crate}specs" ]; then
         standing=$(find "${crate}specs" -path '*/specs/machine' -prune -o -name '*.antt' -print0 |
             xargs -0 grep -n 'specs\.machine\.' || true)
         if [ -n "$standing" ]; then

@@ -1,3 +1,5 @@
+-- the lemmas that the crates above cite, and no others
+pub mod Public
 pub mod JoinLemmas
 pub mod RowLemmas
 pub mod SetLemmas
@@ -8,3 +10,5 @@ pub mod CommandLemmas
 pub mod CutLemmas
 pub mod MessageLemmas
 pub mod PartLemmas
+pub mod ReadLemmas
+pub mod LengthLemmas

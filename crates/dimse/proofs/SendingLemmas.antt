@@ -13,7 +13,7 @@ pdus_two : (context : ℕ) (f : List ℕ) (b : Bool) (g : List ℕ) (gs : List (
 pdus_two context f true g gs text = refl
 pdus_two context f false g gs text = refl
 
-pdus_next : (context : ℕ) (f : List ℕ) (more size : ℕ) (text : List ℕ)
+pub pdus_next : (context : ℕ) (f : List ℕ) (more size : ℕ) (text : List ℕ)
     → command_pdus context (f ∷ fragments_in more size text) ≡ data_text context true false f ++ command_pdus context (fragments_in more size text)
 pdus_next context f zero size text = refl
 pdus_next context f (suc more) size text = pdus_two context f (leb (length text) size) (take size text) (fragments_in more size (drop size text)) text
@@ -69,7 +69,7 @@ sending_fails old now new f context size whole rest s some lt e =
     let after = command_pdus context (fragments_in a.more size (drop size rest)) in
     rw a.left (sends_then s.done (text ++ after) (Err f) old now new s.sent (sends_part text after f now new e))
 
-last_of : (context size more : ℕ) (rest : List ℕ) → length rest ≤ size → command_pdus context (fragments_in more size rest) ≡ data_text context true true rest
+pub last_of : (context size more : ℕ) (rest : List ℕ) → length rest ≤ size → command_pdus context (fragments_in more size rest) ≡ data_text context true true rest
 last_of context size zero rest le = refl
 last_of context size (suc more) rest le = rw (le-leb (length rest) size le) refl
 

@@ -1,5 +1,5 @@
 //! Laws of the definitions: the contract of each function is a law.
-ghost use Rattle.std.specs.Prelude.{◌≡◌, ◌≤◌, ◌∷◌, ◌++◌, [], ◌*◌, ◌-◌, ◌^◌, ℕ, true, false, List, Some, None, Ok, Err, length, take, drop, codes};
+ghost use Rattle.std.specs.Prelude.{◌≡◌, ◌≤◌, ◌∷◌, ◌++◌, [], ◌*◌, ◌-◌, ◌^◌, ℕ, true, false, List, Option, Some, None, Ok, Err, length, take, drop, codes};
 ghost use Rattle.dimse.specs.Command.{CommandRecord, CommandText, c_echo, c_store};
 ghost use Rattle.dimse.specs.Messages.{Begun, InCommand, IsMessage, Message, NoMessage, Pdv, messages, messages_from, with_message};
 ghost use Rattle.dimse.specs.MessageLaws.{BeginsWith, and_then};
@@ -7,9 +7,10 @@ ghost use Rattle.dimse.specs.declared.fault.DimseFault.TheVariants.{BadCommand, 
 ghost use Rattle.dimse.specs.Reading.{command_in};
 ghost use Rattle.pdu.specs.Texts.{data_text};
 ghost use Rattle.dimse.specs.Worked.{after_status, cause, echo, echo_record, echo_reply, group_length, instance_123, pdv, store, store_record};
+ghost use Rattle.dimse.specs.declared.detail.Detail.{Detail};
 ghost use Rattle.dimse.specs.Detail.{class_mismatch, instance_mismatch};
 ghost use Rattle.dimse.specs.Status.{cannot_understand, class_not_supported, data_set_mismatch, out_of_resources, success};
-ghost use Rattle.dimse.specs.Reply.{IsFragmented, fragments, reply_bytes, reply_command};
+ghost use Rattle.dimse.specs.Reply.{IsFragmented, IsMaximum, fragments, reply_bytes, reply_command};
 
 use crate::command::Command;
 use crate::detail::{CLASS_MISMATCH, INSTANCE_MISMATCH};
@@ -26,6 +27,16 @@ pub fn one_command()
 pub fn one_cut()
     ensures cut { (size : ℕ) (text : List ℕ) → 1 ≤ size → IsFragmented size text (fragments size text) }
     ensures only { (size : ℕ) (text : List ℕ) (cut : List (List ℕ)) → 1 ≤ size → IsFragmented size text cut → cut ≡ fragments size text }
+{}
+
+/// A reply is short. Its command set has 242 bytes at most; the PDUs that carry it have 1,706 at most to a
+/// peer whose maximum length takes fragments, of two bytes or more, and 3,158 at most to any other.
+pub fn replies_are_short()
+    ensures command { (text : List ℕ) (command : CommandRecord) (status : ℕ) (detail : Option Detail) → command_in text ≡ Ok command → length (reply_command command status detail) ≤ 242 }
+    ensures reply { (text : List ℕ) (command : CommandRecord) (status : ℕ) (detail : Option Detail) (context maximum : ℕ)
+        → command_in text ≡ Ok command → IsMaximum maximum → length (reply_bytes command status detail context maximum) ≤ 1706 }
+    ensures any { (text : List ℕ) (command : CommandRecord) (status : ℕ) (detail : Option Detail) (context maximum : ℕ)
+        → command_in text ≡ Ok command → length (reply_bytes command status detail context maximum) ≤ 3158 }
 {}
 
 /// The fragments of a message, at the front of a list of presentation data values, are put together

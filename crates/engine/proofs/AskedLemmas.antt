@@ -5,7 +5,7 @@ use Rattle.acceptor.specs.declared.state.State.{State}
 use Rattle.acceptor.specs.declared.state.State.TheVariants.{Sta6}
 use Rattle.dimse.specs.Command.{is_request}
 use Rattle.engine.specs.Progress.{is_established}
-use Rattle.engine.specs.machine.Pends.{Kept, takes_pdvs_in}
+use Rattle.engine.specs.Kept.{Kept, takes_pdvs_in}
 
 -- a request that announces a data set is a C-STORE
 pub store_if_data : (field : ℕ) (announced : Bool) (instance : Option (List ℕ)) → is_request field announced instance ≡ true → announced ≡ true → field ≡ 1

@@ -6,7 +6,8 @@ use Rattle.acceptor.specs.declared.state.State.TheVariants.{Sta1, Sta2, Sta3, St
 use Rattle.part10.specs.Store.{Store}
 use Rattle.engine.specs.Held.{is_ended}
 use Rattle.engine.specs.Progress.{Progress, is_due}
-use Rattle.engine.specs.machine.Pends.{Kept, Pends, BodyFits, body_in, takes_body_in}
+use Rattle.engine.specs.Kept.{Kept, Pends, body_in, takes_body_in}
+use Rattle.engine.specs.machine.Capacity.{BodyFits}
 
 counted_more : (st : State) (kept refused one : Bool) (held body part : List ℕ) → (is_ended st ≡ false → kept ≡ refused) → is_due st && (not kept && one) ≡ true
     → held ≡ (if is_due st && not refused then (if one then body else []) else []) → held ++ part ≡ (if is_due st && not refused then (if one then body ++ part else []) else [])

@@ -25,9 +25,10 @@ use Rattle.engine.specs.Stores.{IsOfContext, limits}
 use Rattle.engine.specs.Run.{Rooms, at_entry}
 use Rattle.engine.specs.Fair.{InStore}
 use Rattle.engine.specs.Held.{is_ended}
-use Rattle.engine.specs.machine.Pends.{Kept, Pends, counted_pdv}
+use Rattle.engine.specs.Kept.{Kept, Pends, counted_pdv}
 use Rattle.engine.specs.machine.Messages.{Proceeds}
-use Rattle.engine.specs.machine.Storing.{Stored, Nothing, Walking, HasWalked, walked, BeginsStore, drafting_in}
+use Rattle.engine.specs.StoredData.{Stored, Nothing, Walking, HasWalked, walked, drafting_in}
+use Rattle.engine.specs.machine.Storing.{BeginsStore, GoesOn}
 use Rattle.engine.specs.machine.Does.{Does}
 use Rattle.engine.proofs.StoreLemmas.{Carried, none_carried, meta_by, due_file}
 use Rattle.engine.proofs.DueLemmas.{if_nothing, line_same, line_gained, filed_nothing}
@@ -36,7 +37,6 @@ use Rattle.engine.specs.Fair.{MayFail}
 use Rattle.std.specs.Io.KnownBytes.{append_known}
 use Rattle.std.proofs.lemmas.List.{length-append}
 use Rattle.dimse.specs.Joining.{with_fragment}
-use Rattle.engine.specs.machine.Storing.{GoesOn}
 use Rattle.sequence.specs.Rules.{Limits}
 use Rattle.engine.specs.Drafts.{Drafts}
 use Rattle.engine.specs.machine.Does.{Appends}

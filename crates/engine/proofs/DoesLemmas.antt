@@ -9,7 +9,7 @@ use Rattle.engine.specs.Devices.{Devices, line_with, files_in, with_files}
 use Rattle.engine.specs.Run.{Rooms, at_entry, cut, gives, progress_of, sent_of, files_of, counted, wire_failures, filing_failures}
 use Rattle.engine.specs.Fair.{MayFail, IsFair, AreFair, message_at}
 use Rattle.engine.proofs.StoryLemmas.{failures_then, filing_then, filing_last, line_then, line_nothing, files_and, no_files, progress_then, sent_then, files_then, fair_then}
-use Rattle.engine.specs.machine.Pends.{Kept, Pends}
+use Rattle.engine.specs.Kept.{Kept, Pends}
 use Rattle.engine.specs.machine.Does.{Does, DoesAll, Appends, push, still_failed}
 
 pub absorb_twice : (f g : Bool) (p : Progress) → absorb (f || g) p ≡ absorb g (absorb f p)

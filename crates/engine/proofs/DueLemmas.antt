@@ -17,9 +17,9 @@ use Rattle.engine.specs.Reached.{takes_pdvs}
 use Rattle.engine.specs.Replies.{invalid}
 use Rattle.engine.specs.Run.{Rooms, at_entry, cut, fails}
 use Rattle.engine.specs.Fair.{IsVerdict, message_at}
-use Rattle.engine.specs.machine.Pends.{Kept, Pends, counted_body, counted_pdv}
+use Rattle.engine.specs.Kept.{Kept, Pends, counted_body, counted_pdv}
 use Rattle.engine.specs.Drafts.{IsDraft}
-use Rattle.engine.specs.machine.Storing.{Walks, drafting_in}
+use Rattle.engine.specs.StoredData.{Walks, drafting_in}
 use Rattle.engine.specs.machine.DoesDue.{DoesDue, Stays}
 use Rattle.engine.proofs.StoreLemmas.{unfiled_same}
 use Rattle.engine.specs.machine.Does.{Does}

@@ -31,10 +31,11 @@ use Rattle.engine.specs.Stores.{IsOfContext, Verdict, other_class, no_room, faul
 use Rattle.engine.specs.Run.{Rooms, at_entry, fails, counted}
 use Rattle.engine.specs.Run as run
 use Rattle.engine.specs.Fair.{InStore}
-use Rattle.engine.specs.machine.Pends.{Kept, Pends, counted_pdv}
+use Rattle.engine.specs.Kept.{Kept, Pends, counted_pdv}
 use Rattle.engine.specs.machine.Messages.{Aside, HasCome, Ended, Concludes}
 use Rattle.engine.specs.machine.Storing as storing
-use Rattle.engine.specs.machine.Storing.{Stored, Nothing, Walking, HasWalked, Walks, not_walked, walked, BeginsStore, Begins, Drops, EndsDraft, commit_failed, dropped, EndsStore, drafting_in}
+use Rattle.engine.specs.StoredData.{Stored, Nothing, Walking, HasWalked, Walks, not_walked, walked, drafting_in}
+use Rattle.engine.specs.machine.Storing.{BeginsStore, Begins, Drops, EndsDraft, commit_failed, dropped, EndsStore}
 use Rattle.engine.specs.machine.DoesDue.{ComesTo, Unfiled, is_left}
 use Rattle.engine.specs.machine.Does.{Does}
 use Rattle.engine.proofs.StoreLemmas.{none_carried, no_store, meta_by, file_due, undrafted, drafted, drops_unfiled}

@@ -28,11 +28,11 @@ use Rattle.engine.specs.Progress.{Progress, absorb}
 use Rattle.engine.specs.Devices.{Devices}
 use Rattle.engine.specs.Run.{Rooms, progress_of}
 use Rattle.engine.specs.Reached.{begun_in}
-use Rattle.engine.specs.machine.Pends.{Kept, Pends, body_in}
+use Rattle.engine.specs.Kept.{Kept, Pends, body_in}
 use Rattle.engine.specs.machine.Does.{Does, DoesAll, Appends}
-use Rattle.engine.specs.machine.Shows.{Fields, ShowsDue, Handles, Pending, body_of}
+use Rattle.engine.specs.FrameFields.{Fields, body_of, reads}
+use Rattle.engine.specs.machine.Shows.{ShowsDue, Handles, Pending}
 use Rattle.engine.specs.machine.Events.{Takes}
-use Rattle.engine.specs.machine.Skips.{reads}
 use Rattle.engine.proofs.ShownLemmas.{pends_short}
 use Rattle.engine.proofs.DoesLemmas.{does_none, does_one, does_appended}
 use Rattle.engine.proofs.ShapeLemmas.{EndsFrom, Shaped}

@@ -20,10 +20,10 @@ use Rattle.engine.specs.Reached.{Reached, takes_pdvs, begun_in, begun_pdv, messa
 use Rattle.engine.specs.Held as holding
 use Rattle.engine.specs.Held.{is_ended, unfinished, of_request, of_command, held_before_data, IsHeldOfSet, unbroken, faulty, IsHeldOfMessage, Held}
 use Rattle.engine.specs.Stands.{Shows}
-use Rattle.engine.specs.machine.Pends.{Kept, takes_pdvs_in, held_by}
-use Rattle.engine.specs.machine.Storing.{Stored, Walks, not_walked, walked, held_in}
-use Rattle.engine.specs.machine.Shows.{Fields}
-use Rattle.engine.specs.machine.Skips.{in_pdv_head, StandsAt, reads, skips}
+use Rattle.engine.specs.Kept.{Kept, takes_pdvs_in, held_by}
+use Rattle.engine.specs.StoredData.{Stored, Walks, not_walked, walked, held_in}
+use Rattle.engine.specs.FrameFields.{Fields, StandsAt, reads, skips}
+use Rattle.engine.specs.machine.Skips.{in_pdv_head}
 use Rattle.engine.specs.machine.HeldHeads.{heads_of}
 use Rattle.engine.proofs.SkipLemmas.{skips_frame}
 use Rattle.engine.proofs.KeptLemmas.{held_shown, held_ended}

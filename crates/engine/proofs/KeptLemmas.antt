@@ -12,8 +12,8 @@ use Rattle.dimse.specs.Joining.{Joining, command_bytes}
 use Rattle.engine.specs.Progress.{Progress, is_due, is_established}
 use Rattle.engine.specs.Reached.{begun_in, message_so_far}
 use Rattle.engine.specs.Held.{is_ended, of_request, of_accepted, of_command}
-use Rattle.engine.specs.machine.Pends.{Kept, Pends, counted_pdv, body_in, held_by}
-use Rattle.engine.specs.machine.Storing.{Stored, held_in}
+use Rattle.engine.specs.Kept.{Kept, Pends, counted_pdv, body_in, held_by}
+use Rattle.engine.specs.StoredData.{Stored, held_in}
 use Rattle.part10.specs.Store.{Store}
 use Rattle.engine.proofs.ShownLemmas.{ended_unestablished, ended_stored}
 

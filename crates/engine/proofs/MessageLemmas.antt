@@ -30,9 +30,9 @@ use Rattle.engine.specs.Replies.{invalid, user_aborts, aborted_if_refused, at_pd
 use Rattle.engine.specs.Run.{Rooms, at_entry}
 use Rattle.engine.specs.Fair.{InStore, IsVerdict, message_at}
 use Rattle.engine.specs.Held.{is_ended}
-use Rattle.engine.specs.machine.Pends.{Kept, Pends, counted_body, counted_pdv}
+use Rattle.engine.specs.Kept.{Kept, Pends, counted_body, counted_pdv}
 use Rattle.engine.specs.machine.Messages.{with_join, Aside, HasCome}
-use Rattle.engine.specs.machine.Storing.{Stored}
+use Rattle.engine.specs.StoredData.{Stored}
 use Rattle.engine.proofs.StoreLemmas.{Carried, so_far, carried, no_store, no_store_yet, long_pdv, store_fragment, head_carried}
 use Rattle.engine.specs.Devices.{Devices}
 use Rattle.engine.specs.machine.DoesDue.{DoesDue}

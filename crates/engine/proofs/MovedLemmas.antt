@@ -21,11 +21,12 @@ use Rattle.engine.specs.Held.{is_ended}
 use Rattle.engine.specs.Drafts.{IsThere, Drafts}
 use Rattle.engine.specs.Stands.{Shows, Stands, drafting}
 use Rattle.engine.specs.Moves.{Moved, StaysCharged}
-use Rattle.engine.specs.machine.Pends.{Kept, Pends}
-use Rattle.engine.specs.machine.Storing.{drafting_in}
+use Rattle.engine.specs.Kept.{Kept, Pends}
+use Rattle.engine.specs.StoredData.{drafting_in}
 use Rattle.engine.specs.machine.Does.{Does, DoesAll, push, still_failed}
-use Rattle.engine.specs.machine.Skips.{StandsAt, IsUncounted, reads, passed}
-use Rattle.engine.specs.machine.Shows.{Fields, ShowsFrame, DoesPart, body_of}
+use Rattle.engine.specs.FrameFields.{StandsAt, IsUncounted, reads, Fields, ShowsFrame, body_of}
+use Rattle.engine.specs.machine.Skips.{passed}
+use Rattle.engine.specs.machine.Shows.{DoesPart}
 use Rattle.engine.proofs.TimelineLemmas.{entries_append}
 use Rattle.engine.proofs.StoryLemmas.{progress_then, fair_then, line_nothing, no_files}
 use Rattle.engine.proofs.DoesLemmas.{push_entries, push_wire, push_sent, push_files, push_fair, push_last, push_filing, push_progress, does_one}

@@ -1,10 +1,12 @@
 -- A byte completes four marks at most, and a piece has an association send no more than its marks do.
-use Rattle.std.proofs.Common.{◌≡◌, ◌⊎◌, ◌&&◌, Option, Some, None, ℕ, ◌+◌, ◌-◌, ◌*◌, ◌<◌, ◌≤◌, Bool, true, false, List, [], ◌∷◌, ◌++◌, length, drop, map, nat_eq, nat_lt, refl, sym, ap, subst, ◌∙◌, arith, if◌then◌else◌, inl, inr}
+use Rattle.std.proofs.Common.{◌≡◌, ◌⊎◌, ◌&&◌, Option, Some, None, Result, Ok, Err, ℕ, ◌+◌, ◌-◌, ◌*◌, ◌<◌, ◌≤◌, Bool, true, false, List, [], ◌∷◌, ◌++◌, length, drop, map, nat_eq, nat_lt, refl, sym, ap, subst, ◌∙◌, arith, if◌then◌else◌, inl, inr}
 use Rattle.std.proofs.lemmas.Bool.{cases_lt, cases_Bool}
 use Rattle.std.proofs.lemmas.Bool.Decides.{nat_tests}
 use Rattle.std.proofs.lemmas.List.{append-nil, length-append, length-map, length-take}
 use Rattle.std.proofs.lemmas.Nat.{mul-le}
 use Rattle.byteorder.specs.Endian.{big_number}
+use Rattle.std.specs.List.{AllByRecursion}
+use Rattle.element.specs.Numbers.{IsBytes}
 use Rattle.pdu.specs.Frames.{IsFrame, IsRest, rest_of}
 use Rattle.acceptor.specs.declared.event.Event.{Event}
 use Rattle.acceptor.specs.declared.event.Event.TheVariants as event
@@ -26,21 +28,24 @@ use Rattle.negotiate.specs.declared.answer.Answer.{Answer}
 use Rattle.negotiate.specs.declared.answer.Answer.TheVariants.{Accept, Reject}
 use Rattle.negotiate.specs.declared.proposals.Context.{Context}
 use Rattle.negotiate.specs.Accept.{accept_text}
+use Rattle.negotiate.proofs.Public.{accepts_short}
 use Rattle.negotiate.specs.Answer.{judged}
 use Rattle.negotiate.specs.Contexts.{context_of}
 use Rattle.negotiate.specs.Rejections.{rejected_transient, service_provider_presentation, local_limit_exceeded}
 use Rattle.negotiate.specs.Settings.{Settings}
 use Rattle.dimse.specs.declared.fault.DimseFault.{DimseFault}
-use Rattle.dimse.specs.Messages.{Brought, Goes, Ends, Refuses, brought, refusal}
+use Rattle.dimse.specs.Command.{CommandRecord}
+use Rattle.dimse.specs.Messages.{Message, Brought, Goes, Ends, Refuses, brought, refusal}
 use Rattle.dimse.specs.Reading.{command_in}
+use Rattle.dimse.proofs.Public.{reply_bounded}
 use Rattle.engine.specs.Heads.{HeadEvent, NoEvent, AtOnce, TooLong, head_event, invalid_parameter}
 use Rattle.engine.specs.Inputs.{Bytes}
 use Rattle.engine.specs.Progress.{Progress, Advance, absorb, nothing, followed_by, done, refusing, is_due, is_established}
-use Rattle.engine.specs.Replies.{invalid, user_aborts, aborted_if_refused, replied, going_on}
+use Rattle.engine.specs.Replies.{invalid, user_aborts, aborted_if_refused, replied, finding_on, going_on}
 use Rattle.engine.specs.Requests.{keeping, accepting, declined, answered}
 use Rattle.engine.specs.Run.{Rooms, released, at_end, at_mark, at_entry, cut, gives, sent_of}
 use Rattle.engine.specs.Timeline.{At, Shut, TimedOut, Aborted, Entry, Finding, Happened, entries, entries_of}
-use Rattle.engine.specs.OutputLaws.{FewMarks, AnswersHave, BoundedOutput, answer_length, FewBytesButAnswers}
+use Rattle.engine.specs.OutputLaws.{FewMarks, AnswersHave, BoundedOutput, answer_length, FewBytesButAnswers, IsOfBytes, AnswersAreShort, StoriesAnswerShortly, OutputOfAPiece}
 use Rattle.engine.proofs.EventLemmas.{more}
 
 -- ---- one byte
@@ -211,7 +216,7 @@ answered_few s r p Accept = let few = accepting_few p (accept_text s r) in omega
 answered_few s r p (Reject result source reason) =
     pick (nat_eq source 2) _ _ _ (omega (arith, done_few (reject_text result source reason) 0 p (event.Request false))) (omega (arith, declined_few p (reject_text result source reason)))
 
-request_few : (s : Settings) (p q : Progress) (r : RequestRecord) (a : Answer) (fault : Option PduFault) → Few (30 + length (accept_text s r)) (elim fault [ Some f ↦ done [] invalid_parameter p event.Invalid | None ↦ answered s r q a ])
+request_few : (s : Settings) (p q : Progress) (r : RequestRecord) (a : Answer) (fault : Option PduFault) → Few (30 + elim fault [ None ↦ length (accept_text s r) | Some f ↦ 0 ]) (elim fault [ Some f ↦ done [] invalid_parameter p event.Invalid | None ↦ answered s r q a ])
 request_few s p q r a (Some f) = omega (arith, done_few [] invalid_parameter p event.Invalid)
 request_few s p q r a None = answered_few s r q a
 
@@ -220,7 +225,7 @@ released_few p =
     let first = done [] 0 p event.ReleaseRq in
     followed_few first (λ q. done [] 0 q event.UserReleases) 10 10 (done_few [] 0 p event.ReleaseRq) (done_few [] 0 first.next event.UserReleases)
 
-end_few : (s : Settings) (p : Progress) (kind : ℕ) (body : List ℕ) → Few (30 + length (accept_text s (request_record body))) (at_end s p kind body)
+end_few : (s : Settings) (p : Progress) (kind : ℕ) (body : List ℕ) → Few (30 + elim (request_fault body) [ None ↦ length (accept_text s (request_record body)) | Some f ↦ 0 ]) (at_end s p kind body)
 end_few s p kind body =
     pick (nat_eq kind 7) _ _ _ (omega (arith, done_few [] 0 p event.Abort))
     (pick (nat_eq kind 1 && is_due p.state) _ _ _ (request_few s p (keeping body p) (request_record body) (judged s (request_record body)) (request_fault body))
@@ -275,3 +280,41 @@ pub bounded_output : BoundedOutput
 bounded_output rooms s p story before piece most told each =
     let few : length story ≤ 4 * length piece = omega (arith, length-map story (λ (h : Happened). h.0), ap length told, entries_few before piece) in
     omega (arith, sent_few rooms s most p story each, mul-le (length story) (30 + most) (4 * length piece) (30 + most) few (omega arith))
+
+-- ---- answers are short
+
+requested_short : (s : Settings) (body : List ℕ) (fault : Option PduFault) → request_fault body ≡ fault → IsBytes body → (elim fault [ None ↦ length (accept_text s (request_record body)) | Some f ↦ 0 ]) ≤ 4108
+requested_short s body None e bytes = accepts_short s body bytes e
+requested_short s body (Some f) e bytes = omega arith
+
+replied_short : (p : Progress) (finding : Finding) (m : Message) (read : Result CommandRecord DimseFault) → command_in m.command ≡ read → length (replied p finding m read).sent ≤ 4108
+replied_short p finding m (Err fault) e = omega arith
+replied_short p finding m (Ok command) e =
+    let r = request_record p.request in
+    let f = finding_on (context_of r m.context) command finding in
+    omega (arith, reply_bounded m.command command f.status f.detail m.context r.maximum e)
+
+brought_short : (p : Progress) (finding : Finding) (b : Brought) → (elim b [ Goes begun ↦ 0 | Ends m ↦ length (replied p finding m (command_in m.command)).sent | Refuses fault ↦ 0 ]) ≤ 4108
+brought_short p finding (Goes begun) = omega arith
+brought_short p finding (Ends m) = replied_short p finding m (command_in m.command) refl
+brought_short p finding (Refuses fault) = omega arith
+
+pub answers_are_short : AnswersAreShort
+answers_are_short s p finding (At (End kind body)) bytes = requested_short s body (request_fault body) refl bytes
+answers_are_short s p finding (At (Pdv context control fragment)) bytes = brought_short p finding (brought p.message (record { context = context; control = control; fragment = fragment }))
+answers_are_short s p finding (At (Head kind n)) bytes = omega arith
+answers_are_short s p finding (At (PdvHead n context control)) bytes = omega arith
+answers_are_short s p finding (At BadPdv) bytes = omega arith
+answers_are_short s p finding (At Leftover) bytes = omega arith
+answers_are_short s p finding Shut bytes = omega arith
+answers_are_short s p finding TimedOut bytes = omega arith
+answers_are_short s p finding Aborted bytes = omega arith
+
+pub stories_answer_shortly : StoriesAnswerShortly
+stories_answer_shortly rooms s p [] each = tt
+stories_answer_shortly rooms s p (h ∷ story) each =
+    (answers_are_short s (absorb h.1.filing p) h.1.finding h.0 each.0, stories_answer_shortly rooms s (gives rooms s p h).next story each.1)
+
+pub output_of_a_piece : OutputOfAPiece
+output_of_a_piece rooms s p story before piece told each =
+    omega (arith, bounded_output rooms s p story before piece 4108 told (stories_answer_shortly rooms s p story each))

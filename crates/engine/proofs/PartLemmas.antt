@@ -15,9 +15,9 @@ use Rattle.engine.specs.Drafts.{Drafts}
 use Rattle.engine.specs.Run.{Rooms, progress_of}
 use Rattle.engine.specs.Reached.{begun_in}
 use Rattle.engine.specs.Held.{is_ended}
-use Rattle.engine.specs.machine.Pends.{Kept, Pends}
-use Rattle.engine.specs.machine.Skips.{StandsAt}
-use Rattle.engine.specs.machine.Shows.{Fields, ShowsFrame, ShowsDue, Handles, Pending, DoesPart, body_of}
+use Rattle.engine.specs.Kept.{Kept, Pends}
+use Rattle.engine.specs.FrameFields.{StandsAt, Fields, ShowsFrame, body_of}
+use Rattle.engine.specs.machine.Shows.{ShowsDue, Handles, Pending, DoesPart}
 use Rattle.engine.proofs.DoesLemmas.{does_none, does_then}
 
 -- no frame has begun

@@ -17,9 +17,10 @@ use Rattle.engine.specs.Progress.{Progress, Advance, at_start, left, moved, done
 use Rattle.engine.specs.Run.{cut}
 use Rattle.engine.specs.Devices.{Devices, devices, line_after, IsFront}
 use Rattle.engine.specs.Drafts.{IsDraft}
-use Rattle.engine.specs.machine.Storing.{Nothing, Walks, drafting_in}
-use Rattle.engine.specs.machine.Pends.{Kept, Pends, IsUnagreed, counted_body, counted_pdv, BodyFits, FragmentFits}
-use Rattle.engine.specs.machine.Skips.{IsUncounted}
+use Rattle.engine.specs.StoredData.{Nothing, Walks, drafting_in}
+use Rattle.engine.specs.Kept.{Kept, Pends, IsUnagreed, counted_body, counted_pdv}
+use Rattle.engine.specs.machine.Capacity.{BodyFits, FragmentFits}
+use Rattle.engine.specs.FrameFields.{IsUncounted}
 use Rattle.engine.specs.machine.DoesDue.{DoesDue, step_text, is_left, IsLeft, with_state, ComesTo, Stays}
 use Rattle.engine.proofs.StoreLemmas.{Carried, so_far, no_store, none_carried}
 

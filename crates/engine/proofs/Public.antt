@@ -1,7 +1,7 @@
 -- What the crates above cite of this crate's lemmas: the laws of `engine::laws`, which are their contracts, in the words of
 -- the definitions alone.
 use Rattle.engine.specs.TurnLaws.{TurnsBegin, OneTurnMore, TurnsAreARun, EndedHasNoDraft}
-use Rattle.engine.specs.OutputLaws.{FewMarks, BoundedOutput, FewBytesButAnswers}
+use Rattle.engine.specs.OutputLaws.{FewMarks, BoundedOutput, FewBytesButAnswers, AnswersAreShort, StoriesAnswerShortly, OutputOfAPiece}
 use Rattle.engine.proofs.OutputLemmas as output
 use Rattle.engine.proofs.RanLemmas as ran
 
@@ -25,3 +25,12 @@ bounded_output = output.bounded_output
 
 pub few_bytes_but_answers : FewBytesButAnswers
 few_bytes_but_answers = output.few_bytes_but_answers
+
+pub answers_are_short : AnswersAreShort
+answers_are_short = output.answers_are_short
+
+pub stories_answer_shortly : StoriesAnswerShortly
+stories_answer_shortly = output.stories_answer_shortly
+
+pub output_of_a_piece : OutputOfAPiece
+output_of_a_piece = output.output_of_a_piece

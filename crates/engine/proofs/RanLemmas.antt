@@ -16,8 +16,8 @@ use Rattle.engine.specs.Ran.{inputs_after, story_after, EndsLast, LeavesOthers, 
 use Rattle.engine.specs.Reached.{reached}
 use Rattle.engine.specs.Run.{Rooms, progress_of, sent_of, files_of}
 use Rattle.engine.specs.Stands.{Stands}
-use Rattle.engine.specs.machine.Shows.{Fields}
-use Rattle.engine.specs.machine.Storing.{drafting_in}
+use Rattle.engine.specs.FrameFields.{Fields}
+use Rattle.engine.specs.StoredData.{drafting_in}
 use Rattle.engine.specs.TurnLaws.{TurnsBegin, OneTurnMore, TurnsAreARun, EndedHasNoDraft}
 use Rattle.engine.specs.Timeline.{Happened, Entry, entries, entries_of}
 use Rattle.engine.specs.Turns.{TakesFront, Follows, Stood, TookTurns, TookInput, Reports}

@@ -27,7 +27,7 @@ use Rattle.engine.specs.Held.{is_ended}
 use Rattle.engine.specs.Requests.{keeping, accepting, declined, answered, at_request}
 use Rattle.engine.specs.Devices.{devices}
 use Rattle.engine.specs.Run.{released}
-use Rattle.engine.specs.machine.Pends.{Kept, Pends, Agreed}
+use Rattle.engine.specs.Kept.{Kept, Pends, Agreed}
 use Rattle.engine.specs.machine.DoesDue.{DoesDue, ComesTo, step_text, is_left, rejected_state, rejected_text}
 use Rattle.engine.proofs.StoreLemmas.{so_far, carried, no_store, idle_carried}
 use Rattle.engine.proofs.PendsLemmas.{pends_left, settled_failed}

@@ -9,7 +9,8 @@ use Rattle.pdu.specs.declared.event.Event.{Event}
 use Rattle.pdu.specs.declared.event.Event.TheVariants as event
 use Rattle.pdu.specs.Heads.{pdv_head_of}
 use Rattle.pdu.specs.Steps.{body_kind, body_due, fragment_due, IsInHead, IsInPdvHead, IsSkipped, FollowsHead, FollowsPdv, HeadIsWhole, PdvHeadIsWhole, IsLent, Steps}
-use Rattle.engine.specs.machine.Pends.{Kept, BodyFits, FragmentFits}
+use Rattle.engine.specs.Kept.{Kept}
+use Rattle.engine.specs.machine.Capacity.{BodyFits, FragmentFits}
 use Rattle.engine.specs.machine.Events.{HasRoom, LeavesRoom}
 
 -- ---- where the deframer stood

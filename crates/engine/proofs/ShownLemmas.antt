@@ -11,8 +11,8 @@ use Rattle.engine.specs.Fair.{InStore}
 use Rattle.engine.specs.Held.{is_ended}
 use Rattle.engine.specs.Progress.{Progress, is_due, is_established}
 use Rattle.engine.specs.Reached.{takes_pdvs}
-use Rattle.engine.specs.machine.Pends.{Kept, Pends, counted_pdv, takes_pdvs_in}
-use Rattle.engine.specs.machine.Storing.{Stored, Nothing, Walks, not_walked, walked, drafting_in}
+use Rattle.engine.specs.Kept.{Kept, Pends, counted_pdv, takes_pdvs_in}
+use Rattle.engine.specs.StoredData.{Stored, Nothing, Walks, not_walked, walked, drafting_in}
 
 -- ---- where no message has begun
 

@@ -28,11 +28,12 @@ use Rattle.engine.specs.Reached.{takes_pdvs, begun_in}
 use Rattle.engine.specs.Replies.{invalid, at_pdv_head, at_pdv}
 use Rattle.engine.specs.Held.{is_ended}
 use Rattle.engine.specs.Fair.{IsVerdict}
-use Rattle.engine.specs.machine.Pends.{Kept, Pends, counted_body, body_in, takes_pdvs_in, takes_body_in}
+use Rattle.engine.specs.Kept.{Kept, Pends, counted_body, body_in, takes_pdvs_in, takes_body_in}
 use Rattle.engine.specs.machine.Does.{Does, DoesAll}
 use Rattle.engine.specs.machine.Events.{Takes}
-use Rattle.engine.specs.machine.Skips.{IsUncounted, passed, in_pdv_head, StandsAt, reads, skips}
-use Rattle.engine.specs.machine.Shows.{Fields, Handles, Pending, body_of}
+use Rattle.engine.specs.FrameFields.{IsUncounted, StandsAt, reads, skips, Fields, body_of}
+use Rattle.engine.specs.machine.Skips.{passed, in_pdv_head}
+use Rattle.engine.specs.machine.Shows.{Handles, Pending}
 use Rattle.engine.proofs.ShownLemmas.{takes_shown}
 use Rattle.engine.proofs.DueLemmas.{does_nothing, taken_when, none_counted_body}
 use Rattle.engine.proofs.DoesLemmas.{does_none, does_one, does_more, does_then}

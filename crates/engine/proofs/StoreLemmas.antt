@@ -20,11 +20,12 @@ use Rattle.engine.specs.Drafts.{IsDue, TellsDraft, HasDraft, IsDraft, draft_due,
 use Rattle.engine.specs.Fair.{InStore}
 use Rattle.engine.specs.Progress.{Progress}
 use Rattle.engine.specs.Run.{counted}
-use Rattle.engine.specs.machine.Pends.{Kept, Pends, counted_pdv}
+use Rattle.engine.specs.Kept.{Kept, Pends, counted_pdv}
 use Rattle.engine.specs.Timeline.{Finding}
 use Rattle.engine.specs.machine.Verdicts.{Commits, done, undone}
 use Rattle.engine.specs.machine.Messages.{Proceeds}
-use Rattle.engine.specs.machine.Storing.{Stored, Nothing, Walking, Walks, not_walked, walked, Drops, Grows, GoesOn, drafting_in}
+use Rattle.engine.specs.StoredData.{Stored, Nothing, Walking, Walks, not_walked, walked, drafting_in}
+use Rattle.engine.specs.machine.Storing.{Drops, Grows, GoesOn}
 use Rattle.engine.specs.machine.DoesDue.{Unfiled}
 
 -- ---- what is walked and the draft, together
@@ -104,6 +105,16 @@ pub goes_drafts : (part : List ℕ) (a b : Stored) (old new : Store) → GoesOn 
 goes_drafts part Nothing b old new (off, same) = record { there = λ is. let x : false ≡ true = sym (ap drafting_in off) ∙ is in absurd cc; own = λ o. ap (λ (s : Store). s.has_draft) same ∙ o ∙ sym (ap drafting_in off) }
 goes_drafts part (Walking walker d) Nothing old new g = absurd g
 goes_drafts part (Walking walker d) (Walking after e) old new (keeps, g) = grows_drafts part d e old new g
+
+-- where there is no draft none comes
+grows_left : (part : List ℕ) (before after : Bool) (old new : Store) → Grows part before after old new → before ≡ false → after ≡ false
+grows_left part false after old new (off, same) none = off
+grows_left part true after old new g none = absurd cc
+
+pub goes_left : (part : List ℕ) (a b : Stored) (old new : Store) → GoesOn part a b old new → drafting_in a ≡ false → drafting_in b ≡ false
+goes_left part Nothing b old new (off, same) none = ap drafting_in off
+goes_left part (Walking walker d) Nothing old new g none = absurd g
+goes_left part (Walking walker d) (Walking after e) old new (keeps, g) none = grows_left part d e old new g none
 
 -- ---- a part of a fragment more
 

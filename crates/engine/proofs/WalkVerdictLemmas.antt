@@ -18,7 +18,8 @@ use Rattle.part10.specs.Store.{Store}
 use Rattle.engine.specs.declared.stores.StoreStatus.{StoreStatus}
 use Rattle.engine.specs.Timeline.{Finding, good}
 use Rattle.engine.specs.Stores.{IsOfContext, HasNoFault, Verdict, no_room, faulty, cut, names_class, names_instance, unfiled, filed, wanted, limits}
-use Rattle.engine.specs.machine.Storing.{Stored, Nothing, Walking, HasWalked, Drops, EndsDraft, EndsStore, finding_of, drafting_in}
+use Rattle.engine.specs.StoredData.{Stored, Nothing, Walking, HasWalked, drafting_in}
+use Rattle.engine.specs.machine.Storing.{Drops, EndsDraft, EndsStore, finding_of}
 use Rattle.engine.specs.machine.Storing as ends
 use Rattle.engine.specs.machine.Verdicts.{no_resources, of_fault, IsGood, FailsAs, Differs, other_class, other_instance, Compared, WalkHasVerdict, HasVerdict, Commits, done, undone, EndsAs}
 

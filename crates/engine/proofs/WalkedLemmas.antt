@@ -7,7 +7,7 @@ use Rattle.sequence.specs.declared.walker.Walker.{Walker}
 use Rattle.sequence.specs.Rules.{Limits}
 use Rattle.sequence.specs.Taken.{StandsAt, walker_syntax, limits_of, fault_of}
 use Rattle.sequence.proofs.Public.{refused_stands}
-use Rattle.engine.specs.machine.Storing.{HasWalked}
+use Rattle.engine.specs.StoredData.{HasWalked}
 
 -- ---- a part is taken
 

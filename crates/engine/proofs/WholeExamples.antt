@@ -34,13 +34,13 @@ use Rattle.engine.specs.Progress.{Progress, absorb}
 use Rattle.engine.specs.Run.{Rooms}
 use Rattle.engine.specs.Held.{IsHeldOfMessage, walked, not_walked}
 use Rattle.engine.specs.Drafts.{none_due}
-use Rattle.engine.specs.machine.Storing as storing
+use Rattle.engine.specs.StoredData as storing
 use Rattle.engine.specs.Stores.{limits, Verdict, other_class, no_room, faulty, cut, names_class, names_instance, unfiled, filed, IsOfContext}
 use Rattle.engine.specs.Recording.{request, accept, reply, released}
 use Rattle.engine.specs.Examples.{rooms, settings, calm}
 use Rattle.engine.specs.WholeExamples.{unsupported, echo_inputs, request_inputs, TheEchoRuns, TheRequestIsHeld, ItStandsEstablished, VerdictsOnStores, ct_context, store_of}
 use Rattle.negotiate.specs.Settings.{Settings}
-use Rattle.engine.specs.machine.Skips.{reads}
+use Rattle.engine.specs.FrameFields.{reads}
 
 calm_entries : (es : List Entry) → entries_of (calm es) ≡ es
 calm_entries [] = refl

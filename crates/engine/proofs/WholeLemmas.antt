@@ -14,7 +14,7 @@ use Rattle.engine.specs.Held.{is_ended}
 use Rattle.engine.specs.Requests.{at_request}
 use Rattle.engine.specs.Devices.{Devices, line_after, IsFront}
 use Rattle.engine.specs.Run.{Rooms, cut, at_end, at_entry, released}
-use Rattle.engine.specs.machine.Pends.{Kept, Pends, counted_body, body_in}
+use Rattle.engine.specs.Kept.{Kept, Pends, counted_body, body_in}
 use Rattle.engine.specs.machine.DoesDue.{DoesDue}
 use Rattle.engine.proofs.ShownLemmas.{pends_ended}
 use Rattle.engine.proofs.StoreLemmas.{unfiled_same}

@@ -6,10 +6,9 @@ use Rattle.pdu.specs.Deframing.{bytes_held}
 use Rattle.negotiate.specs.Settings.{Settings, settings_of}
 use Rattle.engine.specs.declared.association.Association.{Association}
 use Rattle.engine.specs.declared.running.Running.{Running}
-use Rattle.engine.specs.machine.Kept.{kept_of}
-use Rattle.engine.specs.machine.Pends.{held_by}
-use Rattle.engine.specs.machine.Storing.{stored_of, drafting_in}
-use Rattle.engine.specs.machine.Shows.{Fields}
+use Rattle.engine.specs.Kept.{kept_of, held_by}
+use Rattle.engine.specs.StoredData.{stored_of, drafting_in}
+use Rattle.engine.specs.FrameFields.{Fields}
 
 abbrev pub fields_of : {A C V D : ℕ} → Association A C V D → Fields
 fields_of a = record { position = position_of a.deframer; kept = kept_of a.provider }

@@ -12,6 +12,9 @@ pub mod Fair
 pub mod Reached
 pub mod Held
 pub mod Drafts
+pub mod StoredData
+pub mod Kept
+pub mod FrameFields
 pub mod Stands
 pub mod Gains
 pub mod Moves

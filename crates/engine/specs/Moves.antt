@@ -9,7 +9,7 @@ use Rattle.engine.specs.Progress.{at_start}
 use Rattle.engine.specs.Run.{Rooms, progress_of}
 use Rattle.engine.specs.Drafts.{Drafts}
 use Rattle.engine.specs.Stands.{Stands, drafting}
-use Rattle.engine.specs.machine.Shows.{Fields}
+use Rattle.engine.specs.FrameFields.{Fields}
 
 -- A failure of the filing that was told before stays where it was told: with the entry that comes next, so with the store
 -- whose data had come; or, where none comes, it is still to be charged.

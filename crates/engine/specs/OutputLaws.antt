@@ -1,6 +1,9 @@
 -- How much an association sends for what it receives.
-use Rattle.std.specs.Prelude.{◌≡◌, ℕ, ◌+◌, ◌*◌, ◌≤◌, List, [], ◌∷◌, length}
+use Rattle.std.specs.Prelude.{◌≡◌, ℕ, ◌+◌, ◌*◌, ◌≤◌, List, [], ◌∷◌, length, Some, None}
+use Rattle.std.specs.List.{AllByRecursion}
+use Rattle.element.specs.Numbers.{IsBytes}
 use Rattle.pdu.specs.Items.{request_record}
+use Rattle.pdu.specs.Refusal.{request_fault}
 use Rattle.pdu.specs.Marks.{Pdv, End, new_marks}
 use Rattle.negotiate.specs.Accept.{accept_text}
 use Rattle.negotiate.specs.Settings.{Settings}
@@ -18,7 +21,7 @@ FewMarks = (before piece : List ℕ) → length (new_marks before piece) ≤ 4 *
 
 -- the bytes of the A-ASSOCIATE-AC to a request that ends, and of the reply to a message that ends
 abbrev pub answer_length : Settings → Progress → Finding → Entry → ℕ
-answer_length s p finding (At (End kind body)) = length (accept_text s (request_record body))
+answer_length s p finding (At (End kind body)) = elim (request_fault body) [ None ↦ length (accept_text s (request_record body)) | Some fault ↦ 0 ]
 answer_length s p finding (At (Pdv context control fragment)) = elim (brought p.message (record { context = context; control = control; fragment = fragment })) [
   | Goes begun ↦ 0
   | Ends m ↦ length (replied p finding m (command_in m.command)).sent
@@ -41,3 +44,23 @@ BoundedOutput =
     (rooms : Rooms) (s : Settings) (p : Progress) (story : List Happened) (before piece : List ℕ) (most : ℕ)
     → entries_of story ≡ entries before (Bytes piece ∷ []) → AnswersHave rooms s most p story
     → length (sent_of rooms s p story) ≤ 4 * length piece * (30 + most)
+
+-- a body that ends is of bytes
+abbrev pub IsOfBytes : Entry → Type 0
+IsOfBytes (At (End kind body)) = IsBytes body
+IsOfBytes e = Unit {0}
+
+-- an A-ASSOCIATE-AC and a reply have 4,108 bytes at most
+abbrev pub AnswersAreShort : Type 0
+AnswersAreShort = (s : Settings) (p : Progress) (finding : Finding) (e : Entry) → IsOfBytes e → answer_length s p finding e ≤ 4108
+
+-- so have all of them along a story
+abbrev pub StoriesAnswerShortly : Type 0
+StoriesAnswerShortly = (rooms : Rooms) (s : Settings) (p : Progress) (story : List Happened) → AllByRecursion IsOfBytes (entries_of story) → AnswersHave rooms s 4108 p story
+
+-- what a piece has an association send
+abbrev pub OutputOfAPiece : Type 0
+OutputOfAPiece =
+    (rooms : Rooms) (s : Settings) (p : Progress) (story : List Happened) (before piece : List ℕ)
+    → entries_of story ≡ entries before (Bytes piece ∷ []) → AllByRecursion IsOfBytes (entries_of story)
+    → length (sent_of rooms s p story) ≤ 16552 * length piece

@@ -22,6 +22,9 @@ pub record Rooms : Type 0 where
   pub values : ℕ
   pub depth : ℕ
 
+abbrev pub rooms_of : ℕ → ℕ → ℕ → ℕ → Rooms
+rooms_of A C V D = record { request = A; command = C; values = V; depth = D }
+
 -- ---- one entry
 
 abbrev pub at_head : Rooms → Settings → Progress → ℕ → ℕ → Advance

@@ -4,13 +4,13 @@ use Rattle.pdu.specs.Deframing.{At}
 use Rattle.negotiate.specs.Settings.{Settings}
 use Rattle.part10.specs.Store.{Store}
 use Rattle.engine.specs.Held.{is_ended}
-use Rattle.engine.specs.machine.Shows.{Fields, ShowsFrame}
+use Rattle.engine.specs.FrameFields.{Fields, ShowsFrame}
 use Rattle.engine.specs.Inputs.{Received}
 use Rattle.engine.specs.Timeline.{Happened}
 use Rattle.engine.specs.Run.{Rooms}
 use Rattle.engine.specs.Fair.{IsStory}
 use Rattle.engine.specs.Drafts.{IsDraft}
-use Rattle.engine.specs.machine.Storing.{drafting_in}
+use Rattle.engine.specs.StoredData.{drafting_in}
 use Rattle.engine.specs.Reached.{Reached, reached, message_so_far}
 
 -- ---- the association

@@ -12,7 +12,7 @@ use Rattle.engine.specs.Run.{Rooms}
 use Rattle.engine.specs.Stands.{Stands, drafting}
 use Rattle.engine.specs.Timeline.{Happened}
 use Rattle.engine.specs.Turns.{TookTurns, TookInput, Reports}
-use Rattle.engine.specs.machine.Shows.{Fields}
+use Rattle.engine.specs.FrameFields.{Fields}
 
 -- an association that has just been opened has taken no turn
 abbrev pub TurnsBegin : Type 0

@@ -15,7 +15,7 @@ use Rattle.engine.specs.Progress.{at_start}
 use Rattle.engine.specs.Ran.{inputs_after, EndsLast, standing_of}
 use Rattle.engine.specs.Run.{Rooms}
 use Rattle.engine.specs.Stands.{Stands}
-use Rattle.engine.specs.machine.Shows.{Fields}
+use Rattle.engine.specs.FrameFields.{Fields}
 use Rattle.engine.specs.Timeline.{Happened}
 
 -- a source that shows what is to come gave these inputs, and has the others left

@@ -20,8 +20,8 @@ use Rattle.dimse.specs.Messages.{NoMessage}
 use Rattle.dimse.specs.Joining.{shown}
 use Rattle.negotiate.specs.declared.table.ContextRow.{ContextRow}
 use Rattle.pdu.specs.declared.position.Position.TheVariants as position
-use Rattle.engine.specs.machine.Shows.{Fields}
-use Rattle.engine.specs.machine.Storing.{Nothing}
+use Rattle.engine.specs.FrameFields.{Fields}
+use Rattle.engine.specs.StoredData.{Nothing}
 use Rattle.engine.specs.Stands.{Stands}
 use Rattle.dimse.specs.Detail.{class_mismatch}
 use Rattle.engine.specs.Stores.{Verdict, cause, class_tag}

@@ -3,8 +3,7 @@ pub mod HeadEvents
 pub mod Answers
 pub mod Storing
 pub mod Verdicts
-pub mod Pends
-pub mod Kept
+pub mod Capacity
 pub mod DoesDue
 pub mod Messages
 pub mod Does

@@ -2,8 +2,8 @@
 ghost use Rattle.std.specs.Prelude.{◌≡◌, ◌≤◌, ◌<◌, ◌+◌, ◌*◌, ◌-◌, ◌^◌, false};
 ghost use Rattle.pdu.specs.Deframed.{position_of};
 ghost use Rattle.pdu.specs.Steps.{body_kind, body_due, fragment_due};
-ghost use Rattle.engine.specs.machine.Kept.{kept_of};
-ghost use Rattle.engine.specs.machine.Pends.{BodyFits, FragmentFits, takes_pdvs_in};
+ghost use Rattle.engine.specs.Kept.{kept_of, takes_pdvs_in};
+ghost use Rattle.engine.specs.machine.Capacity.{BodyFits, FragmentFits};
 ghost use Rattle.engine.specs.machine.Skips.{in_pdv_head};
 
 mod fields;
@@ -49,7 +49,7 @@ impl<const A: usize, const C: usize, const V: usize, const D: usize> Association
     ghost use Rattle.engine.specs.Reached.{reached};
     ghost use Rattle.engine.specs.Stands.{Stands};
     ghost use Rattle.engine.specs.Timeline.{Happened};
-    ghost use Rattle.engine.specs.machine.Kept.{rooms_of};
+    ghost use Rattle.engine.specs.Run.{rooms_of};
 
     /// The transport connection is open: a request is due, and the ARTIM timer runs.
     pub fn open(config: &Config) -> Self
@@ -189,7 +189,8 @@ impl<const A: usize, const C: usize, const V: usize, const D: usize> Association
 
     /// Whether the association has ended.
     pub fn is_ended(&self) -> bool
-        ensures { result ≡ holding.is_ended (state_of self.now) }
+        ensures ended { result ≡ holding.is_ended (state_of self.now) }
+        ensures no_draft { result ≡ true → drafting_of self.now ≡ false }
     {
         matches!(self.provider.state, State::Sta1)
     }

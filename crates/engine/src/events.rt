@@ -8,9 +8,10 @@ use pdu::{Event, Wire};
 impl<const A: usize, const C: usize, const V: usize, const D: usize> Provider<A, C, V, D> {
     ghost use Rattle.engine.specs.Devices.{devices};
     ghost use Rattle.engine.specs.Drafts.{IsThere, Drafts};
-    ghost use Rattle.engine.specs.machine.Storing.{drafting_in};
+    ghost use Rattle.engine.specs.StoredData.{drafting_in};
     ghost use Rattle.engine.specs.machine.Events.{Takes, HasRoom, LeavesRoom};
-    ghost use Rattle.engine.specs.machine.Kept.{kept_of, settings_in, rooms_of};
+    ghost use Rattle.engine.specs.Kept.{kept_of, settings_in};
+    ghost use Rattle.engine.specs.Run.{rooms_of};
 
     /// Takes an event of the stream, where the bodies that are lent are of PDUs of this type.
     pub(crate) fn on_event<W: Wire, F: Filing>(

@@ -138,11 +138,12 @@ impl<const A: usize, const C: usize, const V: usize, const D: usize> Provider<A,
     ghost use Rattle.engine.specs.Progress.{Progress};
     ghost use Rattle.engine.specs.Timeline.{At};
     ghost use Rattle.engine.specs.Devices.{devices};
-    ghost use Rattle.engine.specs.machine.Pends.{Pends, BodyFits};
+    ghost use Rattle.engine.specs.Kept.{Pends, kept_of, settings_in};
+    ghost use Rattle.engine.specs.machine.Capacity.{BodyFits};
     ghost use Rattle.engine.specs.Drafts.{IsThere, Drafts};
-    ghost use Rattle.engine.specs.machine.Storing.{drafting_in};
+    ghost use Rattle.engine.specs.StoredData.{drafting_in};
     ghost use Rattle.engine.specs.machine.Does.{Does};
-    ghost use Rattle.engine.specs.machine.Kept.{kept_of, settings_in, rooms_of};
+    ghost use Rattle.engine.specs.Run.{rooms_of};
 
     /// The head of a PDU: it is judged by its type, its length and the state.
     pub(crate) fn on_head<W: Wire, F: Filing>(

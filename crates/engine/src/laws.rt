@@ -7,7 +7,7 @@ ghost use Rattle.engine.specs.VerdictExamples.{VerdictsOnFaults};
 ghost use Rattle.engine.specs.StoreLaws.{AVerdictIsThere, AVerdictIsOne, NoGoodImageIsRefused, FiledByItself};
 ghost use Rattle.engine.specs.RunLaws.{EveryGoodImageIsFiled, OneRun, CutsGiveTheSame};
 ghost use Rattle.engine.specs.TurnLaws.{TurnsBegin, OneTurnMore, TurnsAreARun, EndedHasNoDraft};
-ghost use Rattle.engine.specs.OutputLaws.{FewMarks, BoundedOutput, FewBytesButAnswers};
+ghost use Rattle.engine.specs.OutputLaws.{AnswersAreShort, BoundedOutput, FewBytesButAnswers, FewMarks, OutputOfAPiece, StoriesAnswerShortly};
 ghost use Rattle.engine.specs.Laws.{EntriesAppend, CutsDoNotShow, NothingAfterTheEnd, HeldIsOne};
 ghost use Rattle.engine.specs.Examples.{ARequestAboveTheRoom, BytesThatAreNoPdu, DataAboveTheMaximum, AfterTheEnd, AnotherCalledTitle, RecordedEcho, HeldWhileTheEchoComes, AGoodPdvBeforeABadOne};
 
@@ -70,6 +70,14 @@ pub fn bounded_output()
 /// But for the answer to a request and the reply to a message an entry sends 30 bytes at most.
 pub fn few_bytes_but_answers()
     ensures { FewBytesButAnswers }
+{}
+
+/// An A-ASSOCIATE-AC and a reply have 4,108 bytes at most, at each entry and along each story; so for each
+/// byte of a piece an association sends 16,552 bytes at most.
+pub fn answers_are_short()
+    ensures entry { AnswersAreShort }
+    ensures story { StoriesAnswerShortly }
+    ensures piece { OutputOfAPiece }
 {}
 
 /// The number of held bytes is one: what `Association::held` returns, and `run` reports, is all that the

@@ -24,17 +24,16 @@ impl<const A: usize, const C: usize, const V: usize, const D: usize> Provider<A,
     ghost use Rattle.engine.specs.Progress.{Progress};
     ghost use Rattle.engine.specs.Timeline.{At};
     ghost use Rattle.engine.specs.Devices.{devices};
-    ghost use Rattle.engine.specs.machine.Pends.{Pends, FragmentFits};
+    ghost use Rattle.engine.specs.Kept.{Pends, Agreed, kept_of, settings_in};
+    ghost use Rattle.engine.specs.machine.Capacity.{FragmentFits};
     ghost use Rattle.engine.specs.Drafts.{IsThere, Drafts};
-    ghost use Rattle.engine.specs.machine.Storing.{drafting_in};
+    ghost use Rattle.engine.specs.StoredData.{drafting_in, Nothing, Walks};
     ghost use Rattle.engine.specs.Drafts.{IsDraft};
-    ghost use Rattle.engine.specs.machine.Storing.{Nothing, Walks};
     ghost use Rattle.engine.specs.machine.Messages.{Aside, HasCome, Proceeds, Ended, Concludes, with_storing};
-    ghost use Rattle.engine.specs.machine.Pends.{Agreed};
     ghost use Rattle.std.specs.Prelude.{true};
     ghost use Rattle.pdu.specs.Items.{request_record};
     ghost use Rattle.engine.specs.machine.Does.{Does, Appends};
-    ghost use Rattle.engine.specs.machine.Kept.{kept_of, settings_in, rooms_of};
+    ghost use Rattle.engine.specs.Run.{rooms_of};
 
     /// The head of a PDV: its context has to be an accepted one, and it has to go on with the message.
     pub(crate) fn on_pdv_head<W: Wire, F: Filing>(
@@ -93,6 +92,7 @@ impl<const A: usize, const C: usize, const V: usize, const D: usize> Provider<A,
     /// are walked and go to a draft.
     fn on_store_command<F: Filing>(&mut self, context: u8, filing: &mut F)
         requires draft { IsThere (drafting_in (kept_of self.old).storing) (F.store filing.old) }
+        requires due { self.old.state ≡ Sta6 }
         ensures kept { kept_of self.new ≡ with_storing (kept_of self.new).storing (kept_of self.old) }
         ensures settings { settings_in self.new ≡ settings_in self.old }
         ensures drafts { Drafts (drafting_in (kept_of self.old).storing) (F.store filing.old) (drafting_in (kept_of self.new).storing) (F.store filing.new) }

@@ -1,7 +1,8 @@
 //! What an association does at each mark of its stream, above the framing.
-ghost use Rattle.std.specs.Prelude.{◌≡◌, ◌≤◌, ◌<◌, ◌+◌, ◌*◌, ◌-◌, ◌^◌, []};
+ghost use Rattle.std.specs.Prelude.{◌≡◌, ◌≤◌, ◌<◌, ◌+◌, ◌*◌, ◌-◌, ◌^◌, [], false};
 ghost use Rattle.arrayvec.specs.ArrayVec.{array_vec_len};
-ghost use Rattle.acceptor.specs.declared.state.State.TheVariants.{Sta6};
+ghost use Rattle.acceptor.specs.declared.state.State.TheVariants.{Sta1, Sta6};
+ghost use Rattle.engine.specs.StoredData.{drafting_in, stored_of};
 
 use crate::heads::INVALID_PARAMETER;
 use crate::sending::{Answering, state_after, step};
@@ -44,10 +45,11 @@ pub(crate) struct Provider<const A: usize, const C: usize, const V: usize, const
     ghost room: { array_vec_len body + 12 ≤ A },
     ghost rows_room: { 32 + 4 * array_vec_len table ≤ A },
     ghost given_up: { state ≡ Sta6 → body.items ≡ [] },
+    ghost left: { state ≡ Sta1 → drafting_in (stored_of storing) ≡ false },
 }
 
 impl<const A: usize, const C: usize, const V: usize, const D: usize> Provider<A, C, V, D> {
-    ghost use Rattle.std.specs.Prelude.{ℕ, List, true, false};
+    ghost use Rattle.std.specs.Prelude.{ℕ, List, true};
     ghost use Rattle.pdu.specs.Marks.{BadPdv, Leftover};
     ghost use Rattle.acceptor.specs.Table.{table};
     ghost use Rattle.engine.specs.Progress.{Progress, done, refusing, at_start};
@@ -57,15 +59,16 @@ impl<const A: usize, const C: usize, const V: usize, const D: usize> Provider<A,
     ghost use Rattle.negotiate.specs.Settings.{settings_of};
     ghost use Rattle.part10.specs.Store.{Store};
     ghost use Rattle.engine.specs.Drafts.{IsThere, Drafts};
-    ghost use Rattle.engine.specs.machine.Storing.{drafting_in};
     ghost use Rattle.engine.specs.machine.DoesDue.{IsLeft, Unfiled};
-    ghost use Rattle.engine.specs.machine.Pends.{Pends, held_by, BodyFits, FragmentFits, takes_pdvs_in, counted_body, counted_pdv};
+    ghost use Rattle.engine.specs.Kept.{Pends, held_by, takes_pdvs_in, counted_body, counted_pdv, kept_of, settings_in};
+    ghost use Rattle.engine.specs.machine.Capacity.{BodyFits, FragmentFits};
     ghost use Rattle.pdu.specs.Deframed.{position_of};
     ghost use Rattle.pdu.specs.Steps.{events_due};
-    ghost use Rattle.engine.specs.machine.Skips.{IsUncounted, passed};
+    ghost use Rattle.engine.specs.FrameFields.{IsUncounted};
+    ghost use Rattle.engine.specs.machine.Skips.{passed};
     ghost use Rattle.engine.specs.machine.DoesDue.{DoesDue, ComesTo, Stays};
     ghost use Rattle.engine.specs.machine.Does.{Does};
-    ghost use Rattle.engine.specs.machine.Kept.{kept_of, settings_in, rooms_of};
+    ghost use Rattle.engine.specs.Run.{rooms_of};
 
     /// The transport connection is open: a request is due.
     pub(crate) fn open(config: &Config) -> Self
@@ -170,11 +173,17 @@ impl<const A: usize, const C: usize, const V: usize, const D: usize> Provider<A,
         ensures settles { ComesTo next sent (kept_of self.old) (kept_of self.new) (F.store filing.old) (F.store filing.new) }
         ensures drafts { Drafts (drafting_in (kept_of self.old).storing) (F.store filing.old) (drafting_in (kept_of self.new).storing) (F.store filing.new) }
     {
-        self.state = state_after(next, sent);
-        match self.state {
-            State::Sta1 => self.leave(filing),
-            State::Sta13 => self.leave(filing),
-            _ => {}
+        let next = state_after(next, sent);
+        match next {
+            State::Sta1 => {
+                self.leave(filing);
+                self.state = State::Sta1;
+            }
+            State::Sta13 => {
+                self.leave(filing);
+                self.state = State::Sta13;
+            }
+            _ => self.state = next,
         }
     }
 

@@ -93,16 +93,16 @@ fn answer_request<W: Wire>(
 impl<const A: usize, const C: usize, const V: usize, const D: usize> Provider<A, C, V, D> {
     ghost use Rattle.pdu.specs.Marks.{End};
     ghost use Rattle.engine.specs.Progress.{Progress};
-    ghost use Rattle.engine.specs.Run.{at_entry, released};
+    ghost use Rattle.engine.specs.Run.{at_entry, released, rooms_of};
     ghost use Rattle.engine.specs.Timeline.{At, good};
     ghost use Rattle.engine.specs.Devices.{devices};
-    ghost use Rattle.engine.specs.machine.Pends.{Pends, BodyFits, body_in, takes_body_in};
+    ghost use Rattle.engine.specs.Kept.{Pends, body_in, takes_body_in, kept_of, settings_in};
+    ghost use Rattle.engine.specs.machine.Capacity.{BodyFits};
     ghost use Rattle.part10.specs.Store.{Store};
     ghost use Rattle.engine.specs.Drafts.{IsThere, Drafts};
-    ghost use Rattle.engine.specs.machine.Storing.{drafting_in};
+    ghost use Rattle.engine.specs.StoredData.{drafting_in};
     ghost use Rattle.engine.specs.machine.DoesDue.{DoesDue};
     ghost use Rattle.engine.specs.machine.Does.{Does};
-    ghost use Rattle.engine.specs.machine.Kept.{kept_of, settings_in, rooms_of};
 
     /// Whether the body of a PDU of this type is kept.
     pub(crate) fn takes_body(&self, kind: u8) -> bool

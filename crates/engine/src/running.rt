@@ -2,7 +2,7 @@
 ghost use Rattle.std.specs.Prelude.{◌≡◌, ◌≤◌, ◌^◌, ◌+◌, ◌*◌};
 ghost use Rattle.negotiate.specs.Settings.{settings_of};
 ghost use Rattle.engine.specs.Devices.{devices};
-ghost use Rattle.engine.specs.machine.Kept.{rooms_of};
+ghost use Rattle.engine.specs.Run.{rooms_of};
 ghost use Rattle.engine.specs.Ran.{Ran};
 
 use crate::association::Association;
@@ -64,9 +64,7 @@ impl<const A: usize, const C: usize, const V: usize, const D: usize> Running<A, 
     /// Returns whether the association has ended. Then no draft of it is in the filing.
     pub fn is_ended(&self) -> bool
         ensures ended { result ≡ holding.is_ended (state_of (association_in self.now)) }
-        ensures no_draft { (inputs : List Received) (story : List Happened) (failed : Bool) (store : Store)
-            → Stands (rooms_of A C V D) (settings_in (association_in self.now)) inputs story failed (fields_of (association_in self.now)) store
-            → result ≡ true → drafting_of (association_in self.now) ≡ false }
+        ensures no_draft { result ≡ true → drafting_of (association_in self.now) ≡ false }
     {
         self.association.is_ended()
     }

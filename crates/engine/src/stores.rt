@@ -9,7 +9,8 @@ ghost use Rattle.engine.specs.Drafts.{IsThere, Drafts};
 ghost use Rattle.engine.specs.Replies.{some_or_nothing};
 ghost use Rattle.engine.specs.Stores as spelling;
 ghost use Rattle.engine.specs.Stores.{IsOfContext, NamesUid, NamesInstance, limits};
-ghost use Rattle.engine.specs.machine.Storing.{Nothing, Begins, BeginsStore, Grows, HasWalked, finding_of, stored_of};
+ghost use Rattle.engine.specs.StoredData.{Nothing, HasWalked, stored_of, held_in};
+ghost use Rattle.engine.specs.machine.Storing.{Begins, BeginsStore, Grows, finding_of};
 ghost use Rattle.engine.specs.machine.Verdicts.{Commits, Compared, WalkHasVerdict, of_fault};
 
 use dictionary::class_of;
@@ -256,7 +257,8 @@ impl<const V: usize, const D: usize> Storing<V, D> {
     ghost use Rattle.dimse.specs.Status.{class_not_supported};
     ghost use Rattle.negotiate.specs.declared.proposals.Context.{Context};
     ghost use Rattle.engine.specs.machine.Verdicts.{HasVerdict};
-    ghost use Rattle.engine.specs.machine.Storing.{Nothing, Walking, HasWalked, GoesOn, Drops, EndsStore, stored_of, drafting_in, held_in, finding_of};
+    ghost use Rattle.engine.specs.StoredData.{Nothing, Walking, HasWalked, stored_of, drafting_in};
+    ghost use Rattle.engine.specs.machine.Storing.{GoesOn, Drops, EndsStore, finding_of};
 
     /// Whether the draft is in the filing.
     pub(crate) fn drafting(&self) -> bool

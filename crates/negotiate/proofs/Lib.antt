@@ -3,3 +3,4 @@ pub mod Public
 pub mod AnswerLemmas
 pub mod AcceptLemmas
 pub mod TableLemmas
+pub mod LengthLemmas

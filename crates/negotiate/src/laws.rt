@@ -1,7 +1,11 @@
 //! Laws of the definitions, each the contract of a function that does nothing.
-ghost use Rattle.std.specs.Prelude.{◌≡◌, ◌≤◌, ◌⊎◌, ℕ, eqb, length};
+ghost use Rattle.std.specs.Prelude.{◌≡◌, ◌≤◌, ◌⊎◌, ℕ, List, None, eqb, length};
 ghost use Rattle.std.specs.List.{IsDistinct};
+ghost use Rattle.element.specs.Numbers.{IsBytes};
+ghost use Rattle.pdu.specs.Items.{request_record};
 ghost use Rattle.pdu.specs.Record.{RequestRecord, ids};
+ghost use Rattle.pdu.specs.Refusal.{request_fault};
+ghost use Rattle.negotiate.specs.Accept.{accept_text};
 ghost use Rattle.negotiate.specs.ContextRows.{accepted_count, context_in, context_rows};
 ghost use Rattle.negotiate.specs.Contexts.{context_of};
 ghost use Rattle.negotiate.specs.Rejections as spelling;
@@ -27,6 +31,11 @@ pub fn table_has_the_accepted_contexts()
 /// A peer whose request is accepted takes fragments: its maximum length is 0, for none, or at least 8.
 pub fn accepted_peers_take_fragments()
     ensures { (s : Settings) (r : RequestRecord) → judged s r ≡ Accept → (r.maximum ≡ 0) ⊎ (8 ≤ r.maximum) }
+{}
+
+/// An A-ASSOCIATE-AC has 4,108 bytes at most: 140, and 31 for each of at most 128 contexts.
+pub fn acceptances_are_short()
+    ensures { (s : Settings) (body : List ℕ) → IsBytes body → request_fault body ≡ None → length (accept_text s (request_record body)) ≤ 4108 }
 {}
 
 /// The default settings are those of the definitions.

@@ -1,12 +1,15 @@
 -- What the crates above cite of this crate's lemmas: the laws of `pdu::laws`, `pdu::part_laws` and
 -- `pdu::deframer_laws`, which are their contracts, in the words of the definitions alone.
-use Rattle.std.proofs.Common.{◌⊎◌, ◌≡◌, ℕ, ◌+◌, ◌-◌, ◌<◌, ◌≤◌, List, [], ◌∷◌, ◌++◌, length, map, Option, None, Some, Result, Err, Ok}
+use Rattle.std.proofs.Common.{◌⊎◌, ◌≡◌, ℕ, ◌+◌, ◌-◌, ◌<◌, ◌≤◌, eqb, List, [], ◌∷◌, ◌++◌, length, map, Option, None, Some, Result, Err, Ok}
 use Rattle.std.specs.Io.KnownBytes.{append_known}
+use Rattle.std.specs.List.{AllByRecursion, IsDistinct}
 use Rattle.byteorder.specs.Endian.{big_number}
+use Rattle.element.specs.Numbers.{IsBytes}
 use Rattle.pdu.specs.declared.wire.WireFailed.{WireFailed}
 use Rattle.pdu.specs.Sent.{Line, sent_all, Sends}
 use Rattle.pdu.specs.Record.{RequestRecord}
-use Rattle.pdu.specs.Request.{RequestText}
+use Rattle.pdu.specs.Request.{RequestText, IsContextId, IsRequest}
+use Rattle.pdu.specs.Items.{request_record}
 use Rattle.pdu.specs.Refusal.{request_fault}
 use Rattle.pdu.specs.Frames.{IsRest, rest_of}
 use Rattle.pdu.specs.declared.position.Position.{Position}
@@ -19,6 +22,7 @@ use Rattle.pdu.specs.Spot.{Opening, Plain, InPdv, spot, room_left}
 use Rattle.pdu.specs.Parts.{SameFrame, SameHead, IsInData, IsUnfinishedPdv, GoesOn, Comes, leftover_marks, leftover_spot, body_spot}
 use Rattle.pdu.proofs.SentLemmas as sending
 use Rattle.pdu.proofs.RequestLemmas as requests
+use Rattle.pdu.proofs.IdLemmas as ids
 use Rattle.pdu.proofs.PdvLemmas as values
 use Rattle.pdu.proofs.FrameLemmas as frames
 use Rattle.pdu.proofs.BegunLemmas as parts
@@ -50,6 +54,15 @@ sends_then = sending.sends_then
 
 pub request_fits : (r : RequestRecord) (b : List ℕ) → RequestText r b → request_fault b ≡ None
 request_fits = requests.request_fits
+
+pub request_text : (b : List ℕ) → request_fault b ≡ None → RequestText (request_record b) b
+request_text = requests.request_text
+
+pub request_kept : (r : RequestRecord) (b : List ℕ) → IsBytes b → RequestText r b → IsRequest r
+request_kept = requests.request_kept
+
+pub few_ids : (ns : List ℕ) → AllByRecursion IsContextId ns → IsDistinct eqb ns → length ns ≤ 128
+few_ids = ids.few_ids
 
 -- ---- streams of PDUs
 

@@ -7,7 +7,7 @@ use Rattle.engine.specs.Devices.{Devices, line_with, files_in, with_files}
 use Rattle.engine.specs.Run.{Rooms, gives, progress_of, fails, counted}
 use Rattle.engine.specs.Fair.{MayFail, IsFair, AreFair}
 use Rattle.engine.specs.Gains.{Gains}
-use Rattle.engine.specs.machine.Pends.{Kept, Pends}
+use Rattle.engine.specs.Kept.{Kept, Pends}
 
 -- one entry: there is an outcome such that what is kept shows what the entry gives with it, and the devices gained it
 pub record Does (rooms : Rooms) (s : Settings) (p : Progress) (entry : Entry) (new : Kept) (body begun : List ℕ) (devices_old devices_new : Devices) : Type 0 where

@@ -11,12 +11,12 @@ use Rattle.pdu.specs.declared.wire.WireFailed.{WireFailed}
 use Rattle.pdu.specs.Texts.{release_text, abort_text}
 use Rattle.part10.specs.Store.{Store}
 use Rattle.engine.specs.Devices.{Devices, files_in, line_after, IsFront}
-use Rattle.engine.specs.machine.Storing.{Nothing}
+use Rattle.engine.specs.StoredData.{Nothing}
 use Rattle.dimse.specs.Messages.{NoMessage}
 use Rattle.dimse.specs.Joining.{ShowsMessage}
 use Rattle.engine.specs.Progress.{Progress, Advance}
 use Rattle.engine.specs.Run.{cut}
-use Rattle.engine.specs.machine.Pends.{Kept, Pends, IsUnagreed}
+use Rattle.engine.specs.Kept.{Kept, Pends, IsUnagreed}
 
 -- the filing has the files that it had, and failed no more often
 pub record Unfiled (old new : Store) : Type 0 where

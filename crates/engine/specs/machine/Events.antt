@@ -9,7 +9,8 @@ use Rattle.engine.specs.Timeline.{At}
 use Rattle.engine.specs.Progress.{Progress}
 use Rattle.engine.specs.Devices.{Devices}
 use Rattle.engine.specs.Run.{Rooms}
-use Rattle.engine.specs.machine.Pends.{Kept, Pends, BodyFits, FragmentFits, body_in}
+use Rattle.engine.specs.Kept.{Kept, Pends, body_in}
+use Rattle.engine.specs.machine.Capacity.{BodyFits, FragmentFits}
 use Rattle.engine.specs.machine.Does.{Does, Appends}
 
 -- by the event, where bodies of PDUs of this type are lent

@@ -18,8 +18,8 @@ use Rattle.engine.specs.Replies.{replied}
 use Rattle.engine.specs.Run.{Rooms, cut, counted}
 use Rattle.engine.specs.Fair.{InStore, IsVerdict}
 use Rattle.engine.specs.Drafts.{IsDraft}
-use Rattle.engine.specs.machine.Storing.{Stored, Walks, drafting_in}
-use Rattle.engine.specs.machine.Pends.{Kept, Pends, Agreed, IsUnagreed, counted_body}
+use Rattle.engine.specs.StoredData.{Stored, Walks, drafting_in}
+use Rattle.engine.specs.Kept.{Kept, Pends, Agreed, IsUnagreed, counted_body}
 
 abbrev pub with_join : Joining → Kept → Kept
 with_join join kept = record kept { join = join }

@@ -12,27 +12,13 @@ use Rattle.engine.specs.Devices.{Devices}
 use Rattle.engine.specs.Run.{Rooms, progress_of}
 use Rattle.engine.specs.Fair.{MayFail, AreFair}
 use Rattle.engine.specs.Reached.{begun_in}
-use Rattle.engine.specs.Held.{is_ended}
+use Rattle.engine.specs.FrameFields.{Fields, StandsAt, ShowsFrame, body_of}
 use Rattle.engine.specs.Gains.{Gains}
-use Rattle.engine.specs.machine.Pends.{Kept, Pends, body_in}
-use Rattle.engine.specs.machine.Skips.{StandsAt}
+use Rattle.engine.specs.Kept.{Kept, Pends, body_in}
 use Rattle.part10.specs.Store.{Store}
 use Rattle.engine.specs.machine.Does.{DoesAll}
 
--- what has come of the body of an association request
-abbrev pub body_of : List ℕ → List ℕ
-body_of r = body_in (frame_kind r) (drop 6 r)
-
 -- ---- the association
-
-pub record Fields : Type 0 where
-  pub position : Position
-  pub kept : Kept
-
--- it shows this progress and this frame; once it has ended, no frame
-pub record ShowsFrame (f : Fields) (store : Store) (p : Progress) (r : List ℕ) : Type 0 where
-  pub framed : is_ended p.state ≡ false → StandsAt f.position f.kept r []
-  pub pends : Pends f.kept store p (body_of r) (begun_in (spot r))
 
 -- a part of the stream was taken
 pub record DoesPart (rooms : Rooms) (s : Settings) (f : Fields) (p : Progress) (r c : List ℕ) (old new : Devices) : Type 0 where

@@ -5,12 +5,7 @@ use Rattle.pdu.specs.declared.position.Position.TheVariants as position
 use Rattle.pdu.specs.Marks.{Mark, frame_kind}
 use Rattle.pdu.specs.Deframing.{At, SkipsAt}
 use Rattle.pdu.specs.Steps.{body_kind, skip_of}
-use Rattle.engine.specs.machine.Pends.{Kept, takes_pdvs_in, takes_body_in}
-
--- neither the PDVs nor the body of a PDU of this type count
-pub record IsUncounted (kept : Kept) (kind : ℕ) : Type 0 where
-  pub pdvs : takes_pdvs_in kept ≡ false
-  pub body : takes_body_in kept kind ≡ false
+use Rattle.engine.specs.Kept.{Kept, takes_pdvs_in, takes_body_in}
 
 -- the rest of such a PDU goes by
 abbrev pub passed : Kept → Position → Position
@@ -24,8 +19,3 @@ in_pdv_head (position.PdvHead left bytes) = true
 in_pdv_head (position.Fragment left more) = false
 in_pdv_head (position.Leftover left) = false
 in_pdv_head (position.Skipped kind left) = false
-
--- it stands at this frame, with these marks due; or the rest of the frame goes by, and nothing is due before its end
-pub data StandsAt (q : Position) (kept : Kept) (r : List ℕ) (due : List Mark) : Type 0 where
-  reads : At q r due → StandsAt q kept r due
-  skips : SkipsAt q r → IsUncounted kept (frame_kind r) → due ≡ [] → StandsAt q kept r due

@@ -1,51 +1,15 @@
--- What an association keeps of the data of a message, and what the calls on it do.
+-- What the calls on the data of a message do.
 use Rattle.std.specs.Prelude.{◌≡◌, ℕ, Bool, true, false, not, ◌||◌, List, [], ◌++◌}
 use Rattle.element.specs.declared.syntax.Syntax.{Syntax}
-use Rattle.sequence.specs.declared.walker.Walker.{Walker}
 use Rattle.sequence.specs.Rules.{Limits}
-use Rattle.sequence.specs.Taken.{StandsAt, walker_syntax, limits_of, told_by}
 use Rattle.dimse.specs.Command.{CommandRecord}
-use Rattle.dimse.specs.Messages.{Begun}
 use Rattle.dimse.specs.Status.{success}
 use Rattle.negotiate.specs.declared.proposals.Context.{Context}
 use Rattle.part10.specs.Store.{Store, stepped, appended, committed, without_draft, failed}
-use Rattle.engine.specs.declared.stores.Storing.{Storing}
-use Rattle.engine.specs.declared.stores.Storing.TheVariants as storing
 use Rattle.engine.specs.declared.stores.StoreStatus.{StoreStatus}
-use Rattle.engine.specs.Fair.{InStore}
-use Rattle.engine.specs.Stores.{IsOfContext, Verdict, limits}
+use Rattle.engine.specs.StoredData.{Stored, Nothing, Walking, HasWalked}
+use Rattle.engine.specs.Stores.{IsOfContext, Verdict}
 use Rattle.engine.specs.Timeline.{Finding}
-
--- what contracts see of it: nothing, or a walker that takes the data set, and whether its draft is in the filing
-pub data Stored : Type 0 where
-  Nothing : Stored
-  Walking : {V D : ℕ} → (walker : Walker V D) → (drafting : Bool) → Stored
-
-abbrev pub stored_of : {V D : ℕ} → Storing V D → Stored
-stored_of storing.Nothing = Nothing
-stored_of (storing.DataSet walker drafting) = Walking walker drafting
-
-abbrev pub drafting_in : Stored → Bool
-drafting_in Nothing = false
-drafting_in (Walking walker drafting) = drafting
-
--- how many bytes are held of the data set
-abbrev pub held_in : Stored → ℕ
-held_in Nothing = 0
-held_in (Walking walker drafting) = (told_by walker).held
-
--- a walker of a data set in this syntax, held to these limits, took these bytes of it
-pub record HasWalked {V D : ℕ} (walker : Walker V D) (syntax : Syntax) (lim : Limits) (set : List ℕ) : Type 0 where
-  pub stands : StandsAt walker set
-  pub syntax_is : walker_syntax walker ≡ syntax
-  pub limits_are : limits_of walker ≡ lim
-
--- Of a message in the association of this request: the data of a store whose class is its context's are walked, and of
--- others nothing is kept.
-pub data Walks (depth most : ℕ) (request : List ℕ) (message : Begun) : Stored → Type 0 where
-  not_walked : (InStore request message → ⊥) → Walks depth most request message Nothing
-  walked : {V D : ℕ} {walker : Walker V D} {drafting : Bool} → (store : InStore request message)
-      → HasWalked walker store.context.syntax (limits depth most) store.set → Walks depth most request message (Walking walker drafting)
 
 abbrev pub finding_of : StoreStatus → Finding
 finding_of s = record { status = s.status; detail = s.detail }

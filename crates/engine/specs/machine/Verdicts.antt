@@ -11,7 +11,8 @@ use Rattle.engine.specs.declared.stores.StoreStatus.{StoreStatus}
 use Rattle.dimse.specs.Detail.{class_mismatch, instance_mismatch}
 use Rattle.engine.specs.Stores.{IsOfContext, HasNoFault, NamesUid, NamesInstance, Verdict, wanted, limits, class_tag, instance_tag, cause}
 use Rattle.engine.specs.Timeline.{Finding, good}
-use Rattle.engine.specs.machine.Storing.{Stored, Nothing, Walking, HasWalked, EndsStore, finding_of}
+use Rattle.engine.specs.StoredData.{Stored, Nothing, Walking, HasWalked}
+use Rattle.engine.specs.machine.Storing.{EndsStore, finding_of}
 
 abbrev pub no_resources : Finding
 no_resources = record { status = out_of_resources; detail = None }

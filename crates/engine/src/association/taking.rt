@@ -6,8 +6,9 @@ ghost use Rattle.pdu.specs.Steps.{events_due};
 ghost use Rattle.engine.specs.Devices.{devices};
 ghost use Rattle.engine.specs.Progress.{Progress};
 ghost use Rattle.engine.specs.Drafts.{IsThere, Drafts};
-ghost use Rattle.engine.specs.machine.Storing.{drafting_in};
-ghost use Rattle.engine.specs.machine.Kept.{kept_of, settings_in, rooms_of};
+ghost use Rattle.engine.specs.StoredData.{drafting_in};
+ghost use Rattle.engine.specs.Kept.{kept_of, settings_in};
+ghost use Rattle.engine.specs.Run.{rooms_of};
 
 use super::Association;
 use part10::Filing;
@@ -16,7 +17,8 @@ use pdu::Wire;
 impl<const A: usize, const C: usize, const V: usize, const D: usize> Association<A, C, V, D> {
     ghost use Rattle.pdu.specs.Frames.{IsRest};
     ghost use Rattle.engine.specs.Held.{is_ended};
-    ghost use Rattle.engine.specs.machine.Shows.{ShowsFrame, ShowsDue, Handles, DoesPart};
+    ghost use Rattle.engine.specs.FrameFields.{ShowsFrame};
+    ghost use Rattle.engine.specs.machine.Shows.{ShowsDue, Handles, DoesPart};
     ghost use Rattle.engine.specs.Fields.{fields_of};
 
     /// Takes bytes up to the next event, and does what it brings. Returns how many, and whether there

@@ -5,7 +5,7 @@ use Rattle.engine.specs.Devices.{devices}
 use Rattle.engine.specs.Drafts.{IsThere}
 use Rattle.engine.specs.Fields.{association_in, drafting_of, fields_of, settings_in}
 use Rattle.engine.specs.Turns.{TookTurns}
-use Rattle.engine.specs.machine.Kept.{rooms_of}
+use Rattle.engine.specs.Run.{rooms_of}
 use Rattle.engine.proofs.running.run.Given as goal
 
 abbrev pub invariant-loop-turn : goal.invariant-loop-turn

@@ -1,7 +1,7 @@
 use Rattle.std.proofs.Common.{ℕ, List, length}
 use Rattle.element.specs.declared.syntax.Syntax.{Syntax}
 use Rattle.sequence.specs.Rules.{Limits}
-use Rattle.engine.specs.machine.Storing.{HasWalked}
+use Rattle.engine.specs.StoredData.{HasWalked}
 use Rattle.engine.proofs.WalkedLemmas.{Walked}
 use Rattle.engine.proofs.stores.walk.Given as goal
 

@@ -1,5 +1,4 @@
-use Rattle.pdu.proofs.Public.{request_fits}
-use Rattle.pdu.proofs.RequestLemmas.{request_text}
+use Rattle.pdu.proofs.Public.{request_fits, request_text}
 use Rattle.pdu.proofs.laws.body_without_fault_is_a_request.Goals as goal
 
 pub returns : goal.returns

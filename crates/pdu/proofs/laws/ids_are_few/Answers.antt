@@ -1,4 +1,4 @@
-use Rattle.pdu.proofs.IdLemmas.{few_ids}
+use Rattle.pdu.proofs.Public.{few_ids}
 use Rattle.pdu.proofs.laws.ids_are_few.Goals as goal
 
 pub returns : goal.returns

@@ -1,4 +1,4 @@
-use Rattle.pdu.proofs.RequestLemmas.{request_kept}
+use Rattle.pdu.proofs.Public.{request_kept}
 use Rattle.pdu.proofs.laws.requests_keep_their_form.Goals as goal
 
 pub returns : goal.returns

@@ -3,13 +3,13 @@ use Rattle.engine.specs.Inputs.{Expiry}
 use Rattle.engine.specs.Timeline.{TimedOut}
 use Rattle.engine.proofs.MovedLemmas.{moved_still, moved_call}
 use Rattle.pdu.specs.Deframed.{position_of}
-use Rattle.engine.specs.machine.Kept.{kept_of}
+use Rattle.engine.specs.Kept.{kept_of}
 use Rattle.engine.proofs.SkipLemmas.{room_passed, heads_passed}
 use Rattle.engine.proofs.SizeLemmas.{association_small, provider_small}
 use Rattle.engine.proofs.association.Association.expired.Goals as goal
 
 pub returns-then-is_ended-clause-moved : goal.returns-then-is_ended-clause-moved
-returns-then-is_ended-clause-moved g c inputs story failed h = moved_still _ _ inputs story failed Expiry _ _ h (sym c.is_ended.ensures ∙ c.if-is_ended.true) c.requires.draft
+returns-then-is_ended-clause-moved g c inputs story failed h = moved_still _ _ inputs story failed Expiry _ _ h (sym c.is_ended.ensures.ended ∙ c.if-is_ended.true) c.requires.draft
 
 pub invariant_of-self : goal.invariant_of-self
 invariant_of-self g c =
@@ -22,7 +22,7 @@ invariant_of-self g c =
 pub returns-clause-moved : goal.returns-clause-moved
 returns-clause-moved g c inputs story failed h =
     let dropped = c.drop_heads.ensures in
-    moved_call _ _ inputs story failed Expiry TimedOut _ _ _ _ _ _ h (sym c.is_ended.ensures ∙ c.if-is_ended.false) refl refl c.on_expired.ensures.does c.on_expired.ensures.uncounted
+    moved_call _ _ inputs story failed Expiry TimedOut _ _ _ _ _ _ h (sym c.is_ended.ensures.ended ∙ c.if-is_ended.false) refl refl c.on_expired.ensures.does c.on_expired.ensures.uncounted
     (rw (← c.skip_uncounted.ensures.passes) (record { kept = dropped.kept; same = dropped.same; headless = dropped.headless })) c.on_expired.ensures.drafts
 
 pub is_ended-requires : goal.is_ended-requires

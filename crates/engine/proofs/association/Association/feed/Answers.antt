@@ -5,12 +5,12 @@ use Rattle.engine.proofs.SizeLemmas.{association_small}
 use Rattle.engine.proofs.association.Association.feed.Goals as goal
 
 pub returns-then-is_ended-clause-moved : goal.returns-then-is_ended-clause-moved
-returns-then-is_ended-clause-moved g c inputs story failed h = moved_still _ _ inputs story failed (Bytes c.args.piece.now) _ _ h (sym c.is_ended.ensures ∙ c.if-is_ended.true) c.requires.draft
+returns-then-is_ended-clause-moved g c inputs story failed h = moved_still _ _ inputs story failed (Bytes c.args.piece.now) _ _ h (sym c.is_ended.ensures.ended ∙ c.if-is_ended.true) c.requires.draft
 
 pub returns-clause-moved : goal.returns-clause-moved
 returns-clause-moved g c inputs story failed h =
     let dropped = c.drop_heads.ensures in
-    moved_feed _ _ inputs story failed c.args.piece.now _ _ _ _ _ h (sym c.is_ended.ensures ∙ c.if-is_ended.false) c.take_all.ensures.took
+    moved_feed _ _ inputs story failed c.args.piece.now _ _ _ _ _ h (sym c.is_ended.ensures.ended ∙ c.if-is_ended.false) c.take_all.ensures.took
     (record { kept = dropped.kept; same = dropped.same; headless = dropped.headless }) c.take_all.ensures.drafts
 
 pub is_ended-requires : goal.is_ended-requires

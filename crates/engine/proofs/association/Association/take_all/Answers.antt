@@ -1,8 +1,8 @@
 use Rattle.std.proofs.Common.{◌≡◌, [], ◌-◌, ◌++◌, length, take, drop, take-add, arith, refl, ◌∙◌}
 use Rattle.std.proofs.lemmas.List.{take_all, length-drop}
-use Rattle.engine.specs.Run.{Rooms}
+use Rattle.engine.specs.Run.{Rooms, rooms_of}
 use Rattle.negotiate.specs.Settings.{Settings}
-use Rattle.engine.specs.machine.Kept.{settings_in, rooms_of}
+use Rattle.engine.specs.Kept.{settings_in}
 use Rattle.engine.proofs.PartLemmas.{drafts_then, handled_start, handled_then, took_all}
 use Rattle.engine.proofs.association.Association.take_all.Goals as goal
 

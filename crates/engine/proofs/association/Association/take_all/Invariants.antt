@@ -5,11 +5,13 @@ use Rattle.pdu.specs.Steps.{events_due}
 use Rattle.engine.specs.Devices.{devices}
 use Rattle.engine.specs.Held.{is_ended}
 use Rattle.engine.specs.Progress.{Progress}
-use Rattle.engine.specs.machine.Storing.{drafting_in}
+use Rattle.engine.specs.StoredData.{drafting_in}
 use Rattle.engine.specs.Drafts.{Drafts}
-use Rattle.engine.specs.machine.Kept.{kept_of, settings_in, rooms_of}
+use Rattle.engine.specs.Kept.{kept_of, settings_in}
+use Rattle.engine.specs.Run.{rooms_of}
 use Rattle.engine.specs.Fields.{fields_of}
-use Rattle.engine.specs.machine.Shows.{ShowsFrame, Handles}
+use Rattle.engine.specs.FrameFields.{ShowsFrame}
+use Rattle.engine.specs.machine.Shows.{Handles}
 use Rattle.engine.proofs.association.Association.take_all.Given as goal
 
 abbrev pub invariant-loop-more : goal.invariant-loop-more

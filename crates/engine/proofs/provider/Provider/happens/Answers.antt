@@ -3,7 +3,7 @@ use Rattle.std.proofs.Common.{subst, ◌≡◌, ◌-◌, sym, false}
 use Rattle.acceptor.specs.declared.state.State.{State}
 use Rattle.engine.specs.machine.Answers.{answer_text}
 use Rattle.engine.specs.machine.DoesDue.{ComesTo, Stays, is_left}
-use Rattle.engine.specs.machine.Kept.{kept_of}
+use Rattle.engine.specs.Kept.{kept_of}
 use Rattle.engine.proofs.PendsLemmas.{happened, settles_body, settles_body_fits, settles_fragment_fits, settles_uncounted}
 use Rattle.engine.proofs.provider.Provider.happens.Goals as goal
 

@@ -1,11 +1,10 @@
 -- By the state: an accepted request has given up its body.
 use Rattle.std.proofs.Common.{◌≡◌, ◌≢◌, ◌≤◌, ◌+◌, ◌*◌, ℕ, false, length, ap, refl, arith}
+use Rattle.engine.specs.StoredData.{held_in}
 use Rattle.acceptor.specs.declared.state.State.{State}
 use Rattle.acceptor.specs.declared.state.State.TheVariants.{Sta1, Sta2, Sta3, Sta6, Sta8, Sta13}
 use Rattle.engine.specs.Progress.{is_established}
-use Rattle.engine.specs.machine.Kept.{kept_of}
-use Rattle.engine.specs.machine.Pends.{Kept, held_by}
-use Rattle.engine.specs.machine.Storing.{held_in}
+use Rattle.engine.specs.Kept.{kept_of, Kept, held_by}
 use Rattle.engine.proofs.provider.Provider.held.Goals as goal
 
 established : (k : Kept) (rows body command held : ℕ) → k.state ≡ Sta6 → rows ≡ length k.table → body ≡ length k.body → command ≡ length k.join.command → held ≡ held_in k.storing

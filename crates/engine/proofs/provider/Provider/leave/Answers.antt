@@ -1,5 +1,6 @@
 -- Nothing of a request is kept.
 use Rattle.std.proofs.Common.{length, ap, arith}
+use Rattle.engine.specs.StoredData.{drafting_in}
 use Rattle.engine.proofs.provider.Provider.leave.Goals as goal
 
 pub invariant_of-self : goal.invariant_of-self
@@ -15,4 +16,5 @@ invariant_of-self g c = record {
   room = omega (arith, c.args.self.now.least, ap length c.clear-2.ensures);
   rows_room = omega (arith, c.args.self.now.least, ap length c.clear.ensures);
   given_up = λ six. c.clear-2.ensures;
+  left = λ one. ap drafting_in c.leave.ensures.nothing;
 }

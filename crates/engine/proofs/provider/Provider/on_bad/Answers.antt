@@ -5,7 +5,8 @@ use Rattle.acceptor.specs.declared.event.Event.TheVariants as event
 use Rattle.engine.specs.Progress.{nothing, done}
 use Rattle.engine.specs.Replies.{invalid}
 use Rattle.engine.specs.Timeline.{At}
-use Rattle.engine.specs.machine.Kept.{kept_of, settings_in, rooms_of}
+use Rattle.engine.specs.Kept.{kept_of, settings_in}
+use Rattle.engine.specs.Run.{rooms_of}
 use Rattle.engine.proofs.ShownLemmas.{takes_shown}
 use Rattle.engine.proofs.DueLemmas.{does_by, does_nothing, bad_is, none_counted_body, none_counted_pdv}
 use Rattle.engine.proofs.SizeLemmas.{provider_small}

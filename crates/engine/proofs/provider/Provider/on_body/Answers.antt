@@ -5,7 +5,7 @@ use Rattle.arrayvec.specs.ArrayVec.{array_vec_len}
 use Rattle.acceptor.specs.declared.state.State.{State}
 use Rattle.acceptor.specs.declared.state.State.TheVariants.{Sta1, Sta2, Sta3, Sta6, Sta8, Sta13}
 use Rattle.engine.specs.Progress.{is_due}
-use Rattle.engine.specs.machine.Kept.{kept_of}
+use Rattle.engine.specs.Kept.{kept_of}
 use Rattle.engine.proofs.BodyLemmas.{pends_taken, pends_untaken, fits_taken, fits_untaken}
 use Rattle.engine.proofs.SizeLemmas.{provider_small}
 use Rattle.engine.proofs.provider.Provider.on_body.Goals as goal
@@ -65,4 +65,5 @@ invariant_of-self g c = record {
       extended_room c.try_extend_from_slice.result _ _ array_vec_len _ g.row.A c.try_extend_from_slice.ensures.len c.try_extend_from_slice.ensures.err m;
   rows_room = c.args.self.now.rows_room;
   given_up = λ six. not_established c.args.self.now.state _ (sym c.takes_body.ensures ∙ c.if-takes_body.true) six;
+  left = c.args.self.now.left;
 }

@@ -1,10 +1,11 @@
 -- The join has the part, and it is walked and goes to the draft.
 use Rattle.std.proofs.Common.{◌∙◌, ◌++◌, sym, refl, subst, List, ℕ, [], length}
 use Rattle.dimse.specs.Joining.{ShowsMessage}
-use Rattle.engine.specs.machine.Kept.{kept_of, settings_in, rooms_of}
-use Rattle.engine.specs.machine.Storing.{stored_of}
+use Rattle.engine.specs.Kept.{kept_of, settings_in}
+use Rattle.engine.specs.Run.{rooms_of}
+use Rattle.engine.specs.StoredData.{stored_of}
 use Rattle.engine.proofs.CountLemmas.{fewer_left, fewer_due}
-use Rattle.engine.proofs.StoreLemmas.{goes_drafts, same_drafts}
+use Rattle.engine.proofs.StoreLemmas.{goes_drafts, goes_left, same_drafts}
 use Rattle.engine.proofs.ShownLemmas.{takes_shown}
 use Rattle.engine.proofs.MessageLemmas.{counted_taken, pends_dropped}
 use Rattle.engine.proofs.DataLemmas.{does_append, appends_none}
@@ -53,4 +54,5 @@ invariant_of-self g c = record {
   room = c.args.self.now.room;
   rows_room = c.args.self.now.rows_room;
   given_up = c.args.self.now.given_up;
+  left = λ one. goes_left c.args.part.now (stored_of c.args.self.now.storing) (stored_of c.take-then-takes_pdvs.new.self) _ _ c.take-then-takes_pdvs.ensures.goes_on (c.args.self.now.left one);
 }

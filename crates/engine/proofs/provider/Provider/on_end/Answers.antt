@@ -2,11 +2,10 @@
 use Rattle.std.proofs.Common.{[], List, ℕ, length, refl, sym, subst, ap, arith}
 use Rattle.pdu.specs.Marks.{End}
 use Rattle.engine.specs.Timeline.{At, good}
-use Rattle.engine.specs.Run.{at_entry}
+use Rattle.engine.specs.Run.{at_entry, rooms_of}
 use Rattle.engine.specs.Devices.{devices}
-use Rattle.engine.specs.machine.Pends.{body_in}
+use Rattle.engine.specs.Kept.{body_in, kept_of, settings_in}
 use Rattle.engine.specs.machine.DoesDue.{DoesDue}
-use Rattle.engine.specs.machine.Kept.{kept_of, settings_in, rooms_of}
 use Rattle.engine.proofs.DueLemmas.{does_by}
 use Rattle.engine.proofs.WholeLemmas.{end_gone, end_files, tries_cleared}
 use Rattle.engine.proofs.provider.Provider.on_end.Goals as goal
@@ -34,4 +33,5 @@ invariant_of-self g c = record {
   room = omega (arith, c.on_whole.new.self.least, ap length c.clear.ensures);
   rows_room = c.on_whole.new.self.rows_room;
   given_up = λ six. c.clear.ensures;
+  left = c.on_whole.new.self.left;
 }

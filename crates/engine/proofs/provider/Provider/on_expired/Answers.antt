@@ -3,7 +3,8 @@ use Rattle.std.proofs.Common.{[], refl}
 use Rattle.acceptor.specs.declared.event.Event.TheVariants as event
 use Rattle.engine.specs.Progress.{done}
 use Rattle.engine.specs.Timeline.{TimedOut}
-use Rattle.engine.specs.machine.Kept.{kept_of, settings_in, rooms_of}
+use Rattle.engine.specs.Kept.{kept_of, settings_in}
+use Rattle.engine.specs.Run.{rooms_of}
 use Rattle.engine.proofs.DueLemmas.{does_by}
 use Rattle.engine.proofs.provider.Provider.on_expired.Goals as goal
 

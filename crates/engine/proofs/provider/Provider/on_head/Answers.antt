@@ -7,9 +7,9 @@ use Rattle.pdu.specs.Texts.{reject_text}
 use Rattle.engine.specs.Heads.{NoEvent, AtOnce, TooLong, head_event}
 use Rattle.engine.specs.Progress.{Progress, nothing, done, refusing}
 use Rattle.part10.specs.Store.{Store}
-use Rattle.engine.specs.machine.Pends.{Kept, Pends}
+use Rattle.engine.specs.Kept.{Kept, Pends, kept_of, settings_in}
 use Rattle.engine.specs.Timeline.{At}
-use Rattle.engine.specs.machine.Kept.{kept_of, settings_in, rooms_of}
+use Rattle.engine.specs.Run.{rooms_of}
 use Rattle.engine.proofs.PendsLemmas.{pends_begins, tries_from}
 use Rattle.engine.proofs.HeadLemmas.{head_nothing, head_at_once, head_rejected}
 use Rattle.engine.proofs.DueLemmas.{does_by, tries_nothing, none_counted_body, none_counted_pdv}
@@ -92,4 +92,5 @@ invariant_of-self g c = record {
   room = omega (arith, c.args.self.now.least, ap length c.clear.ensures);
   rows_room = c.args.self.now.rows_room;
   given_up = λ six. c.clear.ensures;
+  left = c.args.self.now.left;
 }

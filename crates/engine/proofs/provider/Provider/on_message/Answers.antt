@@ -1,9 +1,9 @@
 -- The reply is sent, and nothing of the message is kept.
-use Rattle.std.proofs.Common.{sym, subst, ◌∙◌}
+use Rattle.std.proofs.Common.{sym, ap, subst, ◌∙◌}
 use Rattle.acceptor.specs.declared.state.State.TheVariants.{Sta6}
-use Rattle.engine.specs.machine.Kept.{kept_of, settings_in, rooms_of}
-use Rattle.engine.specs.machine.Pends.{Kept}
-use Rattle.engine.specs.machine.Storing.{stored_of}
+use Rattle.engine.specs.Kept.{kept_of, settings_in, Kept}
+use Rattle.engine.specs.Run.{rooms_of}
+use Rattle.engine.specs.StoredData.{drafting_in, stored_of}
 use Rattle.engine.specs.machine.DoesDue.{ComesTo}
 use Rattle.engine.proofs.StoreLemmas.{drops_unfiled, drops_drafts, drafts_then}
 use Rattle.engine.proofs.EndedLemmas.{concludes}
@@ -37,4 +37,5 @@ invariant_of-self g c = record {
   room = c.reply-sent.new.self.room;
   rows_room = c.reply-sent.new.self.rows_room;
   given_up = c.reply-sent.new.self.given_up;
+  left = λ one. ap drafting_in c.leave.ensures.nothing;
 }

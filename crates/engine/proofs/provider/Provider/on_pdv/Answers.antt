@@ -10,10 +10,10 @@ use Rattle.engine.specs.Timeline.{At, good}
 use Rattle.engine.specs.Progress.{nothing}
 use Rattle.engine.specs.Replies.{user_aborts, going_on}
 use Rattle.engine.specs.Devices.{devices}
-use Rattle.engine.specs.machine.Pends.{Kept, Pends}
+use Rattle.engine.specs.Kept.{Kept, Pends, kept_of, settings_in}
 use Rattle.engine.specs.machine.Does.{Does}
 use Rattle.engine.specs.machine.Messages.{with_join, Proceeds}
-use Rattle.engine.specs.machine.Kept.{kept_of, settings_in, rooms_of}
+use Rattle.engine.specs.Run.{rooms_of}
 use Rattle.engine.proofs.ShownLemmas.{takes_shown}
 use Rattle.engine.proofs.StoreLemmas.{Carried, carried, nothing_walked, no_store_yet, long_pdv, pdv_store}
 use Rattle.engine.proofs.DueLemmas.{does_by, does_nothing}
@@ -129,4 +129,5 @@ invariant_of-self g c = record {
   room = c.args.self.now.room;
   rows_room = c.args.self.now.rows_room;
   given_up = c.args.self.now.given_up;
+  left = c.args.self.now.left;
 }

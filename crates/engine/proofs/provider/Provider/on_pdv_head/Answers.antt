@@ -13,9 +13,9 @@ use Rattle.pdu.specs.Items.{request_record}
 use Rattle.engine.specs.Timeline.{At}
 use Rattle.engine.specs.Progress.{done}
 use Rattle.engine.specs.Replies.{invalid, user_aborts}
-use Rattle.engine.specs.machine.Pends.{Pends}
+use Rattle.engine.specs.Kept.{Pends, kept_of, settings_in}
 use Rattle.engine.specs.machine.Messages.{with_join}
-use Rattle.engine.specs.machine.Kept.{kept_of, settings_in, rooms_of}
+use Rattle.engine.specs.Run.{rooms_of}
 use Rattle.engine.proofs.ShownLemmas.{takes_shown}
 use Rattle.engine.proofs.DueLemmas.{does_by, does_nothing, none_counted_body, none_counted_pdv}
 use Rattle.engine.proofs.MessageLemmas.{head_taken, head_dropped, head_unaccepted, head_accepted, pends_dropped, context_shown, join_between, judged_none, judged_some, pends_headed}
@@ -121,4 +121,5 @@ invariant_of-self g c = record {
   room = c.args.self.now.room;
   rows_room = c.args.self.now.rows_room;
   given_up = c.args.self.now.given_up;
+  left = c.args.self.now.left;
 }

@@ -1,5 +1,5 @@
 -- The release response is sent, and the association is left.
-use Rattle.engine.specs.machine.Kept.{kept_of}
+use Rattle.engine.specs.Kept.{kept_of}
 use Rattle.engine.proofs.RequestLemmas.{release_tries}
 use Rattle.engine.proofs.provider.Provider.on_release.Goals as goal
 

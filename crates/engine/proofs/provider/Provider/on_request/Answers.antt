@@ -5,9 +5,8 @@ use Rattle.pdu.specs.Sent.{Sends}
 use Rattle.pdu.specs.Items.{request_record}
 use Rattle.engine.specs.Progress.{at_start}
 use Rattle.engine.specs.Requests.{at_request}
-use Rattle.engine.specs.machine.Pends.{Agreed}
+use Rattle.engine.specs.Kept.{Agreed, kept_of, settings_in}
 use Rattle.engine.specs.machine.DoesDue.{ComesTo}
-use Rattle.engine.specs.machine.Kept.{kept_of, settings_in}
 use Rattle.engine.proofs.RequestLemmas.{request_tries, given_up}
 use Rattle.engine.proofs.provider.Provider.on_request.Goals as goal
 
@@ -47,4 +46,5 @@ invariant_of-self g c = record {
   room = omega (arith, c.args.self.now.least, ap length c.clear.ensures);
   rows_room = c.answer_request-next.ensures.rows g.row.A c.args.self.now.rows_room (omega (arith, c.args.self.now.room, ap length c.as_slice.ensures.value));
   given_up = λ six. c.clear.ensures;
+  left = c.args.self.now.left;
 }

@@ -9,8 +9,8 @@ use Rattle.dimse.specs.Reading.{command_in}
 use Rattle.dimse.specs.Messages.{InSet}
 use Rattle.engine.specs.Fair.{InStore}
 use Rattle.engine.specs.Replies.{some_or_nothing}
-use Rattle.engine.specs.machine.Kept.{kept_of}
-use Rattle.engine.specs.machine.Storing.{stored_of, drafting_in}
+use Rattle.engine.specs.Kept.{kept_of}
+use Rattle.engine.specs.StoredData.{stored_of, drafting_in}
 use Rattle.engine.proofs.DataLemmas.{unread_store, unaccepted_store, other_store, begins_drafts, idle_proceeds, begun_proceeds}
 use Rattle.engine.proofs.StoreLemmas.{same_drafts}
 use Rattle.engine.proofs.provider.Provider.on_store_command.Goals as goal
@@ -102,4 +102,5 @@ invariant_of-self g c = record {
   room = c.args.self.now.room;
   rows_room = c.args.self.now.rows_room;
   given_up = c.args.self.now.given_up;
+  left = λ one. absurd (cc (c.requires.due, one));
 }

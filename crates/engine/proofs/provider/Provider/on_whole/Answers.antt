@@ -5,12 +5,11 @@ use Rattle.acceptor.specs.declared.event.Event.TheVariants as event
 use Rattle.pdu.specs.Marks.{End}
 use Rattle.engine.specs.Timeline.{At, good}
 use Rattle.engine.specs.Progress.{nothing, done}
-use Rattle.engine.specs.Run.{at_entry, released}
+use Rattle.engine.specs.Run.{at_entry, released, rooms_of}
 use Rattle.engine.specs.Requests.{at_request}
 use Rattle.engine.specs.Devices.{devices}
 use Rattle.engine.specs.machine.DoesDue.{DoesDue}
-use Rattle.engine.specs.machine.Kept.{kept_of, settings_in, rooms_of}
-use Rattle.engine.specs.machine.Pends.{Pends, body_in}
+use Rattle.engine.specs.Kept.{kept_of, settings_in, Pends, body_in}
 use Rattle.engine.proofs.StoreLemmas.{same_drafts}
 use Rattle.engine.proofs.DueLemmas.{tries_nothing}
 use Rattle.engine.proofs.WholeLemmas.{tries_ended, refused_shown, state_shown, tries_as, refused_end, taken_end, whole_abort, whole_request, whole_release, whole_undue, whole_unestablished, whole_other}

@@ -21,4 +21,5 @@ invariant_of-result g c = record {
   room = omega (arith, c.requires.least, ap length c.new-2.ensures);
   rows_room = omega (arith, c.requires.least, ap length c.new.ensures);
   given_up = λ six. c.new-2.ensures;
+  left = λ one. refl;
 }

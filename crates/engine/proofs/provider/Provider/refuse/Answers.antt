@@ -1,7 +1,7 @@
 -- The event happens, and then the PDU is refused.
 use Rattle.engine.specs.Progress.{done}
 use Rattle.engine.specs.machine.Answers.{answer_text}
-use Rattle.engine.specs.machine.Kept.{kept_of}
+use Rattle.engine.specs.Kept.{kept_of}
 use Rattle.engine.proofs.DueLemmas.{refused_by}
 use Rattle.engine.proofs.provider.Provider.refuse.Goals as goal
 

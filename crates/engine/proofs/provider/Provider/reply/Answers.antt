@@ -5,8 +5,10 @@ use Rattle.negotiate.specs.declared.table.ContextRow.{ContextRow}
 use Rattle.negotiate.specs.Contexts.{context_of}
 use Rattle.negotiate.specs.ContextRows.{context_in}
 use Rattle.dimse.specs.Reading.{command_in}
-use Rattle.engine.specs.machine.Kept.{settings_in, rooms_of}
-use Rattle.engine.specs.machine.Storing.{stored_of, finding_of}
+use Rattle.engine.specs.Kept.{settings_in}
+use Rattle.engine.specs.Run.{rooms_of}
+use Rattle.engine.specs.StoredData.{drafting_in, stored_of}
+use Rattle.engine.specs.machine.Storing.{finding_of}
 use Rattle.engine.proofs.EndedLemmas.{unread_ended, echo_ended, judged_store, store_ended, is_store, is_maximum}
 use Rattle.engine.proofs.provider.Provider.reply.Goals as goal
 
@@ -51,4 +53,5 @@ invariant_of-self g c = record {
   room = c.args.self.now.room;
   rows_room = c.args.self.now.rows_room;
   given_up = c.args.self.now.given_up;
+  left = λ one. ap drafting_in c.end-ended.ensures.nothing;
 }

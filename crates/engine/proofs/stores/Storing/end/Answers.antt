@@ -1,6 +1,7 @@
 use Rattle.std.proofs.Common.{sym, ap, subst, ◌∙◌}
 use Rattle.engine.specs.machine.Verdicts.{HasVerdict}
-use Rattle.engine.specs.machine.Storing.{stored_of, drafting_in, finding_of}
+use Rattle.engine.specs.StoredData.{stored_of, drafting_in}
+use Rattle.engine.specs.machine.Storing.{finding_of}
 use Rattle.engine.proofs.StoreLemmas.{committed_drafts, undrafted_drafts, drops_drafts}
 use Rattle.engine.proofs.WalkVerdictLemmas.{ends_committed, ends_unfiled, ends_failed, ends_of}
 use Rattle.engine.proofs.stores.Storing.end.Goals as goal

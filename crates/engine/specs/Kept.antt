@@ -1,22 +1,23 @@
 -- What the upper half of an association keeps, by where its timeline stands and what has come of the PDU that has begun.
-use Rattle.std.specs.Prelude.{◌≡◌, ℕ, ◌+◌, ◌*◌, ◌≤◌, Bool, true, false, not, ◌&&◌, List, [], length, replicate, nat_eq, if◌then◌else◌}
+use Rattle.std.specs.Prelude.{◌≡◌, ℕ, ◌+◌, ◌*◌, Bool, true, false, not, ◌&&◌, List, [], length, replicate, nat_eq, if◌then◌else◌}
 use Rattle.acceptor.specs.declared.state.State.{State}
-use Rattle.acceptor.specs.declared.state.State.TheVariants.{Sta2, Sta6}
+use Rattle.acceptor.specs.declared.state.State.TheVariants.{Sta6}
 use Rattle.pdu.specs.Record.{RequestRecord}
 use Rattle.pdu.specs.Items.{request_record}
+use Rattle.negotiate.specs.Settings.{Settings, settings_of}
 use Rattle.negotiate.specs.Contexts.{context_of}
 use Rattle.negotiate.specs.declared.table.ContextRow.{ContextRow}
 use Rattle.negotiate.specs.ContextRows.{context_in, context_rows, accepted_count}
 use Rattle.dimse.specs.Messages.{NoMessage}
-use Rattle.dimse.specs.Joining.{Joining, ShowsMessage}
+use Rattle.dimse.specs.Joining.{Joining, ShowsMessage, with_pdv}
+use Rattle.part10.specs.Store.{Store}
+use Rattle.engine.specs.declared.provider.Provider.{Provider}
 use Rattle.engine.specs.Progress.{Progress, is_due, is_established}
 use Rattle.engine.specs.Held.{is_ended}
 use Rattle.engine.specs.Reached.{takes_pdvs}
-use Rattle.dimse.specs.Joining.{with_pdv}
-use Rattle.part10.specs.Store.{Store}
 use Rattle.engine.specs.Drafts.{IsDraft}
 use Rattle.engine.specs.Fair.{InStore}
-use Rattle.engine.specs.machine.Storing.{Stored, Walks, drafting_in, held_in}
+use Rattle.engine.specs.StoredData.{Stored, Walks, stored_of, drafting_in, held_in}
 
 -- what contracts see of the fields
 pub record Kept : Type 0 where
@@ -37,6 +38,13 @@ pub record Kept : Type 0 where
   -- of the data of a message
   pub storing : Stored
 
+abbrev pub kept_of : {A C V D : ℕ} → Provider A C V D → Kept
+kept_of {A} {C} {V} {D} p =
+    record { room = C; depth = D; most = p.config.max_data; state = p.state; refused = p.refused; caller = p.caller; peer_max = p.peer_max; table = p.table.items; body = p.body.items; join = p.join; storing = stored_of p.storing }
+
+abbrev pub settings_in : {A C V D : ℕ} → Provider A C V D → Settings
+settings_in p = settings_of p.config
+
 -- what an accepted request leaves of itself
 pub record Agreed (kept : Kept) (r : RequestRecord) : Type 0 where
   pub caller : kept.caller ≡ r.calling
@@ -50,8 +58,6 @@ pub record IsUnagreed (caller : List ℕ) (maximum : ℕ) (table : List ContextR
   pub no_caller : caller ≡ replicate 16 0
   pub no_maximum : maximum ≡ 0
   pub no_rows : table ≡ []
-
--- ---- which bytes of a PDU that has begun are kept
 
 -- those of a request's body where a request is due, and of a PDV where the association is established
 abbrev pub counted_body : Progress → List ℕ → List ℕ
@@ -78,16 +84,6 @@ pub record Pends (kept : Kept) (store : Store) (p : Progress) (body begun : List
   pub draft : IsDraft p.request (with_pdv (counted_pdv p begun) p.message) p.filing_failed store (drafting_in kept.storing)
   -- a failure of the filing stands in the data of a store alone
   pub failed_in : is_ended p.state ≡ false → p.filing_failed ≡ true → InStore p.request p.message
-
--- ---- rooms
-
--- so many more bytes of the body of a PDU of this type have room
-abbrev pub BodyFits : ℕ → Kept → ℕ → ℕ → Type 0
-BodyFits room kept kind n = kept.state ≡ Sta2 → kept.refused ≡ false → kind ≡ 1 → length kept.body + n ≤ room
-
--- so many more bytes of the begun fragment are due
-abbrev pub FragmentFits : Kept → ℕ → Type 0
-FragmentFits kept n = kept.state ≡ Sta6 → kept.refused ≡ false → n ≤ kept.join.left
 
 -- whether the PDVs of the PDU that has begun count
 abbrev pub takes_pdvs_in : Kept → Bool

@@ -1,0 +1,34 @@
+-- What an association shows of the PDU that has begun: where its deframer stands, and what is kept.
+use Rattle.std.specs.Prelude.{◌≡◌, ℕ, false, List, [], drop}
+use Rattle.pdu.specs.declared.position.Position.{Position}
+use Rattle.pdu.specs.Marks.{Mark, frame_kind}
+use Rattle.pdu.specs.Spot.{spot}
+use Rattle.pdu.specs.Deframing.{At, SkipsAt}
+use Rattle.engine.specs.Progress.{Progress}
+use Rattle.engine.specs.Reached.{begun_in}
+use Rattle.engine.specs.Held.{is_ended}
+use Rattle.engine.specs.Kept.{Kept, Pends, body_in, takes_pdvs_in, takes_body_in}
+use Rattle.part10.specs.Store.{Store}
+
+-- what has come of the body of an association request
+abbrev pub body_of : List ℕ → List ℕ
+body_of r = body_in (frame_kind r) (drop 6 r)
+
+pub record Fields : Type 0 where
+  pub position : Position
+  pub kept : Kept
+
+-- neither the PDVs nor the body of a PDU of this type count
+pub record IsUncounted (kept : Kept) (kind : ℕ) : Type 0 where
+  pub pdvs : takes_pdvs_in kept ≡ false
+  pub body : takes_body_in kept kind ≡ false
+
+-- it stands at this frame, with these marks due; or the rest of the frame goes by, and nothing is due before its end
+pub data StandsAt (q : Position) (kept : Kept) (r : List ℕ) (due : List Mark) : Type 0 where
+  reads : At q r due → StandsAt q kept r due
+  skips : SkipsAt q r → IsUncounted kept (frame_kind r) → due ≡ [] → StandsAt q kept r due
+
+-- it shows this progress and this frame; once it has ended, no frame
+pub record ShowsFrame (f : Fields) (store : Store) (p : Progress) (r : List ℕ) : Type 0 where
+  pub framed : is_ended p.state ≡ false → StandsAt f.position f.kept r []
+  pub pends : Pends f.kept store p (body_of r) (begun_in (spot r))
