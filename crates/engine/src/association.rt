@@ -92,8 +92,9 @@ impl<const A: usize, const C: usize, const V: usize, const D: usize> Association
         self.provider.drafting()
     }
 
-    /// How many received bytes are held: of an unfinished head, of a request's body, what is kept of an
-    /// accepted request, the command set of a message, and what a walk holds of its data set. No other is.
+    /// How many received bytes are held: of an unfinished head, of a request's body, what is kept of
+    /// an accepted request, the command set of a message, and what a walk holds of its data set. They
+    /// are what the fields hold, and no field holds others.
     pub fn held(&self) -> usize
         ensures held { (inputs : List Received) (story : List Happened) (failed : Bool) (store : Store)
             → Stands (rooms_of A C V D) (settings_in self.now) inputs story failed (fields_of self.now) store

@@ -1,5 +1,5 @@
 -- How a call moves a deframer, wherever it stands: by how many bytes it takes, which they are, and the event.
-use Rattle.std.specs.Prelude.{◌≡◌, ℕ, ◌+◌, ◌-◌, ◌≤◌, Bool, true, false, List, ◌++◌, length, Option, Some, None, nat_eq, if◌then◌else◌}
+use Rattle.std.specs.Prelude.{◌≡◌, ℕ, ◌+◌, ◌-◌, ◌≤◌, List, ◌++◌, length, Option, Some, None, nat_eq, if◌then◌else◌}
 use Rattle.pdu.specs.declared.head.PduHead.{PduHead}
 use Rattle.pdu.specs.declared.head.PdvHead.{PdvHead}
 use Rattle.pdu.specs.declared.position.Position.{Position}
@@ -57,14 +57,6 @@ skip_of (position.PdvHead left bytes) = position.Skipped p_data_tf left
 skip_of (position.Fragment left more) = position.Skipped p_data_tf left
 skip_of (position.Leftover left) = position.Skipped p_data_tf left
 skip_of (position.Skipped kind left) = position.Skipped kind left
-
-abbrev pub stands_in_head : Position → Bool
-stands_in_head (position.Head bytes) = true
-stands_in_head (position.Body kind left) = false
-stands_in_head (position.PdvHead left bytes) = false
-stands_in_head (position.Fragment left more) = false
-stands_in_head (position.Leftover left) = false
-stands_in_head (position.Skipped kind left) = false
 
 abbrev pub IsInHead : Position → Type 0
 IsInHead (position.Head bytes) = Unit {0}

@@ -25,7 +25,7 @@ impl Deframer {
     ghost use Rattle.pdu.specs.Frames.{IsRest};
     ghost use Rattle.pdu.specs.Deframing.{Took, Longest, Skipped, Skip, unfinished_heads};
     ghost use Rattle.pdu.specs.Deframed.{IsAt, Skips, position_of};
-    ghost use Rattle.pdu.specs.Steps.{Steps, body_kind, events_due, skip_of, stands_in_head};
+    ghost use Rattle.pdu.specs.Steps.{Steps, body_kind, events_due, skip_of};
 
     /// A stream of which nothing has come.
     pub fn new() -> Self
@@ -82,13 +82,6 @@ impl Deframer {
         } else {
             0
         }
-    }
-
-    /// Whether bytes of the head of a PDU have come, and no whole one.
-    pub fn is_in_head(&self) -> bool
-        ensures { result ≡ stands_in_head (position_of self.now) }
-    {
-        matches!(self.position, Position::Head(_))
     }
 
     /// How many received bytes are held: those of an unfinished head.
