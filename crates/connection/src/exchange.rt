@@ -65,7 +65,7 @@ pub fn exchange_over<R: Clock, B: Observer, F: Filing>(
     terms: Terms<'_>,
     filing: &mut F,
 ) -> Exchange
-    ensures came { Came (settings_of terms.config.now) result (F.store filing.old) (F.store filing.new) }
+    ensures came { Came (settings_of terms.entry.config.now) result (F.store filing.old) (F.store filing.new) }
 {
     let shared = Shared::new(observer);
     let mut source = SocketSource::new(rt, stream, stream, terms.timeouts, &shared);
