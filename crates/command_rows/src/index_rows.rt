@@ -16,6 +16,8 @@ pub(crate) struct Image<'a> {
     number: &'a [u8],
     /// Empty for an image without one.
     study_id: &'a [u8],
+    /// Empty for an image without one.
+    series_description: &'a [u8],
 }
 
 pub(crate) const FIRST: Image = Image {
@@ -23,6 +25,7 @@ pub(crate) const FIRST: Image = Image {
     series: b"1.2.3.1\0",
     number: b"1 ",
     study_id: b"S1",
+    series_description: b"",
 };
 
 pub(crate) const SECOND: Image = Image {
@@ -65,6 +68,7 @@ fn put_image(file: &mut Vec<u8, Global>, image: Image) -> Result<(), AllocError>
         ([8, 0, 0x30, 0], b"TM", b"120000"),
         ([8, 0, 0x60, 0], b"CS", b"CT"),
         ([8, 0, 0x30, 0x10], b"LO", b"HEAD"),
+        ([8, 0, 0x3e, 0x10], b"LO", image.series_description),
         ([0x10, 0, 0x10, 0], b"PN", b"DOE^JANE"),
         ([0x10, 0, 0x20, 0], b"LO", b"P1"),
         ([0x20, 0, 0x0d, 0], b"UI", b"1.2.3\0"),
@@ -73,7 +77,9 @@ fn put_image(file: &mut Vec<u8, Global>, image: Image) -> Result<(), AllocError>
         ([0x20, 0, 0x11, 0], b"IS", b"1 "),
         ([0x20, 0, 0x13, 0], b"IS", image.number),
     ] {
-        put(file, tag, vr, value)?;
+        if !value.is_empty() {
+            put(file, tag, vr, value)?;
+        }
     }
     Ok(())
 }
@@ -170,6 +176,34 @@ const LISTED: &[u8] = b"0000000320 PATIENT
 0000000626       IMAGE S0000001/I0000001
 records 4
 ";
+
+/// Returns whether the file has these bytes at this place.
+fn has_at(rt: &HostRuntime, path: &str, place: usize, wanted: &[u8]) -> Result<bool, Fail> {
+    let bytes = fs::read(rt, path)?;
+    let end = place.saturating_add(wanted.len());
+    Ok(bytes.as_slice().get(place..end) == Some(wanted))
+}
+
+/// Of files with Series Description and without it: where there is one, the record of the series has it behind Modality.
+#[test]
+fn series_descriptions(rt: HostRuntime) -> Result<(), Fail> {
+    let with = b"\x08\0\x60\0CS\x02\0CT\x08\0\x3e\x10LO\x06\0AXIAL \x20\0\x0e\0UI".as_slice();
+    let without = b"\x08\0\x60\0CS\x02\0CT\x20\0\x0e\0UI".as_slice();
+    for (series_description, size, bytes) in [
+        (b"AXIAL ".as_slice(), 802usize, with),
+        (b"", 788, without),
+    ] {
+        let image = Image {
+            series_description,
+            ..FIRST
+        };
+        put_images(&rt, "described", &[("described/I0000001", image)])?;
+        assert!(rt; prints(&rt, "described", false, b"records 4\n")?);
+        assert!(rt; has_size(&rt, "described/DICOMDIR", size)?);
+        assert!(rt; has_at(&rt, "described/DICOMDIR", 590, bytes)?);
+    }
+    Ok(())
+}
 
 /// Files in the folder itself come first, by name, and then those of its folders.
 #[test]

@@ -4,7 +4,7 @@ use Rattle.std.specs.Prelude.{ℕ, Bool, true, false, List, [], ◌∷◌, codes
 use Rattle.sequence.specs.declared.wanted.Want.{Want}
 use Rattle.dicomdir.specs.declared.key_table.KeyRule.{KeyRule}
 use Rattle.dicomdir.specs.declared.key_table.KeyType.{KeyType}
-use Rattle.dicomdir.specs.declared.key_table.KeyType.TheVariants.{Type1, Type1C, Type2}
+use Rattle.dicomdir.specs.declared.key_table.KeyType.TheVariants.{Type1, Type1C, Type2, Type3}
 use Rattle.dicomdir.specs.declared.key_table.Levels.{Levels}
 use Rattle.dicomdir.specs.declared.level.Level.{Level}
 use Rattle.dicomdir.specs.declared.level.Level.TheVariants.{Patient, Study, Series, Image}
@@ -48,6 +48,7 @@ key_table =
     ∷ key_rule 0x0008 0x0050 (codes "SH") 64 Type2 study_level
     ∷ key_rule 0x0008 0x0060 (codes "CS") 64 Type1 series_level
     ∷ key_rule 0x0008 0x1030 (codes "LO") 256 Type2 study_level
+    ∷ key_rule 0x0008 0x103e (codes "LO") 256 Type3 series_level
     ∷ key_rule 0x0010 0x0010 (codes "PN") 512 Type2 patient_level
     ∷ key_rule 0x0010 0x0020 (codes "LO") 256 Type1 patient_level
     ∷ key_rule 0x0020 0x000d (codes "UI") 64 Type1 study_level

@@ -87,7 +87,7 @@ pub(crate) struct KeyRule {
 }
 
 /// The keys of all records, in the order of their tags (PS3.3 section F.5).
-const KEY_TABLE: [KeyRule; 13] = [
+const KEY_TABLE: [KeyRule; 14] = [
     KeyRule {
         tag: Tag(0x0008, 0x0005),
         vr: *b"CS",
@@ -129,6 +129,13 @@ const KEY_TABLE: [KeyRule; 13] = [
         room: 256,
         kind: KeyType::Type2,
         levels: Levels::STUDY,
+    },
+    KeyRule {
+        tag: Tag(0x0008, 0x103e),
+        vr: *b"LO",
+        room: 256,
+        kind: KeyType::Type3,
+        levels: Levels::SERIES,
     },
     KeyRule {
         tag: Tag(0x0010, 0x0010),
