@@ -20,58 +20,25 @@ pub(crate) enum KeyType {
 
 /// The levels of the records that have a key.
 #[derive(Clone, Copy)]
-pub(crate) struct Levels {
-    pub(crate) patient: bool,
-    pub(crate) study: bool,
-    pub(crate) series: bool,
-    pub(crate) image: bool,
+pub(crate) enum Levels {
+    /// All four.
+    Each,
+    /// This one.
+    Only(Level),
 }
 
 impl Levels {
-    const EACH: Levels = Levels {
-        patient: true,
-        study: true,
-        series: true,
-        image: true,
-    };
-
-    const PATIENT: Levels = Levels {
-        patient: true,
-        study: false,
-        series: false,
-        image: false,
-    };
-
-    const STUDY: Levels = Levels {
-        patient: false,
-        study: true,
-        series: false,
-        image: false,
-    };
-
-    const SERIES: Levels = Levels {
-        patient: false,
-        study: false,
-        series: true,
-        image: false,
-    };
-
-    const IMAGE: Levels = Levels {
-        patient: false,
-        study: false,
-        series: false,
-        image: true,
-    };
-
     /// Returns whether the level is one of them.
     pub(crate) fn has(self, level: Level) -> bool
         ensures { result ≡ table.has_level self level }
     {
-        match level {
-            Level::Patient => self.patient,
-            Level::Study => self.study,
-            Level::Series => self.series,
-            Level::Image => self.image,
+        match (self, level) {
+            (Levels::Each, _)
+            | (Levels::Only(Level::Patient), Level::Patient)
+            | (Levels::Only(Level::Study), Level::Study)
+            | (Levels::Only(Level::Series), Level::Series)
+            | (Levels::Only(Level::Image), Level::Image) => true,
+            _ => false,
         }
     }
 }
@@ -93,98 +60,98 @@ const KEY_TABLE: [KeyRule; 14] = [
         vr: *b"CS",
         room: 64,
         kind: KeyType::Type1C,
-        levels: Levels::EACH,
+        levels: Levels::Each,
     },
     KeyRule {
         tag: Tag(0x0008, 0x0020),
         vr: *b"DA",
         room: 32,
         kind: KeyType::Type1,
-        levels: Levels::STUDY,
+        levels: Levels::Only(Level::Study),
     },
     KeyRule {
         tag: Tag(0x0008, 0x0030),
         vr: *b"TM",
         room: 32,
         kind: KeyType::Type1,
-        levels: Levels::STUDY,
+        levels: Levels::Only(Level::Study),
     },
     KeyRule {
         tag: Tag(0x0008, 0x0050),
         vr: *b"SH",
         room: 64,
         kind: KeyType::Type2,
-        levels: Levels::STUDY,
+        levels: Levels::Only(Level::Study),
     },
     KeyRule {
         tag: Tag(0x0008, 0x0060),
         vr: *b"CS",
         room: 64,
         kind: KeyType::Type1,
-        levels: Levels::SERIES,
+        levels: Levels::Only(Level::Series),
     },
     KeyRule {
         tag: Tag(0x0008, 0x1030),
         vr: *b"LO",
         room: 256,
         kind: KeyType::Type2,
-        levels: Levels::STUDY,
+        levels: Levels::Only(Level::Study),
     },
     KeyRule {
         tag: Tag(0x0008, 0x103e),
         vr: *b"LO",
         room: 256,
         kind: KeyType::Type3,
-        levels: Levels::SERIES,
+        levels: Levels::Only(Level::Series),
     },
     KeyRule {
         tag: Tag(0x0010, 0x0010),
         vr: *b"PN",
         room: 512,
         kind: KeyType::Type2,
-        levels: Levels::PATIENT,
+        levels: Levels::Only(Level::Patient),
     },
     KeyRule {
         tag: Tag(0x0010, 0x0020),
         vr: *b"LO",
         room: 256,
         kind: KeyType::Type1,
-        levels: Levels::PATIENT,
+        levels: Levels::Only(Level::Patient),
     },
     KeyRule {
         tag: Tag(0x0020, 0x000d),
         vr: *b"UI",
         room: 64,
         kind: KeyType::Type1,
-        levels: Levels::STUDY,
+        levels: Levels::Only(Level::Study),
     },
     KeyRule {
         tag: Tag(0x0020, 0x000e),
         vr: *b"UI",
         room: 64,
         kind: KeyType::Type1,
-        levels: Levels::SERIES,
+        levels: Levels::Only(Level::Series),
     },
     KeyRule {
         tag: Tag(0x0020, 0x0010),
         vr: *b"SH",
         room: 64,
         kind: KeyType::Type1,
-        levels: Levels::STUDY,
+        levels: Levels::Only(Level::Study),
     },
     KeyRule {
         tag: Tag(0x0020, 0x0011),
         vr: *b"IS",
         room: 32,
         kind: KeyType::Type1,
-        levels: Levels::SERIES,
+        levels: Levels::Only(Level::Series),
     },
     KeyRule {
         tag: Tag(0x0020, 0x0013),
         vr: *b"IS",
         room: 32,
         kind: KeyType::Type1,
-        levels: Levels::IMAGE,
+        levels: Levels::Only(Level::Image),
     },
 ];
 
