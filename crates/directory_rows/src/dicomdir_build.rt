@@ -1,6 +1,6 @@
 //! Directories that are built of rows and written, by the public calls of `dicomdir` alone.
-use crate::files::{Change, ONE_IMAGE, Record, has, one_image, two_images};
-use dicomdir::{FileId, Keys, Row, TreeRecord, build, check, write_dir};
+use crate::files::{Change, ONE_IMAGE, Record, change, has, one_image, two_images};
+use dicomdir::{DirFault, FileId, Keys, Row, TreeRecord, build, check, write_dir};
 use element::{Syntax, Tag, Uid};
 use std::alloc::{Allocator, Global};
 use std::test::Fail;
@@ -68,8 +68,8 @@ const OF_ANOTHER_PATIENT: File = File {
 
 pub(crate) const FILES: [File; 5] = [FIRST, SECOND, OF_ANOTHER_SERIES, DOUBLE, OF_ANOTHER_PATIENT];
 
-/// Returns the keys of a file, up to the first for which there is no memory. Then there is no row, since its last key must not be
-/// empty.
+/// Returns the keys of a file, up to the first for which there is no memory. Then there is no row, since its last key
+/// must not be empty.
 fn keys<A: Allocator + Copy>(alloc: A, file: &File) -> Keys<A> {
     let values = [
         (Tag(0x0010, 0x0010), b"DOE^JANE".as_slice()),
@@ -96,18 +96,16 @@ fn keys<A: Allocator + Copy>(alloc: A, file: &File) -> Keys<A> {
     keys
 }
 
-fn row<A: Allocator + Copy>(alloc: A, file: &File) -> Option<Row<A>> {
+/// The row of a file with these keys, if there is one.
+fn row_with<A: Allocator>(file: &File, keys: Keys<A>) -> Option<Row<A>> {
     let file_id = FileId::read(file.file_id)?;
     let class = Uid::read(b"1.2.840.10008.5.1.4.1.1.2")?;
     let instance = Uid::read(file.instance)?;
-    Row::new(
-        file_id,
-        class,
-        instance,
-        Syntax::Explicit,
-        keys(alloc, file),
-    )
-    .ok()
+    Row::new(file_id, class, instance, Syntax::Explicit, keys).ok()
+}
+
+fn row<A: Allocator + Copy>(alloc: A, file: &File) -> Option<Row<A>> {
+    row_with(file, keys(alloc, file))
 }
 
 /// The rows of these files, up to the first for which there is no memory.
@@ -234,6 +232,36 @@ fn file_ids_of_two_components_are_written(rt: HostRuntime) -> Result<(), Fail> {
     Ok(())
 }
 
+/// What is written of the first file with this Series Description.
+fn described(alloc: Global, description: &[u8]) -> Result<Vec<u8>, Fail> {
+    let mut keys = keys(alloc, &FIRST);
+    keys.push(Tag(0x0008, 0x103e), Vec::from_slice(alloc, description)?)?;
+    let mut rows = Vec::new(alloc);
+    rows.push(row_with(&FIRST, keys).ok_or("a row")?)?;
+    let mut file = Vec::new(alloc);
+    write_dir(&build(alloc, rows.as_slice(), uid()?)?, &mut file)?;
+    Ok(file)
+}
+
+/// The record of the series has Series Description behind Modality, padded anew, and is so much longer.
+#[test]
+fn series_descriptions_are_written(rt: HostRuntime) -> Result<(), Fail> {
+    let file = described(rt.alloc(), b"AXIAL  \0")?;
+    let parts: [Change; 3] = [
+        (316, &[0xe2, 1, 0, 0]),
+        (538, &[0x62, 0, 0, 0]),
+        (
+            590,
+            b"\x08\0\x60\0CS\x02\0CT\x08\0\x3e\x10LO\x06\0AXIAL \x20\0\x0e\0UI",
+        ),
+    ];
+    assert!(rt; file.len() == 802);
+    assert!(rt; has_bytes(file.as_slice(), &parts));
+    assert!(rt; ends_in(rt.alloc(), file.as_slice(), b"I0000001"));
+    assert!(rt; described(rt.alloc(), b"")?.len() == 796);
+    Ok(())
+}
+
 /// No rows have no records: the offsets of the first and the last record of the root are 0, and so is the length of
 /// the records.
 #[test]
@@ -293,5 +321,25 @@ fn several_images_are_written(rt: HostRuntime) -> Result<(), Fail> {
     assert!(rt; gives(rt.alloc(), &SEVERAL, 11, &[4])?);
     assert!(rt; accepts(rt.alloc(), file.as_slice(), &RECORDS_OF_SEVERAL));
     assert!(rt; file.len() == 1672);
+    Ok(())
+}
+
+/// Whether the directory is refused with this number at this place.
+fn is_refused(alloc: Global, file: &[u8], number: u8, place: u64) -> bool {
+    match check(alloc, file) {
+        Ok(_) => false,
+        Err(fault) => fault.number == number && fault.place == place,
+    }
+}
+
+/// The study of the second patient names the first patient as its next record. That one stands before a record above the
+/// study, and neither above it nor in its chain: a second way, and no cycle.
+#[test]
+fn offsets_to_siblings_of_records_above(rt: HostRuntime) -> Result<(), Fail> {
+    let mut file = written(rt.alloc(), &SEVERAL)?;
+    change(file.as_mut_slice(), &[(1304, &[0x40, 1, 0, 0])]);
+    assert!(rt; is_refused(rt.alloc(), file.as_slice(), DirFault::TWICE_REACHED, 1288));
+    change(file.as_mut_slice(), &[(1304, &[0xb4, 4, 0, 0])]);
+    assert!(rt; is_refused(rt.alloc(), file.as_slice(), DirFault::CYCLE, 1288));
     Ok(())
 }

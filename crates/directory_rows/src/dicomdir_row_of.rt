@@ -1,7 +1,7 @@
 //! Rows that are read from files, by the public calls of `dicomdir` and `part10` alone.
 use crate::images::{
-    Element, IMAGE, STUDY_ID, changed, header, id, image, is_image, is_skipped, put, reason,
-    row_of, same,
+    Element, IMAGE, SERIES_DESCRIPTION, STUDY_ID, changed, header, id, image, is_image, is_skipped,
+    put, reason, row_of, same,
 };
 use dicomdir::{Row, Skip, rows_of};
 use element::{Syntax, Tag};
@@ -110,35 +110,39 @@ fn the_first_missing_key(rt: HostRuntime) -> Result<(), Fail> {
     Ok(())
 }
 
-fn has_character_set(row: &Row<Global>, value: Option<&[u8]>) -> bool {
-    row.value(Tag(0x0008, 0x0005)) == value
+fn has_value(row: &Row<Global>, tag: Tag, value: Option<&[u8]>) -> bool {
+    row.value(tag) == value
 }
 
-/// Whether a file with this value of Specific Character Set has a row with it.
-fn keeps_character_set(rt: HostRuntime, value: Option<&[u8]>) -> Result<bool, Fail> {
-    let file = changed(rt.alloc(), Syntax::Explicit, b"1.2", IMAGE[0].0, value)?;
+/// Whether a file with this value of the element has a row with it.
+fn keeps_value(rt: HostRuntime, tag: Tag, value: Option<&[u8]>) -> Result<bool, Fail> {
+    let file = changed(rt.alloc(), Syntax::Explicit, b"1.2", tag, value)?;
     Ok(match row_of(rt, file.as_slice()) {
-        Ok(row) => has_character_set(&row, value),
+        Ok(row) => has_value(&row, tag, value),
         Err(_) => false,
     })
 }
 
-/// Specific Character Set is there or not.
+/// Specific Character Set and Series Description are there, empty, or not there.
 #[test]
-fn character_sets(rt: HostRuntime) -> Result<(), Fail> {
-    assert!(rt; keeps_character_set(rt, Some(b""))?);
-    assert!(rt; keeps_character_set(rt, None)?);
+fn keys_that_may_be_missing(rt: HostRuntime) -> Result<(), Fail> {
+    for tag in [Tag(0x0008, 0x0005), SERIES_DESCRIPTION] {
+        assert!(rt; keeps_value(rt, tag, Some(b"ANY "))?);
+        assert!(rt; keeps_value(rt, tag, Some(b""))?);
+        assert!(rt; keeps_value(rt, tag, None)?);
+    }
     Ok(())
 }
 
 /// The rooms of the keys.
-const ROOMS: [(Tag, usize); 13] = [
+const ROOMS: [(Tag, usize); 14] = [
     (Tag(0x0008, 0x0005), 64),
     (Tag(0x0008, 0x0020), 32),
     (Tag(0x0008, 0x0030), 32),
     (Tag(0x0008, 0x0050), 64),
     (Tag(0x0008, 0x0060), 64),
     (Tag(0x0008, 0x1030), 256),
+    (SERIES_DESCRIPTION, 256),
     (Tag(0x0010, 0x0010), 512),
     (Tag(0x0010, 0x0020), 256),
     (Tag(0x0020, 0x000d), 64),

@@ -5,13 +5,15 @@ use part10::{Meta, meta_bytes};
 use std::alloc::{Allocator, Global};
 use std::test::Fail;
 
+pub(crate) const SERIES_DESCRIPTION: Tag = Tag(0x0008, 0x103e);
+
 pub(crate) const STUDY_ID: Tag = Tag(0x0020, 0x0010);
 
 /// An element with a short VR: its tag, its VR and its value.
 pub(crate) type Element<'a> = (Tag, &'a [u8; 2], &'a [u8]);
 
 /// The data set of an image, with the class of another one than its file header names.
-pub(crate) const IMAGE: [Element; 15] = [
+pub(crate) const IMAGE: [Element; 16] = [
     (Tag(0x0008, 0x0005), b"CS", b"ISO_IR 100"),
     (Tag(0x0008, 0x0016), b"UI", b"1.2.840.10008.5.1.4.1.1.4\0"),
     (Tag(0x0008, 0x0020), b"DA", b"20260101"),
@@ -19,6 +21,7 @@ pub(crate) const IMAGE: [Element; 15] = [
     (Tag(0x0008, 0x0050), b"SH", b""),
     (Tag(0x0008, 0x0060), b"CS", b"CT"),
     (Tag(0x0008, 0x1030), b"LO", b"HEAD"),
+    (SERIES_DESCRIPTION, b"LO", b"AXIAL "),
     (Tag(0x0010, 0x0010), b"PN", b"DOE^JANE"),
     (Tag(0x0010, 0x0020), b"LO", b"P1"),
     (Tag(0x0010, 0x0040), b"CS", b"F "),
@@ -100,13 +103,14 @@ fn is_identified<A: Allocator>(row: &Row<A>, syntax: Syntax) -> bool {
 }
 
 /// The image's keys.
-static KEYS: [(Tag, &[u8]); 13] = [
+static KEYS: [(Tag, &[u8]); 14] = [
     (Tag(0x0008, 0x0005), b"ISO_IR 100"),
     (Tag(0x0008, 0x0020), b"20260101"),
     (Tag(0x0008, 0x0030), b"120000"),
     (Tag(0x0008, 0x0050), b""),
     (Tag(0x0008, 0x0060), b"CT"),
     (Tag(0x0008, 0x1030), b"HEAD"),
+    (SERIES_DESCRIPTION, b"AXIAL "),
     (Tag(0x0010, 0x0010), b"DOE^JANE"),
     (Tag(0x0010, 0x0020), b"P1"),
     (Tag(0x0020, 0x000d), b"1.2.3\0"),
