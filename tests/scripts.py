@@ -152,7 +152,7 @@ COPY_FAULTS = [
     ("another default", "tables.py", [("docs/tables.json", '"default": "16384"', '"default": "16385"')], "--max-pdu is not what serve has"),
     ("another help", "tables.py", [("crates/arguments/src/command.rt", "Ends after one association", "Ends after two associations")], "--once is not what serve has"),
     ("an option that the table misses", "tables.py", [("docs/tables.json", '"no-sync", "once"', '"no-sync"')], "serve has --once, too"),
-    ("a limit that the code has not", "tables.py", [("crates/commands/src/limits.rt", "COMMAND: usize = 1024", "COMMAND: usize = 2048")], "Command set: the code has 2,048, and not 1,024 bytes"),
+    ("a limit that the code has not", "tables.py", [("docs/tables.json", '"1,024 bytes", "code": "COMMAND"', '"2,048 bytes", "code": "COMMAND"')], "Command set: the code has 1,024, and not 2,048 bytes"),
     ("a table that was changed by hand", "tables.py", [("docs/CONFORMANCE.md", "| Command set | 1,024 bytes |", "| Command set | 2,048 bytes |")], "docs/CONFORMANCE.md isn't what docs/tables.json gives"),
     ("a completion that was changed by hand", "tables.py", [("packaging/dcmbox.bash", "--once", "--twice")], "packaging/dcmbox.bash isn't what docs/tables.json gives"),
     ("a type by the name of another crate's", "names.py", [("crates/acceptor/src/table.rt", "pub fn", "pub struct Walker;\n\npub fn")], "Walker means more than one thing"),
