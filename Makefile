@@ -2,7 +2,8 @@
 PROGRAM := crates/cli/out/cli
 RECORDING := crates/cli/data/recordings/echo.bin
 
-# Where `make install` puts the program, its manual page, its completion and its systemd unit.
+# Where `make install` puts the program, its manual page, its completion and its systemd units. Their options,
+# /etc/default/dcmbox, it leaves as they are where they are there; `make uninstall` leaves them too.
 PREFIX ?= /usr/local
 DESTDIR ?=
 
@@ -22,7 +23,8 @@ FORCE:
 # Looks at what the crates cite of each other and whether the documents that scripts make are fresh, tries the scripts
 # that look, proves every crate and its tests from nothing, tries the must-fail edits, runs the tests and the program,
 # and then tries the program from outside: with invalid arguments and missing files, under strace, with the tools of
-# DCMTK, and as a Debian package. What of strace, DCMTK and lintian is missing it installs.
+# DCMTK, as a Debian package, and as docs/DEPLOY.md has it. What of strace, DCMTK, exFAT's tools, lintian, HAProxy,
+# stunnel and systemd is missing it installs.
 test:
 	tests/layers.sh
 	tests/definitions.py
@@ -35,6 +37,7 @@ test:
 	tests/program.sh $(PROGRAM)
 	tests/interop.sh $(PROGRAM)
 	tests/package.sh $(PROGRAM)
+	tests/deploy.sh $(PROGRAM)
 
 # The tools of DCMTK against the program that is built.
 interop:
@@ -79,9 +82,8 @@ install:
 	install -D -m 755 dcmbox $(DESTDIR)$(PREFIX)/bin/dcmbox
 	install -D -m 644 man/dcmbox.1 $(DESTDIR)$(PREFIX)/share/man/man1/dcmbox.1
 	install -D -m 644 packaging/dcmbox.bash $(DESTDIR)$(PREFIX)/share/bash-completion/completions/dcmbox
-	install -d $(DESTDIR)$(PREFIX)/lib/systemd/system
-	sed 's|@PREFIX@|$(PREFIX)|' packaging/dcmbox.service.in > $(DESTDIR)$(PREFIX)/lib/systemd/system/dcmbox.service
-	chmod 644 $(DESTDIR)$(PREFIX)/lib/systemd/system/dcmbox.service
+	packaging/make-units $(PREFIX) $(DESTDIR)$(PREFIX)/lib/systemd/system
+	test -e $(DESTDIR)/etc/default/dcmbox || install -D -m 644 packaging/dcmbox.default $(DESTDIR)/etc/default/dcmbox
 
 # Builds a Debian package of what `make run` built, here.
 deb:
@@ -91,7 +93,7 @@ deb:
 uninstall:
 	rm -f $(DESTDIR)$(PREFIX)/bin/dcmbox $(DESTDIR)$(PREFIX)/share/man/man1/dcmbox.1 \
 		$(DESTDIR)$(PREFIX)/share/bash-completion/completions/dcmbox \
-		$(DESTDIR)$(PREFIX)/lib/systemd/system/dcmbox.service
+		$(DESTDIR)$(PREFIX)/lib/systemd/system/dcmbox.service $(DESTDIR)$(PREFIX)/lib/systemd/system/dcmbox@.service
 
 clean:
 	rm -rf dcmbox dcmbox_*.deb crates/*/out

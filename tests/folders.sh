@@ -13,12 +13,19 @@ report 'their folders'
 
 # The same on a file system without hard links, exFAT or vfat, if one can be made and mounted here.
 mount_without_links() {
+  local make
   truncate -s 8M disk.img
-  mkfs.exfat disk.img || mkfs.vfat disk.img || return 1
-  device=$(losetup -f --show disk.img) || return 1
-  mount "$device" "$1" || mount.exfat-fuse "$device" "$1" || { losetup -d "$device"; return 1; }
+  for make in mkfs.exfat mkfs.vfat; do
+    "$make" disk.img || continue
+    device=$(losetup -f --show disk.img) || return 1
+    if mount "$device" "$1" || mount.exfat-fuse "$device" "$1"; then return 0; fi
+    losetup -d "$device"
+  done
+  return 1
 }
 mkdir without_links
+# exFAT by the kernel or by FUSE; where neither can be had, vfat by the kernel.
+{ needs mkfs.exfat exfatprogs && needs mount.exfat-fuse exfat-fuse; } || needs mkfs.vfat dosfstools
 if mount_without_links without_links >mount.txt 2>&1; then
   touch without_links/one && ! ln without_links/one without_links/two 2>/dev/null
   report 'a file system without hard links'
@@ -32,7 +39,7 @@ if mount_without_links without_links >mount.txt 2>&1; then
   umount without_links
   losetup -d "$device"
 else
-  echo 'skipped: stores without hard links (no exFAT or vfat can be mounted here)'
+  skip 'stores without hard links' "no exFAT or vfat can be mounted here: $(tail -n 1 mount.txt)"
 fi
 
 # The directory of one image: 788 bytes, with its records at the places that are printed.

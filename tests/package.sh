@@ -1,11 +1,13 @@
 #!/usr/bin/env bash
-# Builds the Debian package of the program, has lintian look at it, installs it into a fresh root, runs it there, and
-# removes it.
+# Builds the Debian package of the program, has lintian look at it, installs it into a fresh root, runs it there by the
+# command lines of its units, and removes it.
 # Usage: tests/package.sh PROGRAM
 # It installs Debian's packages lintian and binutils where they are missing.
 set -u
 program=$(realpath "$1")
 cd "$(dirname "$0")/.." || exit 1
+. tests/ports.sh
+. tests/units.sh
 
 if ! command -v lintian >/dev/null || ! command -v strip >/dev/null; then
   echo 'installing lintian'
@@ -13,7 +15,8 @@ if ! command -v lintian >/dev/null || ! command -v strip >/dev/null; then
 fi
 
 work=$(mktemp -d)
-trap 'rm -rf "$work"' EXIT
+boxes=()
+trap 'kill "${boxes[@]}" 2>/dev/null; wait; rm -rf "$work"' EXIT
 passed=0
 failed=0
 
@@ -54,14 +57,36 @@ same() {
 
 before=$(standing)
 check 'it is installed into a fresh root' "${in_root[@]}" --install "$package"
+# What a machine's own dpkg may leave out of its root stands in the package.
+tree=$work/tree
+dpkg-deb --extract "$package" "$tree"
 for file in usr/bin/dcmbox usr/share/man/man1/dcmbox.1.gz usr/share/bash-completion/completions/dcmbox \
-  lib/systemd/system/dcmbox.service etc/default/dcmbox usr/share/doc/dcmbox/copyright; do
-  check "/$file" test -s "$root/$file"
+  lib/systemd/system/dcmbox.service lib/systemd/system/dcmbox@.service etc/default/dcmbox \
+  usr/share/doc/dcmbox/{copyright,changelog.gz,NEWS.gz,CONFORMANCE.md,PROFILE.md,DEPLOY.md}; do
+  check "/$file" test -s "$tree/$file"
 done
 check 'it prints its version' test "$("$root/usr/bin/dcmbox" --version)" = "$("$program" --version)"
 check 'the unit runs the installed program' grep -q '^ExecStart=/usr/bin/dcmbox serve ' "$root/lib/systemd/system/dcmbox.service"
+
+# The units' own command lines, with the options that the package brings, but for the port that one of them names.
+free_port port
+free_port other
+check 'the options name a port' grep -q -- '--port 11112 ' "$tree/etc/default/dcmbox"
+sed -i "s/--port 11112 /--port $port /" "$tree/etc/default/dcmbox"
+run_unit "$tree" dcmbox.service ''
+boxes+=("$unit")
+check 'the unit starts a box' listens "$port"
+check 'which runs on' kill -0 "$unit"
+run_unit "$tree" dcmbox@.service "$other"
+boxes+=("$unit")
+check 'the template starts a box' listens "$other"
+check 'which runs on, too' kill -0 "$unit"
+kill "${boxes[@]}" 2>/dev/null
+wait "${boxes[@]}" 2>/dev/null
+boxes=()
+
 check 'it is removed' "${in_root[@]}" --purge dcmbox
 check 'without a trace' same "$before"
 
-echo "package: $passed passed, $failed failed"
+echo "package: $passed passed, $failed failed, 0 skipped"
 [ "$failed" -eq 0 ]

@@ -1,6 +1,7 @@
 #!/usr/bin/env bash
 # Tries the built program from outside: what it prints, where, and with which status.
 # Usage: tests/program.sh PROGRAM
+# It installs Debian's packages strace, exfatprogs, exfat-fuse, man-db, gcc and libc6-dev where their tools are missing.
 set -u
 program=$(realpath "$1")
 here=$(realpath "$(dirname "$0")")
@@ -10,6 +11,7 @@ trap 'rm -rf "$work"' EXIT
 cd "$work" || exit 1
 passed=0
 failed=0
+skipped=0
 
 # try NAME STATUS OUTPUT ERROR ARGUMENTS.. : runs the program with the arguments; OUTPUT and ERROR are
 # patterns that standard output and standard error have to match as a whole.
@@ -46,6 +48,22 @@ report() {
   fi
 }
 
+# skip NAME WHY : counts what can't be tried on this machine.
+skip() {
+  echo "skipped $1: $2"
+  skipped=$((skipped + 1))
+}
+
+# needs TOOL PACKAGE.. : succeeds where the tool is there, or can be installed from Debian's packages.
+needs() {
+  local tool=$1
+  shift
+  command -v "$tool" >/dev/null && return 0
+  echo "installing $*"
+  { apt-get update && apt-get install -y --no-install-recommends "$@"; } >/dev/null 2>&1
+  command -v "$tool" >/dev/null
+}
+
 # hex FILE : the bytes that the file's hexadecimal text stands for.
 hex() {
   printf "$(tr -d ' \n' <"$1" | sed 's/../\\x&/g')"
@@ -56,6 +74,7 @@ put() {
   printf "$3" | dd of="$1" bs=1 seek="$2" conv=notrunc status=none
 }
 
+. "$here/ports.sh"
 printf '' >empty.bin
 printf 'GET / HTTP/1.0\r\n\r\n' >text.bin
 head -c 200 "$recordings/echo.bin" >cut.bin
@@ -192,5 +211,5 @@ memory='dcmbox: large.bin: out of memory; give the program more'
 try 'too little memory for a recording' 3 '' "$memory" replay large.bin --out .
 try 'too little memory for a directory' 3 '' "$memory" checkdir large.bin
 
-echo "program: $passed passed, $failed failed"
+echo "program: $passed passed, $failed failed, $skipped skipped"
 [ "$failed" -eq 0 ]

@@ -35,10 +35,12 @@ for command in serve replay show check index checkdir; do
   report "the names of the values of $command in the manual"
 done
 
-if command -v man >/dev/null; then
+if needs man man-db; then
   LC_ALL=C.UTF-8 MANROFFSEQ='' MANWIDTH=80 man --warnings -E UTF-8 -l -Tutf8 -Z "$manual" >/dev/null 2>err.txt
   [ "$?" -eq 0 ] && [ ! -s err.txt ]
   report 'the manual page has no warnings'
+else
+  skip 'the manual page' 'man is missing'
 fi
 
 # refuse NAME ARGUMENTS.. : has each allocation of the program in turn refused, until a run meets no refusal.
@@ -56,9 +58,11 @@ refuse() {
 }
 no_memory="dcmbox: (out of memory(; give the program more)?|the command line can't be read: out of memory; .*)"
 
-if command -v cc >/dev/null; then
+if needs cc gcc libc6-dev; then
   cc -shared -fPIC -o refusing.so "$here/refusing.c"
   refuse 'help is asked for' serve --help
   refuse 'an option is missing' replay empty.bin
   refuse 'a number is refused' serve --port 11112 --out . --caller SCANNER1 --caller SCANNER2 --per 0
+else
+  skip 'arguments without memory' 'cc is missing'
 fi
