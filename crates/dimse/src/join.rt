@@ -79,7 +79,8 @@ impl<const C: usize> Join<C> {
     /// reverse; `CommandTooLong` if the command set would have more than `C` bytes.
     pub fn head(&mut self, head: &PdvHead) -> Result<(), DimseFault>
         ensures judged { (message : Begun) → self.old.message ≡ without_set message → result ≡ ok_unless (head_refusal C message head.now) }
-        ensures begun { (message : Begun) (bytes : List ℕ) → self.old.message ≡ without_set message → length bytes ≡ 6 → head.now ≡ pdv_head_of bytes → OnOk result (ShowsMessage C self.new message bytes) }
+        ensures begun { (message : Begun) (bytes : List ℕ) → self.old.message ≡ without_set message → length bytes ≡ 6 → head.now ≡ pdv_head_of bytes
+            → OnOk result (ShowsMessage C self.new message bytes) }
         ensures left { OnOk result (self.new.left ≡ head.now.length - 2) }
         ensures refused { OnErr result (self.new ≡ self.old) }
     {

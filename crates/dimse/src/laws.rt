@@ -43,9 +43,11 @@ pub fn replies_are_short()
 /// to that message; each message that is put together has its fragments there; and a list that is
 /// continued keeps its messages.
 pub fn messages_are_joined()
-    ensures message { (room : ℕ) (m : Message) (commands sets more : List Pdv) → IsMessage room m commands sets → messages room ((commands ++ sets) ++ more) ≡ with_message m (messages room more) }
+    ensures message { (room : ℕ) (m : Message) (commands sets more : List Pdv) → IsMessage room m commands sets
+        → messages room ((commands ++ sets) ++ more) ≡ with_message m (messages room more) }
     ensures only { (room : ℕ) (ps : List Pdv) (m : Message) (later : List Message) → (messages room ps).whole ≡ m ∷ later → BeginsWith room m later ps }
-    ensures continued { (room : ℕ) (b : Begun) (first more : List Pdv) → messages_from room b (first ++ more) ≡ and_then (messages_from room b first) (messages_from room (messages_from room b first).begun more) }
+    ensures continued { (room : ℕ) (b : Begun) (first more : List Pdv)
+        → messages_from room b (first ++ more) ≡ and_then (messages_from room b first) (messages_from room (messages_from room b first).begun more) }
 {}
 
 /// Worked examples of messages: an echo in two fragments; its second fragment in another context;
@@ -53,12 +55,14 @@ pub fn messages_are_joined()
 /// above the room; a store with its data set in three fragments, and a begun message; a command
 /// where a data set is due; a command cut short.
 pub fn worked_messages()
-    ensures whole { messages 1024 (pdv 1 1 (take 10 echo) ∷ pdv 1 3 (drop 10 echo) ∷ []) ≡ record { whole = record { context = 1; command = echo; set = [] } ∷ []; begun = NoMessage; fault = None } }
+    ensures whole { messages 1024 (pdv 1 1 (take 10 echo) ∷ pdv 1 3 (drop 10 echo) ∷ [])
+        ≡ record { whole = record { context = 1; command = echo; set = [] } ∷ []; begun = NoMessage; fault = None } }
     ensures other_context { (messages 1024 (pdv 1 1 (take 10 echo) ∷ pdv 3 3 (drop 10 echo) ∷ [])).fault ≡ Some OtherContext }
     ensures other_kind { (messages 1024 (pdv 1 1 (take 10 echo) ∷ pdv 1 2 (drop 10 echo) ∷ [])).fault ≡ Some WrongKind }
     ensures context_before_kind { (messages 1024 (pdv 1 1 (take 10 echo) ∷ pdv 3 2 (drop 10 echo) ∷ [])).fault ≡ Some OtherContext }
     ensures too_long { (messages 67 (pdv 1 1 (take 10 echo) ∷ pdv 1 3 (drop 10 echo) ∷ [])).fault ≡ Some CommandTooLong }
-    ensures with_set { messages 1024 (pdv 5 1 (take 99 store) ∷ pdv 5 3 (drop 99 store) ∷ pdv 5 0 (8 ∷ []) ∷ pdv 5 0 [] ∷ pdv 5 2 (0 ∷ 24 ∷ []) ∷ pdv 7 1 (0 ∷ []) ∷ []) ≡ record { whole = record { context = 5; command = store; set = 8 ∷ 0 ∷ 24 ∷ [] } ∷ []; begun = InCommand 7 (0 ∷ []); fault = None } }
+    ensures with_set { messages 1024 (pdv 5 1 (take 99 store) ∷ pdv 5 3 (drop 99 store) ∷ pdv 5 0 (8 ∷ []) ∷ pdv 5 0 [] ∷ pdv 5 2 (0 ∷ 24 ∷ []) ∷ pdv 7 1 (0 ∷ []) ∷ [])
+        ≡ record { whole = record { context = 5; command = store; set = 8 ∷ 0 ∷ 24 ∷ [] } ∷ []; begun = InCommand 7 (0 ∷ []); fault = None } }
     ensures command_in_set { (messages 1024 (pdv 5 3 store ∷ pdv 5 3 echo ∷ [])).fault ≡ Some WrongKind }
     ensures unreadable { (messages 1024 (pdv 1 3 (take 66 echo) ∷ [])).fault ≡ Some BadCommand }
 {}
@@ -90,11 +94,14 @@ pub fn worked_responses()
 pub fn worked_causes()
     ensures overrun { after_status 0xc000 (cause 17 0 0) ≡ 0 ∷ 0 ∷ 2 ∷ 9 ∷ 16 ∷ 0 ∷ 0 ∷ 0 ∷ (codes "fault 17 Overrun" ++ instance_123) }
     ensures overrun_length { group_length 0xc000 (cause 17 0 0) ≡ 112 }
-    ensures undefined { after_status 0xc000 (cause 14 0x7fe0 0x0010) ≡ 0 ∷ 0 ∷ 1 ∷ 9 ∷ 4 ∷ 0 ∷ 0 ∷ 0 ∷ 224 ∷ 127 ∷ 16 ∷ 0 ∷ 0 ∷ 0 ∷ 2 ∷ 9 ∷ 24 ∷ 0 ∷ 0 ∷ 0 ∷ (codes "fault 14 UndefinedLength" ++ instance_123) }
+    ensures undefined { after_status 0xc000 (cause 14 0x7fe0 0x0010)
+        ≡ 0 ∷ 0 ∷ 1 ∷ 9 ∷ 4 ∷ 0 ∷ 0 ∷ 0 ∷ 224 ∷ 127 ∷ 16 ∷ 0 ∷ 0 ∷ 0 ∷ 2 ∷ 9 ∷ 24 ∷ 0 ∷ 0 ∷ 0 ∷ (codes "fault 14 UndefinedLength" ++ instance_123) }
     ensures undefined_length { group_length 0xc000 (cause 14 0x7fe0 0x0010) ≡ 132 }
-    ensures instance { after_status 0xa900 (cause 46 0x0008 0x0018) ≡ 0 ∷ 0 ∷ 1 ∷ 9 ∷ 4 ∷ 0 ∷ 0 ∷ 0 ∷ 8 ∷ 0 ∷ 24 ∷ 0 ∷ 0 ∷ 0 ∷ 2 ∷ 9 ∷ 26 ∷ 0 ∷ 0 ∷ 0 ∷ (codes "fault 46 InstanceMismatch " ++ instance_123) }
+    ensures instance { after_status 0xa900 (cause 46 0x0008 0x0018)
+        ≡ 0 ∷ 0 ∷ 1 ∷ 9 ∷ 4 ∷ 0 ∷ 0 ∷ 0 ∷ 8 ∷ 0 ∷ 24 ∷ 0 ∷ 0 ∷ 0 ∷ 2 ∷ 9 ∷ 26 ∷ 0 ∷ 0 ∷ 0 ∷ (codes "fault 46 InstanceMismatch " ++ instance_123) }
     ensures instance_length { group_length 0xa900 (cause 46 0x0008 0x0018) ≡ 134 }
-    ensures class { after_status 0xa900 (cause 45 0x0008 0x0016) ≡ 0 ∷ 0 ∷ 1 ∷ 9 ∷ 4 ∷ 0 ∷ 0 ∷ 0 ∷ 8 ∷ 0 ∷ 22 ∷ 0 ∷ 0 ∷ 0 ∷ 2 ∷ 9 ∷ 22 ∷ 0 ∷ 0 ∷ 0 ∷ (codes "fault 45 ClassMismatch" ++ instance_123) }
+    ensures class { after_status 0xa900 (cause 45 0x0008 0x0016)
+        ≡ 0 ∷ 0 ∷ 1 ∷ 9 ∷ 4 ∷ 0 ∷ 0 ∷ 0 ∷ 8 ∷ 0 ∷ 22 ∷ 0 ∷ 0 ∷ 0 ∷ 2 ∷ 9 ∷ 22 ∷ 0 ∷ 0 ∷ 0 ∷ (codes "fault 45 ClassMismatch" ++ instance_123) }
     ensures class_length { group_length 0xa900 (cause 45 0x0008 0x0016) ≡ 130 }
     ensures other_status { after_status 0x0122 (cause 17 0x0008 0x0016) ≡ instance_123 }
     ensures echo { reply_bytes echo_record 0xc000 (cause 17 0 0) 1 0 ≡ reply_bytes echo_record 0xc000 None 1 0 }

@@ -1,5 +1,5 @@
 -- Each message that ends has come in an accepted presentation context: the head of each of its values was judged first.
-use Rattle.std.proofs.Common.{◌≡◌, ℕ, zero, suc, ◌-◌, Bool, true, false, not, ◌&&◌, List, [], ◌∷◌, ◌++◌, length, take, drop, map, Option, Some, None, Result, Ok, Err, refl, sym, ap, subst, ◌∙◌, append_assoc, nat_eq, nat_lt, if◌then◌else◌}
+use Rattle.std.proofs.Common.{◌≡◌, ℕ, zero, suc, ◌-◌, Bool, true, false, not, ◌&&◌, List, [], ◌∷◌, ◌++◌, length, drop, map, Option, Some, None, Result, Ok, Err, refl, sym, ap, subst, ◌∙◌, append_assoc, nat_eq, nat_lt, if◌then◌else◌}
 use Rattle.std.specs.List.{flat_map}
 use Rattle.acceptor.specs.declared.state.State.{State}
 use Rattle.acceptor.specs.declared.state.State.TheVariants.{Sta1, Sta2, Sta3, Sta6, Sta8, Sta13}
@@ -25,7 +25,7 @@ use Rattle.negotiate.specs.Settings.{Settings}
 use Rattle.negotiate.specs.Accept.{accept_text}
 use Rattle.negotiate.specs.Answer.{judged}
 use Rattle.dimse.specs.declared.fault.DimseFault.{DimseFault}
-use Rattle.dimse.specs.Command.{CommandRecord, c_store}
+use Rattle.dimse.specs.Command.{CommandRecord}
 use Rattle.dimse.specs.Reading.{command_in}
 use Rattle.dimse.specs.Messages as messages
 use Rattle.dimse.specs.Messages.{Message, Begun, NoMessage, InCommand, InSet, Brought, Goes, Ends, Refuses, refusal, with_command, message_row, message_by, brought}

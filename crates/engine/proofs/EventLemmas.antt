@@ -1,9 +1,7 @@
 -- What each event of a stream does to an association, by where its deframer stands.
-use Rattle.std.proofs.Common.{◌⊎◌, ◌≡◌, ℕ, ◌+◌, ◌-◌, ◌<◌, ◌≤◌, Bool, true, false, nat_eq, List, [], ◌∷◌, ◌++◌, length, take, drop, get_or, map, Option, Some, None, refl, sym, ap, subst, ◌∙◌, arith, inl, inr}
-use Rattle.std.proofs.lemmas.Bool.{cases_lt, cases_Bool}
-use Rattle.std.proofs.lemmas.Bool.Decides.{nat_tests}
-use Rattle.std.proofs.lemmas.List.{append-nil, length-append, length-drop, drop_all, take_all}
-use Rattle.arrayvec.specs.ArrayVec.{ArrayVec}
+use Rattle.std.proofs.Common.{◌⊎◌, ◌≡◌, ℕ, ◌+◌, ◌-◌, ◌<◌, ◌≤◌, true, false, List, [], ◌∷◌, ◌++◌, length, drop, get_or, Some, None, refl, sym, ap, subst, ◌∙◌, arith, inl, inr}
+use Rattle.std.proofs.lemmas.Bool.{cases_lt}
+use Rattle.std.proofs.lemmas.List.{append-nil, length-append, drop_all}
 use Rattle.byteorder.specs.Endian.{big_number}
 use Rattle.pdu.specs.declared.head.PduHead.{PduHead}
 use Rattle.pdu.specs.declared.head.PdvHead as declared
@@ -11,16 +9,16 @@ use Rattle.pdu.specs.declared.position.Position.{Position}
 use Rattle.pdu.specs.declared.position.Position.TheVariants as position
 use Rattle.pdu.specs.declared.event.Event.{Event}
 use Rattle.pdu.specs.declared.event.Event.TheVariants as event
-use Rattle.pdu.specs.Heads.{pdu_head_of, pdv_head_of}
+use Rattle.pdu.specs.Heads.{pdu_head_of}
 use Rattle.pdu.specs.Frames.{IsFrame, IsRest, rest_of}
-use Rattle.pdu.specs.Marks.{Mark, Head, PdvHead, Pdv, BadPdv, Leftover, End, pdv_size, head_mark, pdv_mark, frame_kind, frame_length, new_marks}
-use Rattle.pdu.specs.Spot.{Spot, Opening, Plain, InPdv, spot, room_left}
+use Rattle.pdu.specs.Marks.{Mark, Head, Pdv, BadPdv, Leftover, End, pdv_size, head_mark, pdv_mark, frame_kind, frame_length, new_marks}
+use Rattle.pdu.specs.Spot.{Spot, InPdv, spot, room_left}
 use Rattle.pdu.specs.Parts as parts
 use Rattle.pdu.specs.Parts.{Comes, end_mark, leftover_marks}
-use Rattle.pdu.specs.Events.{Token, OfBody, OfFragment, event_of, marks_among}
-use Rattle.pdu.specs.Deframing.{At, AtHead, AtBody, in_body, after_body, AtPdvHead, AtFragment, in_fragment, after_fragment, AfterPdv, over, leftover, another, IsOver, Inside, Took}
-use Rattle.pdu.specs.Steps.{body_kind, IsInHead, IsInPdvHead, FollowsHead, FollowsPdv, HeadIsWhole, PdvHeadIsWhole, IsLent, Steps}
-use Rattle.pdu.proofs.Public.{same_frame, same_head, rest_alone, rest_rest, new_rest, new_then, spot_opening, in_data, unfinished_pdv, head_done, plain_part, pdv_head_done, pdv_head_whole, fragment_part, fragment_done, marks_taken, mark_taken, among_body, among_fragment}
+use Rattle.pdu.specs.Events.{marks_among}
+use Rattle.pdu.specs.Deframing.{At, AtHead, AtBody, in_body, after_body, AtPdvHead, AtFragment, in_fragment, after_fragment, AfterPdv, over, leftover, another, IsOver, Took}
+use Rattle.pdu.specs.Steps.{body_kind, IsInHead, FollowsHead, FollowsPdv, HeadIsWhole, PdvHeadIsWhole, IsLent, Steps}
+use Rattle.pdu.proofs.Public.{same_head, rest_alone, spot_opening, unfinished_pdv, head_done, plain_part, pdv_head_done, pdv_head_whole, fragment_part, fragment_done, marks_taken, mark_taken, among_body, among_fragment}
 use Rattle.negotiate.specs.Settings.{Settings}
 use Rattle.part10.specs.Store.{Store}
 use Rattle.engine.specs.Timeline as timeline
@@ -30,160 +28,13 @@ use Rattle.engine.specs.Run.{Rooms, progress_of}
 use Rattle.engine.specs.Reached.{begun_in}
 use Rattle.engine.specs.Kept.{Kept, Pends, body_in}
 use Rattle.engine.specs.machine.Does.{Does, DoesAll, Appends}
-use Rattle.engine.specs.FrameFields.{Fields, body_of, reads}
+use Rattle.engine.specs.FrameFields.{body_of, reads}
 use Rattle.engine.specs.machine.Shows.{ShowsDue, Handles, Pending}
 use Rattle.engine.specs.machine.Events.{Takes}
 use Rattle.engine.proofs.ShownLemmas.{pends_short}
 use Rattle.engine.proofs.DoesLemmas.{does_none, does_one, does_appended}
 use Rattle.engine.proofs.ShapeLemmas.{EndsFrom, Shaped}
-
--- ---- a frame with one more part
-
-pub record More (r c : List ℕ) : Type 0 where
-  pub kind : frame_kind (r ++ c) ≡ frame_kind r
-  pub body : drop 6 (r ++ c) ≡ drop 6 r ++ c
-  pub goes : length c < room_left r → IsRest (r ++ c)
-  pub ends : IsRest r → length c ≡ room_left r → IsFrame (r ++ c)
-
-pub more : (r c : List ℕ) → 6 ≤ length r → More r c
-more r c le =
-    let s = same_frame r c le in
-    let n : frame_length (r ++ c) ≡ frame_length r = s.n in
-    let total : length (r ++ c) ≡ length r + length c = length-append r c in
-    record {
-      kind = s.kind;
-      body = s.body;
-      goes = λ lt. λ _. omega arith;
-      ends = λ p e. let short : length r < 6 + frame_length r = p le in record { headed = omega arith; filled = omega arith };
-    }
-
-body_in_none : (kind : ℕ) → body_in kind [] ≡ []
-body_in_none kind = elim (cases_Bool (nat_eq kind 1)) [ inl t ↦ rw t refl | inr t ↦ rw t refl ]
-
--- a head with no body yet
-pub body_none : (r : List ℕ) → length r ≤ 6 → body_of r ≡ []
-body_none r le =
-    let nothing : drop 6 r ≡ [] = drop_all 6 r le in
-    ap (body_in (frame_kind r)) nothing ∙ body_in_none (frame_kind r)
-
-pub body_of_data : (r : List ℕ) → frame_kind r ≡ 4 → body_of r ≡ []
-body_of_data r e = ap (λ (k : ℕ). body_in k (drop 6 r)) e
-
-four : (k : ℕ) → nat_eq k 4 ≡ true → k ≡ 4
-four k t = grind (arith, nat_tests, t)
-
-no_items : (xs : List ℕ) → length xs ≡ 0 → xs ≡ []
-no_items [] e = refl
-no_items (x ∷ xs) e = absurd (omega arith)
-
--- a frame of values keeps no body
-data_body : (r c b : List ℕ) → IsRest r → spot r ≡ InPdv b → body_of (r ++ c) ≡ []
-data_body r c b rest e =
-    let v = in_data r b rest e in
-    let m = more r c v.headed in
-    body_of_data (r ++ c) (m.kind ∙ four (frame_kind r) v.kind)
-
--- the mark of these bytes, which are a whole value
-whole_mark : (b : List ℕ) → length b ≡ pdv_size b → Pdv (get_or b 4 0) (get_or b 5 0) (drop 6 b) ≡ pdv_mark b
-whole_mark b e =
-    let cut : take (big_number 4 b - 2) (drop 6 b) ≡ drop 6 b = take_all (big_number 4 b - 2) (drop 6 b) (omega (arith, length-drop 6 b)) in ap (λ (x : List ℕ). Pdv (get_or b 4 0) (get_or b 5 0) x) (sym cut)
-
--- ---- marks
-
-pub no_marks : (a b : List Mark) → a ++ b ≡ [] → a ≡ []
-no_marks [] b e = refl
-no_marks (m ∷ a) b e = absurd cc
-
-first_mark : (m n : Mark) (xs ys : List Mark) → m ∷ xs ≡ n ∷ ys → m ≡ n
-first_mark m n xs ys e = cc
-
-later_marks : (m n : Mark) (xs ys : List Mark) → m ∷ xs ≡ n ∷ ys → xs ≡ ys
-later_marks m n xs ys e = cc
-
-mark_of_head : (head : PduHead) (m : Mark) → event.PduHead head ≡ event_of m → m ≡ Head head.kind head.length
-mark_of_head head (Head kind n) e = let same : head ≡ record { kind = kind; length = n } = cc in ap (λ (h : PduHead). Head h.kind h.length) (sym same)
-mark_of_head head (PdvHead n context control) e = absurd cc
-mark_of_head head (Pdv context control fragment) e = absurd cc
-mark_of_head head BadPdv e = absurd cc
-mark_of_head head Leftover e = absurd cc
-mark_of_head head (End kind body) e = absurd cc
-
-mark_of_bad : (m : Mark) → event.BadPdv ≡ event_of m → m ≡ BadPdv
-mark_of_bad (Head kind n) e = absurd cc
-mark_of_bad (PdvHead n context control) e = absurd cc
-mark_of_bad (Pdv context control fragment) e = absurd cc
-mark_of_bad BadPdv e = refl
-mark_of_bad Leftover e = absurd cc
-mark_of_bad (End kind body) e = absurd cc
-
-mark_of_end : (k : ℕ) (m : Mark) → event.PduEnd k ≡ event_of m → (body : List ℕ) × (m ≡ End k body)
-mark_of_end k (Head kind n) e = absurd cc
-mark_of_end k (PdvHead n context control) e = absurd cc
-mark_of_end k (Pdv context control fragment) e = absurd cc
-mark_of_end k BadPdv e = absurd cc
-mark_of_end k Leftover e = absurd cc
-mark_of_end k (End kind body) e = let same : k ≡ kind = cc in (body, ap (λ (x : ℕ). End x body) (sym same))
-
--- ---- what is due then, where nothing of a body and no whole head of a value is pending
-
-abbrev pub Quiet : Position → Type 0
-Quiet (position.Head bytes) = Unit {0}
-Quiet (position.Body kind left) = kind ≡ 4
-Quiet (position.PdvHead left bytes) = Unit {0}
-Quiet (position.Fragment left more) = ⊥
-Quiet (position.Leftover left) = Unit {0}
-Quiet (position.Skipped kind left) = ⊥
-
-pub record Settled (r : List ℕ) (later : List Mark) : Type 0 where
-  pub begun : List ℕ
-  pub short : length begun < 6
-  pub pending : Pending r later [] begun
-
-pub settled : (q : Position) (r : List ℕ) (later : List Mark) → Quiet q → At q r later → Settled r later
-settled (position.Head bytes) r later t a = record {
-  begun = [];
-  short = omega arith;
-  pending = subst (λ (ms : List Mark). Pending r ms [] []) (sym a.none_due) (sym (body_none r (omega (arith, a.short))), sym (ap begun_in (spot_opening r a.short)));
-}
-settled (position.Body kind left) r later is a = go a where
-  go : AtBody kind left r later → Settled r later
-  go (in_body lt i none) = record { begun = []; short = omega arith; pending = subst (λ (ms : List Mark). Pending r ms [] []) (sym none) (sym (body_of_data r (i.kind_is ∙ is)), sym (ap begun_in i.spot_is)) }
-  go (after_body o) = record { begun = []; short = omega arith; pending = subst (λ (ms : List Mark). Pending r ms [] []) (sym o.due_is) (sym (ap (λ (k : ℕ). body_in k o.body) is), refl) }
-settled (position.PdvHead left bytes) r later t a = record {
-  begun = bytes.items;
-  short = a.short;
-  pending = subst (λ (ms : List Mark). Pending r ms [] bytes.items) (sym a.none_due) (sym (body_of_data r a.inside.kind_is), sym (ap begun_in a.inside.spot_is));
-}
-settled (position.Fragment left more) r later t a = absurd t
-settled (position.Leftover left) r later t a = record { begun = []; short = omega arith; pending = subst (λ (ms : List Mark). Pending r ms [] []) (sym a.due_is) (refl, refl) }
-settled (position.Skipped kind left) r later t a = absurd t
-
-quiet_in_head : (q : Position) → IsInHead q → Quiet q
-quiet_in_head (position.Head bytes) t = tt
-quiet_in_head (position.Body kind left) t = absurd t
-quiet_in_head (position.PdvHead left bytes) t = absurd t
-quiet_in_head (position.Fragment left more) t = absurd t
-quiet_in_head (position.Leftover left) t = absurd t
-quiet_in_head (position.Skipped kind left) t = absurd t
-
-quiet_in_pdv_head : (q : Position) → IsInPdvHead q → Quiet q
-quiet_in_pdv_head (position.Head bytes) t = absurd t
-quiet_in_pdv_head (position.Body kind left) t = absurd t
-quiet_in_pdv_head (position.PdvHead left bytes) t = tt
-quiet_in_pdv_head (position.Fragment left more) t = absurd t
-quiet_in_pdv_head (position.Leftover left) t = absurd t
-quiet_in_pdv_head (position.Skipped kind left) t = absurd t
-
-quiet_after_pdv : (q : Position) → FollowsPdv q → Quiet q
-quiet_after_pdv (position.Head bytes) t = absurd t
-quiet_after_pdv (position.Body kind left) t = t
-quiet_after_pdv (position.PdvHead left bytes) t = tt
-quiet_after_pdv (position.Fragment left more) t = absurd t
-quiet_after_pdv (position.Leftover left) t = tt
-quiet_after_pdv (position.Skipped kind left) t = absurd t
-
-quiet_plain : (q : Position) (left : ℕ) → q ≡ position.Body 4 left → Quiet q
-quiet_plain q left is = subst Quiet (sym is) refl
+use Rattle.engine.proofs.SettledLemmas.{more, body_in_none, body_none, body_of_data, no_items, data_body, whole_mark, no_marks, first_mark, later_marks, mark_of_head, mark_of_bad, mark_of_end, Quiet, Settled, settled, quiet_in_head, quiet_in_pdv_head, quiet_after_pdv, quiet_plain}
 
 -- ---- what is pending where the deframer stands in a head
 

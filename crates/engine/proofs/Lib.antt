@@ -13,6 +13,7 @@ pub mod DataLemmas
 pub mod KeptLemmas
 pub mod DoesLemmas
 pub mod ShapeLemmas
+pub mod SettledLemmas
 pub mod EventLemmas
 pub mod SkipLemmas
 pub mod StillLemmas

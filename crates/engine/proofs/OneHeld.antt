@@ -1,9 +1,8 @@
 -- The number of held bytes is one.
-use Rattle.std.proofs.Common.{◌≡◌, ℕ, ◌+◌, Bool, List, [], Option, Some, Result, Ok, refl, sym, ap, subst, ◌∙◌, arith}
+use Rattle.std.proofs.Common.{◌≡◌, ℕ, List, [], Option, Some, refl, sym, ap, subst, ◌∙◌, arith}
 use Rattle.element.specs.declared.syntax.Syntax.{Syntax}
 use Rattle.element.specs.declared.tag.Tag.{Tag}
-use Rattle.sequence.specs.Tree.{Elements}
-use Rattle.sequence.specs.Open.{PathEntry, Tail, in_header, Open}
+use Rattle.sequence.specs.Open.{in_header, Open}
 use Rattle.sequence.specs.Rules.{Limits}
 use Rattle.sequence.specs.Wanted.{held_of}
 use Rattle.sequence.specs.FirstFault.{IsUnbroken, FirstFault}
@@ -16,8 +15,8 @@ use Rattle.dimse.specs.Messages.{Begun, InSet}
 use Rattle.engine.specs.Stores.{limits}
 use Rattle.engine.specs.Run.{Rooms}
 use Rattle.engine.specs.Fair.{InStore}
-use Rattle.engine.specs.Held.{IsHeldOfSet, unbroken, faulty, IsHeldOfMessage, walked, not_walked, Held, held_before_data}
-use Rattle.engine.specs.Reached.{Reached, message_so_far}
+use Rattle.engine.specs.Held.{IsHeldOfSet, unbroken, faulty, IsHeldOfMessage, walked, not_walked}
+use Rattle.engine.specs.Reached.{message_so_far}
 use Rattle.engine.specs.Laws.{HeldIsOne}
 
 no_fault : {s : Syntax} {lim : Limits} {b p u : List ℕ} {rule : ℕ} {tag : Tag} → IsUnbroken s lim b → FirstFault s lim b p u rule tag → ⊥

@@ -1,11 +1,10 @@
 -- A byte completes four marks at most, and a piece has an association send no more than its marks do.
-use Rattle.std.proofs.Common.{◌≡◌, ◌⊎◌, ◌&&◌, Option, Some, None, Result, Ok, Err, ℕ, ◌+◌, ◌-◌, ◌*◌, ◌<◌, ◌≤◌, Bool, true, false, List, [], ◌∷◌, ◌++◌, length, drop, map, nat_eq, nat_lt, refl, sym, ap, subst, ◌∙◌, arith, if◌then◌else◌, inl, inr}
-use Rattle.std.proofs.lemmas.Bool.{cases_lt, cases_Bool}
+use Rattle.std.proofs.Common.{◌≡◌, ◌⊎◌, ◌&&◌, Option, Some, None, Result, Ok, Err, ℕ, ◌+◌, ◌-◌, ◌*◌, ◌<◌, ◌≤◌, Bool, true, false, List, [], ◌∷◌, ◌++◌, length, drop, map, nat_eq, nat_lt, refl, ap, arith, if◌then◌else◌, inl, inr}
+use Rattle.std.proofs.lemmas.Bool.{cases_lt}
 use Rattle.std.proofs.lemmas.Bool.Decides.{nat_tests}
 use Rattle.std.proofs.lemmas.List.{append-nil, length-append, length-map, length-take}
 use Rattle.std.proofs.lemmas.Nat.{mul-le}
 use Rattle.byteorder.specs.Endian.{big_number}
-use Rattle.std.specs.List.{AllByRecursion}
 use Rattle.element.specs.Numbers.{IsBytes}
 use Rattle.pdu.specs.Frames.{IsFrame, IsRest, rest_of}
 use Rattle.acceptor.specs.declared.event.Event.{Event}
@@ -22,7 +21,7 @@ use Rattle.pdu.specs.Texts.{reject_text, release_text, abort_text}
 use Rattle.pdu.specs.Marks.{Mark, Head, PdvHead, Pdv, BadPdv, Leftover, End, pdv_size, is_leftover, frame_kind, frame_length, new_marks}
 use Rattle.pdu.specs.Pdvs.{DataSpot, Dropped, Within, data_spot}
 use Rattle.pdu.specs.Spot.{Spot, Opening, Plain, InPdv, spot, spot_of, room_left}
-use Rattle.pdu.specs.Parts.{Comes, IsUnfinishedPdv, in_head, in_fragment, leftover_marks, end_mark}
+use Rattle.pdu.specs.Parts.{Comes, IsUnfinishedPdv, in_head, in_fragment, end_mark}
 use Rattle.pdu.proofs.Public.{new_nothing, new_then, new_rest, rest_is_rest, unfinished_pdv, head_part, head_done, plain_part, pdv_head_part, pdv_head_bad, pdv_head_done, pdv_head_whole, fragment_part, fragment_done}
 use Rattle.negotiate.specs.declared.answer.Answer.{Answer}
 use Rattle.negotiate.specs.declared.answer.Answer.TheVariants.{Accept, Reject}
@@ -44,9 +43,9 @@ use Rattle.engine.specs.Progress.{Progress, Advance, absorb, nothing, followed_b
 use Rattle.engine.specs.Replies.{invalid, user_aborts, aborted_if_refused, replied, finding_on, going_on}
 use Rattle.engine.specs.Requests.{keeping, accepting, declined, answered}
 use Rattle.engine.specs.Run.{Rooms, released, at_end, at_mark, at_entry, cut, gives, sent_of}
-use Rattle.engine.specs.Timeline.{At, Shut, TimedOut, Aborted, Entry, Finding, Happened, entries, entries_of}
-use Rattle.engine.specs.OutputLaws.{FewMarks, AnswersHave, BoundedOutput, answer_length, FewBytesButAnswers, IsOfBytes, AnswersAreShort, StoriesAnswerShortly, OutputOfAPiece}
-use Rattle.engine.proofs.EventLemmas.{more}
+use Rattle.engine.specs.Timeline.{At, Shut, TimedOut, Aborted, Entry, Finding, Happened, entries}
+use Rattle.engine.specs.OutputLaws.{FewMarks, AnswersHave, BoundedOutput, answer_length, FewBytesButAnswers, AnswersAreShort, StoriesAnswerShortly, OutputOfAPiece}
+use Rattle.engine.proofs.SettledLemmas.{more}
 
 -- ---- one byte
 

@@ -1,5 +1,5 @@
 -- A PDU of which nothing counts goes by: its marks before its end do nothing.
-use Rattle.std.proofs.Common.{◌⊎◌, ◌≡◌, ℕ, ◌+◌, ◌<◌, ◌≤◌, Bool, true, false, not, ◌&&◌, ◌||◌, if◌then◌else◌, nat_eq, List, [], ◌∷◌, ◌++◌, length, drop, map, Option, Some, None, refl, sym, ap, subst, ◌∙◌, append_assoc, arith, inl, inr}
+use Rattle.std.proofs.Common.{◌≡◌, ℕ, ◌<◌, ◌≤◌, Bool, true, false, not, ◌&&◌, ◌||◌, if◌then◌else◌, nat_eq, List, [], ◌∷◌, ◌++◌, length, drop, map, Option, Some, None, refl, sym, ap, subst, ◌∙◌, append_assoc, arith, inl, inr}
 use Rattle.std.proofs.lemmas.Bool.{cases_Bool}
 use Rattle.std.proofs.lemmas.List.{append-nil, map-append}
 use Rattle.acceptor.specs.declared.state.State.{State}
@@ -13,7 +13,7 @@ use Rattle.pdu.specs.Marks.{Mark, Head, PdvHead, Pdv, BadPdv, Leftover, End, fra
 use Rattle.pdu.specs.Spot.{spot}
 use Rattle.pdu.specs.Parts.{end_mark}
 use Rattle.pdu.specs.Deframing.{At, SkipsAt, Skipped, goes_on, ends, IsInner, AreInner, Skip, no_frame, end_alone, skipped}
-use Rattle.pdu.specs.Steps.{body_kind, skip_of, IsInHead, IsInPdvHead, IsSkipped, Steps}
+use Rattle.pdu.specs.Steps.{body_kind, skip_of, IsInHead, IsSkipped, Steps}
 use Rattle.pdu.proofs.Public.{same_frame, rest_alone, marks_within, skip_at}
 use Rattle.negotiate.specs.Settings.{Settings}
 use Rattle.dimse.specs.Messages as messages
@@ -31,7 +31,7 @@ use Rattle.engine.specs.Fair.{IsVerdict}
 use Rattle.engine.specs.Kept.{Kept, Pends, counted_body, body_in, takes_pdvs_in, takes_body_in}
 use Rattle.engine.specs.machine.Does.{Does, DoesAll}
 use Rattle.engine.specs.machine.Events.{Takes}
-use Rattle.engine.specs.FrameFields.{IsUncounted, StandsAt, reads, skips, Fields, body_of}
+use Rattle.engine.specs.FrameFields.{IsUncounted, StandsAt, reads, skips, body_of}
 use Rattle.engine.specs.machine.Skips.{passed, in_pdv_head}
 use Rattle.engine.specs.machine.Shows.{Handles, Pending}
 use Rattle.engine.proofs.ShownLemmas.{takes_shown}
@@ -40,7 +40,8 @@ use Rattle.engine.proofs.DoesLemmas.{does_none, does_one, does_more, does_then}
 use Rattle.engine.proofs.MessageLemmas.{pends_dropped}
 use Rattle.engine.proofs.PartLemmas.{spot_none}
 use Rattle.engine.proofs.ShapeLemmas.{FitsAt, no_body, no_fragment}
-use Rattle.engine.proofs.EventLemmas.{pending_none, no_marks, body_none}
+use Rattle.engine.proofs.SettledLemmas.{body_none}
+use Rattle.engine.proofs.EventLemmas.{pending_none}
 
 -- ---- a frame that goes by
 

@@ -1,5 +1,5 @@
 -- What follows for stores in a whole run.
-use Rattle.std.specs.Prelude.{◌≡◌, ℕ, Bool, List, ◌∷◌, ◌++◌, Some, None, Ok}
+use Rattle.std.specs.Prelude.{◌≡◌, ℕ, Bool, List, ◌∷◌, ◌++◌, None}
 use Rattle.acceptor.specs.declared.state.State.{State}
 use Rattle.pdu.specs.Items.{request_record}
 use Rattle.dimse.specs.Command.{CommandRecord}
@@ -10,7 +10,7 @@ use Rattle.negotiate.specs.declared.proposals.Context.{Context}
 use Rattle.negotiate.specs.Settings.{Settings}
 use Rattle.engine.specs.Inputs.{Received}
 use Rattle.engine.specs.Timeline.{Happened}
-use Rattle.engine.specs.Progress.{Progress, at_start}
+use Rattle.engine.specs.Progress.{at_start}
 use Rattle.engine.specs.Run.{Rooms, gives, progress_of, sent_of, files_of, wire_failures, filing_failures}
 use Rattle.engine.specs.declared.report.Report.{Report}
 use Rattle.engine.specs.Devices.{Devices}

@@ -1,5 +1,5 @@
 -- What an association keeps of the data of a message.
-use Rattle.std.specs.Prelude.{◌≡◌, ℕ, Bool, true, false, List, []}
+use Rattle.std.specs.Prelude.{◌≡◌, ℕ, Bool, false, List}
 use Rattle.element.specs.declared.syntax.Syntax.{Syntax}
 use Rattle.sequence.specs.declared.walker.Walker.{Walker}
 use Rattle.sequence.specs.Rules.{Limits}

@@ -206,7 +206,8 @@ impl<const A: usize, const C: usize, const V: usize, const D: usize> Provider<A,
         ensures fragment_fits { (m : ℕ) → FragmentFits (kept_of self.old) m → FragmentFits (kept_of self.new) m }
         ensures uncounted { (kind : ℕ) → IsUncounted (kept_of self.old) kind → IsUncounted (kept_of self.new) kind }
         ensures tries { (p : Progress) (body begun : List ℕ) → Pends (kept_of self.old) (F.store filing.old) p body begun
-            → DoesDue p (done (answer_text answering.entry) reason p event) (kept_of self.new) body begun (devices (W.line wire.old) (F.store filing.old)) (devices (W.line wire.new) (F.store filing.new)) }
+            → DoesDue p (done (answer_text answering.entry) reason p event) (kept_of self.new) body begun
+            (devices (W.line wire.old) (F.store filing.old)) (devices (W.line wire.new) (F.store filing.new)) }
     {
         let (next, sent) = step(self.state, event, reason, answering, wire);
         self.settle(next, sent, filing);
@@ -229,7 +230,8 @@ impl<const A: usize, const C: usize, const V: usize, const D: usize> Provider<A,
         ensures body { self.old.body.items ≡ [] → self.new.body.items ≡ [] }
         ensures tries { (p : Progress) (body begun body_then begun_then : List ℕ) → Pends (kept_of self.old) (F.store filing.old) p body begun
             → counted_body (done (answer_text answering.entry) reason p event).next body ≡ [] → counted_pdv (done (answer_text answering.entry) reason p event).next begun ≡ []
-            → DoesDue p (refusing (done (answer_text answering.entry) reason p event)) (kept_of self.new) body_then begun_then (devices (W.line wire.old) (F.store filing.old)) (devices (W.line wire.new) (F.store filing.new)) }
+            → DoesDue p (refusing (done (answer_text answering.entry) reason p event)) (kept_of self.new) body_then begun_then
+            (devices (W.line wire.old) (F.store filing.old)) (devices (W.line wire.new) (F.store filing.new)) }
     {
         self.happens(event, reason, answering, wire, filing);
         self.refused = true;
@@ -281,7 +283,8 @@ impl<const A: usize, const C: usize, const V: usize, const D: usize> Provider<A,
         ensures uncounted { (kind : ℕ) → IsUncounted (kept_of self.old) kind → IsUncounted (kept_of self.new) kind }
         ensures settings { settings_in self.new ≡ settings_in self.old }
         ensures drafts { Drafts (drafting_in (kept_of self.old).storing) (F.store filing.old) (drafting_in (kept_of self.new).storing) (F.store filing.new) }
-        ensures does { (p : Progress) (body begun : List ℕ) → Pends (kept_of self.old) (F.store filing.old) p body begun → Does (rooms_of A C V D) (settings_in self.old) p Shut (kept_of self.new) body begun
+        ensures does { (p : Progress) (body begun : List ℕ) → Pends (kept_of self.old) (F.store filing.old) p body begun
+            → Does (rooms_of A C V D) (settings_in self.old) p Shut (kept_of self.new) body begun
             (devices (W.line wire.old) (F.store filing.old)) (devices (W.line wire.new) (F.store filing.new)) }
     {
         self.happens(Event::Closed, 0, Answering::Nothing, wire, filing);
@@ -295,7 +298,8 @@ impl<const A: usize, const C: usize, const V: usize, const D: usize> Provider<A,
         ensures uncounted { (kind : ℕ) → IsUncounted (kept_of self.old) kind → IsUncounted (kept_of self.new) kind }
         ensures settings { settings_in self.new ≡ settings_in self.old }
         ensures drafts { Drafts (drafting_in (kept_of self.old).storing) (F.store filing.old) (drafting_in (kept_of self.new).storing) (F.store filing.new) }
-        ensures does { (p : Progress) (body begun : List ℕ) → Pends (kept_of self.old) (F.store filing.old) p body begun → Does (rooms_of A C V D) (settings_in self.old) p TimedOut (kept_of self.new) body begun
+        ensures does { (p : Progress) (body begun : List ℕ) → Pends (kept_of self.old) (F.store filing.old) p body begun
+            → Does (rooms_of A C V D) (settings_in self.old) p TimedOut (kept_of self.new) body begun
             (devices (W.line wire.old) (F.store filing.old)) (devices (W.line wire.new) (F.store filing.new)) }
     {
         self.happens(Event::Expired, 0, Answering::Nothing, wire, filing);
@@ -309,7 +313,8 @@ impl<const A: usize, const C: usize, const V: usize, const D: usize> Provider<A,
         ensures uncounted { (kind : ℕ) → IsUncounted (kept_of self.old) kind → IsUncounted (kept_of self.new) kind }
         ensures settings { settings_in self.new ≡ settings_in self.old }
         ensures drafts { Drafts (drafting_in (kept_of self.old).storing) (F.store filing.old) (drafting_in (kept_of self.new).storing) (F.store filing.new) }
-        ensures does { (p : Progress) (body begun : List ℕ) → Pends (kept_of self.old) (F.store filing.old) p body begun → Does (rooms_of A C V D) (settings_in self.old) p Aborted (kept_of self.new) body begun
+        ensures does { (p : Progress) (body begun : List ℕ) → Pends (kept_of self.old) (F.store filing.old) p body begun
+            → Does (rooms_of A C V D) (settings_in self.old) p Aborted (kept_of self.new) body begun
             (devices (W.line wire.old) (F.store filing.old)) (devices (W.line wire.new) (F.store filing.new)) }
     {
         self.happens(Event::UserAborts, 0, Answering::Nothing, wire, filing);

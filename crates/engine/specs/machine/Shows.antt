@@ -1,8 +1,7 @@
 -- What an association shows of the PDU that has begun: where its deframer stands, and what is kept.
-use Rattle.std.specs.Prelude.{◌≡◌, ℕ, ◌≤◌, Bool, true, false, List, [], ◌∷◌, ◌++◌, length, drop, map}
-use Rattle.pdu.specs.declared.position.Position.{Position}
+use Rattle.std.specs.Prelude.{◌≡◌, ℕ, ◌≤◌, Bool, true, false, List, [], ◌∷◌, ◌++◌, length, map}
 use Rattle.pdu.specs.Frames.{rest_of}
-use Rattle.pdu.specs.Marks.{Mark, Head, PdvHead, Pdv, BadPdv, Leftover, End, pdv_size, pdv_mark, frame_kind, new_marks}
+use Rattle.pdu.specs.Marks.{Mark, Head, PdvHead, Pdv, BadPdv, Leftover, End, pdv_size, pdv_mark, new_marks}
 use Rattle.pdu.specs.Spot.{spot}
 use Rattle.negotiate.specs.Settings.{Settings}
 use Rattle.engine.specs.Timeline as timeline
@@ -14,7 +13,7 @@ use Rattle.engine.specs.Fair.{MayFail, AreFair}
 use Rattle.engine.specs.Reached.{begun_in}
 use Rattle.engine.specs.FrameFields.{Fields, StandsAt, ShowsFrame, body_of}
 use Rattle.engine.specs.Gains.{Gains}
-use Rattle.engine.specs.Kept.{Kept, Pends, body_in}
+use Rattle.engine.specs.Kept.{Pends, body_in}
 use Rattle.part10.specs.Store.{Store}
 use Rattle.engine.specs.machine.Does.{DoesAll}
 

@@ -1,9 +1,7 @@
 -- Where a deframer stands in an association: at an unfinished frame, or in one that goes by since nothing of it counts.
-use Rattle.std.specs.Prelude.{◌≡◌, ℕ, Bool, true, false, ◌||◌, List, [], if◌then◌else◌}
+use Rattle.std.specs.Prelude.{Bool, true, false, ◌||◌, if◌then◌else◌}
 use Rattle.pdu.specs.declared.position.Position.{Position}
 use Rattle.pdu.specs.declared.position.Position.TheVariants as position
-use Rattle.pdu.specs.Marks.{Mark, frame_kind}
-use Rattle.pdu.specs.Deframing.{At, SkipsAt}
 use Rattle.pdu.specs.Steps.{body_kind, skip_of}
 use Rattle.engine.specs.Kept.{Kept, takes_pdvs_in, takes_body_in}
 

@@ -1,4 +1,4 @@
-use Rattle.std.proofs.Common.{◌≡◌, [], ◌-◌, ◌++◌, length, take, drop, take-add, arith, refl, ◌∙◌}
+use Rattle.std.proofs.Common.{◌≡◌, [], ◌-◌, length, take, drop, take-add, arith, refl, ◌∙◌}
 use Rattle.std.proofs.lemmas.List.{take_all, length-drop}
 use Rattle.engine.specs.Run.{Rooms, rooms_of}
 use Rattle.negotiate.specs.Settings.{Settings}

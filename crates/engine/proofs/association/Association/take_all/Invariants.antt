@@ -1,4 +1,4 @@
-use Rattle.std.proofs.Common.{◌≡◌, ℕ, List, [], ◌-◌, ◌≤◌, ◌+◌, ◌*◌, true, false, length, take, if◌then◌else◌}
+use Rattle.std.proofs.Common.{◌≡◌, ℕ, List, [], ◌-◌, ◌≤◌, ◌+◌, ◌*◌, false, length, take, if◌then◌else◌}
 use Rattle.pdu.specs.Deframed.{position_of}
 use Rattle.pdu.specs.Frames.{IsRest}
 use Rattle.pdu.specs.Steps.{events_due}

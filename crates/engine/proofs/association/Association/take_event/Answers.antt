@@ -2,12 +2,11 @@ use Rattle.std.proofs.Common.{◌≡◌, ◌-◌, length, take, arith, true, Non
 use Rattle.std.proofs.lemmas.List.{length-take}
 use Rattle.pdu.specs.Deframed.{position_of}
 use Rattle.pdu.specs.Steps.{Steps}
-use Rattle.engine.specs.Devices.{Devices, devices}
 use Rattle.engine.specs.Kept.{kept_of, settings_in}
 use Rattle.engine.specs.Run.{rooms_of}
 use Rattle.engine.specs.machine.Shows.{Handles}
 use Rattle.engine.specs.FrameFields.{reads, skips}
-use Rattle.engine.proofs.ShapeLemmas.{Shaped, shaped, has_room, room_still, room_after}
+use Rattle.engine.proofs.ShapeLemmas.{shaped, has_room, room_still, room_after}
 use Rattle.engine.proofs.EventLemmas.{handled_none, handled_event}
 use Rattle.engine.proofs.SkipLemmas.{heads_still, heads_passed, room_passed, passed_none, passed_event, handled_passed}
 use Rattle.engine.proofs.SizeLemmas.{provider_small}

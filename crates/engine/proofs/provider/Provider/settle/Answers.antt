@@ -1,9 +1,5 @@
 -- The association goes on as it is.
-use Rattle.std.proofs.Common.{◌≡◌, ◌∙◌, sym, refl, Result, Ok, Err}
-use Rattle.acceptor.specs.declared.state.State.{State}
-use Rattle.acceptor.specs.declared.state.State.TheVariants.{Sta6}
-use Rattle.pdu.specs.declared.wire.WireFailed.{WireFailed}
-use Rattle.engine.specs.machine.DoesDue.{state_after}
+use Rattle.std.proofs.Common.{refl}
 use Rattle.engine.proofs.PendsLemmas.{stays_there}
 use Rattle.engine.proofs.StoreLemmas.{unfiled_same, same_drafts}
 use Rattle.engine.proofs.provider.Provider.settle.Goals as goal
