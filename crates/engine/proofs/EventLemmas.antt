@@ -1,5 +1,5 @@
 -- What each event of a stream does to an association, by where its deframer stands.
-use Rattle.std.proofs.Common.{◌⊎◌, ◌≡◌, ℕ, ◌+◌, ◌-◌, ◌<◌, ◌≤◌, true, false, List, [], ◌∷◌, ◌++◌, length, drop, get_or, Some, None, refl, sym, ap, subst, ◌∙◌, arith, inl, inr}
+use Rattle.std.proofs.Common.{◌≡◌, ℕ, ◌+◌, ◌-◌, ◌<◌, ◌≤◌, true, false, List, [], ◌∷◌, ◌++◌, length, drop, get_or, Some, None, refl, sym, ap, subst, ◌∙◌, arith, inl, inr}
 use Rattle.std.proofs.lemmas.Bool.{cases_lt}
 use Rattle.std.proofs.lemmas.List.{append-nil, length-append, drop_all}
 use Rattle.byteorder.specs.Endian.{big_number}
@@ -12,11 +12,11 @@ use Rattle.pdu.specs.declared.event.Event.TheVariants as event
 use Rattle.pdu.specs.Heads.{pdu_head_of}
 use Rattle.pdu.specs.Frames.{IsFrame, IsRest, rest_of}
 use Rattle.pdu.specs.Marks.{Mark, Head, Pdv, BadPdv, Leftover, End, pdv_size, head_mark, pdv_mark, frame_kind, frame_length, new_marks}
-use Rattle.pdu.specs.Spot.{Spot, InPdv, spot, room_left}
+use Rattle.pdu.specs.Spot.{InPdv, spot, room_left}
 use Rattle.pdu.specs.Parts as parts
 use Rattle.pdu.specs.Parts.{Comes, end_mark, leftover_marks}
 use Rattle.pdu.specs.Events.{marks_among}
-use Rattle.pdu.specs.Deframing.{At, AtHead, AtBody, in_body, after_body, AtPdvHead, AtFragment, in_fragment, after_fragment, AfterPdv, over, leftover, another, IsOver, Took}
+use Rattle.pdu.specs.Deframing.{At, AtHead, AtBody, in_body, after_body, AtPdvHead, AtFragment, in_fragment, after_fragment, IsOver, Took}
 use Rattle.pdu.specs.Steps.{body_kind, IsInHead, FollowsHead, FollowsPdv, HeadIsWhole, PdvHeadIsWhole, IsLent, Steps}
 use Rattle.pdu.proofs.Public.{same_head, rest_alone, spot_opening, unfinished_pdv, head_done, plain_part, pdv_head_done, pdv_head_whole, fragment_part, fragment_done, marks_taken, mark_taken, among_body, among_fragment}
 use Rattle.negotiate.specs.Settings.{Settings}
@@ -34,7 +34,7 @@ use Rattle.engine.specs.machine.Events.{Takes}
 use Rattle.engine.proofs.ShownLemmas.{pends_short}
 use Rattle.engine.proofs.DoesLemmas.{does_none, does_one, does_appended}
 use Rattle.engine.proofs.ShapeLemmas.{EndsFrom, Shaped}
-use Rattle.engine.proofs.SettledLemmas.{more, body_in_none, body_none, body_of_data, no_items, data_body, whole_mark, no_marks, first_mark, later_marks, mark_of_head, mark_of_bad, mark_of_end, Quiet, Settled, settled, quiet_in_head, quiet_in_pdv_head, quiet_after_pdv, quiet_plain}
+use Rattle.engine.proofs.SettledLemmas.{more, body_in_none, body_none, body_of_data, no_items, data_body, whole_mark, no_marks, first_mark, later_marks, mark_of_head, mark_of_bad, mark_of_end, Quiet, Settled, settled, quiet_in_head, quiet_in_pdv_head, quiet_after_pdv, quiet_plain, at_rest, rest_or_frame, comes_marks, short_rest, body_of_end}
 
 -- ---- what is pending where the deframer stands in a head
 
@@ -55,53 +55,6 @@ pends_in_pdv k store p left bytes r due body begun a h pends =
     pends_short k store p [] bytes [] a.short (omega arith) (pends_as k store p [] bytes body begun (x.0 ∙ body_of_data r a.inside.kind_is) (x.1 ∙ ap begun_in a.inside.spot_is) pends)
 
 -- an unfinished frame
-at_rest : (q : Position) (r : List ℕ) (due : List Mark) → At q r due → IsRest r
-at_rest (position.Head bytes) r due a = let lt : length r < 6 = a.short in λ le. absurd (omega arith)
-at_rest (position.Body kind left) r due a = go a where
-  go : AtBody kind left r due → IsRest r
-  go (in_body lt i none) = i.rest
-  go (after_body o) = λ le. absurd (omega (arith, ap length o.rest))
-at_rest (position.PdvHead left bytes) r due a = a.inside.rest
-at_rest (position.Fragment left more) r due a = go a where
-  by : (later : List Mark) → AfterPdv left r later → IsRest r
-  by later (over o) = λ le. absurd (omega (arith, ap length o.rest))
-  by later (leftover t l) = l.inside.rest
-  by later (another lt t x) = x.inside.rest
-
-  go : AtFragment left more r due → IsRest r
-  go (in_fragment lt f) = f.inside.rest
-  go (after_fragment zero x) = by x.later x.next
-at_rest (position.Leftover left) r due a = a.inside.rest
-at_rest (position.Skipped kind left) r due a = λ le. absurd (omega (arith, ap length a.rest))
-
--- bytes that the frame has room for
-rest_or_frame : (r c : List ℕ) → IsRest r → 6 ≤ length r → length c ≤ room_left r → IsRest (r ++ c) ⊎ IsFrame (r ++ c)
-rest_or_frame r c rest headed le = elim (cases_lt (length c) (room_left r)) [
-  | inl lt ↦ inl ((more r c headed).goes lt)
-  | inr ge ↦ inr ((more r c headed).ends rest (omega (arith, le)))
-]
-
-comes_marks : (r c : List ℕ) (ms : List Mark) (s : Spot) → Comes r c ms s → IsRest r → 6 ≤ length r → length c ≤ room_left r → (ys : List Mark) × (new_marks r c ≡ ms ++ ys)
-comes_marks r c ms s comes rest headed le = elim (rest_or_frame r c rest headed le) [
-  | inl q ↦ ([], (comes.goes_on q).marks ∙ sym (append-nil ms))
-  | inr w ↦ (end_mark (r ++ c) ∷ [], (comes.ends w).marks)
-]
-
--- where a head is whole
-head_rest : (f : List ℕ) → length f ≡ 6 → IsRest f ⊎ IsFrame f
-head_rest f six = elim (cases_lt 0 (frame_length f)) [
-  | inl lt ↦ inl (λ _. omega (arith, six, lt))
-  | inr ge ↦ inr (record { headed = omega (arith, six); filled = omega (arith, six, ge) })
-]
-
-short_rest : (r c : List ℕ) → length r < 6 → length (r ++ c) ≡ 6 → length (rest_of (r ++ c)) ≤ 6
-short_rest r c lt six = elim (head_rest (r ++ c) six) [
-  | inl q ↦ omega (arith, ap length (rest_alone (r ++ c) q), six)
-  | inr w ↦ omega (arith, ap length ((head_done r c lt six).ends w).rest)
-]
-
-body_of_end : (a b : ℕ) (x y : List ℕ) → End a x ∷ [] ≡ End b y ∷ [] → x ≡ y
-body_of_end a b x y e = cc
 
 -- after the head of a frame that has no presentation data values
 head_settled : (r c : List ℕ) (kind left : ℕ) (later : List Mark) → length r < 6 → length (r ++ c) ≡ 6 → left ≡ frame_length (r ++ c) → (m : Mark) → new_marks r c ≡ m ∷ later → AtBody kind left (rest_of (r ++ c)) later → Settled (rest_of (r ++ c)) later

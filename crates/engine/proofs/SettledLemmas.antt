@@ -1,24 +1,25 @@
 -- The marks of events, a frame with one more part, and what is due where nothing of a body is pending.
-use Rattle.std.proofs.Common.{◌≡◌, ℕ, ◌+◌, ◌-◌, ◌<◌, ◌≤◌, true, nat_eq, List, [], ◌∷◌, ◌++◌, length, take, drop, get_or, refl, sym, ap, subst, ◌∙◌, arith, inl, inr}
-use Rattle.std.proofs.lemmas.Bool.{cases_Bool}
+use Rattle.std.proofs.Common.{◌≡◌, ℕ, ◌+◌, ◌-◌, ◌<◌, ◌≤◌, true, nat_eq, List, [], ◌∷◌, ◌++◌, length, take, drop, get_or, refl, sym, ap, subst, ◌∙◌, arith, inl, inr, ◌⊎◌}
+use Rattle.std.proofs.lemmas.Bool.{cases_Bool, cases_lt}
 use Rattle.std.proofs.lemmas.Bool.Decides.{nat_tests}
-use Rattle.std.proofs.lemmas.List.{length-append, length-drop, drop_all, take_all}
+use Rattle.std.proofs.lemmas.List.{length-append, length-drop, drop_all, take_all, append-nil}
 use Rattle.byteorder.specs.Endian.{big_number}
 use Rattle.pdu.specs.declared.head.PduHead.{PduHead}
 use Rattle.pdu.specs.declared.position.Position.{Position}
-use Rattle.pdu.specs.declared.position.Position.TheVariants as position
-use Rattle.pdu.specs.declared.event.Event.TheVariants as event
-use Rattle.pdu.specs.Frames.{IsFrame, IsRest}
-use Rattle.pdu.specs.Marks.{Mark, Head, PdvHead, Pdv, BadPdv, Leftover, End, pdv_size, pdv_mark, frame_kind, frame_length}
-use Rattle.pdu.specs.Spot.{InPdv, spot, room_left}
+use Rattle.pdu.specs.Frames.{IsFrame, IsRest, rest_of}
+use Rattle.pdu.specs.Marks.{Mark, Head, PdvHead, Pdv, BadPdv, Leftover, End, pdv_size, pdv_mark, frame_kind, frame_length, new_marks}
+use Rattle.pdu.specs.Spot.{InPdv, spot, room_left, Spot}
 use Rattle.pdu.specs.Events.{event_of}
-use Rattle.pdu.specs.Deframing.{At, AtBody, in_body, after_body}
+use Rattle.pdu.specs.Deframing.{At, AtBody, in_body, after_body, AtFragment, in_fragment, after_fragment, AfterPdv, over, leftover, another}
 use Rattle.pdu.specs.Steps.{IsInHead, IsInPdvHead, FollowsPdv}
-use Rattle.pdu.proofs.Public.{same_frame, spot_opening, in_data}
+use Rattle.pdu.proofs.Public.{same_frame, spot_opening, in_data, rest_alone, head_done}
 use Rattle.engine.specs.Reached.{begun_in}
 use Rattle.engine.specs.Kept.{body_in}
 use Rattle.engine.specs.FrameFields.{body_of}
 use Rattle.engine.specs.machine.Shows.{Pending}
+use Rattle.pdu.specs.Parts.{Comes, end_mark}
+use Rattle.pdu.specs.declared.position.Position.TheVariants as position
+use Rattle.pdu.specs.declared.event.Event.TheVariants as event
 
 -- ---- a frame with one more part
 
@@ -167,3 +168,53 @@ quiet_after_pdv (position.Skipped kind left) t = absurd t
 
 pub quiet_plain : (q : Position) (left : ℕ) → q ≡ position.Body 4 left → Quiet q
 quiet_plain q left is = subst Quiet (sym is) refl
+
+-- ---- where a frame or an unfinished one stands
+
+pub at_rest : (q : Position) (r : List ℕ) (due : List Mark) → At q r due → IsRest r
+at_rest (position.Head bytes) r due a = let lt : length r < 6 = a.short in λ le. absurd (omega arith)
+at_rest (position.Body kind left) r due a = go a where
+  go : AtBody kind left r due → IsRest r
+  go (in_body lt i none) = i.rest
+  go (after_body o) = λ le. absurd (omega (arith, ap length o.rest))
+at_rest (position.PdvHead left bytes) r due a = a.inside.rest
+at_rest (position.Fragment left more) r due a = go a where
+  by : (later : List Mark) → AfterPdv left r later → IsRest r
+  by later (over o) = λ le. absurd (omega (arith, ap length o.rest))
+  by later (leftover t l) = l.inside.rest
+  by later (another lt t x) = x.inside.rest
+
+  go : AtFragment left more r due → IsRest r
+  go (in_fragment lt f) = f.inside.rest
+  go (after_fragment zero x) = by x.later x.next
+at_rest (position.Leftover left) r due a = a.inside.rest
+at_rest (position.Skipped kind left) r due a = λ le. absurd (omega (arith, ap length a.rest))
+
+-- bytes that the frame has room for
+pub rest_or_frame : (r c : List ℕ) → IsRest r → 6 ≤ length r → length c ≤ room_left r → IsRest (r ++ c) ⊎ IsFrame (r ++ c)
+rest_or_frame r c rest headed le = elim (cases_lt (length c) (room_left r)) [
+  | inl lt ↦ inl ((more r c headed).goes lt)
+  | inr ge ↦ inr ((more r c headed).ends rest (omega (arith, le)))
+]
+
+pub comes_marks : (r c : List ℕ) (ms : List Mark) (s : Spot) → Comes r c ms s → IsRest r → 6 ≤ length r → length c ≤ room_left r → (ys : List Mark) × (new_marks r c ≡ ms ++ ys)
+comes_marks r c ms s comes rest headed le = elim (rest_or_frame r c rest headed le) [
+  | inl q ↦ ([], (comes.goes_on q).marks ∙ sym (append-nil ms))
+  | inr w ↦ (end_mark (r ++ c) ∷ [], (comes.ends w).marks)
+]
+
+-- where a head is whole
+pub head_rest : (f : List ℕ) → length f ≡ 6 → IsRest f ⊎ IsFrame f
+head_rest f six = elim (cases_lt 0 (frame_length f)) [
+  | inl lt ↦ inl (λ _. omega (arith, six, lt))
+  | inr ge ↦ inr (record { headed = omega (arith, six); filled = omega (arith, six, ge) })
+]
+
+pub short_rest : (r c : List ℕ) → length r < 6 → length (r ++ c) ≡ 6 → length (rest_of (r ++ c)) ≤ 6
+short_rest r c lt six = elim (head_rest (r ++ c) six) [
+  | inl q ↦ omega (arith, ap length (rest_alone (r ++ c) q), six)
+  | inr w ↦ omega (arith, ap length ((head_done r c lt six).ends w).rest)
+]
+
+pub body_of_end : (a b : ℕ) (x y : List ℕ) → End a x ∷ [] ≡ End b y ∷ [] → x ≡ y
+body_of_end a b x y e = cc
