@@ -20,22 +20,29 @@ dcmbox: FORCE
 .PHONY: FORCE
 FORCE:
 
-# Looks at what the crates cite of each other and whether the documents that scripts make are fresh, tries the scripts
-# that look, proves every crate and its tests from nothing, tries the must-fail edits, runs the tests and the program,
-# and then tries the program from outside: with invalid arguments and missing files, under strace, with the tools of
-# DCMTK, as a Debian package, and as docs/DEPLOY.md has it. What of strace, DCMTK, exFAT's tools, lintian, HAProxy,
-# stunnel and systemd is missing it installs.
+# Looks at what the crates cite of each other, whether the documents that scripts make are fresh and whether what claims
+# name is there, tries the scripts that look, proves every crate and its tests from nothing, tries the must-fail edits,
+# runs the tests and the program, and then tries the program from outside: with invalid arguments and missing files,
+# along docs/TOUR.md, under strace, with the tools of DCMTK, by what its log tells, with several peers at once, as a
+# Debian package, and as docs/DEPLOY.md has it. What of pydicom, dicom3tools, DCMTK and its headers, strace, curl,
+# openssl, exFAT's tools, lintian, HAProxy, stunnel and systemd is missing it installs.
 test:
 	tests/layers.sh
 	tests/definitions.py
 	tests/booklet.py
 	tests/tables.py
+	tools/storage-classes --check
+	tools/keywords --check
 	tests/names.py
+	tests/claims.py
 	tests/scripts.py
 	rt ci
 	tests/tables.py --program $(PROGRAM)
 	tests/program.sh $(PROGRAM)
+	tests/tour.py $(PROGRAM)
 	tests/interop.sh $(PROGRAM)
+	tests/log.sh $(PROGRAM)
+	tests/several.sh $(PROGRAM)
 	tests/package.sh $(PROGRAM)
 	tests/deploy.sh $(PROGRAM)
 

@@ -117,15 +117,18 @@ def ratio(value, floor):
     return f"{value / floor:.2f}" if floor else "-"
 
 
-def table(title, names, results):
-    floor = results["sink"]
-    print(f"\n{title}\n")
-    print("| Server | Wall time | Processor time | Peak memory |")
-    print("|---|---|---|---|")
+def table(titles, names, results):
+    """Prints a row for each server, with its wall time, processor time and peak memory for each corpus."""
+    print("| Server | " + " | ".join(titles) + " |")
+    print("|" + "---|" * (len(titles) + 1))
     for name in names:
-        got = results[name]
-        print(f"| `{name}` | {ratio(got[0], floor[0])} | {ratio(got[1], floor[1])} | {got[2] / 1024:.1f} MiB |")
-    print(f"\nThe sink: {floor[0]:.3f} s by the clock, {floor[1]:.3f} s of processor time.")
+        cells = []
+        for title in titles:
+            got, floor = results[title, name], results[title, "sink"]
+            cells.append(f"{ratio(got[0], floor[0])}, {ratio(got[1], floor[1])}, {got[2] / 1024:.1f}")
+        print(f"| `{name}` | " + " | ".join(cells) + " |")
+    floors = [results[title, "sink"] for title in titles]
+    print("| `sink`, in s | " + " | ".join(f"{wall:.3f}, {processor:.3f}" for wall, processor, _ in floors) + " |")
 
 
 def compare(program, work, rounds, log):
@@ -142,8 +145,7 @@ def compare(program, work, rounds, log):
         for title, sender in senders.items():
             for name, words_of in starts.items():
                 runs[title, name].append(measured(work, words_of, sender, log))
-    for title in senders:
-        table(title, starts, {name: medians(runs[title, name]) for name in starts})
+    table(list(senders), starts, {key: medians(got) for key, got in runs.items()})
 
 
 def growth(program, work, rounds, log):
@@ -158,6 +160,55 @@ def growth(program, work, rounds, log):
     for count in (1000, 2000, 4000):
         runs = [measured(work, words_of, send(work, "tiny", str(count)), log) for _ in range(rounds)]
         print(f"| {count} stores of 1 KiB | {medians(runs)[1] / (count / 1e3):.3f} s |")
+
+
+def together(work, corpus, count, at_once):
+    """Eight clients that send as many images each, at once or one after the other."""
+    def sender(_folder):
+        words = [f"{work}/client", str(PORT), corpus, str(count)]
+        begun = time.monotonic()
+        if at_once:
+            clients = [subprocess.Popen(words, stdout=subprocess.DEVNULL) for _ in range(8)]
+            assert all(client.wait() == 0 for client in clients)
+        else:
+            for _ in range(8):
+                subprocess.run(words, stdout=subprocess.DEVNULL, check=True)
+        return time.monotonic() - begun
+
+    return sender
+
+
+def several(program, work, rounds, log):
+    """Eight senders at once, and peers that come alone to a box for several."""
+    starts = servers(program, work)
+    boxes = {}
+    for name in ("dcmbox --no-sync", "dcmbox"):
+        boxes[name] = starts[name]
+        boxes[f"{name} --at-once 16"] = (
+            lambda words_of: lambda folder: words_of(folder) + ["--at-once", "16", "--per-peer", "16"])(starts[name])
+    print("\n### Eight senders at once\n")
+    print("Wall time beside that of the same eight, one after the other, and peak memory.\n")
+    print("| Box | Each sends | At once | Peak memory |")
+    print("|---|---|---|---|")
+    for corpus, count, title in (("ct", 50, "50 CT of 512 KiB"), ("tiny", 250, "250 of 1 KiB")):
+        for name in ("dcmbox --no-sync --at-once 16", "dcmbox --at-once 16"):
+            runs = {at_once: [] for at_once in (True, False)}
+            for _ in range(rounds):
+                for at_once, got in runs.items():
+                    got.append(measured(work, boxes[name], together(work, corpus, count, at_once), log))
+            one, other = medians(runs[True]), medians(runs[False])
+            print(f"| `{name}` | {title} | {ratio(one[0], other[0])} | {one[2] / 1024:.1f} MiB |")
+    print("\nOne sender alone, beside the box that serves one after the other:\n")
+    print("| Box | Sends | Wall time | Processor time | Peak memory |")
+    print("|---|---|---|---|---|")
+    for corpus, title in CORPORA:
+        for name in ("dcmbox --no-sync", "dcmbox"):
+            runs = {box: [] for box in (name, f"{name} --at-once 16")}
+            for _ in range(rounds):
+                for box, got in runs.items():
+                    got.append(measured(work, boxes[box], send(work, corpus), log))
+            one, other = medians(runs[f"{name} --at-once 16"]), medians(runs[name])
+            print(f"| `{name} --at-once 16` | {title} | {ratio(one[0], other[0])} | {ratio(one[1], other[1])} | {one[2] / 1024:.1f} MiB |")
 
 
 def filled(program, work, rounds, log):
@@ -201,25 +252,45 @@ def own_patient(n):
     ))
 
 
+def spent(words, folder):
+    """Processor seconds and peak resident bytes of a command in a folder, or None where it fails."""
+    process = subprocess.Popen(words, cwd=folder, stdout=subprocess.DEVNULL, stderr=subprocess.DEVNULL)
+    _, status, usage = os.wait4(process.pid, 0)
+    process.returncode = os.waitstatus_to_exitcode(status)
+    return (usage.ru_utime + usage.ru_stime, usage.ru_maxrss * 1024) if process.returncode == 0 else None
+
+
 def indexing(program, work, rounds):
-    """Cost of a directory by the number of its images, each of another patient."""
-    print("\nGrowth of `dcmbox index`: processor seconds for each 1,000 images, each of a patient of its own\n")
-    print("| Images | Processor time |")
-    print("|---|---|")
-    for count in (1000, 2000, 4000):
+    """Cost of a directory by the number of its images, each of another patient, beside that of dcmmkdir."""
+    print("\nGrowth of `dcmbox index`: processor seconds for each 1,000 images, each of a patient of its own, and peak memory")
+    print("by the image above that for 1,000; beside DCMTK's `dcmmkdir`, which is not asked where it would take hours\n")
+    print("| Images | `index` | Memory | `dcmmkdir` | Memory |")
+    print("|---|---|---|---|---|")
+    least = {}
+    for count in (1000, 4000, 20_000, 100_000):
         folder = tempfile.mkdtemp(dir=work)
         for n in range(1, count + 1):
             with open(f"{folder}/I{n:07d}", "wb") as file:
                 file.write(own_patient(n))
-        runs = []
-        for _ in range(rounds):
-            before = resource.getrusage(resource.RUSAGE_CHILDREN)
-            words = [program, "index", folder, "--uid", "2.25.1"]
-            done = subprocess.run(words, stdout=subprocess.PIPE, check=True)
-            after = resource.getrusage(resource.RUSAGE_CHILDREN)
-            assert done.stdout == f"records {4 * count}\n".encode(), done.stdout
-            runs.append(after.ru_utime + after.ru_stime - before.ru_utime - before.ru_stime)
-        print(f"| {count} | {statistics.median(runs) / (count / 1e3):.3f} s |")
+        row = f"| {count} |"
+        commands = {
+            "index": [program, "index", folder, "--uid", "2.25.1", "--replace"],
+            "dcmmkdir": ["dcmmkdir", "-Pgp", "+r", "+id", ".", "+D", "OTHER"],
+        }
+        for name, words in commands.items():
+            if name == "dcmmkdir" and count > 4000:
+                row += " | |"
+                continue
+            runs = [spent(words, folder) for _ in range(rounds if count < 20_000 else 1)]
+            if None in runs:
+                row += " fails | |"
+                continue
+            seconds = statistics.median(run[0] for run in runs)
+            memory = statistics.median(run[1] for run in runs)
+            least.setdefault(name, memory)
+            grown = f"{(memory - least[name]) / (count - 1000):,.0f} bytes" if count > 1000 else ""
+            row += f" {seconds / (count / 1e3):.3f} s | {grown or f'{memory / 2**20:.1f} MiB in all'} |"
+        print(row)
 
 
 def starting(program, work, rounds, log):
@@ -269,6 +340,7 @@ def main():
         compiled(work)
         compare(program, work, given.rounds, log)
         growth(program, work, given.rounds, log)
+        several(program, work, given.rounds, log)
         filled(program, work, given.rounds, log)
         indexing(program, work, given.rounds)
         starting(program, work, given.rounds, log)

@@ -16,16 +16,20 @@ _dcmbox() {
       mapfile -t COMPREPLY < <(compgen -W '127.0.0.1 0.0.0.0 ::' -- "$current")
       return
       ;;
-    --port | --ae | --caller | --timeout | --idle | --max-pdu | --max-data | --per | --cut | --uid)
+    --log)
+      mapfile -t COMPREPLY < <(compgen -W 'text json' -- "$current")
+      return
+      ;;
+    --port | --ae | --caller | --timeout | --idle | --max-pdu | --max-data | --per | --at-once | --per-peer | --longest | --stop-file | --grace | --storage-class | --cut | --tag | --uid)
       return
       ;;
   esac
   case ${COMP_WORDS[1]} in
-    serve) options='--port --out --bind --ae --caller --timeout --idle --max-pdu --max-data --per --no-sync --once --help' ;;
-    replay) options='--out --ae --cut --per --help' ;;
-    show) options='--help' ;;
-    check) options='--help' ;;
-    index) options='--uid --keep --help' ;;
+    serve) options='--port --out --bind --ae --caller --timeout --idle --max-pdu --max-data --verbose --quiet --log --per --no-sync --once --at-once --per-peer --longest --stop-file --grace --all-storage --storage-class --help' ;;
+    replay) options='--out --ae --cut --per --all-storage --storage-class --help' ;;
+    show) options='--recursive --values --tag --json --help' ;;
+    check) options='--recursive --strict --json --help' ;;
+    index) options='--uid --new-uid --keep --replace --help' ;;
     checkdir) options='--help' ;;
     help) options='serve replay show check index checkdir' ;;
     *) return ;;

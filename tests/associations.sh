@@ -64,10 +64,13 @@ echoes() {
 listen --once --timeout 5
 echoes
 report 'the recorded echo over TCP'
-line='\[INFO  cli::serve\] 20[0-9-]+T[0-9:.]+Z 127\.0\.0\.1:[0-9]+ Ended held 0 files 0 dropped 0 received 260 in [0-9]+ s'
+start='\[INFO  cli::serve\] 20[0-9-]{8}T[0-9:]{8}\.[0-9]{3}Z '
+line="${start}127\.0\.0\.1:[0-9]+ Ended held 0 files 0 dropped 0 received 260 in [0-9]+ s"
+line="$line calling \"SCANNER1\" called \"DCMBOX\" released contexts 1 of 1 stored 0 refused 0 failed 0"
+whole="${start}listening on 127\.0\.0\.1:$port"$'\n'"$line"$'\n'"${start}stopped"
 ended
-[ "$?" -eq 0 ] && [ ! -s out.txt ] && [[ $(cat err.txt) =~ ^$line$ ]]
-report 'its log has one line, and nothing is printed'
+[ "$?" -eq 0 ] && [ ! -s out.txt ] && [[ $(cat err.txt) =~ ^$whole$ ]]
+report 'its log has its line, and nothing is printed'
 
 listen --timeout 2 --idle 4
 
@@ -119,12 +122,17 @@ logged 'Ended held 0 files 0 dropped 0 received 170 in \([6-9]\|1[0-9]\) s'
 report 'its association ends'
 
 timeout 20 "$program" serve --port $port --out . >out.txt 2>err2.txt
-[ "$?" -eq 3 ] && grep -q 'dcmbox: \.: the folder can.t be opened: .*' err2.txt
+[ "$?" -eq 3 ] && grep -q 'dcmbox: \.: the folder can.t be opened: .*; end the other program that receives into it' err2.txt
 report 'a folder that another box receives into'
 mkdir -p other
 timeout 20 "$program" serve --port $port --out other >out.txt 2>err2.txt
 [ "$?" -eq 3 ] && grep -q "dcmbox: $port: can.t be listened on: .*choose another port" err2.txt
 report 'a port that is in use'
+for address in localhost 192.0.2.1; do
+  timeout 20 "$program" serve --port $port --out other --bind $address >out.txt 2>err2.txt
+  [ "$?" -eq 3 ] && grep -q "dcmbox: $address: can't be listened on: .*--bind takes an IP address of this machine" err2.txt
+  report "the address $address, which this machine does not have"
+done
 
 echoes
 report 'the next peer is served'
@@ -132,40 +140,54 @@ logged 'received 260 in'
 report 'and logged'
 kill "$listening"
 wait "$listening" 2>/dev/null
-[ "$(wc -l <err.txt)" -eq 5 ]
+[ "$(grep -c ' Ended held ' err.txt)" -eq 5 ]
 report 'one line an association'
 
 # Two stores, the second cut in its data set, and then both whole: each association counts its own files and drafts.
 head -c 500 stores.bin >cut_stores.bin
 printf '%s\nend\n' "$(head -n -1 "$here/expected/two_stores.txt" | tr -d '\n' | head -c 566)" >first_reply.txt
-listen --timeout 2
-answers cut_stores.bin first_reply.txt
-report 'a store, and another that is cut'
-logged 'Ended held 0 files 1 dropped 1 received 500 in'
-report 'the file and the draft are counted'
-answers stores.bin "$here/expected/two_stores.txt"
-report 'two stores over TCP'
-logged 'Ended held 0 files 2 dropped 0 received 534 in'
-report 'their files alone are counted'
-kill "$listening"
-wait "$listening" 2>/dev/null
 
-# Without a free descriptor no connection is accepted, until there is one again.
-listen --timeout 2
-echoes
-logged 'received 260 in'
-free=0
-while [ -e "/proc/$listening/fd/$free" ]; do free=$((free + 1)); done
-prlimit --pid "$listening" --nofile="$free:"
-connect
-logged '^\[ERROR cli::serve\] a connection could not be accepted: '
-report 'a connection that is not accepted'
-sleep 1
-[ "$(grep -c 'could not be accepted' err.txt)" -le 40 ]
-report 'the box waits before it tries again'
-exec 3>&-
-prlimit --pid "$listening" --nofile=256:
-echoes && [ "$(grep -c 'received 260 in' err.txt)" -ge 1 ]
-report 'serving goes on after it'
-kill "$listening"
-wait "$listening" 2>/dev/null
+# counts_its_own FORM OPTIONS.. : tries this with these options; the tests' names begin with the form.
+counts_its_own() {
+  local form=$1
+  shift
+  listen --timeout 2 "$@"
+  answers cut_stores.bin first_reply.txt
+  report "${form}a store, and another that is cut"
+  logged 'Ended held 0 files 1 dropped 1 received 500 in'
+  report "${form}the file and the draft are counted"
+  answers stores.bin "$here/expected/two_stores.txt"
+  report "${form}two stores over TCP"
+  logged 'Ended held 0 files 2 dropped 0 received 534 in'
+  report "${form}their files alone are counted"
+  kill "$listening"
+  wait "$listening" 2>/dev/null
+}
+
+# lacks_descriptors FORM OPTIONS.. : without a free descriptor no connection is accepted, until there is one again.
+lacks_descriptors() {
+  local form=$1 free=0
+  shift
+  listen --timeout 2 "$@"
+  echoes
+  logged 'received 260 in'
+  while [ -e "/proc/$listening/fd/$free" ]; do free=$((free + 1)); done
+  prlimit --pid "$listening" --nofile="$free:"
+  connect
+  logged '^\[ERROR cli::serve\] 20[^ ]*Z a connection could not be accepted: '
+  report "${form}a connection that is not accepted"
+  sleep 1
+  [ "$(grep -c 'could not be accepted' err.txt)" -le 40 ]
+  report "${form}the box waits before it tries again"
+  exec 3>&-
+  prlimit --pid "$listening" --nofile=256:
+  echoes && [ "$(grep -c 'received 260 in' err.txt)" -ge 1 ]
+  report "${form}serving goes on after it"
+  kill "$listening"
+  wait "$listening" 2>/dev/null
+}
+
+counts_its_own ''
+counts_its_own 'of several at once: ' --at-once 4
+lacks_descriptors ''
+lacks_descriptors 'of several at once: ' --at-once 4

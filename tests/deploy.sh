@@ -82,6 +82,7 @@ done
 # ---- the units: systemd takes them, and each starts a box
 
 install -D -m 755 "$program" root/usr/bin/dcmbox
+install -D -m 755 /bin/sh root/bin/sh
 "$source/packaging/make-units" /usr "$work/root/lib/systemd/system"
 install -D -m 644 "$source/packaging/dcmbox.default" root/etc/default/dcmbox
 for target in multi-user network-online sysinit basic shutdown; do

@@ -42,6 +42,27 @@ else
   skip 'stores without hard links' "no exFAT or vfat can be mounted here: $(tail -n 1 mount.txt)"
 fi
 
+# Nothing is served into a folder that can't be written into, and a try leaves nothing in one that can.
+mkdir fixed
+if mount -t tmpfs tmpfs fixed 2>mount.txt && mount -o remount,ro fixed 2>mount.txt; then
+  try 'a folder of a read-only disk' 3 '' "dcmbox: fixed: the folder can't be (opened|written into): Read-only file system .*; check that .*" \
+    serve --port 0 --out fixed
+else
+  skip 'a folder of a read-only disk' "no tmpfs can be mounted here: $(tail -n 1 mount.txt)"
+fi
+umount fixed 2>/dev/null
+mkdir untouched
+"$program" serve --port 0 --out untouched 2>err.txt &
+box=$!
+for _ in $(seq 100); do
+  grep -q 'listening on' err.txt && break
+  sleep 0.05
+done
+grep -q 'listening on' err.txt && [ -z "$(ls untouched)" ]
+report 'a folder that is served into is empty at first'
+kill "$box"
+wait "$box" 2>/dev/null
+
 # The directory of one image: 788 bytes, with its records at the places that are printed.
 hex "$here/data/directory.hex" >directory.bin
 records='0000000320 PATIENT
@@ -62,12 +83,13 @@ try 'a record type of control characters' 0 "${records% IMAGE} "'\?\[2 J\? I0000
 hex "$here/data/image.hex" >image.dcm
 mkdir one two
 cp image.dcm one/I0000001
-try 'an image is indexed' 0 'records 4' '' index one --uid 2.25.1
+one=$'records 4\nimages 1 left out 0'
+try 'an image is indexed' 0 "$one" '' index one --uid 2.25.1
 cmp directory.bin one/DICOMDIR
 report 'its directory, byte by byte'
 mkdir two/S0000001
 cp image.dcm two/S0000001/I0000001
-try 'an image in a folder of a folder is indexed' 0 'records 4' '' index two --uid 2.25.1
+try 'an image in a folder of a folder is indexed' 0 "$one" '' index two --uid 2.25.1
 try 'its directory is listed' 0 "$records S0000001/I0000001"$'\n''records 4' '' checkdir two/DICOMDIR
 
 # Two images of a series, one of another series of the study, a double, and one without Study ID.
@@ -80,7 +102,53 @@ put five/I0000003 398 2
 { head -c 406 image.dcm; printf '\0\0'; tail -c +411 image.dcm; } >five/I0000005
 try 'a folder of five' 0 'skipped I0000005 missing 0020,0010
 double I0000004
-records 7' '' index five --uid 2.25.1
+records 7
+images 3 left out 2' '' index five --uid 2.25.1
 timeout 60 "$program" checkdir five/DICOMDIR | sed 's/^[0-9]* *//' >listed.txt
 [ "$(tr '\n' ' ' <listed.txt)" = 'PATIENT STUDY SERIES IMAGE I0000001 IMAGE I0000002 SERIES IMAGE I0000003 records 7 ' ]
 report 'its records'
+
+# A directory that another program wrote stays, unless its images are kept or it is to be replaced. The value of the
+# implementation class UID is 13 bytes long in it, and a zero byte.
+mkdir others
+cp image.dcm others/I0000001
+place=$(grep -abo '2\.25\.20260101' directory.bin | head -n 1 | cut -d: -f1)
+cp directory.bin others/DICOMDIR
+put others/DICOMDIR "$place" '2.25.20260102'
+cp others/DICOMDIR before.bin
+try 'the directory of another program' 3 '' \
+  'dcmbox: others: the folder.s DICOMDIR was written by another program, and stays as it is; .*--keep.*--replace.*' \
+  index others --uid 2.25.1
+[ "$(ls others)" = $'DICOMDIR\nI0000001' ] && cmp others/DICOMDIR before.bin
+report 'it stays as it was'
+try 'its images are kept' 0 "$one" '' index others --uid 2.25.1 --keep
+cmp others/DICOMDIR directory.bin
+report 'their directory is this program.s'
+cp before.bin others/DICOMDIR
+try 'it is replaced where that is asked for' 0 "$one" '' index others --uid 2.25.1 --replace
+cmp others/DICOMDIR directory.bin
+report 'a directory takes its place'
+mv others/DICOMDIR others/DICOMDIR.bin
+mkdir others/DICOMDIR
+try 'a directory that can not be looked at' 3 '' \
+  "dcmbox: others: the folder's DICOMDIR can't be looked at: Is a directory.*--replace.*" index others --uid 2.25.1
+rmdir others/DICOMDIR
+
+for uid in 2.25.01 2..25 .2.25 2.25. 02.25; do
+  try "the UID $uid is taken and warned of" 0 "$one" \
+    'dcmbox: --uid is taken as it is, but a component of it is empty or begins with 0' index others --uid $uid
+done
+for uid in 2.0.25 0 2.25.10; do
+  try "the UID $uid is taken" 0 "$one" '' index others --uid $uid
+done
+
+# instance : the instance of the directory of a folder.
+instance() {
+  "$program" show "$1/DICOMDIR" | sed -n 's/^instance //p'
+}
+try 'a new UID' 0 "$one" '' index others --new-uid
+first=$(instance others)
+"$program" index others --new-uid >out.txt
+[[ $first =~ ^2\.25\.[1-9][0-9]{30,38}$ ]] && [[ $(instance others) =~ ^2\.25\.[1-9][0-9]{30,38}$ ]] &&
+  [ "$(instance others)" != "$first" ]
+report 'each new UID is another one'

@@ -231,6 +231,129 @@ check 'and the next image is taken' storescu "${to_box[@]}" image1.dcm
 stop
 check 'it is filed' holds titles image1.dcm
 
+# ---- a study of six classes, of which an image alone is one of the eleven
+
+# object NAME CLASS MODALITY NUMBER : writes an object of the study, with the elements that come on standard input.
+object() {
+  cat - >object.txt <<END
+(0008,0016) UI =$2
+(0008,0018) UI [2.25.5.$4]
+(0008,0020) DA [20260101]
+(0008,0030) TM [120000]
+(0008,0050) SH [A1]
+(0008,0060) CS [$3]
+(0010,0010) PN [DOE^JOHN]
+(0010,0020) LO [P1]
+(0020,000d) UI [2.25.2.2]
+(0020,000e) UI [2.25.3.1$4]
+(0020,0010) SH [S1]
+(0020,0011) IS [$4]
+(0020,0013) IS [$4]
+END
+  cat >>object.txt
+  dump2dcm -q +te object.txt "$1.dcm" || exit 1
+}
+
+sed -e 's/=SecondaryCaptureImageStorage/=CTImageStorage/; s/\[OT\]/[CT]/; s/2\.25\.2\.1/2.25.2.2/' image.txt >study.txt
+dump2dcm -q +te study.txt ct.dcm || exit 1
+object report ComprehensiveSRStorage SR 1 <<'END'
+(0040,a040) CS [CONTAINER]
+(0040,a043) SQ
+(fffe,e000) na
+(0008,0100) SH [121060]
+(0008,0102) SH [DCM]
+(0008,0104) LO [History]
+(fffe,e00d)
+(fffe,e0dd)
+(0040,a050) CS [SEPARATE]
+(0040,a491) CS [COMPLETE]
+(0040,a493) CS [UNVERIFIED]
+(0040,a730) SQ
+(fffe,e000) na
+(0040,a010) CS [CONTAINS]
+(0040,a040) CS [TEXT]
+(0040,a160) UT [No finding]
+(fffe,e00d)
+(fffe,e0dd)
+END
+object plan RTPlanStorage RTPLAN 2 <<'END'
+(300a,0002) SH [PLAN]
+(300a,000c) CS [TREATMENT_DEVICE]
+(300a,0070) SQ
+(fffe,e000) na
+(300a,0071) IS [1]
+(300a,0080) IS [0]
+(fffe,e00d)
+(fffe,e0dd)
+END
+object structures RTStructureSetStorage RTSTRUCT 3 <<'END'
+(3006,0002) SH [STRUCTURES]
+(3006,0039) SQ
+(fffe,e000) na
+(3006,0040) SQ
+(fffe,e000) na
+(3006,0042) CS [POINT]
+(3006,0046) IS [1]
+(3006,0050) DS [1.5\-2\0]
+(fffe,e00d)
+(fffe,e0dd)
+(3006,0084) IS [1]
+(fffe,e00d)
+(fffe,e0dd)
+END
+object state GrayscaleSoftcopyPresentationStateStorage PR 4 <<'END'
+(0070,0080) CS [STATE]
+(0070,0082) DA [20260101]
+(0070,0083) TM [120000]
+(2050,0020) CS [IDENTITY]
+END
+{ printf '%%PDF-1.4\n'; head -c 20000 /dev/urandom; printf '\n%%%%EOF\n '; } >document.pdf
+[ $(($(stat -c %s document.pdf) % 2)) -eq 0 ] || printf ' ' >>document.pdf
+object document EncapsulatedPDFStorage DOC 5 <<'END'
+(0042,0011) OB =document.pdf
+(0042,0012) LO [application/pdf]
+END
+study=(ct.dcm report.dcm plan.dcm structures.dcm state.dcm document.dcm)
+
+# Sends the study on one association, and counts the successes.
+successes() {
+  storescu -v -R "${to_box[@]}" "$@" 2>&1 | grep -c 'Received Store Response (Success)'
+}
+
+start study --all-storage || exit 1
+check 'a study of six classes' test "$(successes "${study[@]}")" -eq 6
+stop
+check 'its data sets as they were sent' holds study "${study[@]}"
+objects_are_read() {
+  for file in $(filed study); do
+    "$program" check "$file" | grep -q '^good ' || return 1
+    "$program" show "$file" | grep -q '^class 1\.2\.840\.10008\.5\.1\.4\.1\.1\.' || return 1
+  done
+}
+check 'check and show take its files' objects_are_read
+"$program" index study --uid 2.25.7.100 >indexed.txt
+check 'index leaves five of its files out' diff indexed.txt - <<'END'
+skipped I0000002 class 1.2.840.10008.5.1.4.1.1.88.33
+skipped I0000003 class 1.2.840.10008.5.1.4.1.1.481.5
+skipped I0000004 class 1.2.840.10008.5.1.4.1.1.481.3
+skipped I0000005 class 1.2.840.10008.5.1.4.1.1.11.1
+skipped I0000006 class 1.2.840.10008.5.1.4.1.1.104.1
+records 4
+images 1 left out 5
+END
+check 'its directory is good' dcmftest study/DICOMDIR
+
+start eleven || exit 1
+check 'without the option the image alone' test "$(successes "${study[@]}")" -eq 1
+stop
+check 'and it is filed' holds eleven ct.dcm
+
+start named --storage-class 1.2.840.10008.5.1.4.1.1.88.33 --storage-class 1.2.840.10008.5.1.4.1.1.481.5 || exit 1
+check 'the classes that are named' test "$(successes ct.dcm report.dcm plan.dcm)" -eq 3
+check 'and no other' test "$(successes ct.dcm report.dcm plan.dcm state.dcm)" -eq 3
+stop
+check 'they are filed' holds named ct.dcm report.dcm plan.dcm ct.dcm report.dcm plan.dcm
+
 # ---- a kill at any moment leaves whole files, one for each success that was told, and at most one draft
 
 mkdir -p killed

@@ -1,7 +1,9 @@
 #!/usr/bin/env bash
 # Tries the built program from outside: what it prints, where, and with which status.
 # Usage: tests/program.sh PROGRAM
-# It installs Debian's packages strace, exfatprogs, exfat-fuse, man-db, gcc and libc6-dev where their tools are missing.
+# It installs Debian's packages strace, exfatprogs, exfat-fuse, man-db, gcc, libc6-dev, bsdutils, dicom3tools and
+# python3-pydicom where their tools are missing.
+# What can't be tried on a machine is skipped, and that fails, too, unless MAY_SKIP says how many may be.
 set -u
 program=$(realpath "$1")
 here=$(realpath "$(dirname "$0")")
@@ -137,7 +139,6 @@ try 'a value is checked' 0 'note 0000000288 0008,0060 CS 1 BadCharacter
 good 312' '' check control.dcm
 try 'a file that is no DICOM file' 1 'fault 50 NotPart10 at 128' '' check text.bin
 try 'no file to show' 2 '' '.*FILE.*' show
-try 'two files to check' 2 '' '.*' check ct.dcm cut.dcm
 try 'help with an example' 0 '.*Example: dcmbox show .*' '' show --help
 try 'a missing file is shown' 3 '' 'dcmbox: missing.dcm: the file can.t be opened: .*check its name.*' show missing.dcm
 try 'a folder is checked' 3 '' 'dcmbox: \.: the file can.t be read: Is a directory.*' check .
@@ -146,16 +147,20 @@ mkdir -p odd/DICOMDIR
 cp ct.dcm folder/I0000001
 cp text.bin other/DICOMDIR
 try 'a folder is indexed' 0 'skipped I0000001 missing 0008,0020
-records 0' '' index folder --uid 2.25.1
+records 0
+images 0 left out 1' '' index folder --uid 2.25.1
 try 'its directory is good' 0 'records 0' '' checkdir folder/DICOMDIR
-try 'no UID' 2 '' '.*--uid.*' index folder
+try 'no UID' 2 '' 'error: index needs --uid UID, or --new-uid, which makes one' index folder
+try 'a UID and a new one' 2 '' 'error: --uid and --new-uid exclude each other' index folder --uid 2.25.1 --new-uid
 try 'a UID that is none' 2 '' '.*--uid takes a UID.*' index folder --uid 2.25.x
 try 'a missing folder is indexed' 3 '' 'dcmbox: missing: the folder can.t be opened: .*' index missing --uid 2.25.1
 try 'no directory whose files are kept' 3 '' 'dcmbox: empty: the folder.s DICOMDIR can.t be read: .*without --keep.*' index empty --uid 2.25.1 --keep
 try 'a folder in place of the directory' 3 '' 'dcmbox: odd: the folder.s DICOMDIR can.t be read: .*' index odd --uid 2.25.1 --keep
 try 'the directory is no DICOM file' 1 'fault 50 NotPart10 at 128' '' index other --uid 2.25.1 --keep
 try 'no port' 2 '' '.*--port.*' serve --out .
-try 'port 0' 2 '' '.*--port.*' serve --out . --port 0
+try 'a port past the greatest' 2 '' '.*--port.*' serve --out . --port 65536
+try 'a form that no log has' 2 '' '.*--log takes text or json.*' serve --out . --port 11112 --log xml
+try 'a log both quiet and not' 2 '' '.*--verbose and --quiet.*' serve --out . --port 11112 -v -q
 try 'a PDU that is too short' 2 '' '.*--max-pdu.*' serve --out . --port 11112 --max-pdu 1023
 callers=()
 for _ in $(seq 17); do callers+=(--caller SCANNER1); done
@@ -163,10 +168,13 @@ try 'too many titles' 2 '' '.*--caller.*16 times.*' serve --out . --port 11112 "
 try 'two titles' 3 '' 'dcmbox: missing: the folder .*' serve --out missing --port 11112 --caller SCANNER1 --caller SCANNER2
 try 'no time' 2 '' '.*--timeout.*' serve --out . --port 11112 --timeout 0
 try 'a folder that is not there' 3 '' 'dcmbox: missing: the folder can.t be opened: .*create it.*' replay empty.bin --out missing
+try 'a file in place of the folder' 3 '' 'dcmbox: empty\.bin: the folder can.t be opened: .*check that it is a folder.*' replay empty.bin --out empty.bin
 try 'a file that is not there' 3 '' 'dcmbox: missing.bin: the file can.t be opened: .*' replay missing.bin --out .
 try 'a folder in place of a file' 3 '' 'dcmbox: \.: the file can.t be read: .*' replay . --out .
 
+. "$here/inspecting.sh"
 . "$here/folders.sh"
+. "$here/classes.sh"
 . "$here/words.sh"
 
 # A listing of 1.4 MB, of which one line is read. The items of a sequence are its lines.
@@ -187,10 +195,10 @@ report 'a reader that has read enough'
 } | true
 [ "$(cat status.txt)" -eq 0 ] && [ ! -s err.txt ]
 report 'a reader that reads nothing'
-for command in 'show items.dcm' 'show ct.dcm' 'check ct.dcm' 'check cut.dcm' 'checkdir directory.bin' \
+for command in 'show items.dcm' 'show ct.dcm' 'check ct.dcm' 'check cut.dcm' 'check ./ct.dcm ./cut.dcm' 'checkdir directory.bin' \
   'checkdir cut_directory.bin' 'index one --uid 2.25.1' "replay $recordings/echo.bin --out ."; do
   timeout 60 "$program" $command >/dev/full 2>err.txt
-  [ "$?" -eq 3 ] && grep -q "dcmbox: .*: the output can't be written: No space left on device" err.txt
+  [ "$?" -eq 3 ] && grep -Eq "dcmbox: (.*: )?the output can't be written: No space left on device" err.txt
   report "a full disk for ${command%% *}"
 done
 
@@ -202,7 +210,9 @@ report 'a large file in little memory'
 
 . "$here/associations.sh"
 . "$here/system_calls.sh"
+. "$here/serving.sh"
 . "$here/large.sh"
+. "$here/memory.sh"
 
 # A recording of 1 GiB, which takes no room on the disk, and 400 MB of memory.
 truncate -s 1G large.bin
@@ -212,4 +222,4 @@ try 'too little memory for a recording' 3 '' "$memory" replay large.bin --out .
 try 'too little memory for a directory' 3 '' "$memory" checkdir large.bin
 
 echo "program: $passed passed, $failed failed, $skipped skipped"
-[ "$failed" -eq 0 ]
+[ "$failed" -eq 0 ] && [ "$skipped" -le "${MAY_SKIP:-0}" ]

@@ -1,16 +1,33 @@
-// Refuses the memory of one call of malloc or realloc, the one whose number, counted from 1, is in REFUSED; tells so by a
-// byte on descriptor 9. tests/words.sh loads it before the program.
+// Refuses memory; the scripts of the tests load it before the program. With REFUSED=N, the call of malloc or realloc of
+// this number, counted from 1, is refused; with REFUSED=signals, each call from SIGUSR1 on, until SIGUSR2 comes. It tells
+// of each by a byte on descriptor 9.
 #define _GNU_SOURCE
 #include <dlfcn.h>
 #include <errno.h>
+#include <signal.h>
 #include <stdlib.h>
+#include <string.h>
 #include <unistd.h>
 
 static long calls;
+static volatile sig_atomic_t refuses_all;
+
+static void on_signal(int number) {
+    refuses_all = number == SIGUSR1;
+}
+
+__attribute__((constructor)) static void listen_for_signals(void) {
+    struct sigaction action = {.sa_handler = on_signal, .sa_flags = SA_RESTART};
+    const char *refused = getenv("REFUSED");
+    if (refused && strcmp(refused, "signals") == 0) {
+        sigaction(SIGUSR1, &action, NULL);
+        sigaction(SIGUSR2, &action, NULL);
+    }
+}
 
 static int is_refused(void) {
     const char *number = getenv("REFUSED");
-    if (!number || ++calls != atol(number))
+    if (!refuses_all && (!number || ++calls != atol(number)))
         return 0;
     if (write(9, "x", 1) != 1)
         abort();

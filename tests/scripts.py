@@ -3,8 +3,9 @@
 
 scripts.py    fails where a script takes a tree with a fault, refuses it with another text, or refuses the right tree
 
-The small tree has two crates: `low`, whose contract cites the definitions `Small`, `◌or_else◌` and `◌>>=◌`, and which
-keeps the word `Loop` in its machine, and `high`, which cites `Small`. The scripts that make documents are tried on a
+The small tree has three crates: `low`, whose contract cites the definitions `Small`, `◌or_else◌` and `◌>>=◌`, and which
+keeps the word `Loop` in its machine; `high`, which cites `Small`; and `engine`, by which it is seen that no crate is let
+off for its name. The scripts that make documents are tried on a
 copy of this tree's documents, definitions and code.
 """
 import pathlib
@@ -16,7 +17,7 @@ import tempfile
 TESTS = pathlib.Path(__file__).resolve().parent
 
 TREE = {
-    "crates.txt": "low: the lower one\nhigh: the upper one\n",
+    "crates.txt": "low: the lower one\nhigh: the upper one\nengine: one of a name of this tree\n",
     "crates/low/specs/Lib.antt": "pub mod Small\npub mod machine\n",
     "crates/low/specs/machine.antt": "pub mod Loop\n",
     "crates/low/specs/machine/Loop.antt": "-- The loop.\n\nabbrev pub Loop : Type 0\nLoop = Unit {0}\n",
@@ -93,6 +94,11 @@ pub fn great() -> u8
     200
 }
 """,
+    "crates/engine/specs/Lib.antt": "pub mod Turns\npub mod machine\n",
+    "crates/engine/specs/machine.antt": "pub mod Turning\n",
+    "crates/engine/specs/machine/Turning.antt": "-- The turn.\n\nabbrev pub Turning : Type 0\nTurning = Unit {0}\n",
+    "crates/engine/specs/Turns.antt": "-- Turns (own).\nuse Rattle.std.specs.Prelude.{ℕ}\n\n-- one\nabbrev pub turns : ℕ\nturns = 1\n",
+    "crates/engine/src/lib.rt": "",
     "docs/DEFINITIONS_INDEX.md": """# Index of definitions
 
 ## Numbers (`low`)
@@ -102,6 +108,28 @@ pub fn great() -> u8
 | `Small`, `Number` | at most 9 |
 
 """,
+    "docs/PROVED.md": """# What is proved
+
+## Numbers (`low`)
+
+| Claim | Clause |
+|---|---|
+| A few are few | `either`, `first` of `few` |
+
+## Tested
+
+| Crate | What | By |
+|---|---|---|
+| `low` | that few are read | `high`, `tests/numbers.sh --all` |
+""",
+    "README.md": """# Numbers
+
+| Claim | Clause | A refused body |
+|---|---|---|
+| A great number isn't small | `great` of `high`, and `few` of `low` | `returns_a_few` |
+""",
+    "tests/numbers.sh": "few\n",
+    "crates/high/must-fail/great.returns_a_few.edit": "file: src/lib.rt\nold: 200\nnew: 3\n",
 }
 
 LOOP = "ghost use Rattle.low.specs.machine.Loop.{Loop};\n"
@@ -131,12 +159,19 @@ FAULTS = [
     ("an operator that the index misses", "definitions.py", [("docs/DEFINITIONS_INDEX.md", ", `◌or_else◌`", "")], "its index isn't what the public contracts reach"),
     ("a row of a word that doesn't exist", "definitions.py", [("docs/DEFINITIONS_INDEX.md", "| `Small`, `Number` |", "| `Small`, `Smaller` |")], "a row names a word that is no definition: low: Smaller"),
     ("a definition that stands on the machine", "layers.sh", [("crates/low/specs/Small.antt", "use Rattle.std", "use Rattle.low.specs.machine.Loop.{Loop}\nuse Rattle.std")], "low: a definition stands on the machine"),
+    ("a definition of engine that stands on the machine", "layers.sh", [("crates/engine/specs/Turns.antt", "use Rattle.std", "use Rattle.engine.specs.machine.Turning.{Turning}\nuse Rattle.std")], "engine: a definition stands on the machine"),
     ("a definition that names the machine as a whole", "layers.sh", [("crates/low/specs/Small.antt", "use Rattle.std", "use Rattle.low.specs.machine as loops\nuse Rattle.std")], "names the definitions or the proofs of a crate as a whole"),
     ("the definitions of a crate by another name", "layers.sh", [("crates/high/specs/Great.antt", "use Rattle.low.specs.Small.{Small}", "use Rattle.low.specs as low")], "names the definitions or the proofs of a crate as a whole"),
     ("the proofs of a crate by another name", "layers.sh", [("crates/high/specs/Great.antt", "use Rattle.low", "use Rattle.low.proofs as lemmas\nuse Rattle.low")], "names the definitions or the proofs of a crate as a whole"),
     ("a crate by another name", "layers.sh", [("crates/high/specs/Great.antt", "use Rattle.low", "use Rattle.low as low\nuse Rattle.low")], "names the definitions or the proofs of a crate as a whole"),
     ("the machine of another crate", "layers.sh", [("crates/high/specs/Great.antt", "use Rattle.low", "use Rattle.low.specs.machine.Loop.{Loop}\nuse Rattle.low")], "high: names the machine of another crate"),
     ("a lemma of another crate", "layers.sh", [("crates/high/specs/Great.antt", "use Rattle.low", "use Rattle.low.proofs.Lemmas.{small}\nuse Rattle.low")], "cites a lemma of low that is not in its module Public"),
+    ("a claim whose clause has another name", "claims.py", [("docs/PROVED.md", "`first` of `few`", "`third` of `few`")], "docs/PROVED.md:7: no crate of the claim has third"),
+    ("a claim whose function ensures another clause", "claims.py", [("docs/PROVED.md", "`first` of `few`", "`room` of `few`")], "docs/PROVED.md:7: few ensures no clause room"),
+    ("a claim under another crate", "claims.py", [("docs/PROVED.md", "## Numbers (`low`)", "## Numbers (`high`)")], "docs/PROVED.md:7: no crate of the claim has few"),
+    ("a claim of no crate", "claims.py", [("README.md", "`great` of", "`greater` of")], "README.md:5: no crate of the claim has greater"),
+    ("a test that is gone", "claims.py", [("docs/PROVED.md", "`tests/numbers.sh", "`tests/number.sh")], "docs/PROVED.md:13: there is no test tests/number.sh --all"),
+    ("a refused body that is gone", "claims.py", [("README.md", "`returns_a_few`", "`returns_few`")], "README.md:5: no edit is named returns_few"),
     ("a public lemma of no law", "layers.sh", [("crates/low/proofs/laws/small/Answers.antt", "{small}", "{large}")], "small is the contract of no law"),
 ]
 
@@ -153,6 +188,8 @@ COPY_FAULTS = [
     ("another help", "tables.py", [("crates/arguments/src/command.rt", "Ends after one association", "Ends after two associations")], "--once is not what serve has"),
     ("an option that the table misses", "tables.py", [("docs/tables.json", '"no-sync", "once"', '"no-sync"')], "serve has --once, too"),
     ("a limit that the code has not", "tables.py", [("docs/tables.json", '"1,024 bytes", "code": "COMMAND"', '"2,048 bytes", "code": "COMMAND"')], "Command set: the code has 1,024, and not 2,048 bytes"),
+    ("another version on the cover page", "tables.py", [("docs/CONFORMANCE.md", "| Version | ", "| Version | 9")], "docs/CONFORMANCE.md isn't what docs/tables.json gives"),
+    ("another version in the manual page", "tables.py", [("man/dcmbox.1", '"DCMBOX ', '"DCMBOX 9')], "man/dcmbox.1: its title doesn't name the version"),
     ("a table that was changed by hand", "tables.py", [("docs/CONFORMANCE.md", "| Command set | 1,024 bytes |", "| Command set | 2,048 bytes |")], "docs/CONFORMANCE.md isn't what docs/tables.json gives"),
     ("a completion that was changed by hand", "tables.py", [("packaging/dcmbox.bash", "--once", "--twice")], "packaging/dcmbox.bash isn't what docs/tables.json gives"),
     ("a type by the name of another crate's", "names.py", [("crates/acceptor/src/table.rt", "pub fn", "pub struct Walker;\n\npub fn")], "Walker means more than one thing"),
@@ -201,7 +238,7 @@ def refusal(script, edits, start):
 
 def main():
     passed = failed = 0
-    tries = [(f"{script} takes the small tree", script, [], None, make) for script in ("definitions.py", "layers.sh")]
+    tries = [(f"{script} takes the small tree", script, [], None, make) for script in ("definitions.py", "layers.sh", "claims.py")]
     tries += [(f"{fault[1]} refuses {fault[0]}", *fault[1:], make) for fault in FAULTS]
     tries += [(f"{fault[1]} refuses {fault[0]}", *fault[1:], copy) for fault in COPY_FAULTS]
     for what, script, edits, expected, start in tries:

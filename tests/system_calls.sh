@@ -29,44 +29,58 @@ traced -e trace=fsync,link "$program" replay stores.bin --out synced >out.txt 2>
 [ "$?" -eq 0 ] && [ "$(sed 's/(.*//' calls.txt | tr '\n' ' ')" = 'fsync link fsync fsync link fsync ' ]
 report 'a replay syncs its files'
 
-# serves OPTIONS.. : serves one association under strace with these options.
+# serves OPTIONS.. : serves one association under strace with these options; those of `form` are the box's.
+form=()
 serves() {
-  traced "$@" "$program" serve --once --timeout 2 --idle 4 --port $port --out . >out.txt 2>err.txt &
+  traced "$@" "$program" serve --once --timeout 2 --idle 4 --port $port --out . "${form[@]}" >out.txt 2>err.txt &
   listening=$!
 }
 
+# goes_on NAME : what the system takes and gives is taken and given whole, whether calls are interrupted or cut short;
+# the tests' names begin with the name.
+goes_on() {
+  serves -e trace=setsockopt
+  echoes
+  report "${1}an echo is served under strace"
+  ended
+  grep -q 'TCP_NODELAY, \[1\]' calls.txt
+  report "${1}what is sent is sent at once"
+
+  serves -e trace=recvfrom -e inject=recvfrom:error=EINTR:when=1+2
+  echoes && grep -q EINTR calls.txt
+  report "${1}receives that are interrupted"
+  ended
+  serves -e trace=sendto -e inject=sendto:error=EINTR:when=1+2
+  echoes && grep -q EINTR calls.txt
+  report "${1}sends that are interrupted"
+  ended
+
+  # Of the first send the system takes seven bytes, which strace keeps for itself.
+  serves -e trace=sendto -e inject=sendto:retval=7:when=1
+  connect
+  cat "$recordings/echo.bin" >&3
+  answer=$(timeout 20 head -c 262 <&3 | od -An -v -tx1 | tr -d ' \n')
+  exec 3>&-
+  [ "$answer" = "$(head -n -1 "$here/../crates/cli/stdout" | tr -d '\n' | tail -c +15)" ]
+  report "${1}a send that is cut short goes on"
+  ended
+}
+
+goes_on ''
 serves -e trace=setsockopt
 echoes
-report 'an echo is served under strace'
 ended
-grep -q 'TCP_NODELAY, \[1\]' calls.txt
-report 'what is sent is sent at once'
 grep -q 'SO_SNDTIMEO[A-Z_]*, \("\\4\\0\|{tv_sec=4,\)' calls.txt
 report 'a send waits for the idle time'
-
-serves -e trace=recvfrom -e inject=recvfrom:error=EINTR:when=1+2
-echoes
-report 'receives that are interrupted'
-ended
-serves -e trace=sendto -e inject=sendto:error=EINTR:when=1+2
-echoes
-report 'sends that are interrupted'
-ended
-
-# Of the first send the system takes seven bytes, which strace keeps for itself.
-serves -e trace=sendto -e inject=sendto:retval=7:when=1
-connect
-cat "$recordings/echo.bin" >&3
-answer=$(timeout 20 head -c 262 <&3 | od -An -v -tx1 | tr -d ' \n')
-exec 3>&-
-[ "$answer" = "$(head -n -1 "$here/../crates/cli/stdout" | tr -d '\n' | tail -c +15)" ]
-report 'a send that is cut short goes on'
-ended
 
 # The second option is the first of the connection's.
 serves -e trace=setsockopt -e inject=setsockopt:error=ENOBUFS:when=2
 connect
 exec 3>&-
-logged '^\[ERROR cli::serve\] 127\.0\.0\.1:[0-9]* the connection failed: No buffer space available'
+logged '^\[ERROR cli::serve\] 20[^ ]*Z 127\.0\.0\.1:[0-9]* the connection failed: No buffer space available'
 report 'a connection that fails is logged'
 ended
+
+form=(--at-once 4)
+goes_on 'of several at once: '
+form=()

@@ -1,5 +1,6 @@
 #!/usr/bin/env python3
-"""Makes the tables of limits, options, statuses and faults from docs/tables.json, their one place.
+"""Makes the tables of limits, options, statuses and faults from docs/tables.json, their one place, and the cover page of
+docs/CONFORMANCE.md from the code.
 
 tables.py                    fails where a document isn't what the table gives, or where the table
                              isn't what the code has
@@ -24,7 +25,7 @@ TABLES = json.loads((ROOT / "docs/tables.json").read_text())
 OPTIONS = TABLES["options"]
 # How the program's own table calls options with a letter.
 KINDS = {"Letter": "flag", "Switch": "flag"}
-FAULT_CRATES = ("element", "sequence", "dimse", "part10", "dicomdir")
+FAULT_CRATES = ("element", "values", "sequence", "dimse", "part10", "dicomdir")
 
 
 # ---- the man page
@@ -144,6 +145,23 @@ def store_faults():
     )
 
 
+def version():
+    """The version that the program says it has, and so the manual page and the cover page."""
+    text = (ROOT / "crates/arguments/src/command.rt").read_text()
+    return re.search(r'\.version\("([^"]+)"\)', text)[1]
+
+
+def cover():
+    text = (ROOT / "crates/dictionary/specs/Implementation.antt").read_text()
+    names = dict(re.findall(r'^(\w+) = codes "([^"]+)"', text, re.M))
+    rows = [
+        ["Version", version()],
+        ["Implementation class UID", f"`{names['implementation_class_uid']}`"],
+        ["Implementation version name", f"`{names['implementation_version_name']}`"],
+    ]
+    return table(["Product", "DCMBOX"], rows)
+
+
 def program_statuses():
     return table(
         ["Status", "Meaning"],
@@ -234,6 +252,7 @@ PARTS = {
         "faults": numbered([row for row in TABLES["faults"] if not row.get("only_store")]),
     },
     "docs/CONFORMANCE.md": {
+        "cover page": cover(),
         "limits": limits(),
         "statuses of a store": store_statuses(),
         "faults of a store": store_faults(),
@@ -377,6 +396,12 @@ def limit_faults():
     return faults
 
 
+def version_faults():
+    title = (ROOT / "man/dcmbox.1").read_text().splitlines()[0]
+    named = f'"DCMBOX {version()}"' in title
+    return [] if named else [f"man/dcmbox.1: its title doesn't name the version {version()}"]
+
+
 def help_faults(program):
     faults = []
     for command in TABLES["commands"]:
@@ -399,7 +424,7 @@ def main():
         if (ROOT / file).exists()
     }
     made["packaging/dcmbox.bash"] = completion()
-    faults = option_faults() + fault_faults() + limit_faults()
+    faults = option_faults() + fault_faults() + limit_faults() + version_faults()
     if ARGUMENTS[:1] == ["--write"]:
         for file, text in made.items():
             (ROOT / file).write_text(text)

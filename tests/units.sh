@@ -3,14 +3,17 @@
 # run_unit ROOT UNIT INSTANCE : runs the unit's command line, with the options of /etc/default/dcmbox, the program of the
 # root, and the folders of /var/lib in the root; its process is in $unit, its log in ROOT/UNIT.INSTANCE.log.
 run_unit() {
-  local root=$1 name=$2 instance=$3 command
+  local root=$1 name=$2 instance=$3 command folder
   command=$(sed -n 's/^ExecStart=//p' "$root/lib/systemd/system/$name" | sed "s/%i/$instance/g")
-  mkdir -p "$root$(sed -n 's,^StateDirectory=,/var/lib/,p' "$root/lib/systemd/system/$name" | sed "s/%i/$instance/g")"
+  for folder in $(sed -n 's,^StateDirectory=,/var/lib/,p; s,^RuntimeDirectory=,/run/,p' "$root/lib/systemd/system/$name"); do
+    mkdir -p "$root${folder//%i/$instance}"
+  done
   (
     DCMBOX_LISTEN='' DCMBOX_OPTIONS=''
     . "$root/etc/default/dcmbox"
     eval "command=\"$command\""
-    command=$root${command//\/var\/lib/$root\/var\/lib}
+    command=${command//\/var\/lib/$root\/var\/lib}
+    command=$root${command//\/run\//$root\/run\/}
     ulimit -v 16384
     exec $command 2>>"$root/$name.$instance.log"
   ) &

@@ -6,6 +6,7 @@
 mod action;
 mod effect;
 mod event;
+pub mod laws;
 mod state;
 mod table;
 

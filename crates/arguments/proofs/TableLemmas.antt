@@ -11,7 +11,7 @@ use Rattle.clap.specs.declared.builder.command.Command.TheOpen.{Command-F}
 use Rattle.arguments.specs.CommandLine.{with_rules, with_subcommands}
 use Rattle.arguments.specs.machine.Tables.{rule_for, app_for}
 use Rattle.arguments.specs.declared.argument.Argument.{Argument}
-use Rattle.arguments.specs.declared.argument.Argument.TheVariants.{Positional, Needed, Default, Free, Repeated, Flag}
+use Rattle.arguments.specs.declared.argument.Argument.TheVariants.{Positional, Several, Needed, Default, Free, Repeated, Flag, Letter}
 use Rattle.arguments.specs.declared.command.Subcommand.{Subcommand}
 
 -- a simple argument is not global, nor is a plain command
@@ -31,11 +31,13 @@ rule_local a e = last_not (is_empty a.overrides.items ∷ is_empty a.default_val
 
 rule_simple : (a : Argument) → (rule_for a).is_simple ≡ true
 rule_simple (Positional name help) = refl
+rule_simple (Several name help) = refl
 rule_simple (Needed name value help) = refl
 rule_simple (Default name value default help) = refl
 rule_simple (Free name value help) = refl
 rule_simple (Repeated name value help) = refl
 rule_simple (Flag name help) = refl
+rule_simple (Letter name letter help) = refl
 
 argument_local : (a : Arg) (x : Argument) → rule_of a ≡ rule_for x → a.global ≡ false
 argument_local a x e = rule_local a (ap (λ (r : Rule). r.is_simple) e ∙ rule_simple x)

@@ -1,5 +1,5 @@
 -- A subcommand by its name and its rows.
-use Rattle.std.proofs.Common.{◌≡◌, List, [], Option, Some, None, option_map, unwrap_or, map, Bor, refl, ap₂, sym, Box}
+use Rattle.std.proofs.Common.{◌≡◌, List, [], Option, Some, None, IfSome, option_map, unwrap_or, map, Bor, refl, ap₂, subst, sym, Box}
 use Rattle.std.specs.Box.{box_value}
 use Rattle.clap.specs.Walk.{Row, Text}
 use Rattle.clap.specs.Simple.{subcommand_rows}
@@ -19,3 +19,7 @@ pub values_by : (o : Option (Bor (List (Bor Text)))) (d : Bor (List (Bor Text)))
     → map (λ w. w.now) (unwrap_or o d).now ≡ unwrap_or r []
 values_by None d r e h = rw (← h, e) refl
 values_by (Some s) d r e h = rw (← h) refl
+
+pub if_some_at : {A : Type 0} (o : Option A) (a : A) (P : A → Type 0) → o ≡ Some a → IfSome o P → P a
+if_some_at None a P e h = absurd cc
+if_some_at (Some b) a P e h = let same : b ≡ a = cc in subst P same h

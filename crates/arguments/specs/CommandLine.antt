@@ -1,12 +1,14 @@
 -- The commands that the program knows, as clap defines a simple command, and what their arguments are.
-use Rattle.std.specs.Prelude.{◌≡◌, Bool, true, false, List, [], ◌∷◌, map, Option, Some, None, codes, option_map, unwrap_or}
+use Rattle.std.specs.Prelude.{◌≡◌, ℕ, Bool, true, false, List, [], ◌∷◌, map, Option, Some, None, codes, option_map, unwrap_or}
 use Rattle.clap.specs.Walk.{Row, Rule, Text, first_of, one_of, all_of}
 use Rattle.clap.specs.Simple.{App, new_app, new_rule, with_rule, with_subcommand, on_top}
 use Rattle.clap.specs.declared.builder.action.ArgAction.TheVariants.{SetTrue, Append}
+use Rattle.arguments.specs.declared.values.CheckArguments.{CheckArguments}
 use Rattle.arguments.specs.declared.values.FileArguments.{FileArguments}
 use Rattle.arguments.specs.declared.values.IndexArguments.{IndexArguments}
 use Rattle.arguments.specs.declared.values.ReplayArguments.{ReplayArguments}
 use Rattle.arguments.specs.declared.values.ServeArguments.{ServeArguments}
+use Rattle.arguments.specs.declared.values.ShowArguments.{ShowArguments}
 use Rattle.arguments.specs.declared.words.Job.{Job}
 use Rattle.arguments.specs.declared.words.Job.TheVariants.{Serve, Replay, Show, Check, Index, CheckDir}
 
@@ -15,6 +17,10 @@ use Rattle.arguments.specs.declared.words.Job.TheVariants.{Serve, Replay, Show, 
 -- a positional argument that has to be given
 abbrev pub positional : Text → Rule
 positional id = record (new_rule id) { required = true }
+
+-- a positional argument that has to be given, and may be given more than once
+abbrev pub several : Text → Rule
+several id = record (positional id) { action = Some Append }
 
 -- an option with a value that has to be given
 abbrev pub needed : Text → Rule
@@ -36,15 +42,20 @@ repeated id = record (new_rule id) { long = Some id; value_names = 1; action = S
 abbrev pub flag_rule : Text → Rule
 flag_rule id = record (new_rule id) { long = Some id; action = Some SetTrue }
 
+-- an option without a value that has a letter, too
+abbrev pub letter_rule : Text → ℕ → Rule
+letter_rule id letter = record (flag_rule id) { short = Some letter }
+
 abbrev pub with_rules : App → List Rule → App
 with_rules app [] = app
 with_rules app (rule ∷ rules) = with_rules (with_rule app rule) rules
 
 abbrev pub replay_app : App
 replay_app = with_rules (new_app (codes "replay"))
-    (positional (codes "FILE") ∷ needed (codes "out") ∷ optional (codes "ae") (codes "DCMBOX") ∷ optional (codes "cut") (codes "4096") ∷ free (codes "per") ∷ [])
+    (positional (codes "FILE") ∷ needed (codes "out") ∷ optional (codes "ae") (codes "DCMBOX") ∷ optional (codes "cut") (codes "4096") ∷ free (codes "per")
+    ∷ flag_rule (codes "all-storage") ∷ repeated (codes "storage-class") ∷ [])
 
--- `serve`: who is served where, the timeouts and limits, and how files are kept
+-- `serve`: who is served where, the timeouts and limits, how much is logged and how, how files are kept, and of which classes
 abbrev pub listening_app : App
 listening_app = with_rules (new_app (codes "serve"))
     (needed (codes "port") ∷ needed (codes "out") ∷ optional (codes "bind") (codes "127.0.0.1") ∷ optional (codes "ae") (codes "DCMBOX")
@@ -55,16 +66,35 @@ limited_app = with_rules listening_app
     (optional (codes "timeout") (codes "30") ∷ optional (codes "idle") (codes "600")
     ∷ optional (codes "max-pdu") (codes "16384") ∷ optional (codes "max-data") (codes "1099511627776") ∷ [])
 
+-- -v, -q
+abbrev pub logging_app : App
+logging_app = with_rules limited_app (letter_rule (codes "verbose") 118 ∷ letter_rule (codes "quiet") 113 ∷ free (codes "log") ∷ [])
+
+abbrev pub filing_app : App
+filing_app = with_rules logging_app (free (codes "per") ∷ flag_rule (codes "no-sync") ∷ flag_rule (codes "once") ∷ [])
+
+-- and how many are served at once, how long, and how that is ended
 abbrev pub serve_app : App
-serve_app = with_rules limited_app (free (codes "per") ∷ flag_rule (codes "no-sync") ∷ flag_rule (codes "once") ∷ [])
+serve_app = with_rules filing_app (optional (codes "at-once") (codes "1") ∷ free (codes "per-peer") ∷ free (codes "longest")
+    ∷ free (codes "stop-file") ∷ optional (codes "grace") (codes "10") ∷ flag_rule (codes "all-storage") ∷ repeated (codes "storage-class") ∷ [])
 
 -- a command that takes one file
 abbrev pub file_app : Text → App
 file_app name = with_rule (new_app name) (positional (codes "FILE"))
 
+-- `show` and `check` take several files; -r
+abbrev pub files_app : Text → App
+files_app name = with_rules (new_app name) (several (codes "FILE") ∷ letter_rule (codes "recursive") 114 ∷ [])
+
+abbrev pub show_app : App
+show_app = with_rules (files_app (codes "show")) (flag_rule (codes "values") ∷ repeated (codes "tag") ∷ flag_rule (codes "json") ∷ [])
+
+abbrev pub check_app : App
+check_app = with_rules (files_app (codes "check")) (flag_rule (codes "strict") ∷ flag_rule (codes "json") ∷ [])
+
 abbrev pub index_app : App
 index_app = with_rules (new_app (codes "index"))
-    (positional (codes "DIR") ∷ needed (codes "uid") ∷ flag_rule (codes "keep") ∷ [])
+    (positional (codes "DIR") ∷ free (codes "uid") ∷ flag_rule (codes "new-uid") ∷ flag_rule (codes "keep") ∷ flag_rule (codes "replace") ∷ [])
 
 abbrev pub with_subcommands : App → List App → App
 with_subcommands app [] = app
@@ -72,7 +102,7 @@ with_subcommands app (sub ∷ subs) = with_subcommands (with_subcommand app sub.
 
 abbrev pub the_command : App
 the_command = with_subcommands (on_top (λ s. record s { has_version = true; subcommand_required = true }) (new_app (codes "dcmbox")))
-    (serve_app ∷ replay_app ∷ file_app (codes "show") ∷ file_app (codes "check") ∷ index_app ∷ file_app (codes "checkdir") ∷ [])
+    (serve_app ∷ replay_app ∷ show_app ∷ check_app ∷ index_app ∷ file_app (codes "checkdir") ∷ [])
 
 -- ---- the arguments
 
@@ -89,17 +119,34 @@ pub record IsFlag (rows : List Row) (id : Text) (given : Bool) : Type 0 where
 abbrev pub IsFile : FileArguments → List Row → Type 0
 IsFile a rows = first_of (codes "FILE") rows ≡ Some a.file.now
 
+pub record IsShow (a : ShowArguments) (rows : List Row) : Type 0 where
+  pub files : map (λ w. w.now) a.files.items ≡ values_of rows (codes "FILE")
+  pub recursive : IsFlag rows (codes "recursive") a.recursive
+  pub values : IsFlag rows (codes "values") a.values
+  pub tags : map (λ w. w.now) a.tags.items ≡ values_of rows (codes "tag")
+  pub json : IsFlag rows (codes "json") a.json
+
+pub record IsCheck (a : CheckArguments) (rows : List Row) : Type 0 where
+  pub files : map (λ w. w.now) a.files.items ≡ values_of rows (codes "FILE")
+  pub recursive : IsFlag rows (codes "recursive") a.recursive
+  pub strict : IsFlag rows (codes "strict") a.strict
+  pub json : IsFlag rows (codes "json") a.json
+
 pub record IsReplay (a : ReplayArguments) (rows : List Row) : Type 0 where
   pub file : first_of (codes "FILE") rows ≡ Some a.file.now
   pub out : first_of (codes "out") rows ≡ Some a.out.now
   pub ae : first_of (codes "ae") rows ≡ Some a.ae.now
   pub cut : first_of (codes "cut") rows ≡ Some a.cut.now
   pub per : first_of (codes "per") rows ≡ option_map (λ w. w.now) a.per
+  pub all_storage : IsFlag rows (codes "all-storage") a.all_storage
+  pub storage_classes : map (λ w. w.now) a.storage_classes.items ≡ values_of rows (codes "storage-class")
 
 pub record IsIndex (a : IndexArguments) (rows : List Row) : Type 0 where
   pub dir : first_of (codes "DIR") rows ≡ Some a.dir.now
-  pub uid : first_of (codes "uid") rows ≡ Some a.uid.now
+  pub uid : first_of (codes "uid") rows ≡ option_map (λ w. w.now) a.uid
+  pub new_uid : IsFlag rows (codes "new-uid") a.new_uid
   pub keep : IsFlag rows (codes "keep") a.keep
+  pub replace : IsFlag rows (codes "replace") a.replace
 
 pub record IsServe (a : ServeArguments) (rows : List Row) : Type 0 where
   pub port : first_of (codes "port") rows ≡ Some a.port.now
@@ -111,16 +158,26 @@ pub record IsServe (a : ServeArguments) (rows : List Row) : Type 0 where
   pub idle : first_of (codes "idle") rows ≡ Some a.idle.now
   pub max_pdu : first_of (codes "max-pdu") rows ≡ Some a.max_pdu.now
   pub max_data : first_of (codes "max-data") rows ≡ Some a.max_data.now
+  pub verbose : IsFlag rows (codes "verbose") a.verbose
+  pub quiet : IsFlag rows (codes "quiet") a.quiet
+  pub log : first_of (codes "log") rows ≡ option_map (λ w. w.now) a.log
   pub per : first_of (codes "per") rows ≡ option_map (λ w. w.now) a.per
   pub no_sync : IsFlag rows (codes "no-sync") a.no_sync
   pub once : IsFlag rows (codes "once") a.once
+  pub at_once : first_of (codes "at-once") rows ≡ Some a.at_once.now
+  pub per_peer : first_of (codes "per-peer") rows ≡ option_map (λ w. w.now) a.per_peer
+  pub longest : first_of (codes "longest") rows ≡ option_map (λ w. w.now) a.longest
+  pub stop_file : first_of (codes "stop-file") rows ≡ option_map (λ w. w.now) a.stop_file
+  pub grace : first_of (codes "grace") rows ≡ Some a.grace.now
+  pub all_storage : IsFlag rows (codes "all-storage") a.all_storage
+  pub storage_classes : map (λ w. w.now) a.storage_classes.items ≡ values_of rows (codes "storage-class")
 
 -- the job is that of the subcommand, with its arguments
 abbrev pub Names : Job → Option (Text × List Row) → Type 0
 Names job None = ⊥
 Names (Serve a) (Some (name, rows)) = (name ≡ codes "serve") × IsServe a rows
 Names (Replay a) (Some (name, rows)) = (name ≡ codes "replay") × IsReplay a rows
-Names (Show a) (Some (name, rows)) = (name ≡ codes "show") × IsFile a rows
-Names (Check a) (Some (name, rows)) = (name ≡ codes "check") × IsFile a rows
+Names (Show a) (Some (name, rows)) = (name ≡ codes "show") × IsShow a rows
+Names (Check a) (Some (name, rows)) = (name ≡ codes "check") × IsCheck a rows
 Names (Index a) (Some (name, rows)) = (name ≡ codes "index") × IsIndex a rows
 Names (CheckDir a) (Some (name, rows)) = (name ≡ codes "checkdir") × IsFile a rows

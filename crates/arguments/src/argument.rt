@@ -2,7 +2,7 @@
 ghost use Rattle.std.specs.Prelude.{◌≡◌, IfOk, map};
 ghost use Rattle.clap.specs.Walk.{rule_of};
 ghost use Rattle.clap.specs.Simple.{app_of};
-ghost use Rattle.arguments.specs.CommandLine.{free, with_rules};
+ghost use Rattle.arguments.specs.CommandLine.{flag_rule, free, with_rules};
 ghost use Rattle.arguments.specs.machine.Tables.{rule_for};
 
 use clap::{Arg, ArgAction, Command};
@@ -13,6 +13,8 @@ use std::alloc::{AllocError, Global};
 pub enum Argument<'a> {
     /// Given by its place.
     Positional(&'a str, &'a str),
+    /// Given by its place, once or more often.
+    Several(&'a str, &'a str),
     /// An option that has to be given.
     Needed(&'a str, &'a str, &'a str),
     /// An option with a default.
@@ -23,6 +25,8 @@ pub enum Argument<'a> {
     Repeated(&'a str, &'a str, &'a str),
     /// An option without a value.
     Flag(&'a str, &'a str),
+    /// An option without a value that has a letter, too.
+    Letter(&'a str, char, &'a str),
 }
 
 /// Returns an option that may be left out.
@@ -35,12 +39,26 @@ fn free_option<'a>(alloc: Global, name: &'a str, value: &'a str, help: &'a str) 
         .help(help)
 }
 
+/// Returns an option without a value.
+fn flag<'a>(alloc: Global, name: &'a str, help: &'a str) -> Arg<'a>
+    ensures { rule_of result ≡ flag_rule name.entry.now }
+{
+    Arg::new(alloc, name)
+        .long(name)
+        .action(ArgAction::SetTrue)
+        .help(help)
+}
+
 /// Returns clap's argument.
 fn argument_for<'a>(alloc: Global, argument: Argument<'a>) -> Arg<'a>
     ensures { rule_of result ≡ rule_for argument.entry }
 {
     match argument {
         Argument::Positional(name, help) => Arg::new(alloc, name).required(true).help(help),
+        Argument::Several(name, help) => Arg::new(alloc, name)
+            .required(true)
+            .action(ArgAction::Append)
+            .help(help),
         Argument::Needed(name, value, help) => {
             free_option(alloc, name, value, help).required(true)
         }
@@ -51,12 +69,8 @@ fn argument_for<'a>(alloc: Global, argument: Argument<'a>) -> Arg<'a>
         Argument::Repeated(name, value, help) => {
             free_option(alloc, name, value, help).action(ArgAction::Append)
         }
-        Argument::Flag(name, help) => {
-            Arg::new(alloc, name)
-                .long(name)
-                .action(ArgAction::SetTrue)
-                .help(help)
-        }
+        Argument::Flag(name, help) => flag(alloc, name, help),
+        Argument::Letter(name, letter, help) => flag(alloc, name, help).short(letter),
     }
 }
 

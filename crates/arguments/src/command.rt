@@ -19,10 +19,14 @@ struct Subcommand<'a> {
 
 const SERVE: Subcommand<'static> = Subcommand {
     name: "serve",
-    about: "Receives images from scanners, one association after the other",
+    about: "Receives images from scanners",
     example: "Example: dcmbox serve --port 11112 --out received --bind 0.0.0.0 --ae DCMBOX --caller SCANNER1",
     arguments: &[
-        Argument::Needed("port", "PORT", "The TCP port to listen on, from 1 to 65535"),
+        Argument::Needed(
+            "port",
+            "PORT",
+            "The TCP port to listen on, up to 65535; 0 takes a free one",
+        ),
         Argument::Needed("out", "DIR", "The folder that received files go to"),
         Argument::Default("bind", "ADDRESS", "127.0.0.1", "The address to listen on"),
         Argument::Default(
@@ -60,6 +64,13 @@ const SERVE: Subcommand<'static> = Subcommand {
             "1099511627776",
             "The longest data set that is taken, from 1024 to 2^48",
         ),
+        Argument::Letter("verbose", 'v', "Logs a line for each store, too"),
+        Argument::Letter("quiet", 'q', "Logs warnings and errors alone"),
+        Argument::Free(
+            "log",
+            "FORM",
+            "How lines are logged: text, the default, or json",
+        ),
         Argument::Free(
             "per",
             "FILES",
@@ -70,6 +81,39 @@ const SERVE: Subcommand<'static> = Subcommand {
             "Answers a store before its file is surely on the disk",
         ),
         Argument::Flag("once", "Ends after one association"),
+        Argument::Default(
+            "at-once",
+            "COUNT",
+            "1",
+            "How many associations are served at once, from 1 to 64",
+        ),
+        Argument::Free(
+            "per-peer",
+            "COUNT",
+            "How many of them one address may have, from 1 to 64; half of them where none is given",
+        ),
+        Argument::Free(
+            "longest",
+            "SECONDS",
+            "How long an association may last, from 1 to 86400; as long as it likes where none is given",
+        ),
+        Argument::Free(
+            "stop-file",
+            "FILE",
+            "A file whose appearance ends the program in good order",
+        ),
+        Argument::Default(
+            "grace",
+            "SECONDS",
+            "10",
+            "How long stores that have begun may go on then, from 0 to 86400",
+        ),
+        Argument::Flag("all-storage", "Takes every storage class of the standard"),
+        Argument::Repeated(
+            "storage-class",
+            "UID",
+            "A further storage class that is taken, up to 16 times",
+        ),
     ],
 };
 
@@ -97,33 +141,62 @@ const REPLAY: Subcommand<'static> = Subcommand {
             "FILES",
             "Files into folders of so many, from 1 to 9999",
         ),
+        Argument::Flag("all-storage", "Takes every storage class of the standard"),
+        Argument::Repeated(
+            "storage-class",
+            "UID",
+            "A further storage class that is taken, up to 16 times",
+        ),
     ],
 };
 
 const SHOW: Subcommand<'static> = Subcommand {
     name: "show",
-    about: "Lists the elements of a DICOM file, without their values",
+    about: "Lists the elements of DICOM files",
     example: "Example: dcmbox show received/I0000001",
-    arguments: &[Argument::Positional("FILE", "A DICOM file")],
+    arguments: &[
+        Argument::Several("FILE", "A DICOM file; - stands for standard input"),
+        Argument::Letter("recursive", 'r', "Takes the files in folders, too"),
+        Argument::Flag("values", "Shows the value of each element after its line"),
+        Argument::Repeated(
+            "tag",
+            "TAG",
+            "An element that is shown, as 0010,0020, and no other is but those of further --tag",
+        ),
+        Argument::Flag("json", "Writes a JSON object for each file"),
+    ],
 };
 
 const CHECK: Subcommand<'static> = Subcommand {
     name: "check",
-    about: "Checks a DICOM file: its first fault, and the values that break the rules of their VR",
+    about: "Checks DICOM files: their first fault, and the values that break the rules of their VR",
     example: "Example: dcmbox check received/I0000001",
-    arguments: &[Argument::Positional("FILE", "A DICOM file")],
+    arguments: &[
+        Argument::Several("FILE", "A DICOM file; - stands for standard input"),
+        Argument::Letter("recursive", 'r', "Takes the files in folders, too"),
+        Argument::Flag(
+            "strict",
+            "Holds values to the whole table of VRs, and ends with status 1 after a note",
+        ),
+        Argument::Flag("json", "Writes a JSON object for each file"),
+    ],
 };
 
 const INDEX: Subcommand<'static> = Subcommand {
     name: "index",
     about: "Writes the DICOMDIR of a folder of received files",
-    example: "Example: dcmbox index received --uid 2.25.1",
+    example: "Example: dcmbox index received --new-uid",
     arguments: &[
         Argument::Positional("DIR", "The folder of received files"),
-        Argument::Needed("uid", "UID", "The SOP instance UID of the directory"),
+        Argument::Free("uid", "UID", "The SOP instance UID of the directory"),
+        Argument::Flag("new-uid", "Makes the SOP instance UID, in place of --uid"),
         Argument::Flag(
             "keep",
             "Takes the files that the folder's DICOMDIR names, not those that are there",
+        ),
+        Argument::Flag(
+            "replace",
+            "Writes over a DICOMDIR that another program wrote",
         ),
     ],
 };

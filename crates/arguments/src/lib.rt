@@ -6,5 +6,8 @@ mod command;
 mod values;
 mod words;
 
-pub use values::{FileArguments, IndexArguments, MOST_VALUES, ReplayArguments, ServeArguments};
+pub use values::{
+    CheckArguments, FileArguments, IndexArguments, MOST_VALUES, ReplayArguments, ServeArguments,
+    ShowArguments,
+};
 pub use words::{Job, WordsError, read_words};

@@ -1,12 +1,13 @@
 //! The values of a command's arguments, as they were given or by default.
-ghost use Rattle.std.specs.Prelude.{◌≡◌, ◌<◌, ◌≤◌, ◌&&◌, IfSome, IfNone, Some, false, length, map, take};
+ghost use Rattle.std.specs.Prelude.{◌≡◌, ◌<◌, ◌≤◌, ◌&&◌, IfSome, IfNone, IfOk, Some, false, length, map, take};
 ghost use Rattle.clap.specs.Matches.{found_of};
 ghost use Rattle.clap.specs.Walk.{rows_of, first_of};
-ghost use Rattle.arguments.specs.CommandLine.{IsFile, IsReplay, IsIndex, IsServe, values_of};
-ghost use Rattle.arguments.specs.machine.Needs.{have_values, file_needs, replay_needs, index_needs, serve_needs, callers_fit};
+ghost use Rattle.arguments.specs.CommandLine.{IsFile, IsShow, IsCheck, IsReplay, IsIndex, IsServe, values_of};
+ghost use Rattle.arguments.specs.machine.Needs.{have_values, file_needs, replay_needs, index_needs, serve_needs, callers_fit, classes_fit};
 
 use arrayvec::ArrayVec;
 use clap::ArgMatches;
+use std::alloc::{AllocError, Global};
 
 /// How often an argument may be given that may be given more than once.
 pub const MOST_VALUES: usize = 16;
@@ -17,6 +18,25 @@ pub struct FileArguments<'a> {
     pub file: &'a str,
 }
 
+/// The arguments of `show`.
+#[derive(Debug, Drop)]
+pub struct ShowArguments<'a> {
+    pub files: Vec<&'a str>,
+    pub recursive: bool,
+    pub values: bool,
+    pub tags: Vec<&'a str>,
+    pub json: bool,
+}
+
+/// The arguments of `check`.
+#[derive(Debug, Drop)]
+pub struct CheckArguments<'a> {
+    pub files: Vec<&'a str>,
+    pub recursive: bool,
+    pub strict: bool,
+    pub json: bool,
+}
+
 /// The arguments of `replay`.
 #[derive(Debug, Drop)]
 pub struct ReplayArguments<'a> {
@@ -25,14 +45,19 @@ pub struct ReplayArguments<'a> {
     pub ae: &'a str,
     pub cut: &'a str,
     pub per: Option<&'a str>,
+    pub all_storage: bool,
+    /// At most 16 of them count.
+    pub storage_classes: ArrayVec<&'a str, MOST_VALUES>,
 }
 
 /// The arguments of `index`.
 #[derive(Debug, Drop)]
 pub struct IndexArguments<'a> {
     pub dir: &'a str,
-    pub uid: &'a str,
+    pub uid: Option<&'a str>,
+    pub new_uid: bool,
     pub keep: bool,
+    pub replace: bool,
 }
 
 /// The arguments of `serve`.
@@ -48,22 +73,33 @@ pub struct ServeArguments<'a> {
     pub idle: &'a str,
     pub max_pdu: &'a str,
     pub max_data: &'a str,
+    pub verbose: bool,
+    pub quiet: bool,
+    pub log: Option<&'a str>,
     pub per: Option<&'a str>,
     pub no_sync: bool,
     pub once: bool,
+    pub at_once: &'a str,
+    pub per_peer: Option<&'a str>,
+    pub longest: Option<&'a str>,
+    pub stop_file: Option<&'a str>,
+    pub grace: &'a str,
+    pub all_storage: bool,
+    /// At most 16 of them count.
+    pub storage_classes: ArrayVec<&'a str, MOST_VALUES>,
 }
 
-/// The values of up to eight arguments, in order.
+/// The values of up to ten arguments, in order.
 #[derive(Drop)]
-struct Texts<'a>([&'a str; 8]);
+struct Texts<'a>([&'a str; 10]);
 
 /// Returns the first value of each argument, or `None` where one has none.
 fn texts_of<'a>(matches: &ArgMatches<'a>, ids: &[&str]) -> Option<Texts<'a>>
-    requires { length ids.now ≤ 8 }
+    requires { length ids.now ≤ 10 }
     ensures some { IfSome result (λ t. map (λ id. first_of id.now (rows_of (found_of matches.now))) ids.now ≡ map (λ v. Some v.now) (take (length ids.now) t.0)) }
     ensures none { IfNone result (have_values (rows_of (found_of matches.now)) (map (λ id. id.now) ids.now) ≡ false) }
 {
-    let mut found = Texts([""; 8]);
+    let mut found = Texts([""; 10]);
     for place in 0..ids.len() {
         found.0[place] = matches.get_str(ids[place])?;
     }
@@ -79,19 +115,75 @@ pub fn file_arguments<'a>(matches: &ArgMatches<'a>) -> Option<FileArguments<'a>>
     Some(FileArguments { file })
 }
 
-/// Returns the arguments of `replay`, where each has its value.
+/// Returns the values of an argument that may be given more than once.
+fn all_values<'a>(
+    alloc: Global,
+    matches: &ArgMatches<'a>,
+    id: &str,
+) -> Result<Vec<&'a str>, AllocError>
+    ensures { IfOk result (λ v. map (λ w. w.now) v.items ≡ values_of (rows_of (found_of matches.now)) id.now) }
+{
+    let given = matches.get_strs(id).unwrap_or(&[]);
+    let values = Vec::from_slice(alloc, given)?;
+    Ok(values)
+}
+
+/// Returns the arguments of `show`.
+pub fn show_arguments<'a>(
+    alloc: Global,
+    matches: &ArgMatches<'a>,
+) -> Result<ShowArguments<'a>, AllocError>
+    ensures { IfOk result (λ a. IsShow a (rows_of (found_of matches.now))) }
+{
+    let recursive = matches.get_flag("recursive");
+    let values = matches.get_flag("values");
+    let json = matches.get_flag("json");
+    let files = all_values(alloc, matches, "FILE")?;
+    let tags = all_values(alloc, matches, "tag")?;
+    Ok(ShowArguments {
+        files,
+        recursive,
+        values,
+        tags,
+        json,
+    })
+}
+
+/// Returns the arguments of `check`.
+pub fn check_arguments<'a>(
+    alloc: Global,
+    matches: &ArgMatches<'a>,
+) -> Result<CheckArguments<'a>, AllocError>
+    ensures { IfOk result (λ a. IsCheck a (rows_of (found_of matches.now))) }
+{
+    let recursive = matches.get_flag("recursive");
+    let strict = matches.get_flag("strict");
+    let json = matches.get_flag("json");
+    let files = all_values(alloc, matches, "FILE")?;
+    Ok(CheckArguments {
+        files,
+        recursive,
+        strict,
+        json,
+    })
+}
+
+/// Returns the arguments of `replay`, where each has its value and at most 16 storage classes are named.
 pub fn replay_arguments<'a>(matches: &ArgMatches<'a>) -> Option<ReplayArguments<'a>>
     ensures some { IfSome result (λ a. IsReplay a (rows_of (found_of matches.now))) }
-    ensures none { IfNone result (have_values (rows_of (found_of matches.now)) replay_needs ≡ false) }
+    ensures none { IfNone result ((have_values (rows_of (found_of matches.now)) replay_needs && classes_fit (rows_of (found_of matches.now))) ≡ false) }
 {
     let Texts([file, out, ae, cut, ..]) = texts_of(matches, &["FILE", "out", "ae", "cut"])?;
     let per = matches.get_str("per");
+    let storage_classes = values(matches, "storage-class")?;
     Some(ReplayArguments {
         file,
         out,
         ae,
         cut,
         per,
+        all_storage: matches.get_flag("all-storage"),
+        storage_classes,
     })
 }
 
@@ -102,13 +194,18 @@ pub fn index_arguments<'a>(matches: &ArgMatches<'a>) -> Option<IndexArguments<'a
 {
     Some(IndexArguments {
         dir: matches.get_str("DIR")?,
-        uid: matches.get_str("uid")?,
+        uid: matches.get_str("uid"),
+        new_uid: matches.get_flag("new-uid"),
         keep: matches.get_flag("keep"),
+        replace: matches.get_flag("replace"),
     })
 }
 
 /// Returns the values of an argument that may be given more than once, or `None` for more than 16.
-fn values<'a>(matches: &ArgMatches<'a>, id: &str) -> Option<ArrayVec<&'a str, MOST_VALUES>>
+pub(crate) fn values<'a>(
+    matches: &ArgMatches<'a>,
+    id: &str,
+) -> Option<ArrayVec<&'a str, MOST_VALUES>>
     ensures some { IfSome result (λ v. map (λ w. w.now) v.items ≡ values_of (rows_of (found_of matches.now)) id.now) }
     ensures none { IfNone result (16 < length (values_of (rows_of (found_of matches.now)) id.now)) }
 {
@@ -123,17 +220,40 @@ fn values<'a>(matches: &ArgMatches<'a>, id: &str) -> Option<ArrayVec<&'a str, MO
     Some(values)
 }
 
-/// Returns the arguments of `serve`, where each has its value and at most 16 titles may call.
+/// Returns the arguments of `serve`, where each has its value, at most 16 titles may call and at most 16
+/// storage classes are named.
 pub fn serve_arguments<'a>(matches: &ArgMatches<'a>) -> Option<ServeArguments<'a>>
     ensures some { IfSome result (λ a. IsServe a (rows_of (found_of matches.now))) }
-    ensures none { IfNone result ((have_values (rows_of (found_of matches.now)) serve_needs && callers_fit (rows_of (found_of matches.now))) ≡ false) }
+    ensures none { IfNone result ((have_values (rows_of (found_of matches.now)) serve_needs && (callers_fit (rows_of (found_of matches.now)) && classes_fit (rows_of (found_of matches.now)))) ≡ false) }
 {
-    let Texts([port, out, bind, ae, timeout, idle, max_pdu, max_data]) = texts_of(
+    let Texts(
+        [
+            port,
+            out,
+            bind,
+            ae,
+            timeout,
+            idle,
+            max_pdu,
+            max_data,
+            at_once,
+            grace,
+        ],
+    ) = texts_of(
         matches,
         &[
-            "port", "out", "bind", "ae", "timeout", "idle", "max-pdu", "max-data",
+            "port", "out", "bind", "ae", "timeout", "idle", "max-pdu", "max-data", "at-once",
+            "grace",
         ],
     )?;
+    let callers = values(matches, "caller")?;
+    let storage_classes = values(matches, "storage-class")?;
+    let verbose = matches.get_flag("verbose");
+    let quiet = matches.get_flag("quiet");
+    let log = matches.get_str("log");
+    let per_peer = matches.get_str("per-peer");
+    let longest = matches.get_str("longest");
+    let stop_file = matches.get_str("stop-file");
     Some(ServeArguments {
         port,
         out,
@@ -143,10 +263,19 @@ pub fn serve_arguments<'a>(matches: &ArgMatches<'a>) -> Option<ServeArguments<'a
         idle,
         max_pdu,
         max_data,
+        verbose,
+        quiet,
+        log,
         per: matches.get_str("per"),
         no_sync: matches.get_flag("no-sync"),
         once: matches.get_flag("once"),
-        // Last, since it alone has to be dropped where another is missing.
-        callers: values(matches, "caller")?,
+        at_once,
+        per_peer,
+        longest,
+        stop_file,
+        grace,
+        all_storage: matches.get_flag("all-storage"),
+        callers,
+        storage_classes,
     })
 }

@@ -8,8 +8,9 @@ ghost use Rattle.arguments.specs.CommandLine.{the_command, Names};
 
 use crate::command::command;
 use crate::values::{
-    FileArguments, IndexArguments, MOST_VALUES, ReplayArguments, ServeArguments, file_arguments,
-    index_arguments, replay_arguments, serve_arguments,
+    CheckArguments, FileArguments, IndexArguments, MOST_VALUES, ReplayArguments, ServeArguments,
+    ShowArguments, check_arguments, file_arguments, index_arguments, replay_arguments,
+    serve_arguments, show_arguments, values,
 };
 use clap::error::ErrorKind;
 use clap::{ArgMatches, Error};
@@ -23,10 +24,10 @@ pub enum Job<'a> {
     Serve(ServeArguments<'a>),
     /// Run a recorded association again.
     Replay(ReplayArguments<'a>),
-    /// List the elements of a file.
-    Show(FileArguments<'a>),
-    /// Check a file and its values.
-    Check(FileArguments<'a>),
+    /// List the elements of files.
+    Show(ShowArguments<'a>),
+    /// Check files and their values.
+    Check(CheckArguments<'a>),
     /// Write the directory of a folder.
     Index(IndexArguments<'a>),
     /// Check a directory and list its records.
@@ -60,28 +61,48 @@ fn refusal(alloc: Global, error: Error) -> WordsError {
     }
 }
 
-/// The only arguments that clap takes and this program does not: more titles than it keeps.
-fn too_many(alloc: Global) -> WordsError {
-    match format!(in alloc; "error: --caller may be given {MOST_VALUES} times at most\n") {
+/// The only arguments that clap takes and this program does not: more titles or storage classes than it
+/// keeps.
+fn too_many(alloc: Global, matches: &ArgMatches) -> WordsError {
+    let option = match values(matches, "caller") {
+        Some(_) => "storage-class",
+        None => "caller",
+    };
+    match format!(in alloc; "error: --{option} may be given {MOST_VALUES} times at most\n") {
         Ok(text) => WordsError::Refused(text),
         Err(error) => WordsError::Memory(error),
     }
 }
 
-/// Returns the job of a subcommand, or `None` for more titles than the program keeps.
-fn job_of<'a>(name: &str, matches: &ArgMatches<'a>) -> Option<Job<'a>>
+/// Returns the job of a subcommand that takes no list of files, or `None` for more titles or storage classes
+/// than the program keeps.
+fn job_without_files<'a>(name: &str, matches: &ArgMatches<'a>) -> Option<Job<'a>>
     ensures { IfSome result (λ job. Names job (Some (name.now, rows_of (found_of matches.now)))) }
 {
     let job = match name {
         "serve" => Job::Serve(serve_arguments(matches)?),
         "replay" => Job::Replay(replay_arguments(matches)?),
-        "show" => Job::Show(file_arguments(matches)?),
-        "check" => Job::Check(file_arguments(matches)?),
         "index" => Job::Index(index_arguments(matches)?),
         "checkdir" => Job::CheckDir(file_arguments(matches)?),
         _ => return None,
     };
     Some(job)
+}
+
+/// Returns the job of a subcommand, or `None` for more titles or storage classes than the program keeps.
+fn job_of<'a>(
+    alloc: Global,
+    name: &str,
+    matches: &ArgMatches<'a>,
+) -> Result<Option<Job<'a>>, AllocError>
+    ensures { IfOk result (λ found. IfSome found (λ job. Names job (Some (name.now, rows_of (found_of matches.now))))) }
+{
+    let job = match name {
+        "show" => Job::Show(show_arguments(alloc, matches)?),
+        "check" => Job::Check(check_arguments(alloc, matches)?),
+        _ => return Ok(job_without_files(name, matches)),
+    };
+    Ok(Some(job))
 }
 
 /// Reads the arguments of the command line, of which the first is the program's name.
@@ -100,10 +121,10 @@ pub fn read_words<'a>(alloc: Global, words: &'a [&'a str]) -> Result<Job<'a>, Wo
         Err(error) => return Err(refusal(alloc, error)),
     };
     let Some((name, inner)) = matches.subcommand() else {
-        return Err(too_many(alloc));
+        return Err(too_many(alloc, &matches));
     };
-    match job_of(name, inner) {
+    match job_of(alloc, name, inner)? {
         Some(job) => Ok(job),
-        None => Err(too_many(alloc)),
+        None => Err(too_many(alloc, inner)),
     }
 }

@@ -1,7 +1,8 @@
 //! What `checkdir` prints of a directory: a worked example, and every front of it.
 use crate::devices::{Device, Gives};
-use commands::{Outcome, ProgramError, checkdir_over};
-use linked_list_allocator::LocalHeap;
+use commands::{ProgramError, checkdir_over};
+use fixtures::refusing::Refusing;
+use inspection::Outcome;
 use std::alloc::{AllocError, Global};
 use std::test::Fail;
 
@@ -99,29 +100,29 @@ fn every_front_of_a_directory_has_a_fault(rt: HostRuntime) -> Result<(), Fail> {
     Ok(())
 }
 
-/// Returns whether the records of the directory are listed in a heap of this size; else memory ran out, and
-/// nothing is printed.
-fn lists_in(alloc: Global, mut bytes: &[u8], size: usize) -> Result<bool, Fail> {
-    let heap = LocalHeap::new(alloc, size)?;
+/// Lists the records over an allocator that refuses the call after so many others. Returns whether the call came;
+/// then memory ran out, and nothing is printed, and else the records are listed.
+fn is_refused(alloc: Global, mut bytes: &[u8], passed: u64) -> Result<bool, Fail> {
+    let refusing = Refusing::new(alloc, passed);
     let mut out = Vec::new(alloc);
-    match checkdir_over(&heap, &mut bytes, &mut out) {
-        Ok(Outcome::Good) if out.as_slice() == LISTED => Ok(true),
-        Err(ProgramError::Memory(_)) if out.is_empty() => Ok(false),
-        _ => Err(Fail::from("neither listed nor refused")),
+    let outcome = checkdir_over(&refusing, &mut bytes, &mut out);
+    match (outcome, refusing.has_refused()) {
+        (Ok(Outcome::Good), false) if out.as_slice() == LISTED => Ok(false),
+        (Err(ProgramError::Memory(_)), true) if out.is_empty() => Ok(true),
+        _ => Err(Fail::from("neither listed nor out of memory")),
     }
 }
 
-/// Heaps of rising sizes refuse each growth in turn, while the directory is read and after it.
+/// Whichever allocation is refused, while the directory is read and after it, `checkdir` fails because of memory.
 #[test]
-fn want_of_memory_is_told(rt: HostRuntime) -> Result<(), Fail> {
+fn each_allocation_is_refused(rt: HostRuntime) -> Result<(), Fail> {
     let alloc = rt.alloc();
     let file = one_image(alloc)?;
-    let mut refused = 0u32;
-    for size in 2..512usize {
-        if !lists_in(alloc, file.as_slice(), size * 16)? {
-            refused = refused.saturating_add(1);
+    for passed in 0..1000u64 {
+        if !is_refused(alloc, file.as_slice(), passed)? {
+            assert!(rt; 5 < passed);
+            return Ok(());
         }
     }
-    assert!(rt; 100 < refused && refused < 500, "{refused}");
-    Ok(())
+    Err(Fail::from("no run listed the records"))
 }

@@ -43,7 +43,27 @@ fn failed_devices_have_their_texts(rt: HostRuntime) -> Result<(), Fail> {
         ),
         Row(
             ProgramError::Folder(failed()),
-            "the folder can't be opened: timed out; create it, or end the other program that receives into it",
+            "the folder can't be opened: timed out; check that it is a folder, and that you may read it and write into it",
+        ),
+        Row(
+            ProgramError::MissingFolder(failed()),
+            "the folder can't be opened: timed out; create it, or check its name",
+        ),
+        Row(
+            ProgramError::BusyFolder(failed()),
+            "the folder can't be opened: timed out; end the other program that receives into it",
+        ),
+        Row(
+            ProgramError::UnwrittenFolder(failed()),
+            "the folder can't be written into: timed out; check that you may, and that its disk is not read-only or full",
+        ),
+        Row(
+            ProgramError::UnreadDirectory(failed()),
+            "the folder's DICOMDIR can't be looked at: timed out; check that you may read it, or write over it with --replace",
+        ),
+        Row(
+            ProgramError::Random(failed()),
+            "no UID can be made: timed out; give one with --uid",
         ),
         Row(
             ProgramError::NoDirectory(failed()),
@@ -58,11 +78,49 @@ fn failed_devices_have_their_texts(rt: HostRuntime) -> Result<(), Fail> {
             "the output can't be written: timed out; check that its disk has room",
         ),
         Row(
+            ProgramError::Serve(failed()),
+            "associations can't be served any more: timed out; start the program again",
+        ),
+        Row(
             ProgramError::Listen(failed()),
-            "can't be listened on: timed out; choose another port or address, or end what uses it",
+            "can't be listened on: timed out; choose another port, or end what uses it",
+        ),
+        Row(
+            ProgramError::Address(failed()),
+            "can't be listened on: timed out; --bind takes an IP address of this machine, or 0.0.0.0 for all of them, and no name",
         ),
     ];
     assert!(rt; are_printed(rt.alloc(), &rows)?);
+    Ok(())
+}
+
+/// What the system says of a folder, of an address and of a port decides what is to be done. A folder that got no memory
+/// to be listed has no fault.
+#[test]
+fn errors_are_about_what_is_wrong(rt: HostRuntime) -> Result<(), Fail> {
+    for kind in [
+        ErrorKind::NotFound,
+        ErrorKind::WouldBlock,
+        ErrorKind::PermissionDenied,
+        ErrorKind::OutOfMemory,
+    ] {
+        let is_told = match ProgramError::of_folder(io::Error::from(kind)) {
+            ProgramError::MissingFolder(error) => error.kind() == ErrorKind::NotFound,
+            ProgramError::BusyFolder(error) => error.kind() == ErrorKind::WouldBlock,
+            ProgramError::Folder(error) => error.kind() == ErrorKind::PermissionDenied,
+            ProgramError::Memory(_) => kind == ErrorKind::OutOfMemory,
+            _ => false,
+        };
+        assert!(rt; is_told);
+    }
+    for kind in [ErrorKind::AddrNotAvailable, ErrorKind::Unsupported] {
+        let told = ProgramError::of_listening(io::Error::from(kind));
+        assert!(rt; matches!(told, ProgramError::Address(_)));
+    }
+    for kind in [ErrorKind::AddrInUse, ErrorKind::PermissionDenied] {
+        let told = ProgramError::of_listening(io::Error::from(kind));
+        assert!(rt; matches!(told, ProgramError::Listen(_)));
+    }
     Ok(())
 }
 
@@ -83,6 +141,10 @@ fn other_errors_have_their_texts(rt: HostRuntime) -> Result<(), Fail> {
         Row(
             ProgramError::Words(WordsError::Memory(AllocError)),
             "out of memory",
+        ),
+        Row(
+            ProgramError::OtherDirectory,
+            "the folder's DICOMDIR was written by another program, and stays as it is; take the images that it names with --keep, or write over it with --replace",
         ),
         Row(
             ProgramError::Wire,

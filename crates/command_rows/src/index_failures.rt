@@ -1,12 +1,12 @@
 //! What `index` leaves in a folder where a call of the disk fails, or where memory runs out.
-use crate::index_rows::{FIRST, SECOND, WITHOUT_STUDY_ID, file, put_images, settings};
+use crate::index_rows::{FIRST, SECOND, WITHOUT_STUDY_ID, file, put_images, replacing, settings};
 use crate::recorded::{Call, Recorded, Stage, Watched};
-use commands::{Index, Outcome, ProgramError, index_dir};
+use commands::{Index, ProgramError, index_dir};
 use fixtures::folders::{count, holds};
 use fixtures::refusing::Refusing;
+use inspection::Outcome;
 use std::cell::Cell;
 use std::fs;
-use std::io::ErrorKind;
 use std::test::Fail;
 
 /// The call that fails, how far the directory gets, and whether it is there.
@@ -36,7 +36,7 @@ fn is_put(rt: &HostRuntime, row: Failing) -> Result<bool, Fail> {
         watched: &watched,
     };
     let mut out = Vec::new(rt.alloc());
-    let is_due = match index_dir(&recorded, &settings("failing", false)?, &mut out) {
+    let is_due = match index_dir(&recorded, &replacing("failing")?, &mut out) {
         Ok(outcome) => fails.is_none() && outcome == Outcome::Good,
         Err(ProgramError::Directory(_)) => fails.is_some(),
         Err(_) => false,
@@ -55,19 +55,10 @@ fn each_call_of_the_disk_fails(rt: HostRuntime) -> Result<(), Fail> {
     Ok(())
 }
 
-/// Returns whether the error is that memory ran out; the listing of a folder has an error of its own for it.
-fn is_out_of_memory(error: &ProgramError) -> bool {
-    match error {
-        ProgramError::Memory(_) => true,
-        ProgramError::Folder(error) => error.kind() == ErrorKind::OutOfMemory,
-        _ => false,
-    }
-}
-
 /// The line of the second image, which has no Study ID any more.
 const SKIPPED: &[u8] = b"skipped I0000002 missing 0020,0010\n";
 
-const PRINTED: &[u8] = b"skipped I0000002 missing 0020,0010\nrecords 4\n";
+const PRINTED: &[u8] = b"skipped I0000002 missing 0020,0010\nrecords 4\nimages 1 left out 1\n";
 
 /// What comes of a run.
 #[derive(Clone, Copy, PartialEq, Eq)]
@@ -84,7 +75,7 @@ enum Came {
 fn came_of(outcome: Result<Outcome, ProgramError>, out: &[u8], is_old: bool) -> Came {
     match outcome {
         Ok(Outcome::Good) if out == PRINTED && !is_old => Came::Whole,
-        Err(error) if is_out_of_memory(&error) && is_old => {
+        Err(ProgramError::Memory(_)) if is_old => {
             if out.is_empty() {
                 Came::OutOfMemory
             } else if out == SKIPPED {
@@ -131,8 +122,8 @@ fn count_refusals(
     Ok(None)
 }
 
-/// Whichever allocation is refused, `index` fails because of memory, and the old directory is as it was. Where no
-/// directory can be built, the files that have no row are told.
+/// Whichever allocation is refused, also while the folder is listed, `index` fails because of memory and says so, and the
+/// old directory is as it was. Where no directory can be built, the files that have no row are told.
 #[test]
 fn each_allocation_is_refused(rt: HostRuntime) -> Result<(), Fail> {
     let images = [("memory/I0000001", FIRST), ("memory/I0000002", SECOND)];

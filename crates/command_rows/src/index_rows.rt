@@ -1,9 +1,10 @@
 //! What `index` prints of a folder, and the directory that it leaves there.
 use crate::devices::Broken;
 use crate::files::header;
-use commands::{Index, Outcome, ProgramError, checkdir_over, index_dir};
+use commands::{Index, ProgramError, checkdir_over, index_dir};
 use element::{Syntax, Uid};
 use fixtures::folders::{fresh, holds};
+use inspection::Outcome;
 use std::alloc::{AllocError, Global};
 use std::fs;
 use std::test::Fail;
@@ -108,7 +109,19 @@ pub(crate) fn put_images(
 /// Returns the settings of `index` for the folder.
 pub(crate) fn settings(dir: &str, keep: bool) -> Result<Index<'_>, Fail> {
     let uid = Uid::read(b"2.25.1").ok_or("no UID")?;
-    Ok(Index { dir, uid, keep })
+    Ok(Index {
+        dir,
+        uid: Some(uid),
+        keep,
+        replace: false,
+    })
+}
+
+/// Returns the settings of `index` for the folder, whose directory is written over whoever wrote it.
+pub(crate) fn replacing(dir: &str) -> Result<Index<'_>, Fail> {
+    let mut settings = settings(dir, false)?;
+    settings.replace = true;
+    Ok(settings)
 }
 
 /// Runs `index` over the folder; returns whether it succeeds and prints these lines.
@@ -158,7 +171,8 @@ fn a_folder_of_five(rt: HostRuntime) -> Result<(), Fail> {
     ];
     put_images(&rt, "five", &images)?;
     fs::write(&rt, "five/readme.txt", b"none of them")?;
-    let lines = b"skipped I0000005 missing 0020,0010\ndouble I0000004\nrecords 7\n";
+    let lines =
+        b"skipped I0000005 missing 0020,0010\ndouble I0000004\nrecords 7\nimages 3 left out 2\n";
     assert!(rt; prints(&rt, "five", false, lines)?);
     assert!(rt;
         listed(&rt, "five/DICOMDIR")?
@@ -198,7 +212,7 @@ fn series_descriptions(rt: HostRuntime) -> Result<(), Fail> {
             ..FIRST
         };
         put_images(&rt, "described", &[("described/I0000001", image)])?;
-        assert!(rt; prints(&rt, "described", false, b"records 4\n")?);
+        assert!(rt; prints(&rt, "described", false, b"records 4\nimages 1 left out 0\n")?);
         assert!(rt; has_size(&rt, "described/DICOMDIR", size)?);
         assert!(rt; has_at(&rt, "described/DICOMDIR", 590, bytes)?);
     }
@@ -212,7 +226,8 @@ fn a_folder_of_two_levels(rt: HostRuntime) -> Result<(), Fail> {
     fs::create_dir(&rt, "levels/S0000001")?;
     file(&rt, "levels/S0000001/I0000001", FIRST)?;
     assert!(rt;
-        prints(&rt, "levels", false, b"records 4\n")? && has_size(&rt, "levels/DICOMDIR", 798)?
+        prints(&rt, "levels", false, b"records 4\nimages 1 left out 0\n")?
+            && has_size(&rt, "levels/DICOMDIR", 798)?
     );
     assert!(rt; listed(&rt, "levels/DICOMDIR")?.as_slice() == LISTED);
     Ok(())
@@ -256,7 +271,7 @@ fn files_by_name(rt: HostRuntime) -> Result<(), Fail> {
     for (path, instance) in BY_NAME {
         file(&rt, path, Image { instance, ..FIRST })?;
     }
-    assert!(rt; prints(&rt, "order", false, b"records 12\n")?);
+    assert!(rt; prints(&rt, "order", false, b"records 12\nimages 9 left out 0\n")?);
     assert!(rt; listed(&rt, "order/DICOMDIR")?.as_slice() == LISTED_BY_NAME);
     Ok(())
 }
@@ -284,12 +299,17 @@ fn put_flag(
 fn inactive_records_are_not_kept(rt: HostRuntime) -> Result<(), Fail> {
     let images = [("kept/I0000001", FIRST), ("kept/I0000002", SECOND)];
     put_images(&rt, "kept", &images)?;
-    assert!(rt; prints(&rt, "kept", false, b"records 5\n")?);
+    assert!(rt; prints(&rt, "kept", false, b"records 5\nimages 2 left out 0\n")?);
     let whole = fs::read(&rt, "kept/DICOMDIR")?;
     assert!(rt; whole.len() == 950);
     for (place, flag, printed, size) in [
-        (654usize, 0u8, b"records 4\n".as_slice(), 788usize),
-        (562, 0, b"records 0\n", 320),
+        (
+            654usize,
+            0u8,
+            b"records 4\nimages 1 left out 0\n".as_slice(),
+            788usize,
+        ),
+        (562, 0, b"records 0\nimages 0 left out 0\n", 320),
         (654, 1, b"fault 68 BadRecord at 626\n", 950),
     ] {
         put_flag(&rt, "kept/DICOMDIR", whole.as_slice(), place, flag)?;
@@ -311,13 +331,13 @@ records 4
 fn records_of_other_types_are_not_kept(rt: HostRuntime) -> Result<(), Fail> {
     let images = [("types/I0000001", FIRST), ("types/I0000002", SECOND)];
     put_images(&rt, "types", &images)?;
-    assert!(rt; prints(&rt, "types", false, b"records 5\n")?);
+    assert!(rt; prints(&rt, "types", false, b"records 5\nimages 2 left out 0\n")?);
     let mut directory = fs::read(&rt, "types/DICOMDIR")?;
     if let Some(kind) = directory.as_mut_slice().get_mut(676..682) {
         kind.copy_from_slice(b"PLAN  ");
     }
     fs::write(&rt, "types/DICOMDIR", directory.as_slice())?;
-    assert!(rt; prints(&rt, "types", true, b"records 4\n")?);
+    assert!(rt; prints(&rt, "types", true, b"records 4\nimages 1 left out 0\n")?);
     assert!(rt; listed(&rt, "types/DICOMDIR")?.as_slice() == LISTED_SECOND);
     Ok(())
 }
@@ -327,14 +347,14 @@ fn records_of_other_types_are_not_kept(rt: HostRuntime) -> Result<(), Fail> {
 fn a_missing_file_is_skipped(rt: HostRuntime) -> Result<(), Fail> {
     let images = [("missing/I0000001", FIRST), ("missing/I0000002", SECOND)];
     put_images(&rt, "missing", &images)?;
-    assert!(rt; prints(&rt, "missing", false, b"records 5\n")?);
+    assert!(rt; prints(&rt, "missing", false, b"records 5\nimages 2 left out 0\n")?);
     fs::remove_file(&rt, "missing/I0000001")?;
     assert!(rt;
         prints(
             &rt,
             "missing",
             true,
-            b"skipped I0000001 fault 54\nrecords 4\n"
+            b"skipped I0000001 fault 54\nrecords 4\nimages 1 left out 1\n"
         )?
     );
     Ok(())
@@ -344,10 +364,11 @@ fn a_missing_file_is_skipped(rt: HostRuntime) -> Result<(), Fail> {
 #[test]
 fn a_directory_that_is_not_written(rt: HostRuntime) -> Result<(), Fail> {
     put_images(&rt, "unwritten", &[("unwritten/I0000001", FIRST)])?;
-    fs::write(&rt, "unwritten/DICOMDIR", b"as it was")?;
+    assert!(rt; prints(&rt, "unwritten", false, b"records 4\nimages 1 left out 0\n")?);
+    fs::remove_file(&rt, "unwritten/I0000001")?;
     fs::create_dir(&rt, "unwritten/DIRDRAFT")?;
     assert!(rt; matches!(failure(&rt, "unwritten")?, Some(ProgramError::Directory(_))));
-    assert!(rt; holds(&rt, "unwritten", "DICOMDIR", b"as it was")?);
+    assert!(rt; has_size(&rt, "unwritten/DICOMDIR", 788)?);
     Ok(())
 }
 
@@ -370,12 +391,13 @@ fn the_output_fails(rt: HostRuntime) -> Result<(), Fail> {
 fn an_empty_folder(rt: HostRuntime) -> Result<(), Fail> {
     fresh(&rt, "empty")?;
     assert!(rt;
-        prints(&rt, "empty", false, b"records 0\n")? && has_size(&rt, "empty/DICOMDIR", 320)?
+        prints(&rt, "empty", false, b"records 0\nimages 0 left out 0\n")?
+            && has_size(&rt, "empty/DICOMDIR", 320)?
     );
     assert!(rt;
         matches!(
             failure(&rt, "no_such_folder")?,
-            Some(ProgramError::Folder(_))
+            Some(ProgramError::MissingFolder(_))
         )
     );
     Ok(())

@@ -1,8 +1,8 @@
 //! What is printed of a file: worked examples, and every front of one.
 use crate::devices::{Broken, Device, Gives};
 use crate::files::header;
-use commands::{Outcome, ProgramError, check_over, show_over};
 use element::Syntax;
+use inspection::{Inspected, InspectionError, Outcome, check_over, show_over};
 use std::alloc::{AllocError, Global};
 use std::test::Fail;
 
@@ -97,7 +97,7 @@ fn run(
     command: Command,
     input: &mut Device<'_>,
     out: &mut Vec<u8>,
-) -> Result<Outcome, ProgramError> {
+) -> Result<Inspected, InspectionError> {
     match command {
         Command::Show => show_over(input, out),
         Command::Check => check_over(input, out),
@@ -112,11 +112,11 @@ fn writes(
     mut input: Device<'_>,
     (lines, last): (&str, &str),
     outcome: Outcome,
-) -> Result<bool, ProgramError> {
+) -> Result<bool, InspectionError> {
     let mut out = Vec::new(alloc);
     let found = run(command, &mut input, &mut out)?;
     let rest = out.as_slice().strip_prefix(lines.as_bytes());
-    Ok(found == outcome && rest == Some(last.as_bytes()))
+    Ok(found.outcome == outcome && rest == Some(last.as_bytes()))
 }
 
 /// Returns whether a command has this outcome and writes these lines, for the file in one piece and byte by
@@ -127,7 +127,7 @@ fn tells(
     bytes: &[u8],
     lines: (&str, &str),
     outcome: Outcome,
-) -> Result<bool, ProgramError> {
+) -> Result<bool, InspectionError> {
     for gives in [Gives::All, Gives::One] {
         if !writes(alloc, command, Device { bytes, gives }, lines, outcome)? {
             return Ok(false);
@@ -230,7 +230,7 @@ fn judgement(alloc: Global, length: usize) -> Result<String, AllocError> {
 }
 
 /// Returns whether the front of a file of the CT image is judged as is due.
-fn is_judged(alloc: Global, front: &[u8]) -> Result<bool, ProgramError> {
+fn is_judged(alloc: Global, front: &[u8]) -> Result<bool, Fail> {
     let length = front.len();
     let outcome = if matches!(length, 288 | 322 | 336) {
         Outcome::Good
@@ -242,7 +242,8 @@ fn is_judged(alloc: Global, front: &[u8]) -> Result<bool, ProgramError> {
         bytes: front,
         gives: Gives::All,
     };
-    writes(alloc, Command::Check, input, ("", line.as_str()), outcome)
+    let lines = ("", line.as_str());
+    Ok(writes(alloc, Command::Check, input, lines, outcome)?)
 }
 
 /// The fronts that are whole are those that end before a header.
@@ -279,7 +280,7 @@ fn tells_of_a_read(alloc: Global, command: Command, bytes: &[u8], lines: &str) -
         gives: Gives::Torn,
     };
     match run(command, &mut input, &mut out) {
-        Err(ProgramError::Read(_)) => out.as_slice() == lines.as_bytes(),
+        Err(InspectionError::Read(_)) => out.as_slice() == lines.as_bytes(),
         _ => false,
     }
 }
@@ -294,7 +295,7 @@ fn tells_of_a_write(command: Command, bytes: &[u8]) -> bool {
         Command::Show => show_over(&mut input, &mut Broken),
         Command::Check => check_over(&mut input, &mut Broken),
     };
-    matches!(outcome, Err(ProgramError::Write(_)))
+    matches!(outcome, Err(InspectionError::Write(_)))
 }
 
 /// The lines before a read that fails are written; a write that fails ends the listing.

@@ -3,7 +3,11 @@
 #![tactic(auto)]
 
 #[cfg(test)]
+mod at_once_rows;
+#[cfg(test)]
 mod checkdir_rows;
+#[cfg(test)]
+mod class_rows;
 #[cfg(test)]
 mod devices;
 #[cfg(test)]
@@ -14,6 +18,8 @@ mod fault_rows;
 mod files;
 #[cfg(test)]
 mod index_failures;
+#[cfg(test)]
+mod index_others;
 #[cfg(test)]
 mod index_rows;
 #[cfg(test)]
@@ -26,5 +32,7 @@ mod replay_rows;
 mod serve_rows;
 #[cfg(test)]
 mod settings_rows;
+#[cfg(test)]
+mod socket_rows;
 #[cfg(test)]
 mod timer_rows;

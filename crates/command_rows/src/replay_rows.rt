@@ -3,7 +3,9 @@ use crate::devices::{Broken, Device, Gives};
 use crate::files::config;
 use commands::{ProgramError, replay_over};
 use engine::Standing;
-use linked_list_allocator::LocalHeap;
+use fixtures::bytes::joined;
+use fixtures::echo;
+use fixtures::refusing::Refusing;
 use part10::MemoryFiling;
 use std::alloc::Global;
 use std::test::Fail;
@@ -49,48 +51,62 @@ fn a_failed_write_is_told(rt: HostRuntime) -> Result<(), Fail> {
     Ok(())
 }
 
-/// What comes of a replay in a heap of some size.
+/// What comes of a replay.
 #[derive(Clone, Copy, PartialEq, Eq)]
 enum Replayed {
     /// All was printed.
     Whole,
     /// Memory ran out, and nothing was printed.
-    Refused,
-    /// Something else.
-    Wrong,
+    OutOfMemory,
+    Other,
 }
 
-/// Replays the text in a heap of this size.
-fn replay_in(alloc: Global, size: usize) -> Result<Replayed, Fail> {
-    let heap = LocalHeap::new(alloc, size)?;
+/// Replays an echo over an allocator that refuses the call after so many others; returns what comes of it, and whether
+/// the call came.
+fn replay_refused(
+    alloc: Global,
+    recording: &[u8],
+    passed: u64,
+    printed: &[u8],
+) -> Result<(Replayed, bool), Fail> {
+    let refusing = Refusing::new(alloc, passed);
     let mut out = Vec::new(alloc);
-    let mut recording = TEXT;
+    let mut input = recording;
     let mut filing = MemoryFiling::new(alloc);
-    let answer = replay_over(&heap, &mut recording, CUT, &config(), &mut filing, &mut out);
-    Ok(match answer {
-        Ok(report) if report.standing == Standing::Ended && report.held == 0 => {
-            if out.as_slice() == PRINTED {
-                Replayed::Whole
-            } else {
-                Replayed::Wrong
-            }
+    let answer = replay_over(&refusing, &mut input, CUT, &config(), &mut filing, &mut out);
+    let replayed = match answer {
+        Ok(report) if report.standing == Standing::Ended && out.as_slice() == printed => {
+            Replayed::Whole
         }
-        Err(ProgramError::Memory(_) | ProgramError::Wire) if out.is_empty() => Replayed::Refused,
-        _ => Replayed::Wrong,
-    })
+        Err(ProgramError::Memory(_) | ProgramError::Wire) if out.is_empty() => {
+            Replayed::OutOfMemory
+        }
+        _ => Replayed::Other,
+    };
+    Ok((replayed, refusing.has_refused()))
 }
 
-/// Heaps of rising sizes refuse each growth in turn: nothing is printed before all of it can be.
+/// Whichever allocation is refused, a replay fails because of memory, and nothing is printed before all of it can be:
+/// also where the reply to an echo can't be kept after the A-ASSOCIATE-AC was.
 #[test]
-fn want_of_memory_is_told(rt: HostRuntime) -> Result<(), Fail> {
-    let mut refused = 0u32;
-    for size in 2..256usize {
-        match replay_in(rt.alloc(), size * 16)? {
-            Replayed::Whole => {}
-            Replayed::Refused => refused = refused.saturating_add(1),
-            Replayed::Wrong => return Err(Fail::from("neither whole nor refused")),
+fn each_allocation_is_refused(rt: HostRuntime) -> Result<(), Fail> {
+    let alloc = rt.alloc();
+    let recording = joined(alloc, &[echo::REQUEST, echo::ECHO, echo::RELEASE])?;
+    let mut printed = Vec::new(alloc);
+    let mut input = recording.as_slice();
+    let mut filing = MemoryFiling::new(alloc);
+    replay_over(alloc, &mut input, CUT, &config(), &mut filing, &mut printed)?;
+    let sent = echo::ACCEPT.len() + echo::REPLY.len() + echo::RELEASED.len();
+    assert!(rt; printed.len() == 2 * sent + sent.div_ceil(32));
+    for passed in 0..1000u64 {
+        match replay_refused(alloc, recording.as_slice(), passed, printed.as_slice())? {
+            (Replayed::Whole, false) => {
+                assert!(rt; 5 < passed);
+                return Ok(());
+            }
+            (Replayed::OutOfMemory, true) => {}
+            _ => return Err(Fail::from("neither whole nor out of memory")),
         }
     }
-    assert!(rt; 2 < refused && refused < 250);
-    Ok(())
+    Err(Fail::from("no run was whole"))
 }

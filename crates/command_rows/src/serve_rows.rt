@@ -1,10 +1,11 @@
 //! Associations over TCP in one process: the log, and what a peer can't do to the box.
 use crate::files::config;
-use commands::{Layout, Serve, open_folder, serve_one};
+use commands::{AtOnce, Layout, Serve, open_folder, serve_one};
 use connection::Timeouts;
 use fixtures::bytes::joined;
 use fixtures::echo;
 use fixtures::folders::fresh;
+use journal::Form;
 use log::sink::Memory;
 use log::{Level, Logged};
 use std::alloc::Global;
@@ -25,9 +26,18 @@ fn settings() -> Serve<'static> {
             artim: Duration::from_secs(1),
             idle: Duration::from_secs(60),
         },
+        level: Level::Info,
+        form: Form::Text,
         layout: Layout::Flat,
         sync: true,
         once: true,
+        at_once: AtOnce {
+            associations: 1,
+            per_peer: 1,
+            longest: None,
+            stop_file: None,
+            grace: Duration::from_secs(10),
+        },
     }
 }
 
@@ -65,13 +75,17 @@ fn send_echo(alloc: Global, peer: &mut TcpStream) -> Result<(), Fail> {
     Ok(())
 }
 
-/// Returns whether the peer gets the recorded answer, and then the end of the connection.
-fn is_answered(alloc: Global, peer: &mut TcpStream) -> Result<bool, Fail> {
+/// Returns whether the peer gets these PDUs, and then the end of the connection.
+fn is_answered(alloc: Global, peer: &mut TcpStream, pdus: &[&[u8]]) -> Result<bool, Fail> {
     let mut answer = Vec::new(alloc);
     peer.read_to_end(&mut answer)?;
-    let whole = joined(alloc, &[echo::ACCEPT, echo::REPLY, echo::RELEASED])?;
+    let whole = joined(alloc, pdus)?;
     Ok(answer.as_slice() == whole.as_slice())
 }
+
+/// What the line of the recorded echo tells after what is counted.
+const RELEASED: &str =
+    "calling \"SCANNER1\" called \"DCMBOX\" released contexts 1 of 1 stored 0 refused 0 failed 0";
 
 #[test]
 fn the_recorded_echo_is_served(rt: HostRuntime) -> Result<(), Fail> {
@@ -81,9 +95,30 @@ fn the_recorded_echo_is_served(rt: HostRuntime) -> Result<(), Fail> {
     let address = peer.local_addr()?;
     send_echo(alloc, &mut peer)?;
     let line = served(&rt, &listener, "echo_is_served")?;
-    assert!(rt; is_answered(alloc, &mut peer)?);
-    let end = format!(in alloc; "Z {address} Ended held 0 files 0 dropped 0 received 260 in 0 s")?;
+    assert!(rt;
+        is_answered(
+            alloc,
+            &mut peer,
+            &[echo::ACCEPT, echo::REPLY, echo::RELEASED]
+        )?
+    );
+    let end = format!(in alloc;
+        "Z {address} Ended held 0 files 0 dropped 0 received 260 in 0 s {RELEASED}"
+    )?;
     assert!(rt; line.starts_with("[INFO  cli::serve] 20") && line.ends_with(end.as_str()));
+    Ok(())
+}
+
+/// The close of a peer is no abort of the local user, which would send an A-ABORT.
+#[test]
+fn a_peer_that_closes_its_association(rt: HostRuntime) -> Result<(), Fail> {
+    let listener = TcpListener::bind(&rt, "127.0.0.1:0")?;
+    let mut peer = TcpStream::connect(&rt, listener.local_addr()?)?;
+    peer.write_all(echo::REQUEST)?;
+    peer.shutdown(Shutdown::Write)?;
+    let line = served(&rt, &listener, "peer_that_closes")?;
+    assert!(rt; is_answered(rt.alloc(), &mut peer, &[echo::ACCEPT])?);
+    assert!(rt; line.contains("Ended held 0 files 0 dropped 0 received 170"));
     Ok(())
 }
 

@@ -3,12 +3,14 @@
 use arguments::{Job, WordsError, read_words};
 use commands::{Index, Layout, Replay, Serve, index_settings, replay_settings, serve_settings};
 use element::AeTitle;
+use journal::Form;
+use log::Level;
 use negotiate::Config;
 use std::alloc::Global;
 use std::test::Fail;
 
 /// Reads the settings of `serve` for a command line.
-fn serve_for<'a>(alloc: Global, words: &'a [&'a str]) -> Result<Serve<'a>, WordsError> {
+pub(crate) fn serve_for<'a>(alloc: Global, words: &'a [&'a str]) -> Result<Serve<'a>, WordsError> {
     let job = read_words(alloc, words)?;
     match &job {
         Job::Serve(arguments) => serve_settings(alloc, arguments),
@@ -17,7 +19,10 @@ fn serve_for<'a>(alloc: Global, words: &'a [&'a str]) -> Result<Serve<'a>, Words
 }
 
 /// Reads the settings of `replay` for a command line.
-fn replay_for<'a>(alloc: Global, words: &'a [&'a str]) -> Result<Replay<'a>, WordsError> {
+pub(crate) fn replay_for<'a>(
+    alloc: Global,
+    words: &'a [&'a str],
+) -> Result<Replay<'a>, WordsError> {
     let job = read_words(alloc, words)?;
     match &job {
         Job::Replay(arguments) => replay_settings(alloc, arguments),
@@ -81,6 +86,9 @@ fn settings_of_serve_are_its_arguments(rt: HostRuntime) -> Result<(), Fail> {
         "2000",
         "--max-data",
         "3000",
+        "-v",
+        "--log",
+        "json",
         "--per",
         "5",
         "--no-sync",
@@ -93,6 +101,7 @@ fn settings_of_serve_are_its_arguments(rt: HostRuntime) -> Result<(), Fail> {
     assert!(rt; are_titles(serve.config.callers.as_slice(), &callers));
     assert!(rt; serve.timeouts.artim.as_secs() == 7 && serve.timeouts.idle.as_secs() == 11);
     assert!(rt; per_of(serve.layout) == 5 && !serve.sync && serve.once);
+    assert!(rt; serve.level == Level::Debug && matches!(serve.form, Form::Json(_)));
     Ok(())
 }
 
@@ -105,6 +114,31 @@ fn settings_of_serve_have_defaults(rt: HostRuntime) -> Result<(), Fail> {
     assert!(rt; serve.config.callers.is_empty());
     assert!(rt; serve.timeouts.artim.as_secs() == 30 && serve.timeouts.idle.as_secs() == 600);
     assert!(rt; per_of(serve.layout) == 0 && serve.sync && !serve.once);
+    assert!(rt; serve.level == Level::Info && matches!(serve.form, Form::Text));
+    Ok(())
+}
+
+#[test]
+fn a_log_is_quiet_where_it_is_asked_to_be(rt: HostRuntime) -> Result<(), Fail> {
+    let words = [
+        "dcmbox", "serve", "--port", "0", "--out", "DIR", "-q", "--log", "text",
+    ];
+    let serve = serve_for(rt.alloc(), &words)?;
+    assert!(rt; serve.level == Level::Warn && matches!(serve.form, Form::Text));
+    Ok(())
+}
+
+#[test]
+fn what_is_no_log_is_refused(rt: HostRuntime) -> Result<(), Fail> {
+    let alloc = rt.alloc();
+    let words = ["dcmbox", "serve", "--port", "0", "--out", "DIR", "-q", "-v"];
+    let refusal = "error: --verbose and --quiet exclude each other\n";
+    assert!(rt; refuses(&serve_for(alloc, &words), refusal));
+    let words = [
+        "dcmbox", "serve", "--port", "0", "--out", "DIR", "--log", "xml",
+    ];
+    let refusal = "error: --log takes text or json, not 'xml'\n";
+    assert!(rt; refuses(&serve_for(alloc, &words), refusal));
     Ok(())
 }
 
@@ -140,18 +174,28 @@ fn settings_of_replay_are_its_arguments(rt: HostRuntime) -> Result<(), Fail> {
     Ok(())
 }
 
+/// Returns whether the settings of `index` have this instance; `None` is a new one.
+fn has_instance(index: &Index, uid: Option<&[u8]>) -> bool {
+    match (&index.uid, uid) {
+        (Some(found), Some(wanted)) => found.as_bytes() == wanted,
+        (None, None) => true,
+        _ => false,
+    }
+}
+
 #[test]
 fn settings_of_index_are_its_arguments(rt: HostRuntime) -> Result<(), Fail> {
     let given = ["dcmbox", "index", "received", "--uid", "2.25.1", "--keep"];
     let index = index_for(rt.alloc(), &given)?;
-    assert!(rt;
-        index.dir == "received" && index.uid.as_bytes() == b"2.25.1".as_slice() && index.keep
-    );
-    let words = ["dcmbox", "index", "files", "--uid", "2.25.2"];
+    assert!(rt; index.dir == "received" && has_instance(&index, Some(b"2.25.1")));
+    assert!(rt; index.keep && !index.replace);
+    let words = ["dcmbox", "index", "files", "--uid", "2.25.2", "--replace"];
     let index = index_for(rt.alloc(), &words)?;
-    assert!(rt;
-        index.dir == "files" && index.uid.as_bytes() == b"2.25.2".as_slice() && !index.keep
-    );
+    assert!(rt; index.dir == "files" && has_instance(&index, Some(b"2.25.2")));
+    assert!(rt; !index.keep && index.replace);
+    let words = ["dcmbox", "index", "files", "--new-uid"];
+    let index = index_for(rt.alloc(), &words)?;
+    assert!(rt; has_instance(&index, None) && !index.keep && !index.replace);
     Ok(())
 }
 
@@ -159,7 +203,7 @@ fn settings_of_index_are_its_arguments(rt: HostRuntime) -> Result<(), Fail> {
 struct Bounds<'a>(&'a str, u64, u64);
 
 const BOUNDS: &[Bounds<'static>] = &[
-    Bounds("port", 1, 65535),
+    Bounds("port", 0, 65535),
     Bounds("timeout", 1, 86400),
     Bounds("idle", 1, 86400),
     Bounds("max-pdu", 1024, 131_072),
@@ -203,7 +247,7 @@ fn number_for(alloc: Global, option: &str, value: &str) -> Result<u64, WordsErro
 }
 
 /// Returns whether a command line is refused with this text.
-fn refuses<T>(settings: &Result<T, WordsError>, text: &str) -> bool {
+pub(crate) fn refuses<T>(settings: &Result<T, WordsError>, text: &str) -> bool {
     match settings {
         Err(WordsError::Refused(refusal)) => refusal.as_str() == text,
         _ => false,
@@ -236,7 +280,10 @@ fn numbers_are_taken_within_their_bounds(rt: HostRuntime) -> Result<(), Fail> {
             is_taken(alloc, option, *least)? && is_taken(alloc, option, *most)?,
             "{option}"
         );
-        assert!(rt; is_refused(alloc, bounds, below.as_str())?, "{option}");
+        assert!(rt;
+            *least == 0 || is_refused(alloc, bounds, below.as_str())?,
+            "{option}"
+        );
         assert!(rt; is_refused(alloc, bounds, above.as_str())?, "{option}");
         assert!(rt; is_refused(alloc, bounds, "all")?, "{option}");
     }
@@ -268,6 +315,12 @@ fn titles_and_identifiers_are_refused(rt: HostRuntime) -> Result<(), Fail> {
     assert!(rt; refuses(&replay_for(alloc, &words), refusal));
     let words = ["dcmbox", "index", "DIR", "--uid", "2.25.x"];
     let refusal = "error: --uid takes a UID of 1 to 64 digits and dots, not '2.25.x'\n";
+    assert!(rt; refuses(&index_for(alloc, &words), refusal));
+    let words = ["dcmbox", "index", "DIR", "--uid", "2.25.1", "--new-uid"];
+    let refusal = "error: --uid and --new-uid exclude each other\n";
+    assert!(rt; refuses(&index_for(alloc, &words), refusal));
+    let words = ["dcmbox", "index", "DIR"];
+    let refusal = "error: index needs --uid UID, or --new-uid, which makes one\n";
     assert!(rt; refuses(&index_for(alloc, &words), refusal));
     Ok(())
 }

@@ -1,10 +1,10 @@
 //! `dcmbox checkdir`: the records of a directory, or its first fault.
 use crate::error::ProgramError;
 use crate::faults::write_dir_fault;
-use crate::outcome::Outcome;
-use crate::texts::{Indent, PathText, Printable};
+use crate::texts::PathText;
 use crate::whole::read_whole;
 use dicomdir::{DirFault, Tree, TreeRecord, check};
+use inspection::{Indent, Outcome, Printable};
 use std::alloc::{AllocError, Allocator};
 use std::io;
 use std::io::{Read, Write};

@@ -1,12 +1,16 @@
 //! `dcmbox index`: the directory of a folder of received files.
 use crate::checkdir::{read_directory, tell_fault};
+use crate::contents::{Contents, Skipped, read_rows, tell_skipped};
 use crate::error::ProgramError;
-use crate::names::{path_of, received_files};
-use crate::outcome::{Outcome, flushed};
-use crate::settings::Index;
-use crate::texts::{PathText, TagText};
-use dicomdir::{Built, DirFault, FileId, Row, Skip, build, check, kept_of, rows_of, write_dir};
-use part10::MetaFault;
+use crate::names::received_files;
+use crate::new_uid::new_uid;
+use crate::options::Index;
+use crate::outcome::flushed;
+use crate::texts::PathText;
+use dicomdir::{Built, DirFault, FileId, build, check, kept_of, write_dir};
+use dictionary::IMPLEMENTATION_CLASS_UID;
+use element::Uid;
+use inspection::{Outcome, implementation_of};
 use std::alloc::{AllocError, Allocator};
 use std::fs::OpenFile;
 use std::io::{BufWriter, ErrorKind, Read, Write};
@@ -16,84 +20,11 @@ use std::{fs, io};
 /// The name of the directory of a folder.
 const DIRECTORY: &str = "DICOMDIR";
 
+/// How many bytes of a directory are looked at for what wrote it.
+const HEADER_ROOM: u64 = 4096;
+
 /// The name of a directory that is not written whole yet.
 const DRAFT: &str = "DIRDRAFT";
-
-/// Reads the row of the file with this file ID.
-fn row_of<R: Files + Alloc>(rt: &R, dir: &str, id: &FileId) -> Result<Row<R::A>, Skip>
-where
-    R::A: Copy,
-{
-    let Ok(path) = path_of(rt.alloc(), dir, id) else {
-        return Err(Skip::OutOfMemory);
-    };
-    match fs::open(rt, path.as_str()) {
-        Ok(mut file) => rows_of(rt.alloc(), &mut file, id),
-        Err(_) => Err(Skip::Fault(MetaFault::ReadFailed.number())),
-    }
-}
-
-/// A file that gets no row, and why.
-#[derive(Clone, Copy)]
-struct Skipped {
-    id: FileId,
-    reason: Skip,
-}
-
-/// What is read of the files of a folder.
-#[derive(Drop)]
-struct Contents<A: Allocator> {
-    rows: Vec<Row<A>, A>,
-    skipped: Vec<Skipped, A>,
-}
-
-impl<A: Allocator> Contents<A> {
-    /// Adds the row of a file, or why it has none; fails where memory ran out.
-    fn push(&mut self, id: &FileId, row: Result<Row<A>, Skip>) -> Result<(), ProgramError> {
-        match row {
-            Ok(row) => self.rows.push(row)?,
-            Err(Skip::OutOfMemory) => return Err(ProgramError::Memory(AllocError)),
-            Err(reason) => self.skipped.push(Skipped { id: *id, reason })?,
-        }
-        Ok(())
-    }
-}
-
-/// Reads the rows of files, and keeps why a file has none; fails where memory ran out.
-fn read_rows<R: Files + Alloc>(
-    rt: &R,
-    dir: &str,
-    ids: &[FileId],
-) -> Result<Contents<R::A>, ProgramError>
-where
-    R::A: Copy,
-{
-    let mut contents = Contents {
-        rows: Vec::new(rt.alloc()),
-        skipped: Vec::new(rt.alloc()),
-    };
-    for id in ids {
-        contents.push(id, row_of(rt, dir, id))?;
-    }
-    Ok(contents)
-}
-
-/// Writes a line for each file that has no row.
-fn tell_skipped<O: Write>(skipped: &[Skipped], out: &mut O) -> io::Result<()> {
-    for Skipped { id, reason } in skipped {
-        let path = PathText(*id);
-        let told = match reason {
-            Skip::Fault(number) => writeln!(out, "skipped {path} fault {number}"),
-            Skip::Missing(tag) => {
-                let tag = TagText(*tag);
-                writeln!(out, "skipped {path} missing {tag}")
-            }
-            Skip::OutOfMemory => writeln!(out, "skipped {path}"),
-        };
-        told?;
-    }
-    Ok(())
-}
 
 /// Reads the folder's directory, which is open.
 fn read_present<A: Allocator + Copy, R: Read>(
@@ -153,6 +84,39 @@ where
         return kept_files(rt, settings.dir);
     }
     Ok(Ok(received_files(rt, settings.dir)?))
+}
+
+/// Returns the beginning of a file, as far as a file header goes.
+fn beginning_of<A: Allocator, R: Read + Drop>(alloc: A, file: R) -> io::Result<Vec<u8, A>> {
+    let mut bytes = Vec::new(alloc);
+    file.take(HEADER_ROOM).read_to_end(&mut bytes)?;
+    Ok(bytes)
+}
+
+/// Returns whether a file was written by this implementation.
+fn is_own(file: &[u8]) -> bool {
+    match implementation_of(file) {
+        Some(uid) => uid.as_bytes() == IMPLEMENTATION_CLASS_UID,
+        None => false,
+    }
+}
+
+/// Fails if the folder has a directory that another implementation wrote, or one that can't be read.
+fn spare_others<R: Files + Alloc>(rt: &R, dir: &str) -> Result<(), ProgramError> {
+    let path = format!(in rt.alloc(); "{dir}/{DIRECTORY}")?;
+    let beginning = match fs::open(rt, path.as_str()) {
+        Ok(file) => beginning_of(rt.alloc(), file),
+        Err(error) if error.kind() == ErrorKind::NotFound => return Ok(()),
+        Err(error) => Err(error),
+    };
+    match beginning {
+        Ok(bytes) if is_own(bytes.as_slice()) => Ok(()),
+        Ok(_) => Err(ProgramError::OtherDirectory),
+        Err(error) if error.kind() == ErrorKind::OutOfMemory => {
+            Err(ProgramError::Memory(AllocError))
+        }
+        Err(error) => Err(ProgramError::UnreadDirectory(error)),
+    }
 }
 
 /// Writes the directory to a file.
@@ -223,7 +187,7 @@ where
 }
 
 /// Writes a line for each file that has no row, a line for each row that is left out because an earlier one
-/// has the same instance, and the number of records.
+/// has the same instance, the number of records, and how many images are listed and how many files left out.
 fn tell_built<A: Allocator, O: Write>(
     built: &Built<'_, A>,
     skipped: &[Skipped],
@@ -237,7 +201,11 @@ fn tell_built<A: Allocator, O: Write>(
         }
     }
     let records = built.records();
-    writeln!(out, "records {records}")
+    writeln!(out, "records {records}")?;
+    let doubles = built.doubles().len();
+    let images = built.rows().len().saturating_sub(doubles);
+    let left_out = skipped.len().saturating_add(doubles);
+    writeln!(out, "images {images} left out {left_out}")
 }
 
 /// Puts the directory into the folder, and tells what it left out.
@@ -258,6 +226,14 @@ where
     }
 }
 
+/// Returns the instance of the directory, which is made where none was given.
+fn uid_of<R: Files + Alloc>(rt: &R, settings: &Index) -> Result<Uid, ProgramError> {
+    match &settings.uid {
+        Some(uid) => Ok(uid.copied()),
+        None => new_uid(rt),
+    }
+}
+
 /// Writes the directory of these files, and tells what it left out, or its fault.
 fn index_files<R: Files + Alloc, O: Write>(
     rt: &R,
@@ -269,7 +245,8 @@ where
     R::A: Copy,
 {
     let skipped = contents.skipped.as_slice();
-    match build(rt.alloc(), contents.rows.as_slice(), settings.uid.copied()) {
+    let uid = uid_of(rt, settings)?;
+    match build(rt.alloc(), contents.rows.as_slice(), uid) {
         Ok(built) => put_and_tell(rt, settings.dir, &built, skipped, out),
         Err(fault) => {
             tell_skipped(skipped, out).map_err(ProgramError::Write)?;
@@ -280,13 +257,15 @@ where
 
 /// Writes the file `DICOMDIR` of a folder: the directory of its received files or, with `keep`, of the
 /// images that its present directory keeps. Once it is there, a line tells of each file that gets no row,
-/// and why; then of each double; then how many records there are. A directory that is not built leaves an
-/// old one as it is, and its fault is told.
+/// and why; then of each double; then how many records there are, and how many images are listed and how many
+/// files left out. A directory that is not built leaves an old one as it is, and its fault is told.
 ///
 /// Memory for what the files say is the runtime's.
 ///
-/// Fails if the folder or its directory can't be read, the directory or the output can't be written, or
-/// memory runs out; then an old directory is as it was. Where only the output fails, or the folder can't be
+/// Fails if the folder or its directory can't be read; if the directory was written by another
+/// implementation, and neither its images are kept nor is it to be replaced; if the system gives no random
+/// bytes for a new UID; if the directory or the output can't be written; or if memory runs out. Then an old
+/// directory is as it was. Where only the output fails, or the folder can't be
 /// written up to the disk, the new directory is there.
 pub fn index_dir<R: Files + Alloc + Clone + Drop, O: Write>(
     rt: &R,
@@ -296,6 +275,9 @@ pub fn index_dir<R: Files + Alloc + Clone + Drop, O: Write>(
 where
     R::A: Copy,
 {
+    if !settings.keep && !settings.replace {
+        spare_others(rt, settings.dir)?;
+    }
     match files_of(rt, settings)? {
         Ok(ids) => {
             let contents = read_rows(rt, settings.dir, ids.as_slice())?;

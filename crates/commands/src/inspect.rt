@@ -1,32 +1,139 @@
-//! The commands that read one file and print what is in it.
-use crate::check::check_over;
+//! The commands that read files and print what is in them.
 use crate::checkdir::checkdir_over;
 use crate::error::ProgramError;
-use crate::outcome::{Outcome, flushed};
-use crate::show::show_over;
+use crate::json_text::write_file_name;
+use crate::outcome::flushed;
+use element::Uid;
+use inspection::{
+    CheckOptions, FileFront, Inspected, Outcome, OutputForm, Printable, ShowOptions, check_with,
+    other_syntax_of, show_with,
+};
+use keywords::syntax_keyword;
 use std::alloc::Global;
 use std::io::{BufWriter, Read, Write};
 use std::{fs, io};
 
 /// What is printed of a file.
 #[derive(Clone, Copy, Debug)]
-pub enum Inspection {
-    Show,
-    Check,
+pub enum Inspection<'a> {
+    Show(ShowOptions<'a>),
+    Check(CheckOptions),
     Directory,
+}
+
+impl Inspection<'_> {
+    /// Returns how what is found is written.
+    pub fn form(&self) -> OutputForm {
+        match self {
+            Inspection::Show(options) => options.form,
+            Inspection::Check(options) => options.form,
+            Inspection::Directory => OutputForm::Lines,
+        }
+    }
+
+    /// Returns whether a line tells how many files there were.
+    pub fn is_counted(&self) -> bool {
+        match self {
+            Inspection::Check(options) => options.form == OutputForm::Lines,
+            _ => false,
+        }
+    }
+
+    /// Returns whether a note ends the program with status 1.
+    pub fn is_strict(&self) -> bool {
+        match self {
+            Inspection::Check(options) => options.strict,
+            _ => false,
+        }
+    }
+
+    /// Returns what an inspection comes to.
+    fn outcome(&self, inspected: &Inspected) -> Outcome {
+        if self.is_strict() && inspected.notes > 0 {
+            Outcome::Faulty
+        } else {
+            inspected.outcome
+        }
+    }
 }
 
 /// Writes what is asked for of a file that the reader gives.
 fn inspect_over<R: Read, O: Write>(
     alloc: Global,
-    inspection: Inspection,
+    inspection: Inspection<'_>,
     input: &mut R,
     out: &mut O,
-) -> Result<Outcome, ProgramError> {
+) -> Result<Inspected, ProgramError> {
     match inspection {
-        Inspection::Show => show_over(input, out),
-        Inspection::Check => check_over(input, out),
-        Inspection::Directory => checkdir_over(alloc, input, out),
+        Inspection::Show(options) => Ok(show_with(input, options, out)?),
+        Inspection::Check(options) => Ok(check_with(input, options, out)?),
+        Inspection::Directory => Ok(Inspected {
+            outcome: checkdir_over(alloc, input, out)?,
+            notes: 0,
+        }),
+    }
+}
+
+/// Tells of the transfer syntax of a file that is in one which is not taken.
+fn tell_syntax(rt: &HostRuntime, file: &str, syntax: &Uid) {
+    let (file, uid) = (Printable(file.as_bytes()), syntax.as_bytes());
+    let keyword = syntax_keyword(uid).unwrap_or("unknown");
+    let uid = Printable(uid);
+    let _ = eprintln!(rt;
+        "dcmbox: {file}: its transfer syntax is {keyword} ({uid}), which is not taken"
+    );
+}
+
+/// Writes what is asked for of a file of this name that the reader gives, and tells of a transfer syntax that
+/// is not taken.
+fn inspect_named<R: Read, O: Write>(
+    rt: &HostRuntime,
+    inspection: Inspection<'_>,
+    (file, input): (&str, &mut R),
+    out: &mut O,
+) -> Result<Inspected, ProgramError> {
+    if inspection.form() == OutputForm::Json {
+        write_file_name(rt.alloc(), file, out)?;
+    }
+    let mut front = FileFront::new(input);
+    let inspected = inspect_over(rt.alloc(), inspection, &mut front, out)?;
+    if let Some(syntax) = other_syntax_of(front.kept()) {
+        tell_syntax(rt, file, &syntax);
+    }
+    Ok(inspected)
+}
+
+/// Writes that a file can't be opened, where JSON is written, and returns the error.
+fn unopened<O: Write>(
+    rt: &HostRuntime,
+    inspection: Inspection<'_>,
+    (file, error): (&str, io::Error),
+    out: &mut O,
+) -> ProgramError {
+    if inspection.form() == OutputForm::Json {
+        if let Err(error) = write_file_name(rt.alloc(), file, out) {
+            return error;
+        }
+        if let Err(error) = writeln!(out, "\"result\":\"unread\"}}") {
+            return ProgramError::Write(error);
+        }
+    }
+    ProgramError::Open(error)
+}
+
+/// Writes what is asked for of a file, or of standard input, for which `-` stands.
+pub fn inspect_file<O: Write>(
+    rt: &HostRuntime,
+    inspection: Inspection<'_>,
+    file: &str,
+    out: &mut O,
+) -> Result<Inspected, ProgramError> {
+    if file == "-" {
+        return inspect_named(rt, inspection, (file, &mut rt.stdin()), out);
+    }
+    match fs::open(rt, file) {
+        Ok(mut input) => inspect_named(rt, inspection, (file, &mut input), out),
+        Err(error) => Err(unopened(rt, inspection, (file, error), out)),
     }
 }
 
@@ -34,10 +141,12 @@ fn inspect_over<R: Read, O: Write>(
 pub fn inspect(
     rt: &HostRuntime,
     file: &str,
-    inspection: Inspection,
+    inspection: Inspection<'_>,
 ) -> Result<Outcome, ProgramError> {
-    let mut input = fs::open(rt, file).map_err(ProgramError::Open)?;
     let mut out = BufWriter::new(rt.alloc(), io::writer(rt)).map_err(ProgramError::Write)?;
-    let outcome = inspect_over(rt.alloc(), inspection, &mut input, &mut out);
+    let outcome = match inspect_file(rt, inspection, file, &mut out) {
+        Ok(inspected) => Ok(inspection.outcome(&inspected)),
+        Err(error) => Err(error),
+    };
     flushed(outcome, &mut out)
 }

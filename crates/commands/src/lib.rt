@@ -1,38 +1,39 @@
 //! The commands of DCMBOX: what the program does, prints and returns for its arguments.
 #![tactic(auto)]
 
-mod check;
+mod at_once;
 mod checkdir;
-mod counted;
+mod contents;
+mod counter;
 mod error;
 mod faults;
 mod folder;
 mod hexadecimal;
 mod index;
 mod inspect;
+mod json_text;
 mod limits;
 mod names;
+mod new_uid;
+mod options;
 mod outcome;
 mod perform;
 mod program;
 mod replay;
 mod serve;
 mod settings;
-mod show;
+mod several;
+mod tally;
 mod texts;
-mod walk;
+mod tree;
 mod whole;
 
-pub use check::check_over;
 pub use checkdir::checkdir_over;
 pub use error::ProgramError;
 pub use folder::open_folder;
 pub use index::index_dir;
-pub use outcome::Outcome;
+pub use options::{AtOnce, Index, Layout, Per, Replay, Serve};
 pub use program::run_program;
 pub use replay::replay_over;
 pub use serve::serve_one;
-pub use settings::{
-    Index, Layout, Per, Replay, Serve, index_settings, replay_settings, serve_settings,
-};
-pub use show::show_over;
+pub use settings::{index_settings, replay_settings, serve_settings};

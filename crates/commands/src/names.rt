@@ -17,7 +17,7 @@ fn push_name<R: Files + Drop, A: Allocator + Clone>(
     alloc: A,
     entry: &DirEntry<R, A>,
 ) -> Result<(), ProgramError> {
-    let number = kind.number_of(entry).map_err(ProgramError::Folder)?;
+    let number = kind.number_of(entry).map_err(ProgramError::of_folder)?;
     if number.is_some() {
         names.push(String::from_str(alloc, entry.file_name())?)?;
     }
@@ -35,7 +35,7 @@ fn push_read<R: Files + Drop, A: Allocator + Clone>(
         Ok(entry) => push_name(names, kind, alloc, &entry),
         // A name that is not UTF-8 is no name of a received file.
         Err(error) if error.kind() == ErrorKind::InvalidFilename => Ok(()),
-        Err(error) => Err(ProgramError::Folder(error)),
+        Err(error) => Err(ProgramError::of_folder(error)),
     }
 }
 
@@ -46,7 +46,7 @@ fn push_names<R: Files + Alloc + Clone + Drop>(
     dir: &str,
     kind: EntryKind,
 ) -> Result<(), ProgramError> {
-    for entry in fs::read_dir(rt, dir).map_err(ProgramError::Folder)? {
+    for entry in fs::read_dir(rt, dir).map_err(ProgramError::of_folder)? {
         push_read(names, kind, rt.alloc(), entry)?;
     }
     Ok(())

@@ -1,22 +1,47 @@
 //! Each command of the program.
 use crate::error::ProgramError;
-use crate::folder::open_folder;
+use crate::folder::{open_folder, open_writer, try_draft};
 use crate::index::index;
 use crate::inspect::{Inspection, inspect};
-use crate::outcome::Outcome;
+use crate::options::Serve;
 use crate::replay::replay;
-use crate::serve::serve;
-use crate::settings::{Serve, index_settings, replay_settings, serve_settings};
-use arguments::{IndexArguments, Job, ReplayArguments, ServeArguments};
-use log::sink::Console;
-use log::{Level, Logged};
+use crate::serve::{serve, serve_several};
+use crate::settings::{index_settings, replay_settings, serve_settings};
+use crate::several::{Files, inspect_files};
+use arguments::{
+    CheckArguments, IndexArguments, Job, ReplayArguments, ServeArguments, ShowArguments, WordsError,
+};
+use element::{Tag, Uid, Vr, check_value};
+use inspection::{CheckOptions, Outcome, OutputForm, ShowOptions, tag_named};
+use journal::Output;
+use log::Logged;
+use std::alloc::Global;
+
+/// Serves one association after the other into the folder.
+fn serve_one_by_one(rt: &HostRuntime, settings: &Serve) -> Result<Outcome, ProgramError> {
+    let mut filing = open_folder(*rt, settings.out, settings.layout, settings.sync)?;
+    try_draft(&mut filing)?;
+    let logged = Logged::new(rt, settings.level, Output::new(rt, settings.form));
+    serve(&logged, settings, &mut filing)?;
+    Ok(Outcome::Good)
+}
+
+/// Serves associations at once into the folder.
+fn serve_at_once(rt: &HostRuntime, settings: &Serve) -> Result<Outcome, ProgramError> {
+    let mut writer = open_writer(*rt, settings.out, settings.layout, settings.sync)?;
+    try_draft(&mut writer.filing().map_err(ProgramError::of_folder)?)?;
+    let logged = Logged::new(rt, settings.level, Output::new(rt, settings.form));
+    serve_several(&logged, settings, rt, writer)?;
+    Ok(Outcome::Good)
+}
 
 /// Serves into the folder until the program is ended, or only one association.
 fn serve_into(rt: &HostRuntime, settings: &Serve) -> Result<Outcome, ProgramError> {
-    let mut filing = open_folder(*rt, settings.out, settings.layout, settings.sync)?;
-    let logged = Logged::new(rt, Level::Info, Console(rt));
-    serve(&logged, settings, &mut filing)?;
-    Ok(Outcome::Good)
+    if settings.at_once.is_serial() {
+        serve_one_by_one(rt, settings)
+    } else {
+        serve_at_once(rt, settings)
+    }
 }
 
 fn perform_serve(rt: &HostRuntime, arguments: &ServeArguments) -> Result<Outcome, ProgramError> {
@@ -30,9 +55,71 @@ fn perform_replay(rt: &HostRuntime, arguments: &ReplayArguments) -> Result<Outco
     Ok(Outcome::Good)
 }
 
+/// Tells of a UID that is taken though it breaks the rules of its components (PS3.5 section 9.1).
+fn warn_of(rt: &HostRuntime, uid: &Uid) {
+    if check_value(Vr::UI, uid.as_bytes()).is_err() {
+        let _ = eprintln!(rt;
+            "dcmbox: --uid is taken as it is, but a component of it is empty or begins with 0"
+        );
+    }
+}
+
 fn perform_index(rt: &HostRuntime, arguments: &IndexArguments) -> Result<Outcome, ProgramError> {
     let settings = index_settings(rt.alloc(), arguments)?;
+    if let Some(uid) = &settings.uid {
+        warn_of(rt, uid);
+    }
     index(rt, &settings)
+}
+
+/// Returns how findings are written.
+fn form_of(json: bool) -> OutputForm {
+    if json {
+        OutputForm::Json
+    } else {
+        OutputForm::Lines
+    }
+}
+
+/// Reads the tags that are named.
+fn tags_named(alloc: Global, texts: &[&str]) -> Result<Vec<Tag>, WordsError> {
+    let mut tags = Vec::new(alloc);
+    for text in texts {
+        let Some(tag) = tag_named(*text) else {
+            let refused = format!(in alloc;
+                "error: --tag takes a tag as 0010,0020, not '{text}'\n"
+            )?;
+            return Err(WordsError::Refused(refused));
+        };
+        tags.push(tag)?;
+    }
+    Ok(tags)
+}
+
+fn perform_show(rt: &HostRuntime, arguments: &ShowArguments) -> Result<Outcome, ProgramError> {
+    let files = Files {
+        paths: arguments.files.as_slice(),
+        recursive: arguments.recursive,
+    };
+    let tags = tags_named(rt.alloc(), arguments.tags.as_slice())?;
+    let options = ShowOptions {
+        values: arguments.values,
+        tags: tags.as_slice(),
+        form: form_of(arguments.json),
+    };
+    inspect_files(rt, files, Inspection::Show(options))
+}
+
+fn perform_check(rt: &HostRuntime, arguments: &CheckArguments) -> Result<Outcome, ProgramError> {
+    let files = Files {
+        paths: arguments.files.as_slice(),
+        recursive: arguments.recursive,
+    };
+    let options = CheckOptions {
+        strict: arguments.strict,
+        form: form_of(arguments.json),
+    };
+    inspect_files(rt, files, Inspection::Check(options))
 }
 
 /// Does what the arguments say.
@@ -40,8 +127,8 @@ pub fn perform(rt: &HostRuntime, job: &Job) -> Result<Outcome, ProgramError> {
     match job {
         Job::Serve(arguments) => perform_serve(rt, arguments),
         Job::Replay(arguments) => perform_replay(rt, arguments),
-        Job::Show(arguments) => inspect(rt, arguments.file, Inspection::Show),
-        Job::Check(arguments) => inspect(rt, arguments.file, Inspection::Check),
+        Job::Show(arguments) => perform_show(rt, arguments),
+        Job::Check(arguments) => perform_check(rt, arguments),
         Job::Index(arguments) => perform_index(rt, arguments),
         Job::CheckDir(arguments) => inspect(rt, arguments.file, Inspection::Directory),
     }

@@ -1,8 +1,8 @@
 //! The program: it reads its arguments, does what they say, and reports what went wrong.
 use crate::error::ProgramError;
-use crate::outcome::Outcome;
 use crate::perform::perform;
 use arguments::{Job, WordsError, read_words};
+use inspection::Outcome;
 use std::alloc::{AllocError, Global};
 use std::env;
 use std::io::ErrorKind;
@@ -17,15 +17,24 @@ const REFUSED: u8 = 2;
 /// The status where a device failed or memory ran out.
 const FAILED: u8 = 3;
 
+/// Returns the only file, or nothing where there are several.
+fn only<'a>(files: &[&'a str]) -> &'a str {
+    match files {
+        [file] => *file,
+        _ => "",
+    }
+}
+
 /// Returns what an error is about: a file, a folder or a port.
 fn subject<'a>(job: &Job<'a>, error: &ProgramError) -> &'a str {
     match (job, error) {
-        (Job::Serve(arguments), ProgramError::Folder(_)) => arguments.out,
         (Job::Serve(arguments), ProgramError::Listen(_)) => arguments.port,
-        (Job::Replay(arguments), ProgramError::Folder(_)) => arguments.out,
+        (Job::Serve(arguments), ProgramError::Address(_)) => arguments.bind,
+        (Job::Serve(arguments), error) if error.is_of_folder() => arguments.out,
+        (Job::Replay(arguments), error) if error.is_of_folder() => arguments.out,
         (Job::Replay(arguments), _) => arguments.file,
-        (Job::Show(arguments), _) => arguments.file,
-        (Job::Check(arguments), _) => arguments.file,
+        (Job::Show(arguments), _) => only(arguments.files.as_slice()),
+        (Job::Check(arguments), _) => only(arguments.files.as_slice()),
         (Job::Index(arguments), _) => arguments.dir,
         (Job::CheckDir(arguments), _) => arguments.file,
         _ => "",

@@ -5,7 +5,7 @@ use crate::error::ProgramError;
 use crate::folder::open_folder;
 use crate::hexadecimal;
 use crate::limits::{COMMAND, DEPTH, REQUEST, VALUES};
-use crate::settings::Replay;
+use crate::options::Replay;
 use crate::whole::read_whole;
 use engine::{ListSource, ListedInput, Report, run};
 use negotiate::Config;

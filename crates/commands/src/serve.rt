@@ -1,167 +1,86 @@
-//! `dcmbox serve`: associations over TCP, one after the other.
+//! `dcmbox serve`: associations over TCP, one after the other or several at once.
 ghost use Rattle.std.specs.Prelude.{◌≡◌, IfOk, OnErr};
 ghost use Rattle.negotiate.specs.Settings.{settings_of};
 ghost use Rattle.connection.specs.Served.{Came, CameOf};
 
 use crate::error::ProgramError;
-use crate::settings::Serve;
-use connection::{Exchange, Observer, ReadEnd, Terms, exchange_over};
-use engine::Report;
-use jiff::Timestamp;
-use log::{Log, error, info};
-use part10::{Filing, FolderFiling};
+use crate::options::Serve;
+use connection::{Connected, Exchange, Terms, exchange_over};
+use journal::{ConnectionFailed, Journal, Listening, NotAccepted, Served, Stopped, Teller};
+use log::Log;
+use part10::{Filing, FolderFiling, FolderWriter};
+use server::serve_many;
+use std::alloc::Global;
 use std::fs::File;
-use std::net::{Net, SocketAddr, TcpListener, TcpStream};
+use std::io;
+use std::net::{Net, TcpListener, TcpStream};
 use std::rt::Files;
 use std::time::{Clock, Duration, Instant};
-use std::{fmt, io};
 
-/// The target of each line of the log, by which a reader of logs finds the lines of this command.
-const TARGET: &str = "cli::serve";
-
-/// How an association ended, as its line of the log shows it.
-#[derive(Clone, Copy)]
-struct Served {
-    peer: SocketAddr,
-    report: Report,
-    /// How many files it put into the folder.
-    files: u32,
-    /// How many drafts it dropped.
-    dropped: u32,
-    /// How many bytes it received.
-    received: u64,
-    seconds: u64,
-}
-
-impl fmt::Display for Served {
-    fn fmt<W: fmt::Write>(&self, f: &mut fmt::Formatter<W>) -> fmt::Result {
-        let Served {
-            peer,
-            report: Report { standing, held, .. },
-            files,
-            dropped,
-            received,
-            seconds,
-        } = *self;
-        write!(
-            f,
-            "{peer} {standing} held {held} files {files} dropped {dropped} received {received} in {seconds} s"
-        )
-    }
-}
-
-/// How an association ended, and when.
-#[derive(Clone, Copy)]
-struct Line {
-    time: Option<Timestamp>,
-    served: Served,
-}
-
-impl fmt::Display for Line {
-    fn fmt<W: fmt::Write>(&self, f: &mut fmt::Formatter<W>) -> fmt::Result {
-        let Line { time, served } = *self;
-        match time {
-            Some(time) => write!(f, "{time} {served}"),
-            None => write!(f, "{served}"),
-        }
-    }
-}
-
-/// Logs how an association ended, and when, if the clock can be read.
-fn log_served<R: Log + Clock>(rt: &R, served: Served) {
-    let line = Line {
-        time: Timestamp::now(rt).ok(),
-        served,
-    };
-    info!(rt; target: TARGET, "{line}");
-}
-
-/// Takes no notice of what goes over a connection.
-#[derive(Clone, Copy)]
-struct Unobserved;
-
-impl Observer for Unobserved {
-    fn received(&self, _bytes: &[u8]) {}
-
-    fn sent(&self, _bytes: &[u8]) {}
-
-    fn read_ended(&self, _end: ReadEnd) {}
-
-    fn send_failed(&self, _error: &io::Error) {}
-}
-
-/// Has a connection send what is written at once, and fail where its peer takes nothing for so long.
+/// Has a connection send what is written at once, and fail where its peer takes nothing for so
+/// long.
 fn set_up(stream: &TcpStream, idle: Duration) -> io::Result<()> {
     stream.set_nodelay(true)?;
     stream.set_write_timeout(Some(idle))
 }
 
-/// Logs a connection that failed.
-fn log_failed<R: Log>(rt: &R, peer: SocketAddr, failure: &io::Error) {
-    error!(rt; target: TARGET, "{peer} the connection failed: {failure}");
-}
-
-/// Serves the association of one connection, and logs when it ended, its peer, how it stands, how
-/// many bytes it holds, how many files it put and drafts it dropped, how many bytes it received and
-/// how long it took.
+/// Serves the association of one connection, and logs what happened on it and what it came to.
 ///
 /// Fails if there was no association, and then the folder is as it was.
-fn associate<R: Log + Clock, S: Files<File = File> + Alloc + Clone + Drop>(
+fn associate<R: Log + Clock + Alloc<A = Global>, S: Files<File = File> + Alloc + Clone + Drop>(
     rt: &R,
     stream: &TcpStream,
-    peer: SocketAddr,
+    teller: Teller<'_, R>,
     settings: &Serve,
     filing: &mut FolderFiling<S>,
-) -> io::Result<Exchange>
+) -> io::Result<Exchange<TcpStream>>
     ensures came { IfOk result (λ e. Came (settings_of settings.now.config) e (⟦<FolderFiling<S> as Filing>⟧.store filing.old) (⟦<FolderFiling<S> as Filing>⟧.store filing.new)) }
     ensures failed { OnErr result (⟦<FolderFiling<S> as Filing>⟧.store filing.new ≡ ⟦<FolderFiling<S> as Filing>⟧.store filing.old) }
 {
     set_up(stream, settings.timeouts.idle)?;
     let started = Instant::now(rt)?;
-    let (committed, dropped) = (filing.committed(), filing.dropped());
+    let committed = filing.committed();
+    let notes = filing.notes()?;
+    let journal = Journal::new(rt.alloc(), teller, notes);
     let terms = Terms {
         config: &settings.config,
         timeouts: settings.timeouts,
     };
-    let exchange = exchange_over(rt, stream, &Unobserved, terms, filing);
+    let exchange = exchange_over(rt, Connected::new(stream), &journal, terms, filing);
     match started.elapsed(rt) {
-        Ok(time) => log_served(
-            rt,
-            Served {
-                peer,
-                report: exchange.report,
-                files: filing.committed().saturating_sub(committed),
-                dropped: filing.dropped().saturating_sub(dropped),
-                received: exchange.received,
-                seconds: time.as_secs(),
-            },
-        ),
-        Err(failure) => log_failed(rt, peer, &failure),
+        Ok(time) => journal.end(Served {
+            report: exchange.report,
+            files: filing.committed().saturating_sub(committed),
+            received: exchange.received,
+            seconds: time.as_secs(),
+        }),
+        Err(failure) => teller.tell(&ConnectionFailed(&failure)),
     }
     Ok(exchange)
 }
 
-/// Waits for the next connection and serves its association. Returns what went over it, or `None` if
-/// the connection failed before an association was opened, which is logged.
+/// Waits for the next connection and serves its association. Returns what went over it, or `None`
+/// if the connection failed before an association was opened, which is logged.
 ///
 /// Fails if no connection could be accepted.
 ///
-/// `came`: of the bytes that were read the definitions give the bytes that were sent and the files that
-/// were committed. Without an association no file is.
-pub fn serve_one<R: Log + Clock, S: Files<File = File> + Alloc + Clone + Drop>(
+/// `came`: of the bytes that were read the definitions give the bytes that were sent and the files
+/// that were committed. Without an association no file is.
+pub fn serve_one<R: Log + Clock + Alloc<A = Global>, S: Files<File = File> + Alloc + Clone + Drop>(
     rt: &R,
     listener: &TcpListener,
     settings: &Serve,
     filing: &mut FolderFiling<S>,
-) -> io::Result<Option<Exchange>>
+) -> io::Result<Option<Exchange<TcpStream>>>
     ensures came { IfOk result (λ e. CameOf (settings_of settings.now.config) e (⟦<FolderFiling<S> as Filing>⟧.store filing.old) (⟦<FolderFiling<S> as Filing>⟧.store filing.new)) }
     ensures failed { OnErr result (⟦<FolderFiling<S> as Filing>⟧.store filing.new ≡ ⟦<FolderFiling<S> as Filing>⟧.store filing.old) }
 {
     let (stream, peer) = listener.accept()?;
-    match associate(rt, &stream, peer, settings, filing) {
+    let teller = Teller::new(rt, settings.form).about(peer);
+    match associate(rt, &stream, teller, settings, filing) {
         Ok(exchange) => Ok(Some(exchange)),
         Err(failure) => {
-            log_failed(rt, peer, &failure);
+            teller.tell(&ConnectionFailed(&failure));
             Ok(None)
         }
     }
@@ -171,15 +90,9 @@ pub fn serve_one<R: Log + Clock, S: Files<File = File> + Alloc + Clone + Drop>(
 /// does not keep it busy.
 const PAUSE_MILLISECONDS: u64 = 100;
 
-/// Logs that a connection could not be accepted, and waits.
-fn pause<R: Log + Clock>(rt: &R, failure: &io::Error) {
-    error!(rt; target: TARGET, "a connection could not be accepted: {failure}");
-    rt.sleep(Duration::from_millis(PAUSE_MILLISECONDS));
-}
-
 /// Serves associations until the program is ended, or only one where that was asked for. A
 /// connection that could not be accepted is logged.
-fn serve_each<R: Log + Clock, S: Files<File = File> + Alloc + Clone + Drop>(
+fn serve_each<R: Log + Clock + Alloc<A = Global>, S: Files<File = File> + Alloc + Clone + Drop>(
     rt: &R,
     listener: &TcpListener,
     settings: &Serve,
@@ -189,25 +102,53 @@ fn serve_each<R: Log + Clock, S: Files<File = File> + Alloc + Clone + Drop>(
         match serve_one(rt, listener, settings, filing) {
             Ok(_) if settings.once => return,
             Ok(_) => {}
-            Err(failure) => pause(rt, &failure),
+            Err(failure) => {
+                Teller::new(rt, settings.form).tell(&NotAccepted(&failure));
+                rt.sleep(Duration::from_millis(PAUSE_MILLISECONDS));
+            }
         }
     }
 }
 
-/// Listens on the port, and serves associations until the program is ended, or only one where that was
-/// asked for.
+/// Listens on the port, and serves associations until the program is ended, or only one where that
+/// was asked for. Logs where it listens, and that it has stopped.
 ///
-/// Fails if the port can't be listened on.
+/// Fails if the address or the port can't be listened on.
 pub fn serve<
-    R: Log + Clock + Net<Listener = TcpListener, Stream = TcpStream> + Alloc,
+    R: Log + Clock + Net<Listener = TcpListener, Stream = TcpStream> + Alloc<A = Global>,
     S: Files<File = File> + Alloc + Clone + Drop,
 >(rt: &R, settings: &Serve, filing: &mut FolderFiling<S>) -> Result<(), ProgramError> {
     let address = (settings.bind, settings.port);
-    match TcpListener::bind(rt, address) {
-        Ok(listener) => {
-            serve_each(rt, &listener, settings, filing);
-            Ok(())
-        }
-        Err(error) => Err(ProgramError::Listen(error)),
-    }
+    let listener = TcpListener::bind(rt, address).map_err(ProgramError::of_listening)?;
+    let address = listener.local_addr().map_err(ProgramError::Listen)?;
+    let teller = Teller::new(rt, settings.form);
+    teller.tell(&Listening(address));
+    serve_each(rt, &listener, settings, filing);
+    teller.tell(&Stopped);
+    Ok(())
+}
+
+/// Listens on the port, and serves several associations at once until the program is to end, or
+/// only one where that was asked for. Logs where it listens, and that it has stopped.
+///
+/// Fails if the address or the port can't be listened on, or if the system fails to tell what is
+/// ready.
+pub fn serve_several<
+    R: Log + Clock + Net<Listener = TcpListener, Stream = TcpStream> + Alloc<A = Global>,
+    S: Files<File = File> + Alloc<A = Global> + Clone + Drop,
+>(rt: &R, settings: &Serve, files: &S, folder: FolderWriter<S>) -> Result<(), ProgramError> {
+    let address = (settings.bind, settings.port);
+    let listener = TcpListener::bind(rt, address).map_err(ProgramError::of_listening)?;
+    let terms = server::Terms {
+        config: &settings.config,
+        timeouts: settings.timeouts,
+        at_once: settings.at_once.associations,
+        per_peer: settings.at_once.per_peer,
+        longest: settings.at_once.longest,
+        stop_file: settings.at_once.stop_file,
+        grace: settings.at_once.grace,
+        once: settings.once,
+        form: settings.form,
+    };
+    serve_many(rt, listener, terms, files, folder).map_err(ProgramError::Serve)
 }

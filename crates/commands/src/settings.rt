@@ -1,70 +1,34 @@
 //! What the values of arguments mean.
-ghost use Rattle.std.specs.Prelude.{◌<◌, ◌≤◌, ◌^◌, IfOk};
+ghost use Rattle.std.specs.Prelude.{◌≡◌, ◌≤◌, ◌^◌, ◌++◌, IfOk, Some, codes, length, map, option_map, unwrap_or};
+ghost use Rattle.element.specs.Title.{title_of_text};
+ghost use Rattle.element.specs.Uid.{uid_of};
+ghost use Rattle.negotiate.specs.Settings.{registered, settings_of};
+ghost use Rattle.commands.specs.Asked.{Spells, SpellsTime, IsLevel, IsForm, IsLayout, IsDirectoryUid, IsServed, IsReplayed, IsIndexed};
+ghost use Rattle.commands.specs.AskedAtOnce.{IsAtOnce};
 
+use crate::at_once::at_once_of;
 use crate::limits::MOST_DATA;
+use crate::options::{Index, Layout, Per, Replay, Serve};
 use arguments::{IndexArguments, MOST_VALUES, ReplayArguments, ServeArguments, WordsError};
 use arrayvec::ArrayVec;
 use connection::Timeouts;
 use element::{AeTitle, Uid};
+use journal::Form;
+use log::Level;
 use negotiate::Config;
 use std::alloc::Global;
 use std::time::Duration;
 
-/// How files are laid out in a folder.
-#[derive(Clone, Copy)]
-pub enum Layout {
-    Flat,
-    /// In folders of this many files, 1 to 9999.
-    Levels(Per),
-}
-
-/// How many files a folder of files has, 1 to 9999.
-#[derive(Clone, Copy)]
-pub struct Per {
-    pub files: u32,
-    pub ghost some: { 1 ≤ files },
-    pub ghost most: { files ≤ 9999 },
-}
-
-/// What `replay` does.
-#[derive(Drop)]
-pub struct Replay<'a> {
-    pub file: &'a str,
-    pub out: &'a str,
-    pub config: Config,
-    /// The bytes of a piece, at least 1.
-    pub cut: usize,
-    pub layout: Layout,
-    pub ghost some: { 0 < cut },
-}
-
-/// What `serve` does.
-#[derive(Drop)]
-pub struct Serve<'a> {
-    pub bind: &'a str,
-    pub port: u16,
-    pub out: &'a str,
-    pub config: Config,
-    pub timeouts: Timeouts,
-    pub layout: Layout,
-    /// Whether a store is answered only once its file is on the disk.
-    pub sync: bool,
-    pub once: bool,
-}
-
-/// What `index` does.
-#[derive(Drop)]
-pub struct Index<'a> {
-    pub dir: &'a str,
-    /// The instance of the directory.
-    pub uid: Uid,
-    /// Whether the files are those that the present directory keeps.
-    pub keep: bool,
-}
-
 /// Reads a number from `least` to `most`, as Rust's number reader does.
-fn number(alloc: Global, option: &str, text: &str, least: u64, most: u64) -> Result<u64, WordsError>
-    ensures { IfOk result (λ n. (least ≤ n) × (n ≤ most)) }
+pub(crate) fn number(
+    alloc: Global,
+    option: &str,
+    text: &str,
+    least: u64,
+    most: u64,
+) -> Result<u64, WordsError>
+    ensures bounds { IfOk result (λ n. (least ≤ n) × (n ≤ most)) }
+    ensures spelled { IfOk result (λ n. Spells least most text.now n) }
 {
     if let Ok(number) = text.parse::<u64>() {
         if least <= number && number <= most {
@@ -78,7 +42,9 @@ fn number(alloc: Global, option: &str, text: &str, least: u64, most: u64) -> Res
 }
 
 /// Reads an AE title: 1 to 16 characters, not all of them spaces, without a backslash.
-fn title(alloc: Global, option: &str, text: &str) -> Result<AeTitle, WordsError> {
+fn title(alloc: Global, option: &str, text: &str) -> Result<AeTitle, WordsError>
+    ensures { IfOk result (λ t. title_of_text text.now ≡ Some t.0) }
+{
     match AeTitle::of_text(text) {
         Some(title) => Ok(title),
         None => {
@@ -90,22 +56,79 @@ fn title(alloc: Global, option: &str, text: &str) -> Result<AeTitle, WordsError>
     }
 }
 
+/// Reads a UID (PS3.5 section 9.1).
+fn identifier(alloc: Global, option: &str, text: &str) -> Result<Uid, WordsError>
+    ensures { IfOk result (λ u. uid_of text.now ≡ Some u) }
+{
+    match Uid::read(text.as_bytes()) {
+        Some(uid) => Ok(uid),
+        None => {
+            let refused = format!(in alloc;
+                "error: --{option} takes a UID of 1 to 64 digits and dots, not '{text}'\n"
+            )?;
+            Err(WordsError::Refused(refused))
+        }
+    }
+}
+
+/// Reads the storage classes that are named, each of them once.
+fn classes_of(alloc: Global, classes: &ArrayVec<&str, MOST_VALUES>) -> Result<Vec<Uid>, WordsError>
+    ensures few { IfOk result (λ uids. length uids.items ≤ 16) }
+    ensures read { IfOk result (λ uids. map (λ t. uid_of t.now) classes.now.items ≡ map Some uids.items) }
+{
+    let mut uids = Vec::new(alloc);
+    for class in classes.as_slice() {
+        let uid = identifier(alloc, "storage-class", *class)?;
+        if uids.iter().any(|other: &Uid| *other == uid) {
+            let refused = format!(in alloc; "error: --storage-class names '{class}' twice\n")?;
+            return Err(WordsError::Refused(refused));
+        }
+        uids.push(uid)?;
+    }
+    Ok(uids)
+}
+
+/// Returns the settings with the storage classes that are asked for.
+fn with_storage(
+    alloc: Global,
+    config: Config,
+    all_storage: bool,
+    classes: &ArrayVec<&str, MOST_VALUES>,
+) -> Result<Config, WordsError>
+    ensures ae { IfOk result (λ c. c.ae ≡ config.ae) }
+    ensures callers { IfOk result (λ c. c.callers ≡ config.callers) }
+    ensures max_pdu { IfOk result (λ c. c.max_pdu ≡ config.max_pdu) }
+    ensures max_data { IfOk result (λ c. c.max_data ≡ config.max_data) }
+    ensures classes { IfOk result (λ c. map Some (settings_of c).further ≡ map (λ t. uid_of t.now) classes.now.items ++ map Some (registered all_storage)) }
+{
+    let uids = classes_of(alloc, classes)?;
+    Ok(config.with_storage(all_storage, uids.as_slice()))
+}
+
 /// Returns what `replay` does with these arguments.
 pub fn replay_settings<'a>(
     alloc: Global,
     arguments: &ReplayArguments<'a>,
-) -> Result<Replay<'a>, WordsError> {
+) -> Result<Replay<'a>, WordsError>
+    ensures replayed { IfOk result (λ r. IsReplayed r arguments.now) }
+{
     let ae = title(alloc, "ae", arguments.ae)?;
     let cut = number(alloc, "cut", arguments.cut, 1, 65536)?;
+    let config = Config::new(
+        ae,
+        ArrayVec::new(),
+        Config::DEFAULT_MAX_PDU,
+        Config::DEFAULT_MAX_DATA,
+    );
     Ok(Replay {
         file: arguments.file,
         out: arguments.out,
-        config: Config::new(
-            ae,
-            ArrayVec::new(),
-            Config::DEFAULT_MAX_PDU,
-            Config::DEFAULT_MAX_DATA,
-        ),
+        config: with_storage(
+            alloc,
+            config,
+            arguments.all_storage,
+            &arguments.storage_classes,
+        )?,
         cut: cut as usize,
         layout: layout_of(alloc, arguments.per)?,
     })
@@ -115,20 +138,32 @@ pub fn replay_settings<'a>(
 pub fn serve_settings<'a>(
     alloc: Global,
     arguments: &ServeArguments<'a>,
-) -> Result<Serve<'a>, WordsError> {
-    let port = number(alloc, "port", arguments.port, 1, 65535)?;
+) -> Result<Serve<'a>, WordsError>
+    ensures served { IfOk result (λ s. IsServed s arguments.now) }
+    ensures at_once { IfOk result (λ s. IsAtOnce s.at_once arguments.now) }
+{
+    let port = number(alloc, "port", arguments.port, 0, 65535)?;
     let ae = title(alloc, "ae", arguments.ae)?;
     let callers = callers_of(alloc, &arguments.callers)?;
     let limits = limits_of(alloc, arguments)?;
+    let config = Config::new(ae, callers, limits.max_pdu, limits.max_data);
     Ok(Serve {
         bind: arguments.bind,
         port: port as u16,
         out: arguments.out,
-        config: Config::new(ae, callers, limits.max_pdu, limits.max_data),
+        config: with_storage(
+            alloc,
+            config,
+            arguments.all_storage,
+            &arguments.storage_classes,
+        )?,
         timeouts: limits.timeouts,
+        level: level_of(alloc, arguments)?,
+        form: form_of(alloc, arguments.log)?,
         layout: limits.layout,
         sync: !arguments.no_sync,
         once: arguments.once,
+        at_once: at_once_of(alloc, arguments)?,
     })
 }
 
@@ -136,7 +171,9 @@ pub fn serve_settings<'a>(
 fn callers_of(
     alloc: Global,
     callers: &ArrayVec<&str, MOST_VALUES>,
-) -> Result<ArrayVec<AeTitle, MOST_VALUES>, WordsError> {
+) -> Result<ArrayVec<AeTitle, MOST_VALUES>, WordsError>
+    ensures read { IfOk result (λ titles. map (λ t. title_of_text t.now) callers.now.items ≡ map Some (map (λ t. t.0) titles.items)) }
+{
     let mut titles = ArrayVec::new();
     for caller in callers.as_slice() {
         titles.push(title(alloc, "caller", *caller)?);
@@ -157,7 +194,13 @@ struct Limits {
 }
 
 /// Reads the limits of `serve`, and how it lays out files.
-fn limits_of(alloc: Global, arguments: &ServeArguments) -> Result<Limits, WordsError> {
+fn limits_of(alloc: Global, arguments: &ServeArguments) -> Result<Limits, WordsError>
+    ensures artim { IfOk result (λ l. SpellsTime arguments.now.timeout.now l.timeouts.artim) }
+    ensures idle { IfOk result (λ l. SpellsTime arguments.now.idle.now l.timeouts.idle) }
+    ensures max_pdu { IfOk result (λ l. Spells 1024 131_072 arguments.now.max_pdu.now l.max_pdu) }
+    ensures max_data { IfOk result (λ l. Spells 1024 (2 ^ 48) arguments.now.max_data.now l.max_data) }
+    ensures layout { IfOk result (λ l. IsLayout l.layout (option_map (λ t. t.now) arguments.now.per)) }
+{
     let timeouts = Timeouts {
         artim: seconds(alloc, "timeout", arguments.timeout)?,
         idle: seconds(alloc, "idle", arguments.idle)?,
@@ -172,8 +215,39 @@ fn limits_of(alloc: Global, arguments: &ServeArguments) -> Result<Limits, WordsE
     })
 }
 
+/// Reads how much is logged.
+fn level_of(alloc: Global, arguments: &ServeArguments) -> Result<Level, WordsError>
+    ensures { IfOk result (λ l. IsLevel arguments.now.verbose arguments.now.quiet l) }
+{
+    match (arguments.verbose, arguments.quiet) {
+        (false, false) => Ok(Level::Info),
+        (true, false) => Ok(Level::Debug),
+        (false, true) => Ok(Level::Warn),
+        (true, true) => {
+            let refused = format!(in alloc; "error: --verbose and --quiet exclude each other\n")?;
+            Err(WordsError::Refused(refused))
+        }
+    }
+}
+
+/// Reads the form of the log.
+fn form_of(alloc: Global, form: Option<&str>) -> Result<Form, WordsError>
+    ensures { IfOk result (λ f. IsForm f (unwrap_or (option_map (λ t. t.now) form.entry) (codes "text"))) }
+{
+    match form {
+        None | Some("text") => Ok(Form::Text),
+        Some("json") => Ok(Form::Json(alloc)),
+        Some(form) => {
+            let refused = format!(in alloc; "error: --log takes text or json, not '{form}'\n")?;
+            Err(WordsError::Refused(refused))
+        }
+    }
+}
+
 /// Reads how files are laid out.
-fn layout_of(alloc: Global, per: Option<&str>) -> Result<Layout, WordsError> {
+fn layout_of(alloc: Global, per: Option<&str>) -> Result<Layout, WordsError>
+    ensures { IfOk result (λ l. IsLayout l (option_map (λ t. t.now) per.entry)) }
+{
     let Some(per) = per else {
         return Ok(Layout::Flat);
     };
@@ -184,27 +258,38 @@ fn layout_of(alloc: Global, per: Option<&str>) -> Result<Layout, WordsError> {
 }
 
 /// Reads a time of 1 second to a day.
-fn seconds(alloc: Global, option: &str, text: &str) -> Result<Duration, WordsError> {
+pub(crate) fn seconds(alloc: Global, option: &str, text: &str) -> Result<Duration, WordsError>
+    ensures { IfOk result (λ time. SpellsTime text.now time) }
+{
     Ok(Duration::from_secs(number(alloc, option, text, 1, 86400)?))
+}
+
+/// Reads the instance of a directory, or `None` where a new one is asked for.
+fn instance_of(alloc: Global, arguments: &IndexArguments) -> Result<Option<Uid>, WordsError>
+    ensures { IfOk result (λ uid. IsDirectoryUid uid (option_map (λ t. t.now) arguments.now.uid) arguments.now.new_uid) }
+{
+    let refused = match (arguments.uid, arguments.new_uid) {
+        (Some(text), false) => return Ok(Some(identifier(alloc, "uid", text)?)),
+        (None, true) => return Ok(None),
+        (Some(_), true) => format!(in alloc; "error: --uid and --new-uid exclude each other\n")?,
+        (None, false) => format!(in alloc;
+            "error: index needs --uid UID, or --new-uid, which makes one\n"
+        )?,
+    };
+    Err(WordsError::Refused(refused))
 }
 
 /// Returns what `index` does with these arguments.
 pub fn index_settings<'a>(
     alloc: Global,
     arguments: &IndexArguments<'a>,
-) -> Result<Index<'a>, WordsError> {
-    match Uid::read(arguments.uid.as_bytes()) {
-        Some(uid) => Ok(Index {
-            dir: arguments.dir,
-            uid,
-            keep: arguments.keep,
-        }),
-        None => {
-            let uid = arguments.uid;
-            let refused = format!(in alloc;
-                "error: --uid takes a UID of 1 to 64 digits and dots, not '{uid}'\n"
-            )?;
-            Err(WordsError::Refused(refused))
-        }
-    }
+) -> Result<Index<'a>, WordsError>
+    ensures indexed { IfOk result (λ i. IsIndexed i arguments.now) }
+{
+    Ok(Index {
+        dir: arguments.dir,
+        uid: instance_of(alloc, arguments)?,
+        keep: arguments.keep,
+        replace: arguments.replace,
+    })
 }

@@ -35,10 +35,10 @@ pub record Exchanged (s : Settings) (report : Report) (read sent : List ℕ) (ol
   pub no_draft : new.has_draft ≡ false
 
 -- this came of an association
-abbrev pub Came : Settings → Exchange → Store → Store → Type 0
-Came s exchange old new = Exchanged s exchange.report exchange.read.bytes exchange.sent.bytes old new
+abbrev pub Came : {S : Type 0} → Settings → Exchange S → Store → Store → Type 0
+Came s exchange old new = Exchanged s exchange.report exchange.read.trace.bytes exchange.sent.trace.bytes old new
 
 -- an association was served, and this came of it; or there was none, and the filing is as it was
-abbrev pub CameOf : Settings → Option Exchange → Store → Store → Type 0
+abbrev pub CameOf : {S : Type 0} → Settings → Option (Exchange S) → Store → Store → Type 0
 CameOf s None old new = new ≡ old
 CameOf s (Some exchange) old new = Came s exchange old new

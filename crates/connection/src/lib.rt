@@ -3,8 +3,10 @@
 #![tactic(auto)]
 
 mod exchange;
+pub mod laws;
 mod limits;
 mod observer;
+mod socket;
 mod source;
 mod timer;
 mod wire;
@@ -12,4 +14,5 @@ mod wire;
 pub use exchange::{Exchange, Terms, exchange_over};
 pub use limits::{COMMAND, DEPTH, PIECE, REQUEST, VALUES};
 pub use observer::{Observer, ReadEnd};
+pub use socket::{Connected, SocketOptions, SocketTrace, SocketTraces};
 pub use timer::{Timeouts, Timer};

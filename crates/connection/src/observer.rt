@@ -1,5 +1,4 @@
 //! Who is shown what goes over a connection.
-use std::cell::Cell;
 use std::io;
 
 /// Why nothing more was read from a peer.
@@ -13,6 +12,10 @@ pub enum ReadEnd {
     Timer,
     /// The peer of an established association sent nothing for the idle time.
     Idle,
+    /// The association lasted as long as it may.
+    Longest,
+    /// The box stops.
+    Stopped,
 }
 
 /// Is shown what goes over a connection, and can change none of it.
@@ -28,22 +31,4 @@ pub trait Observer {
 
     /// A send failed.
     fn send_failed(&self, error: &io::Error);
-}
-
-/// What the source and the wire of one connection share.
-#[derive(Drop)]
-pub struct Shared<'a, B: Observer> {
-    pub observer: &'a B,
-    /// Whether the association has sent anything.
-    pub has_sent: Cell<bool>,
-}
-
-impl<'a, B: Observer> Shared<'a, B> {
-    /// Returns what a new connection shares: nothing was sent over it.
-    pub fn new(observer: &'a B) -> Shared<'a, B> {
-        Shared {
-            observer,
-            has_sent: Cell::new(false),
-        }
-    }
 }

@@ -1,4 +1,8 @@
 //! How long the box waits for a peer.
+ghost use Rattle.std.specs.Prelude.{◌≡◌, ◌≢◌, None, Some, IsSome, true, false};
+ghost use Rattle.acceptor.specs.Effect.{timer_runs};
+
+use acceptor::State;
 use std::time::{Clock, Duration, Instant};
 
 /// How long a peer is waited for.
@@ -11,43 +15,59 @@ pub struct Timeouts {
     pub idle: Duration,
 }
 
-/// Measures the ARTIM timer of one association from where the acceptor's table starts it.
+/// Measures the ARTIM timer of one association, which shows it the states that it is in.
+///
+/// The acceptor's table starts the timer exactly where an action leads into another state, in which the
+/// timer runs, and no state that was left is entered again: the laws `a_start_is_an_entry` and
+/// `starts_are_seen` of `acceptor`. So the timer was started since it was shown a state exactly where it
+/// is shown another one, in which it runs; an A-ABORT by AA-7, which keeps the state, starts nothing.
 #[derive(Drop)]
 pub struct Timer {
     timeouts: Timeouts,
-    /// When the ARTIM timer started, while it runs.
+    /// The state that it was shown last.
+    state: State,
+    /// When the ARTIM timer started, while it runs and the clock could be read.
     started: Option<Instant>,
-    /// Whether the association had sent anything when the timer was last looked at.
-    has_sent: bool,
 }
 
 impl Timer {
-    pub fn new(timeouts: Timeouts) -> Timer {
+    ghost use Rattle.connection.specs.Measured.{state_shown, start_of, times_of};
+
+    /// Returns the timer of a connection that is not open yet.
+    pub fn new(timeouts: Timeouts) -> Timer
+        ensures times { times_of result ≡ timeouts }
+    {
         Timer {
             timeouts,
+            state: State::Sta1,
             started: None,
-            has_sent: false,
         }
     }
 
-    /// Returns how long the next read may wait, or `None` once the ARTIM timer has expired.
-    ///
-    /// `runs` says whether the ARTIM timer runs, and `has_sent` whether the association has sent
-    /// anything. The first PDU that it sends is the answer to the request, an A-ASSOCIATE-RJ or an
-    /// A-ABORT: a timer that runs after it was started anew by that action (PS3.8 section 9.2.2, AE-6,
-    /// AE-8 and AA-1), though it ran before it, too.
-    pub fn time_left<R: Clock>(
-        &mut self,
-        clock: &R,
-        runs: bool,
-        has_sent: bool,
-    ) -> Option<Duration> {
-        let is_answered = has_sent && !self.has_sent;
-        self.has_sent = has_sent;
-        if !runs || is_answered {
+    /// Is shown the state that the association is in. If it is another one than before, the ARTIM
+    /// timer starts at the next look at the time, provided that it runs in this state.
+    pub fn show(&mut self, state: State)
+        ensures shown { state_shown self.new ≡ state }
+        ensures stays { state ≡ state_shown self.old → self.new ≡ self.old }
+        ensures anew { state ≢ state_shown self.old → start_of self.new ≡ None }
+        ensures times { times_of self.new ≡ times_of self.old }
+    {
+        if state != self.state {
+            self.state = state;
             self.started = None;
         }
-        if !runs {
+    }
+
+    /// Returns how long the next read may wait, or `None` once the ARTIM timer has expired. While the
+    /// clock can't be read the timer does not expire.
+    pub fn time_left<R: Clock>(&mut self, clock: &R) -> Option<Duration>
+        ensures idle { timer_runs (state_shown self.old) ≡ false → result ≡ Some (times_of self.old).idle }
+        ensures whole { timer_runs (state_shown self.old) ≡ true → start_of self.old ≡ None → result ≡ Some (times_of self.old).artim }
+        ensures goes_on { IsSome (start_of self.old) → start_of self.new ≡ start_of self.old }
+        ensures shown { state_shown self.new ≡ state_shown self.old }
+        ensures times { times_of self.new ≡ times_of self.old }
+    {
+        if !self.state.timer_runs() {
             return Some(self.timeouts.idle);
         }
         let Some(started) = self.started else {

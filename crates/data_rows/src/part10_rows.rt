@@ -24,6 +24,8 @@ const TITLE: [u8; 16] = [
     2, 0, 0x16, 0, b'A', b'E', 8, 0, b'S', b'C', b'A', b'N', b'N', b'E', b'R', b'1', // 0016
 ];
 
+/// Returns the file header of a CT image with this calling title; none if an identifier can't be
+/// read.
 pub fn header(calling: &[u8; 16]) -> Option<ArrayVec<u8, 512>> {
     Some(meta_bytes(&Meta {
         class: Uid::read(b"1.2.840.10008.5.1.4.1.1.2")?,

@@ -45,20 +45,19 @@ pub record Counts (uid : List ℕ) (rows : List Row) (header records : ℕ) : Ty
   pub header_is : header ≡ length (directory_header uid)
   pub records_are : records ≡ forest_size (TreeOf rows)
 
+total_is : (uid : List ℕ) (rows : List Row) (header records : ℕ) → Counts uid rows header records → length (directory_header uid) + root_size + forest_size (TreeOf rows) ≡ records + (header + 54)
+total_is uid rows header records s = let root = root_size_is in let a = s.header_is in let b = s.records_are in omega (arith, a, b, root)
+
 pub file_too_large : (uid : List ℕ) (rows : List Row) (header records : ℕ) → Counts uid rows header records → 2 ^ 32 ≤ records + (header + 54) → file_is_too_large uid rows ≡ true
 file_too_large uid rows header records s large =
-    let root = root_size_is in
-    let a = s.header_is in
-    let b = s.records_are in
-    let le : 2 ^ 32 ≤ length (directory_header uid) + root_size + forest_size (TreeOf rows) = omega (arith, large, a, b, root) in
+    let total = total_is uid rows header records s in
+    let le : 2 ^ 32 ≤ length (directory_header uid) + root_size + forest_size (TreeOf rows) = omega (arith, large, total) in
     grind (arith, nat_tests)
 
 pub file_fits : (uid : List ℕ) (rows : List Row) (header records : ℕ) → Counts uid rows header records → records + (header + 54) < 2 ^ 32 → file_is_too_large uid rows ≡ false
 file_fits uid rows header records s small =
-    let root = root_size_is in
-    let a = s.header_is in
-    let b = s.records_are in
-    let lt : length (directory_header uid) + root_size + forest_size (TreeOf rows) < 2 ^ 32 = omega (arith, small, a, b, root) in
+    let total = total_is uid rows header records s in
+    let lt : length (directory_header uid) + root_size + forest_size (TreeOf rows) < 2 ^ 32 = omega (arith, small, total) in
     grind (arith, nat_tests)
 
 pub at_least : (n m : ℕ) → (n < m → ⊥) → m ≤ n

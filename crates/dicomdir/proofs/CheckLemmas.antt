@@ -1,7 +1,7 @@
 -- The faults of a directory, in the order in which they are looked for.
-use Rattle.std.proofs.Common.{◌≡◌, ◌≢◌, ℕ, suc, Bool, true, false, List, [], ◌++◌, length, map, Option, Some, None, length-append, ◌-◌, refl, sym, ap, subst, ◌∙◌, arith, nat_eq, if◌then◌else◌}
-use Rattle.byteorder.specs.Endian.{little_number}
+use Rattle.std.proofs.Common.{◌≡◌, ◌≢◌, ℕ, suc, List, [], ◌++◌, length, map, Option, Some, None, length-append, ◌-◌, sym, ap, subst, ◌∙◌, arith}
 use Rattle.std.proofs.lemmas.List.{append-nil}
+use Rattle.std.specs.List.{flat_map}
 use Rattle.element.specs.declared.syntax.Syntax.{Syntax}
 use Rattle.element.specs.declared.syntax.Syntax.TheVariants.{Explicit}
 use Rattle.sequence.proofs.Public.{whole_breaks_no_rule}
@@ -13,15 +13,18 @@ use Rattle.dicomdir.specs.declared.links.Root.{Root}
 use Rattle.dicomdir.specs.declared.records.ReadRecord.{ReadRecord}
 use Rattle.dicomdir.specs.declared.tree.TreeRecord.{TreeRecord}
 use Rattle.dicomdir.specs.CheckFault.{check_limits, CheckFault, HasHeader, in_directory}
-use Rattle.dicomdir.specs.Directory.{Found, value_at, found, number_in, Record, records_at, records_in, first_offset, records_of}
-use Rattle.dicomdir.specs.DirFault.{Fault, fault, ◌or_else◌, or_zero, place_in, offset_fault, records_fault, root_fault, each_fault, links_fault, records_then_links, directory_fault}
-use Rattle.dicomdir.specs.Followed.{forest_from}
+use Rattle.dicomdir.specs.Directory.{found, Record, records_at, records_in, records_of, or_zero}
+use Rattle.dicomdir.specs.DirFault.{Fault, fault, ◌or_else◌, offset_fault, records_fault, root_fault, each_fault, links_of, links_fault, records_then_links, directory_fault}
+use Rattle.dicomdir.specs.Paths.{paths_of}
+use Rattle.dicomdir.specs.machine.Trail.{node_on}
 use Rattle.dicomdir.specs.NodesInUse.{LevelNode, nodes_in_use, HasNodes}
 use Rattle.dicomdir.specs.TreeNodes.{node_of}
 use Rattle.dicomdir.specs.machine.Entries.{AreEntries, AreRead, AreFollowed, FailsToFollow}
 use Rattle.dicomdir.specs.machine.Reading.{FailsAs, IsRootOffset, ChecksAs}
 use Rattle.dicomdir.specs.machine.Texts.{HasElements, nothing_after, FindsItems}
 use Rattle.dicomdir.proofs.FaultFree.{sound_by}
+use Rattle.dicomdir.proofs.FreePaths.{or_some, or_none}
+use Rattle.dicomdir.proofs.PathForests.{forest_nodes}
 use Rattle.dicomdir.proofs.RecordsLemmas.{entries_good, records_rise}
 
 -- ---- faults
@@ -36,35 +39,6 @@ fails_at o n place f is other at =
 
 fails_on : (o p : Option Fault) (f : DirFault) → FailsAs o f → ((x : Fault) → o ≡ Some x → p ≡ Some x) → FailsAs p f
 fails_on o p f is on = record { tag = is.tag; memory = is.memory; fault = λ e. on (record { number = f.number; place = f.place }) (is.fault e) }
-
-or_some : (a b : Option Fault) (x : Fault) → a ≡ Some x → (a or_else b) ≡ Some x
-or_some None b x e = absurd cc
-or_some (Some y) b x e = e
-
-or_none : (a b : Option Fault) → a ≡ None → (a or_else b) ≡ b
-or_none None b e = refl
-or_none (Some y) b e = absurd cc
-
--- ---- an offset of the root
-
-pub value_fault : (start p : ℕ) (v : List ℕ) (f : Found) → f ≡ value_at p v → None ≡ (if nat_eq (length v) 4 then Some (little_number 4 v) else None) → offset_fault start f ≡ fault 68 p
-value_fault start p v f is none = ap (offset_fault start) is ∙ by (nat_eq (length v) 4) none
-  where
-    by : (b : Bool) → None ≡ (if b then Some (little_number 4 v) else None) → (if b then None else fault 68 p) ≡ fault 68 p
-    by true e = absurd cc
-    by false e = refl
-
-pub root_value : (start p n : ℕ) (v : List ℕ) (f : Found) → f ≡ value_at p v → Some n ≡ (if nat_eq (length v) 4 then Some (little_number 4 v) else None) → IsRootOffset start f p n
-root_value start p n v f is some =
-    record {
-      place_is = ap place_in (sym is);
-      offset_is = ap (number_in 4) is ∙ sym some;
-      good = ap (offset_fault start) is ∙ by (nat_eq (length v) 4) some;
-    }
-  where
-    by : (b : Bool) → Some n ≡ (if b then Some (little_number 4 v) else None) → (if b then None else fault 68 p) ≡ None
-    by true e = refl
-    by false e = absurd cc
 
 -- ---- the whole directory
 
@@ -105,10 +79,11 @@ pub record HasRecords (start : ℕ) (es : Elements) (records : List Record) : Ty
   pub are : records_of start es ≡ Some records
   pub good : root_fault start es ≡ None
 
-directory_is : (start : ℕ) (es : Elements) (records : List Record) → HasRecords start es records → directory_fault start es ≡ (each_fault records or_else links_fault start es records)
+directory_is : (start : ℕ) (es : Elements) (records : List Record) → HasRecords start es records → directory_fault start es ≡ (each_fault records or_else links_fault start es (links_of start es records))
 unfolding directory_fault
 directory_is start es records has =
-    or_none (root_fault start es) (records_then_links start es (records_of start es)) has.good ∙ ap (λ z. records_then_links start es z) has.are
+    or_none (root_fault start es) (records_then_links start es (records_of start es)) has.good
+    ∙ ap (λ z. records_then_links start es z) has.are
 
 pub has_records : (s : Syntax) (start p first : ℕ) (es : Elements) (text : List ℕ) (finds : FindsItems p first s text (found 0x00041220 start es))
     → offset_fault start (found 0x00041200 start es) ≡ None → offset_fault start (found 0x00041202 start es) ≡ None
@@ -122,7 +97,7 @@ has_records s start p first es text finds first_good last_good =
 pub fails_in_records : (start : ℕ) (es : Elements) (records : List Record) (f : DirFault) → HasRecords start es records → FailsAs (each_fault records) f → FailsAs (directory_fault start es) f
 fails_in_records start es records f has is =
     fails_on (each_fault records) (directory_fault start es) f is
-    (λ x e. directory_is start es records has ∙ or_some (each_fault records) (links_fault start es records) x e)
+    (λ x e. directory_is start es records has ∙ or_some (each_fault records) (links_fault start es (links_of start es records)) x e)
 
 pub fails_in_links : (start : ℕ) (es : Elements) (records : List Record) (root : Root) (entries : List ReadRecord) (f : DirFault) → HasRecords start es records
     → AreRead root entries start es records → FailsToFollow root entries f → FailsAs (directory_fault start es) f
@@ -130,7 +105,7 @@ fails_in_links start es records root entries f has read fails =
     record {
       tag = fails.tag;
       memory = fails.memory;
-      fault = λ other. directory_is start es records has ∙ (or_none (each_fault records) (links_fault start es records) (entries_good read.entries_are) ∙ fails.fault start es records other read);
+      fault = λ other. directory_is start es records has ∙ (or_none (each_fault records) (links_fault start es (links_of start es records)) (entries_good read.entries_are) ∙ fails.fault start es records other read);
     }
 
 pub checks_as : (start : ℕ) (es : Elements) (records : List Record) (root : Root) (entries : List ReadRecord) (old new : List TreeRecord) (nodes : List LevelNode) → HasRecords start es records
@@ -138,10 +113,10 @@ pub checks_as : (start : ℕ) (es : Elements) (records : List Record) (root : Ro
 checks_as start es records root entries old new nodes has read none followed same =
     let both = followed start es records read in
     record {
-      no_fault = directory_is start es records has ∙ (or_none (each_fault records) (links_fault start es records) (entries_good read.entries_are) ∙ both.0);
+      no_fault = directory_is start es records has ∙ (or_none (each_fault records) (links_fault start es (links_of start es records)) (entries_good read.entries_are) ∙ both.0);
       records = records;
       are = has.are;
-      nodes_are = same ∙ (both.1 ∙ ap (λ z. map node_of z ++ nodes_in_use 1 (forest_from (suc (length records)) records (or_zero (first_offset start es)))) none);
+      nodes_are = same ∙ (both.1 ∙ ap (λ z. map node_of z ++ flat_map (node_on (links_of start es records)) (paths_of (links_of start es records))) none);
     }
 
 -- ---- the file
@@ -161,6 +136,7 @@ pub file_nodes : {file back : List ℕ} (h : HasHeader file back) (start : ℕ) 
 file_nodes {file = file} {back = back} h start es nodes from spelled checks =
     let long = ap length h.explicit.whole ∙ length-append h.front back in
     let by = sound_by start es checks.records checks.are checks.no_fault in
+    let collected = forest_nodes (suc (length checks.records)) (links_of start es checks.records) [] in
     record {
       start = start;
       elements = es;
@@ -168,7 +144,7 @@ file_nodes {file = file} {back = back} h start es nodes from spelled checks =
       is_file = record { front = h.front; back = back; explicit = h.explicit; data_set = spelled; begins = omega (arith, long, from) };
       linked = by.linked;
       all_reached = by.all_reached;
-      nodes_are = ap (nodes_in_use 1) by.placed_is ∙ sym checks.nodes_are;
+      nodes_are = ap (nodes_in_use 1) by.placed_is ∙ sym (checks.nodes_are ∙ collected);
     }
 
 pub are_read : (start first : ℕ) (es : Elements) (items : Items) (root : Root) (entries : List ReadRecord)

@@ -1,18 +1,18 @@
 -- Entries of records, whose places rise: a search among them, and the flags of those that were reached.
-use Rattle.std.proofs.Common.{◌≡◌, ℕ, zero, suc, ◌<◌, ◌≤◌, Bool, true, false, ◌||◌, List, [], ◌∷◌, length, set, drop, replicate, get_or, not, Option, Some, None, Less, Equal, Greater, refl, sym, ap, subst, ◌∙◌, arith, eqb-true, nat_eq, inl, inr, if◌then◌else◌}
+use Rattle.std.proofs.Common.{◌≡◌, ℕ, zero, suc, ◌<◌, ◌≤◌, Bool, true, false, ◌||◌, List, [], ◌∷◌, length, set, drop, replicate, get_or, not, Some, None, Less, Equal, Greater, refl, sym, ap, subst, ◌∙◌, arith, eqb-true, nat_eq, ◌⊎◌, inl, inr, if◌then◌else◌}
 use Rattle.std.specs.List.{HoldsAt, AllWithin}
 use Rattle.std.specs.List.Sorted.{IsNonDecreasingBy, IsPartitionPoint}
 use Rattle.std.specs.Ordering.{nat_cmp, ordering_index}
 use Rattle.std.proofs.lemmas.Cmp.{ranked}
-use Rattle.std.proofs.lemmas.Bool.{cases_lt}
+use Rattle.std.proofs.lemmas.Bool.{cases_lt, cond-true, cond-false}
 use Rattle.std.proofs.lemmas.Bool.Decides.{nat_tests}
 use Rattle.dicomdir.specs.declared.records.ReadRecord.{ReadRecord}
 use Rattle.dicomdir.specs.Directory.{Record, carried_node}
-use Rattle.dicomdir.specs.Linked.{record_at}
-use Rattle.dicomdir.specs.DirFault.{Fault, is_one_of, fault, unreached_fault}
+use Rattle.dicomdir.specs.Linked.{record_at, is_one_of}
+use Rattle.dicomdir.specs.DirFault.{fault, unreached_fault}
 use Rattle.dicomdir.specs.machine.Entries.{IsEntry, AreEntries, no_entries, entry_then, Rise}
-use Rattle.dicomdir.specs.machine.Survey.{flags_of, AreFlagged}
-use Rattle.dicomdir.proofs.Linking.{when_yes, when_no}
+use Rattle.dicomdir.specs.machine.Turns.{flags_of, AreFlagged}
+use Rattle.dicomdir.proofs.Distinct.{same_place}
 
 -- the search
 
@@ -82,10 +82,6 @@ place_absent entries place i parted records are rise =
 
 -- the flags
 
-pub length_flags : (reached : List ℕ) (records : List Record) → length (flags_of reached records) ≡ length records
-length_flags reached [] = refl
-length_flags reached (r ∷ rs) = ap suc (length_flags reached rs)
-
 pub length_entries : (entries : List ReadRecord) (records : List Record) → AreEntries entries records → length entries ≡ length records
 length_entries [] (r ∷ rs) are = elim are [ ]
 length_entries (e ∷ es) [] are = elim are [ ]
@@ -115,9 +111,6 @@ pub record AtEntry (e : ReadRecord) (records : List Record) (at least : ℕ) : T
   pub left : (reached : List ℕ) → unreached_fault reached (drop at records)
       ≡ (if not (carried_node of_it.elements).in_use || is_one_of of_it.place reached then unreached_fault reached (drop (suc at) records) else fault 63 of_it.place)
 
-same_place : (x : ℕ) → nat_eq x x ≡ true
-same_place x = grind (arith, nat_tests)
-
 first_entry : (e : ReadRecord) (r : Record) (rs : List Record) (least : ℕ) → IsEntry e r → Rise least (r ∷ rs) → AtEntry e (r ∷ rs) 0 least
 first_entry e r rs least is rise =
     let here = same_place r.place in
@@ -125,7 +118,7 @@ first_entry e r rs least is rise =
       of_it = r;
       is = is;
       above = rise.0;
-      stands = when_yes (nat_eq r.place r.place) (Some r.elements) (record_at r.place rs) here;
+      stands = cond-true (nat_eq r.place r.place) (Some r.elements) (record_at r.place rs) here;
       flag = λ reached d. refl;
       marked = λ reached. let rest = sym (same_flags r.place reached (suc r.place) rs rise.1 (omega arith)) in λ i. (sym here i || is_one_of r.place reached) ∷ rest i;
       left = λ reached. refl;
@@ -139,7 +132,7 @@ later_entry e r rs at least first later =
       of_it = later.of_it;
       is = later.is;
       above = omega (arith, first, above);
-      stands = when_no (nat_eq r.place later.of_it.place) (Some r.elements) (record_at later.of_it.place rs) other ∙ later.stands;
+      stands = cond-false (nat_eq r.place later.of_it.place) (Some r.elements) (record_at later.of_it.place rs) other ∙ later.stands;
       flag = λ reached d. later.flag reached d;
       marked = λ reached. let rest = later.marked reached in λ i. (sym other i || is_one_of r.place reached) ∷ rest i;
       left = λ reached. later.left reached;
@@ -155,52 +148,18 @@ at_entry (e ∷ es) (r ∷ rs) least (suc at) d (entry_then is rest) rise fits =
     later_entry (get_or es at d) r rs at least rise.0 (at_entry es rs (suc r.place) at d rest rise.1 (omega (arith, fits)))
 
 -- an entry in use that was not reached is the first such one; any other is passed over
-
-entry_there : (entries : List ReadRecord) (flags : List Bool) (records : List Record) (reached : List ℕ) (e : ReadRecord) (at : ℕ) → AreFlagged entries flags records reached
-    → e ≡ get_or entries at e → at < length entries → AtEntry e records at 0
-entry_there entries flags records reached e at flagged is fits =
-    subst (λ z. AtEntry z records at 0) (sym is) (at_entry entries records 0 at e flagged.are flagged.rise fits)
-
-passes : (b : Bool) (x y : Option Fault) (u r : Bool) → b ≡ (not u || r) → (not u || r) ≡ true → (if b then x else y) ≡ x
-passes true x y u r e f = refl
-passes false x y u r e f = absurd cc
-
-halts : (b : Bool) (x y : Option Fault) (u r : Bool) → b ≡ (not u || r) → u ≡ true → r ≡ false → (if b then x else y) ≡ y
-halts true x y true true e f g = absurd cc
-halts true x y true false e f g = absurd cc
-halts true x y false r e f g = absurd cc
-halts false x y u r e f g = refl
-
-pub unreached_here : (entries : List ReadRecord) (flags : List Bool) (records : List Record) (reached : List ℕ) (e : ReadRecord) (at : ℕ) → AreFlagged entries flags records reached
-    → e ≡ get_or entries at e → at < length entries → e.in_use ≡ true → get_or flags at false ≡ false
-    → unreached_fault reached (drop at records) ≡ fault 63 e.place
-unreached_here entries flags records reached e at flagged is fits used new =
-    let there = entry_there entries flags records reached e at flagged is fits in
+pub left_at : (entries : List ReadRecord) (flags : List Bool) (records : List Record) (reached : List ℕ) (e : ReadRecord) (at : ℕ) → AreFlagged entries flags records reached
+    → e ≡ get_or entries at e → at < length entries
+    → unreached_fault reached (drop at records) ≡ (if not e.in_use || get_or flags at false then unreached_fault reached (drop (suc at) records) else fault 63 e.place)
+left_at entries flags records reached e at flagged is fits =
+    let there : AtEntry e records at 0 = subst (λ z. AtEntry z records at 0) (sym is) (at_entry entries records 0 at e flagged.are flagged.rise fits) in
     let in_use : e.in_use ≡ (carried_node there.of_it.elements).in_use = ap (λ z. z.in_use) there.is.carries in
     let flag : get_or flags at false ≡ is_one_of there.of_it.place reached = ap (λ z. get_or z at false) flagged.flagged ∙ there.flag reached false in
-    let same : (not (carried_node there.of_it.elements).in_use || is_one_of there.of_it.place reached) ≡ (not e.in_use || get_or flags at false)
-    = λ i. not (sym in_use i) || sym flag i in
     there.left reached
-    ∙ (halts (not (carried_node there.of_it.elements).in_use || is_one_of there.of_it.place reached) (unreached_fault reached (drop (suc at) records)) (fault 63 there.of_it.place) e.in_use (get_or flags at false) same used new
-    ∙ ap (λ z. fault 63 z) (sym there.is.place))
+    ∙ (λ i. if not (sym in_use i) || sym flag i then unreached_fault reached (drop (suc at) records) else fault 63 (sym there.is.place i))
 
-pub unreached_later : (entries : List ReadRecord) (flags : List Bool) (records : List Record) (reached : List ℕ) (e : ReadRecord) (at next : ℕ) → AreFlagged entries flags records reached
-    → e ≡ get_or entries at e → at < length entries → (not e.in_use || get_or flags at false) ≡ true → next ≡ suc at
-    → unreached_fault reached (drop next records) ≡ unreached_fault reached (drop at records)
-unreached_later entries flags records reached e at next flagged is fits passed next_is =
-    let there = entry_there entries flags records reached e at flagged is fits in
-    let in_use : e.in_use ≡ (carried_node there.of_it.elements).in_use = ap (λ z. z.in_use) there.is.carries in
-    let flag : get_or flags at false ≡ is_one_of there.of_it.place reached = ap (λ z. get_or z at false) flagged.flagged ∙ there.flag reached false in
-    let same : (not (carried_node there.of_it.elements).in_use || is_one_of there.of_it.place reached) ≡ (not e.in_use || get_or flags at false)
-    = λ i. not (sym in_use i) || sym flag i in
-    ap (λ z. unreached_fault reached (drop z records)) next_is
-    ∙ sym (there.left reached
-    ∙ passes (not (carried_node there.of_it.elements).in_use || is_one_of there.of_it.place reached) (unreached_fault reached (drop (suc at) records)) (fault 63 there.of_it.place) e.in_use (get_or flags at false) same passed)
-
-pub inactive_passes : (u r : Bool) → u ≡ false → (not u || r) ≡ true
-inactive_passes true r e = absurd cc
-inactive_passes false r e = refl
-
-pub reached_passes : (u r : Bool) → r ≡ true → (not u || r) ≡ true
-reached_passes true r e = e
-reached_passes false r e = refl
+pub passes : (u r : Bool) → (u ≡ false) ⊎ (r ≡ true) → (not u || r) ≡ true
+passes false r e = refl
+passes true true e = refl
+passes true false (inl e) = absurd cc
+passes true false (inr e) = absurd cc

@@ -1,21 +1,19 @@
 -- A directory without a fault is linked to a tree.
-use Rattle.std.proofs.Common.{◌≡◌, ℕ, suc, ◌+◌, Bool, true, false, not, ◌&&◌, ◌||◌, List, [], ◌∷◌, length, Option, Some, None, is_some, refl, sym, ap, subst, ◌∙◌, arith, eqb-true, nat_eq, if◌then◌else◌}
-use Rattle.std.specs.List.{list_any, list_all}
+use Rattle.std.proofs.Common.{◌≡◌, ℕ, suc, ◌+◌, Bool, true, false, not, ◌&&◌, ◌||◌, List, [], ◌∷◌, length, Some, None, is_some, refl, sym, ap, subst, ◌∙◌, arith, eqb-true, nat_eq, if◌then◌else◌}
+use Rattle.std.specs.List.{list_all}
 use Rattle.std.specs.Str.{bytes_eq}
 use Rattle.std.proofs.lemmas.Bool.{and_parts, and_from}
 use Rattle.byteorder.specs.Endian.{little_number}
 use Rattle.sequence.specs.Tree.{Elements}
 use Rattle.dicomdir.specs.TreeOf.{Forest}
-use Rattle.dicomdir.specs.Directory.{Found, missing, value_at, items_at, found, number_in, Record, header_size, records_at, records_in, carried_node, first_offset, last_offset, records_of, next_offset, lower_offset, has_record, has_file_id, is_use_flag, Node}
-use Rattle.dicomdir.specs.Linked.{PlacedNode, nodes_of, places_of, record_at, are_records, LinkedElements, IsAllReached}
-use Rattle.dicomdir.specs.DirFault.{Fault, fault, ◌or_else◌, offset_fault, records_fault, root_fault, record_fault, each_fault, Walked, stopped, went, walk, is_one_of, or_zero, place_in, unreached_fault, end_of_links, root_way, links_fault, records_then_links, directory_fault}
-use Rattle.dicomdir.specs.Followed.{forest_from}
+use Rattle.dicomdir.specs.Directory.{Found, missing, value_at, items_at, found, number_in, Record, header_size, records_at, records_in, carried_node, first_offset, last_offset, records_of, next_offset, lower_offset, has_record, has_file_id, is_use_flag, Node, or_zero}
+use Rattle.dicomdir.specs.Linked.{PlacedNode, nodes_of, places_of, record_at, are_records, LinkedElements, IsAllReached, is_one_of, is_distinct}
+use Rattle.dicomdir.specs.DirFault.{fault, ◌or_else◌, offset_fault, records_fault, root_fault, record_fault, each_fault, place_in, unreached_fault, first_fault, last_fault, links_of, links_fault, records_then_links, directory_fault}
 use Rattle.dicomdir.specs.NoFault.{NoFaultIsLinked}
-use Rattle.dicomdir.proofs.Linking.{IsIn, HaveOffsets, reaches}
-
-both_none : (a b : Option Fault) → (a or_else b) ≡ None → (a ≡ None) × (b ≡ None)
-both_none None b e = (refl, e)
-both_none (Some x) b e = absurd cc
+use Rattle.dicomdir.specs.Paths.{Links, paths_of, reached_by, root_records, last_from}
+use Rattle.dicomdir.proofs.Linking.{HaveOffsets, LinksTo, links_to}
+use Rattle.dicomdir.proofs.PathForests.{forest_from, forest_places, forest_last}
+use Rattle.dicomdir.proofs.FreePaths.{both_none, are_free}
 
 offset_some : (start : ℕ) (f : Found) → offset_fault start f ≡ None → number_in 4 f ≡ Some (or_zero (number_in 4 f))
 offset_some start missing e = absurd cc
@@ -69,38 +67,22 @@ have_offsets (r ∷ records) good p es e =
     by true h rest e = let same : r.elements ≡ es = cc in subst (λ z. (is_some (lower_offset z) ≡ true) × (is_some (next_offset z) ≡ true)) same (offsets h)
     by false h rest e = rest e
 
--- the walk ended, the last record of the root is the named one, and all in use were reached
-pub record EndsWell (start : ℕ) (es : Elements) (records : List Record) (w : Walked) : Type 0 where
-  pub reached : List ℕ
-  pub last : ℕ
-  pub is : w ≡ went reached last
-  pub last_is : or_zero (last_offset start es) ≡ last
-  pub all : unreached_fault reached records ≡ None
-
-ends_well : (start : ℕ) (es : Elements) (records : List Record) (w : Walked) → end_of_links start es records w ≡ None → EndsWell start es records w
-ends_well start es records (stopped f) e = absurd cc
-ends_well start es records (went reached last) e =
-    let parts = both_none (if nat_eq (or_zero (last_offset start es)) last then None else fault 60 (place_in (found 0x00041202 start es))) (unreached_fault reached records) e in
-    record { reached = reached; last = last; is = refl; last_is = by (nat_eq (or_zero (last_offset start es)) last) refl parts.0; all = parts.1 }
+last_is : (start : ℕ) (es : Elements) (links : Links) → last_fault start es links ≡ None → or_zero (last_offset start es) ≡ last_from 0 (root_records links (paths_of links))
+last_is start es links e = by (nat_eq (or_zero (last_offset start es)) (last_from 0 (root_records links (paths_of links)))) refl e
   where
-    by : (b : Bool) → nat_eq (or_zero (last_offset start es)) last ≡ b → (if b then None else fault 60 (place_in (found 0x00041202 start es))) ≡ None → or_zero (last_offset start es) ≡ last
-    by true same e = eqb-true (or_zero (last_offset start es)) last same
+    by : (b : Bool) → nat_eq (or_zero (last_offset start es)) (last_from 0 (root_records links (paths_of links))) ≡ b
+        → (if b then None else fault 60 (place_in (found 0x00041202 start es))) ≡ None → or_zero (last_offset start es) ≡ last_from 0 (root_records links (paths_of links))
+    by true same e = eqb-true (or_zero (last_offset start es)) (last_from 0 (root_records links (paths_of links))) same
     by false same e = absurd cc
 
-all_there : (nodes more : List ℕ) (records : List Record) → ((p : ℕ) → is_one_of p more ≡ (is_one_of p nodes || false)) → unreached_fault more records ≡ None
-    → list_all (λ r. not (carried_node r.elements).in_use || list_any (nat_eq r.place) nodes) records ≡ true
-all_there nodes more [] members e = refl
-all_there nodes more (r ∷ records) members e =
-    by (not (carried_node r.elements).in_use) (is_one_of r.place more) (is_one_of r.place nodes) (members r.place) (all_there nodes more records members) e
+all_there : (nodes : List ℕ) (records : List Record) → unreached_fault nodes records ≡ None → list_all (λ r. not (carried_node r.elements).in_use || is_one_of r.place nodes) records ≡ true
+all_there nodes [] e = refl
+all_there nodes (r ∷ records) e = by (not (carried_node r.elements).in_use || is_one_of r.place nodes) (all_there nodes records) e
   where
-    by : (inactive a b : Bool) → a ≡ (b || false)
-        → (unreached_fault more records ≡ None → list_all (λ r. not (carried_node r.elements).in_use || list_any (nat_eq r.place) nodes) records ≡ true)
-        → (if inactive || a then unreached_fault more records else fault 63 r.place) ≡ None
-        → ((inactive || b) && list_all (λ r. not (carried_node r.elements).in_use || list_any (nat_eq r.place) nodes) records) ≡ true
-    by true a b same rest e = rest e
-    by false true true same rest e = rest e
-    by false true false same rest e = absurd cc
-    by false false b same rest e = absurd cc
+    by : (b : Bool) → (unreached_fault nodes records ≡ None → list_all (λ r. not (carried_node r.elements).in_use || is_one_of r.place nodes) records ≡ true)
+        → (if b then unreached_fault nodes records else fault 63 r.place) ≡ None → (b && list_all (λ r. not (carried_node r.elements).in_use || is_one_of r.place nodes) records) ≡ true
+    by true rest e = rest e
+    by false rest e = absurd cc
 
 -- the tree that the records are linked to is the one that following their offsets goes through
 pub record IsSoundBy (start : ℕ) (es : Elements) (records : List Record) : Type 0 where
@@ -110,16 +92,19 @@ pub record IsSoundBy (start : ℕ) (es : Elements) (records : List Record) : Typ
   pub placed_is : linked.placed ≡ forest_from (suc (length records)) records (or_zero (first_offset start es))
 
 sound : (start : ℕ) (es : Elements) (records : List Record) → records_of start es ≡ Some records → first_offset start es ≡ Some (or_zero (first_offset start es))
-    → last_offset start es ≡ Some (or_zero (last_offset start es)) → (each_fault records or_else links_fault start es records) ≡ None → IsSoundBy start es records
+    → last_offset start es ≡ Some (or_zero (last_offset start es)) → (each_fault records or_else links_fault start es (links_of start es records)) ≡ None → IsSoundBy start es records
 sound start es records are first_some last_some e =
-    let parts = both_none (each_fault records) (links_fault start es records) e in
+    let links : Links = links_of start es records in
+    let parts = both_none (each_fault records) (links_fault start es links) e in
     let good = each_good records parts.0 in
-    let first : ℕ = or_zero (first_offset start es) in
     let most : ℕ = suc (length records) in
-    let ends = ends_well start es records (walk most records (root_way start es) [] first) parts.1 in
-    let nowhere : IsIn records [] = record { distinct = refl; inside = λ p h. absurd cc } in
-    let went_there = reaches most records (have_offsets records good) (root_way start es) [] first ends.reached ends.last nowhere (omega arith) ends.is in
-    let placed : Forest PlacedNode = forest_from most records first in
+    let paths = both_none (first_fault links [] (paths_of links)) (last_fault start es links or_else unreached_fault (reached_by links (paths_of links)) records) parts.1 in
+    let ends = both_none (last_fault start es links) (unreached_fault (reached_by links (paths_of links)) records) paths.1 in
+    let free = are_free links [] (paths_of links) paths.0 in
+    let placed : Forest PlacedNode = forest_from most records links.first in
+    let names : places_of placed ≡ reached_by links (paths_of links) = forest_places most links [] in
+    let linked : LinksTo links [] placed = links_to most links [] (have_offsets records good) (omega arith)
+    (record { along = record { distinct = refl; inside = λ p h. absurd cc }; distinct = free.distinct; apart = λ p h. refl; good = free.good }) in
     record {
       tree = nodes_of placed;
       linked = record {
@@ -128,12 +113,12 @@ sound start es records are first_some last_some e =
         has_records = are;
         good = good;
         tree_is = refl;
-        linked = went_there.linked;
-        distinct = went_there.distinct;
-        names_first = first_some ∙ ap (λ z. Some z) (sym went_there.first);
-        names_last = last_some ∙ ap (λ z. Some z) (ends.last_is ∙ sym went_there.last_is);
+        linked = linked.1;
+        distinct = ap is_distinct names ∙ free.distinct;
+        names_first = first_some ∙ ap (λ z. Some z) (sym linked.0);
+        names_last = last_some ∙ ap (λ z. Some z) (last_is start es links ends.0 ∙ sym (forest_last most links [] 0 refl));
       };
-      all_reached = all_there (places_of placed) ends.reached records went_there.members ends.all;
+      all_reached = all_there (places_of placed) records (ap (λ z. unreached_fault z records) names ∙ ends.1);
       placed_is = refl;
     }
 
@@ -144,7 +129,7 @@ sound_by start es records are e =
     let parts = both_none (root_fault start es) (records_then_links start es (records_of start es)) e in
     let root = both_none (offset_fault start (found 0x00041200 start es)) (offset_fault start (found 0x00041202 start es) or_else records_fault start (found 0x00041220 start es)) parts.0 in
     let rest = both_none (offset_fault start (found 0x00041202 start es)) (records_fault start (found 0x00041220 start es)) root.1 in
-    let links : (each_fault records or_else links_fault start es records) ≡ None = ap (λ z. records_then_links start es z) (sym are) ∙ parts.1 in
+    let links : (each_fault records or_else links_fault start es (links_of start es records)) ≡ None = ap (λ z. records_then_links start es z) (sym are) ∙ parts.1 in
     sound start es records are (offset_some start (found 0x00041200 start es) root.0) (offset_some start (found 0x00041202 start es) rest.0) links
 
 pub no_fault_is_linked : NoFaultIsLinked

@@ -4,6 +4,7 @@ use Rattle.std.specs.List.{list_all}
 use Rattle.std.proofs.lemmas.Bool.{and_parts, and_from}
 use Rattle.element.specs.Padding.{is_space, is_empty, kept_before, without_trailing, padded}
 use Rattle.dicomdir.specs.FileId.{is_id_character, is_file_id_component, before_parts, parts_of, is_file_id, if_file_id, file_id_of}
+use Rattle.dicomdir.proofs.Distinct.{not_true}
 
 abbrev no_space : ℕ → Bool
 no_space c = not (is_space c)
@@ -45,12 +46,8 @@ components_are (part ∷ parts) e =
     let chars = and_parts _ (list_all is_id_character part) two.0 in
     and_from (list_all is_id_character part) (are_characters parts) chars.1 (components_are parts two.1)
 
-not_false : (b : Bool) → not b ≡ true → b ≡ false
-not_false true e = absurd cc
-not_false false e = refl
-
 keeps : (c : ℕ) (rest : List ℕ) → no_space c ≡ true → kept_before is_space c rest ≡ c ∷ rest
-keeps c rest e = by (is_empty rest) (is_space c) (not_false (is_space c) e)
+keeps c rest e = by (is_empty rest) (is_space c) (not_true (is_space c) e)
   where
     by : (a b : Bool) → b ≡ false → (if a && b then [] else c ∷ rest) ≡ c ∷ rest
     by true true f = absurd cc

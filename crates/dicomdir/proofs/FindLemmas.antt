@@ -1,5 +1,6 @@
 -- Finding an element under its tag.
 use Rattle.std.proofs.Common.{◌≡◌, ◌≢◌, ℕ, ◌+◌, ◌-◌, ◌*◌, ◌≤◌, ◌<◌, Bool, true, false, not, ◌&&◌, List, [], ◌++◌, length, take, drop, Some, None, ◌⊎◌, inl, inr, refl, sym, ap, subst, ◌∙◌, arith, append_assoc, length-append, eqb-true, eq-eqb, nat_eq, nat_le}
+use Rattle.std.proofs.lemmas.Bool.{cond-true, cond-false}
 use Rattle.std.proofs.lemmas.Bool.Decides.{nat_tests}
 use Rattle.std.proofs.lemmas.List.{append-nil}
 use Rattle.std.proofs.Math.Seq.{take-append_seam}
@@ -17,7 +18,7 @@ use Rattle.dicomdir.specs.Directory.{Found, missing, value_at, found, header_siz
 use Rattle.dicomdir.specs.machine.Heads.{head_at}
 use Rattle.dicomdir.specs.machine.Texts.{ElementsThen, IsAfter, nothing_after, end_after, HasElements, HasItems, IsContent, of_value, of_items, IsItemContent, of_elements, content_at, FindsItems}
 use Rattle.dicomdir.proofs.HeadLemmas.{head_read}
-use Rattle.dicomdir.proofs.TextLemmas.{Front, at_end, at_element, front_of, header_length, is_head, mark_head, no_head, if_yes, if_no, same_tags}
+use Rattle.dicomdir.proofs.TextLemmas.{Front, at_end, at_element, front_of, header_length, is_head, marked_head, no_head, same_tags}
 use Rattle.dicomdir.proofs.SkipLemmas.{odd, fits_end}
 
 -- ---- what a length announces
@@ -28,7 +29,7 @@ defined_content h b more text other size whole =
     let fits : nat_le h.length (length text) ≡ true = grind (arith, nat_tests, long, size) in
     let counted-there : is_undefined h.length ≡ false = undefined_no (is_undefined h.length) refl in
     let yes : (not (is_undefined h.length) && nat_le h.length (length text)) ≡ true = rw (counted-there, fits) refl in
-    if_yes _ (take h.length text) text yes ∙ (ap (λ n. take n text) (sym size) ∙ (ap (λ z. take (length b) z) whole ∙ take-append_seam b more))
+    cond-true _ (take h.length text) text yes ∙ (ap (λ n. take n text) (sym size) ∙ (ap (λ z. take (length b) z) whole ∙ take-append_seam b more))
   where
     undefined_no : (a : Bool) → is_undefined h.length ≡ a → a ≡ false
     undefined_no true e = absurd (other (eqb-true h.length undefined_length e))
@@ -38,7 +39,7 @@ open_content : (h : Header) (text : List ℕ) → h.length ≡ undefined_length 
 open_content h text unsized =
     let there : is_undefined h.length ≡ true = eq-eqb h.length undefined_length unsized in
     let no : (not (is_undefined h.length) && nat_le h.length (length text)) ≡ false = rw there refl in
-    if_no _ (take h.length text) text no
+    cond-false _ (take h.length text) text no
 
 -- the text is this one, and goes on by nothing or by the end of the level
 pub record EndsAs (mark : Tag) (b text : List ℕ) : Type 0 where
@@ -131,9 +132,7 @@ all_left s tag place es text has =
 after_head : (s : Syntax) (more text : List ℕ) (head : Head) → IsAfter item_end_tag more → text ≡ more → head_at s text ≡ Some head → is_marker head.header.tag ≡ true
 after_head s more text head (nothing_after) whole read = let none = no_head s text whole in absurd cc
 after_head s more text head (end_after rest) whole read =
-    let there = mark_head s item_end_tag rest text refl fits_end whole in
-    let same : Some (record { header = record { tag = item_end_tag; vr = None; length = 0 }; size = 8 }) ≡ Some head = sym there ∙ read in
-    let is : record { header = record { tag = item_end_tag; vr = None; length = 0 }; size = 8 } ≡ head = cc in
+    let is = marked_head s item_end_tag rest text head refl fits_end whole read in
     ap (λ z. is_marker z.header.tag) (sym is)
 
 pub left_after : (s : Syntax) (tag place : ℕ) (es : Elements) (text rest after : List ℕ) (head : Head) → length rest ≤ length text → LeftOf s tag place es text rest

@@ -1,53 +1,69 @@
 -- One turn of following the links, and its ends.
-use Rattle.std.proofs.Common.{◌≡◌, ℕ, suc, ◌<◌, ◌≤◌, min, Bool, true, false, not, ◌&&◌, List, [], ◌∷◌, ◌++◌, length, replicate, set, get_or, Option, Some, None, Result, Ok, Err, IfErr, refl, sym, ap, subst, ◌∙◌, arith, eqb-true, nat_eq, codes, bytes_eq, if◌then◌else◌}
+use Rattle.std.proofs.Common.{◌≡◌, ℕ, suc, ◌<◌, ◌≤◌, ◌-◌, min, Bool, true, false, not, ◌&&◌, ◌||◌, List, [], ◌∷◌, ◌++◌, length, filter, cond, replicate, set, get_or, Option, Some, None, Result, Ok, Err, IfErr, refl, sym, ap, subst, ◌∙◌, arith, eqb-true, nat_eq, codes, bytes_eq, if◌then◌else◌}
+use Rattle.std.proofs.lemmas.Bool.{cond-true, cond-false}
+use Rattle.std.specs.List.{flat_map}
 use Rattle.std.proofs.lemmas.Bool.Decides.{nat_tests}
-use Rattle.sequence.specs.Tree.{Elements, no_elements}
+use Rattle.std.proofs.lemmas.Grind.{flat_map-append}
+use Rattle.std.proofs.lemmas.List.{append-nil, append_assoc, map-append}
+use Rattle.std.proofs.lemmas.List.Elements.{filter-append}
+use Rattle.std.proofs.lemmas.List.Folds.{list_any-append}
+use Rattle.sequence.specs.Tree.{Elements}
 use Rattle.sequence.specs.Rules.{no_tag}
 use Rattle.dicomdir.specs.declared.fault.DirFault.{DirFault}
 use Rattle.dicomdir.specs.declared.links.Root.{Root}
 use Rattle.dicomdir.specs.declared.links.Mark.{Mark}
 use Rattle.dicomdir.specs.declared.links.Step.{Step}
 use Rattle.dicomdir.specs.declared.records.ReadRecord.{ReadRecord}
-use Rattle.dicomdir.specs.Directory.{found, Record, Node, carried_node, first_offset, last_offset, lower_offset, next_offset}
-use Rattle.dicomdir.specs.Linked.{record_at, fits, fits_level, is_upper_kind}
-use Rattle.dicomdir.specs.DirFault.{Fault, fault, lower_way, next_way, went, walk, named_fault, unreached_fault, end_of_links, root_way, links_fault, elements_at, or_zero, place_in, ◌or_else◌}
-use Rattle.dicomdir.specs.Followed.{forest_from}
-use Rattle.dicomdir.specs.NodesInUse.{LevelNode, nodes_in_use}
+use Rattle.dicomdir.specs.Directory.{found, Record, Node, carried_node, last_offset, lower_offset, next_offset, or_zero}
+use Rattle.dicomdir.specs.Linked.{record_at, fits, fits_level, is_upper_kind, is_one_of, elements_at, lower_at, next_at}
+use Rattle.dicomdir.specs.Paths.{Links, Turn, named_by, level_of, paths_from, paths_of, reached_by, root_records, last_from}
+use Rattle.dicomdir.specs.DirFault.{Fault, fault, ◌or_else◌, path_fault, first_fault, unreached_fault, links_of, links_fault, place_in}
+use Rattle.dicomdir.specs.NodesInUse.{LevelNode}
 use Rattle.dicomdir.specs.machine.Entries.{AreRead, FailsToFollow, carried_by}
-use Rattle.dicomdir.specs.machine.Trail.{way_of, mark_of, IsStep}
-use Rattle.dicomdir.specs.machine.Survey.{Seen, Surveyed, refused, with_seen, own_node, with_record, survey_all, finish, Stands, flags_of, AreFlagged, IsTarget}
-use Rattle.dicomdir.specs.machine.Turns.{LeadsTo, GoesOn}
-use Rattle.dicomdir.proofs.Linking.{IsIn, named_none, one_more_in}
-use Rattle.dicomdir.proofs.Surveying.{walked_of, survey_walks, survey_collects, all_goes, all_faults, in_use_at, lower_at, next_at}
-use Rattle.dicomdir.proofs.Trails.{finish_refused}
+use Rattle.dicomdir.specs.machine.Trail.{path_along, mark_of, own_node, node_on, paths_on, later, to_come, AreMarks, IsStep}
+use Rattle.dicomdir.specs.machine.Turns.{flags_of, AreFlagged, LeadsTo, GoesOn}
+use Rattle.dicomdir.proofs.PathForests.{lower_path, next_path, paths_more, elements_is}
+use Rattle.dicomdir.proofs.FreePaths.{path_free, or_some, or_none}
+use Rattle.dicomdir.proofs.Linking.{IsIn, not_false, one_more_in, few_in}
+use Rattle.dicomdir.proofs.Trails.{length_along}
 use Rattle.dicomdir.proofs.EntryLemmas.{AtEntry, at_entry, length_entries, none_flagged}
 
--- what comes of the whole
-abbrev pub whole : Root → List Record → List LevelNode → Surveyed
-whole root records nodes = survey_all records (way_of root.first_place [] true) true (record { reached = []; nodes = nodes }) root.first
+-- the paths that are gone had no fault, the rest is to come, and what was collected is of those that are gone
+pub record Following (links : Links) (entries : List ReadRecord) (flags : List Bool) (ms : List Mark) (pending : Option Step) (before nodes : List LevelNode) (last : ℕ) : Type 0 where
+  pub gone : List (List Turn)
+  pub reached : List ℕ
+  pub whole : paths_of links ≡ gone ++ to_come links ms pending
+  pub good : (more : List (List Turn)) → first_fault links [] (gone ++ more) ≡ first_fault links reached more
+  pub members : (p : ℕ) → is_one_of p reached ≡ is_one_of p (reached_by links gone)
+  pub nodes_are : before ++ flat_map (node_on links) gone ≡ nodes
+  pub last_is : last_from 0 (root_records links gone) ≡ last
+  pub is_in : IsIn links.records reached
+  pub few : length ms ≤ length reached
+  pub flagged : AreFlagged entries flags links.records reached
+  pub marks : AreMarks links ms
+  pub step : IsStep links ms pending
 
--- the flags and the nodes are those of what was seen, and the whole comes of what is left
-pub record Following (root : ℕ) (entries : List ReadRecord) (records : List Record) (flags : List Bool) (ms : List Mark) (pending : Option Step) (nodes : List LevelNode) (last : ℕ) (all : Surveyed) : Type 0 where
-  pub seen : Seen
-  pub nodes_are : seen.nodes ≡ nodes
-  pub is_in : IsIn records seen.reached
-  pub flagged : AreFlagged entries flags records seen.reached
-  pub stands : Stands root records ms pending seen last all
-
-pub starts : (root : Root) (entries : List ReadRecord) (start : ℕ) (es : Elements) (records : List Record) (flags : List Bool) (pending : Option Step) (nodes : List LevelNode)
-    → AreRead root entries start es records → flags ≡ replicate (length entries) false
-    → Stands root.first_place records [] pending (record { reached = []; nodes = nodes }) 0 (whole root records nodes)
-    → Following root.first_place entries records flags [] pending nodes 0 (whole root records nodes)
-starts root entries start es records flags pending nodes read none stands = record {
-  seen = record { reached = []; nodes = nodes };
-  nodes_are = refl;
+pub starts : (links : Links) (entries : List ReadRecord) (start : ℕ) (es : Elements) (root : Root) (flags : List Bool) (pending : Option Step) (nodes : List LevelNode)
+    → AreRead root entries start es links.records → flags ≡ replicate (length entries) false
+    → (paths_of links ≡ to_come links [] pending) × IsStep links [] pending
+    → Following links entries flags [] pending nodes nodes 0
+starts links entries start es root flags pending nodes read none begins = record {
+  gone = [];
+  reached = [];
+  whole = begins.0;
+  good = λ more. refl;
+  members = λ p. refl;
+  nodes_are = append-nil nodes;
+  last_is = refl;
   is_in = record { distinct = refl; inside = λ p h. absurd cc };
+  few = omega arith;
   flagged = record {
     are = read.entries_are;
     rise = read.rise;
-    flagged = none ∙ (ap (λ n. replicate n false) (length_entries entries records read.entries_are) ∙ sym (none_flagged records));
+    flagged = none ∙ (ap (λ n. replicate n false) (length_entries entries links.records read.entries_are) ∙ sym (none_flagged links.records));
   };
-  stands = stands;
+  marks = tt;
+  step = begins.1;
 }
 
 -- a record in use that fits its level stands on one of four
@@ -80,174 +96,211 @@ own_same shown level real place n is fit =
     by true false used a b same = refl
     by false u used a b same = refl
 
-elements_there : (o : Option Elements) (es : Elements) → o ≡ Some es → (elim o [ None ↦ no_elements | Some es ↦ es ]) ≡ es
-elements_there None es e = absurd cc
-elements_there (Some found) es e = cc
+-- the path that is open, and those that go on from it
+
+open_path : (links : Links) (lower : Bool) (ms : List Mark) (reached : List ℕ) → IsIn links.records reached → length ms ≤ length reached
+    → nat_eq (named_by links (path_along lower ms)) 0 ≡ false
+    → paths_on links (path_along lower ms)
+    ≡ path_along lower ms ∷ (paths_on links (lower_path links (path_along lower ms)) ++ paths_on links (next_path links (path_along lower ms)))
+open_path links lower ms reached inside few some =
+    let path : List Turn = path_along lower ms in
+    let most = few_in links.records reached inside in
+    let size = length_along lower ms in
+    let left : suc (length links.records) - length path ≡ suc (suc (length links.records) - suc (length path)) = omega (arith, most, few, size) in
+    ap (λ z. paths_from z links path) left ∙ paths_more (suc (length links.records) - suc (length path)) links path some
 
 -- the entry of a target, as what its record says
-pub record Turned (root : ℕ) (entries : List ReadRecord) (records : List Record) (flags : List Bool) (ms : List Mark) (step : Step) (seen : Seen) (e : ReadRecord) (at : ℕ) : Type 0 where
-  pub place : e.place ≡ step.offset
-  pub elements : carried_by e ≡ carried_node (elements_at records step.offset)
-  pub lower : e.lower ≡ lower_at records step.offset
-  pub next : e.next ≡ next_at records step.offset
-  pub flagged : AreFlagged entries (set flags at true) records (step.offset ∷ seen.reached)
-  pub is_in : IsIn records (step.offset ∷ seen.reached)
-  pub fit : fits (way_of root ms step.begins).level (carried_node (elements_at records step.offset)) ≡ true
-  pub good : named_fault (way_of root ms step.begins) seen.reached step.offset (record_at step.offset records) ≡ None
+pub record Turned (links : Links) (entries : List ReadRecord) (flags : List Bool) (path : List Turn) (reached : List ℕ) (e : ReadRecord) (at : ℕ) : Type 0 where
+  pub place : e.place ≡ named_by links path
+  pub carries : carried_by e ≡ carried_node (elements_at links.records (named_by links path))
+  pub lower : e.lower ≡ lower_at links.records (named_by links path)
+  pub next : e.next ≡ next_at links.records (named_by links path)
+  pub flagged : AreFlagged entries (set flags at true) links.records (named_by links path ∷ reached)
+  pub is_in : IsIn links.records (named_by links path ∷ reached)
+  pub fit : fits (level_of path) (carried_node (elements_at links.records (named_by links path))) ≡ true
 
-turned : (root : ℕ) (entries : List ReadRecord) (records : List Record) (flags : List Bool) (ms : List Mark) (step : Step) (seen : Seen) (e : ReadRecord) (at : ℕ)
-    → IsIn records seen.reached → AreFlagged entries flags records seen.reached → IsTarget root entries records ms step seen.reached at
-    → e ≡ get_or entries at e → at < length entries → Turned root entries records flags ms step seen e at
-turned root entries records flags ms step seen e at inside flagged target is fits_in =
-    let way = way_of root ms step.begins in
-    let o : ℕ = step.offset in
-    let there : AtEntry e records at 0 = subst (λ z. AtEntry z records at 0) (sym is) (at_entry entries records 0 at e flagged.are flagged.rise fits_in) in
-    let place : e.place ≡ o = ap (λ z. z.place) is ∙ target.place e in
-    let named = named_none way seen.reached o (record_at o records) target.good in
+turned : (links : Links) (entries : List ReadRecord) (flags : List Bool) (path : List Turn) (reached : List ℕ) (e : ReadRecord) (at : ℕ)
+    → IsIn links.records reached → AreFlagged entries flags links.records reached → path_fault links reached path ≡ None
+    → ((d : ReadRecord) → (get_or entries at d).place ≡ named_by links path)
+    → e ≡ get_or entries at e → at < length entries → Turned links entries flags path reached e at
+turned links entries flags path reached e at inside flagged good finds is fits_in =
+    let o : ℕ = named_by links path in
+    let free = path_free links reached path good in
+    let there : AtEntry e links.records at 0 = subst (λ z. AtEntry z links.records at 0) (sym is) (at_entry entries links.records 0 at e flagged.are flagged.rise fits_in) in
+    let place : e.place ≡ o = ap (λ z. z.place) is ∙ finds e in
     let same_place : there.of_it.place ≡ o = sym there.is.place ∙ place in
-    let stands : record_at o records ≡ Some there.of_it.elements = ap (λ z. record_at z records) (sym same_place) ∙ there.stands in
-    let elements : elements_at records o ≡ there.of_it.elements = elements_there (record_at o records) there.of_it.elements stands in
-    let named_elements : elements_at records o ≡ named.elements = elements_there (record_at o records) named.elements named.stands in
+    let stands : record_at o links.records ≡ Some there.of_it.elements = ap (λ z. record_at z links.records) (sym same_place) ∙ there.stands in
+    let elements : elements_at links.records o ≡ there.of_it.elements = elements_is (record_at o links.records) there.of_it.elements stands in
     record {
       place = place;
-      elements = there.is.carries ∙ ap (λ z. carried_node z) (sym elements);
+      carries = there.is.carries ∙ ap (λ z. carried_node z) (sym elements);
       lower = there.is.lower ∙ ap (λ z. or_zero (lower_offset z)) (sym elements);
       next = there.is.next ∙ ap (λ z. or_zero (next_offset z)) (sym elements);
       flagged = record {
         are = flagged.are;
         rise = flagged.rise;
-        flagged = ap (λ z. set z at true) flagged.flagged ∙ (there.marked seen.reached ∙ ap (λ z. flags_of (z ∷ seen.reached) records) same_place);
+        flagged = ap (λ z. set z at true) flagged.flagged ∙ (there.marked reached ∙ ap (λ z. flags_of (z ∷ reached) links.records) same_place);
       };
-      is_in = one_more_in records seen.reached o named.elements inside named.stands named.new;
-      fit = ap (λ z. fits way.level (carried_node z)) named_elements ∙ named.fit;
-      good = target.good;
+      is_in = one_more_in links.records reached o there.of_it.elements inside stands free.1;
+      fit = not_false (fits (level_of path) (carried_node (elements_at links.records o))) free.2;
     }
 
-pub turn : (root : ℕ) (entries : List ReadRecord) (records : List Record) (flags : List Bool) (ms marked ms2 : List Mark) (step : Step) (pending2 : Option Step) (nodes nodes2 : List LevelNode) (last last2 : ℕ) (all : Surveyed) (e : ReadRecord) (at : ℕ)
-    → Following root entries records flags ms (Some step) nodes last all
-    → LeadsTo root entries flags ms step at
+-- what was collected, with one more path
+
+one_more_named : (a b : Bool) → (a || b) ≡ (b || (a || false))
+one_more_named true true = refl
+one_more_named true false = refl
+one_more_named false true = refl
+one_more_named false false = refl
+
+last_of_more : (n x : ℕ) (xs : List ℕ) → last_from n (xs ++ x ∷ []) ≡ x
+last_of_more n x [] = refl
+last_of_more n x (y ∷ xs) = last_of_more y x xs
+
+last_root : (links : Links) (gone : List (List Turn)) (path : List Turn) (level last : ℕ) → level ≡ min (level_of path) 5 → last_from 0 (root_records links gone) ≡ last
+    → last_from 0 (root_records links (gone ++ path ∷ [])) ≡ (if nat_eq level 1 then named_by links path else last)
+last_root links gone path level last counted is =
+    let same : nat_eq (level_of path) 1 ≡ nat_eq level 1 = grind (arith, nat_tests, counted) in
+    let parts : root_records links (gone ++ path ∷ []) ≡ root_records links gone ++ reached_by links (cond (nat_eq (level_of path) 1) (path ∷ []) []) =
+    ap (λ z. reached_by links z) (filter-append (λ p. nat_eq (level_of p) 1) gone (path ∷ []))
+    ∙ map-append (named_by links) (filter (λ p. nat_eq (level_of p) 1) gone) (cond (nat_eq (level_of path) 1) (path ∷ []) []) in
+    ap (λ z. last_from 0 z) parts ∙ by (nat_eq (level_of path) 1) (nat_eq level 1) same
+  where
+    by : (a b : Bool) → a ≡ b → last_from 0 (root_records links gone ++ reached_by links (cond a (path ∷ []) [])) ≡ (if b then named_by links path else last)
+    by true true e = last_of_more 0 (named_by links path) (root_records links gone)
+    by false false e = ap (λ z. last_from 0 z) (append-nil (root_records links gone)) ∙ is
+    by true false e = absurd cc
+    by false true e = absurd cc
+
+pub turn : (links : Links) (entries : List ReadRecord) (flags : List Bool) (ms marked ms2 : List Mark) (step : Step) (pending2 : Option Step) (before nodes nodes2 : List LevelNode) (last last2 : ℕ) (e : ReadRecord) (at : ℕ)
+    → Following links entries flags ms (Some step) before nodes last
+    → LeadsTo entries flags ms step at
     → e ≡ get_or entries at e → at < length entries
     → nodes2 ≡ nodes ++ own_node step.shown step.level e.place (carried_by e) → marked ≡ mark_of e step ∷ ms
-    → GoesOn marked ms2 step pending2 last2 e
-    → Following root entries records (set flags at true) ms2 pending2 nodes2 last2 all
-turn root entries records flags ms marked ms2 step pending2 nodes nodes2 last last2 all e at f target is fits_in added shape after =
-    let here : GoesOn (mark_of e step ∷ ms) ms2 step pending2 last2 e = subst (λ z. GoesOn z ms2 step pending2 last2 e) shape after in
-    let way = way_of root ms step.begins in
-    let o : ℕ = step.offset in
-    let got = turned root entries records flags ms step f.seen e at f.is_in f.flagged (target records f.seen.reached f.flagged f.stands.step) is fits_in in
-    let level : step.level ≡ min way.level 5 = f.stands.step.1 in
-    let some : 0 < o = f.stands.step.0 in
-    let nonzero : nat_eq o 0 ≡ false = grind (arith, nat_tests, some) in
-    let seen2 : Seen = with_record records way step.shown f.seen o in
-    let goes = all_goes records way step.shown f.seen o f.is_in nonzero got.good in
-    let used : e.in_use ≡ in_use_at records o = ap (λ z. z.in_use) got.elements in
-    let place = got.place in
-    let lower = got.lower in
-    let next = got.next in
-    let same : finish root records ms step.begins (with_seen
-    (survey_all records (lower_way way e.place) (step.shown && e.in_use) seen2 e.lower)
-    (λ more. survey_all records (next_way way e.place) step.shown more e.next))
-    ≡ finish root records ms step.begins (with_seen
-    (survey_all records (lower_way way o) (step.shown && in_use_at records o) seen2 (lower_at records o))
-    (λ more. survey_all records (next_way way o) step.shown more (next_at records o)))
-    = λ i. finish root records ms step.begins (with_seen
-    (survey_all records (lower_way way (place i)) (step.shown && used i) seen2 (lower i))
-    (λ more. survey_all records (next_way way (place i)) step.shown more (next i))) in
-    let nodes_same : own_node step.shown way.level o (carried_node (elements_at records o)) ≡ own_node step.shown step.level e.place (carried_by e)
-    = own_same step.shown step.level way.level o (carried_node (elements_at records o)) level got.fit
-    ∙ (λ i. own_node step.shown step.level (sym place i) (sym got.elements i)) in
+    → last2 ≡ (if nat_eq step.level 1 then e.place else last)
+    → GoesOn marked ms2 step pending2 e
+    → Following links entries (set flags at true) ms2 pending2 before nodes2 last2
+turn links entries flags ms marked ms2 step pending2 before nodes nodes2 last last2 e at f target is fits_in added shape ends after =
+    let path : List Turn = path_along step.begins ms in
+    let o : ℕ = named_by links path in
+    let here : GoesOn (mark_of e step ∷ ms) ms2 step pending2 e = subst (λ z. GoesOn z ms2 step pending2 e) shape after in
+    let found = target links f.reached f.flagged f.step in
+    let got = turned links entries flags path f.reached e at f.is_in f.flagged found.good (λ d. found.place d ∙ f.step.1) is fits_in in
+    let some : nat_eq o 0 ≡ false = grind (arith, nat_tests, f.step.0, f.step.1) in
+    let marks : AreMarks links (mark_of e step ∷ ms) = (got.next ∙ ap (λ z. next_at links.records z) (sym got.place), f.step.2, f.marks) in
+    let used : e.in_use ≡ (carried_node (elements_at links.records e.place)).in_use = ap (λ z. z.in_use) got.carries ∙ ap (λ z. (carried_node (elements_at links.records z)).in_use) (sym got.place) in
+    let goes = here links (level_of path) marks (got.lower ∙ ap (λ z. lower_at links.records z) (sym got.place)) f.step.2.0 refl (λ i. f.step.2.1 i && used i) in
+    let few = f.few in
+    let fewer = goes.fewer in
+    let opened : to_come links ms (Some step) ≡ path ∷ to_come links ms2 pending2 =
+    ap (λ z. z ++ later links step.begins ms) (open_path links step.begins ms f.reached f.is_in few some)
+    ∙ (ap (λ z. path ∷ z) (append_assoc (paths_on links (lower_path links path)) (paths_on links (next_path links path)) (later links step.begins ms))
+    ∙ ap (λ z. path ∷ z) ((λ i. paths_on links (record { place = sym got.place i; lower = true } ∷ path) ++ (paths_on links (record { place = sym got.place i; lower = false } ∷ path) ++ later links step.begins ms)) ∙ goes.come)) in
+    let nodes_same : node_on links path ≡ own_node step.shown step.level e.place (carried_by e) =
+    (λ i. own_node (sym f.step.2.1 i) (level_of path) o (carried_node (elements_at links.records o)))
+    ∙ (own_same step.shown step.level (level_of path) o (carried_node (elements_at links.records o)) f.step.2.0 got.fit
+    ∙ (λ i. own_node step.shown step.level (sym got.place i) (sym got.carries i))) in
     record {
-      seen = seen2;
-      nodes_are = (λ i. f.nodes_are i ++ nodes_same i) ∙ sym added;
+      gone = f.gone ++ path ∷ [];
+      reached = o ∷ f.reached;
+      whole = f.whole ∙ (ap (λ z. f.gone ++ z) opened ∙ sym (append_assoc f.gone (path ∷ []) (to_come links ms2 pending2)));
+      good = λ more. ap (λ z. first_fault links [] z) (append_assoc f.gone (path ∷ []) more)
+          ∙ (f.good (path ∷ more) ∙ ap (λ z. z or_else first_fault links (o ∷ f.reached) more) found.good);
+      members = λ p. ap (λ z. nat_eq p o || z) (f.members p)
+          ∙ (one_more_named (nat_eq p o) (is_one_of p (reached_by links f.gone))
+          ∙ (sym (list_any-append (nat_eq p) (reached_by links f.gone) (o ∷ []))
+          ∙ ap (λ z. is_one_of p z) (sym (map-append (named_by links) f.gone (path ∷ [])))));
+      nodes_are = ap (λ z. before ++ z) (flat_map-append (node_on links) f.gone (path ∷ []))
+          ∙ (sym (append_assoc before (flat_map (node_on links) f.gone) (node_on links path ++ []))
+          ∙ ((λ i. f.nodes_are i ++ append-nil (node_on links path) i) ∙ (ap (λ z. nodes ++ z) nodes_same ∙ sym added)));
+      last_is = last_root links f.gone path step.level last f.step.2.0 f.last_is ∙ ((λ i. if nat_eq step.level 1 then sym got.place i else last) ∙ sym ends);
       is_in = got.is_in;
+      few = omega (arith, few, fewer);
       flagged = got.flagged;
-      stands = here root records seen2 all (omega arith) (level, f.stands.levels) level
-          (same ∙ (ap (λ z. finish root records ms step.begins z) (sym goes) ∙ f.stands.outcome));
+      marks = goes.marks;
+      step = goes.step;
     }
 
--- what comes of the whole is what the definition of the links' fault says
+-- where no offset comes next, the paths that are gone are all
 
-walk_of_whole : (root : Root) (entries : List ReadRecord) (start : ℕ) (es : Elements) (records : List Record) (nodes : List LevelNode) → AreRead root entries start es records
-    → walk (suc (length records)) records (root_way start es) [] (or_zero (first_offset start es)) ≡ walked_of (whole root records nodes)
-unfolding survey_all
-walk_of_whole root entries start es records nodes read =
-    (λ i. walk (suc (length records)) records (record { told = sym read.first_place i; level = 1; chain = []; above = []; begins = true }) [] (sym read.first i))
-    ∙ sym (survey_walks (suc (length records)) records (way_of root.first_place [] true) true (record { reached = []; nodes = nodes }) root.first)
+pub stops : (start : ℕ) (es : Elements) (links : Links) (entries : List ReadRecord) (flags : List Bool) (ms : List Mark) (step : Step) (before nodes : List LevelNode) (last : ℕ) (f : Fault)
+    → (at : Following links entries flags ms (Some step) before nodes last)
+    → path_fault links at.reached (path_along step.begins ms) ≡ Some f
+    → links_fault start es links ≡ Some f
+stops start es links entries flags ms step before nodes last f at bad =
+    let path : List Turn = path_along step.begins ms in
+    let some : nat_eq (named_by links path) 0 ≡ false = grind (arith, nat_tests, at.step.0, at.step.1) in
+    let first : first_fault links [] (paths_of links) ≡ Some f =
+    ap (λ z. first_fault links [] z) at.whole
+    ∙ (at.good (to_come links ms (Some step))
+    ∙ (ap (λ z. first_fault links at.reached (z ++ later links step.begins ms)) (open_path links step.begins ms at.reached at.is_in at.few some)
+    ∙ or_some (path_fault links at.reached path) _ f bad)) in
+    or_some (first_fault links [] (paths_of links)) _ f first
 
-pub stops : (root : Root) (entries : List ReadRecord) (start : ℕ) (es : Elements) (records : List Record) (flags : List Bool) (ms : List Mark) (step : Step) (nodes nodes0 : List LevelNode) (last : ℕ) (f : Fault)
-    → AreRead root entries start es records
-    → Following root.first_place entries records flags ms (Some step) nodes last (whole root records nodes0)
-    → ((records : List Record) (places : List ℕ) → AreFlagged entries flags records places → IsStep ms (Some step)
-    → named_fault (way_of root.first_place ms step.begins) places step.offset (record_at step.offset records) ≡ Some f)
-    → links_fault start es records ≡ Some f
-stops root entries start es records flags ms step nodes nodes0 last f read at faults =
-    let some : 0 < step.offset = at.stands.step.0 in
-    let nonzero : nat_eq step.offset 0 ≡ false = grind (arith, nat_tests, some) in
-    let bad = all_faults records (way_of root.first_place ms step.begins) step.shown at.seen step.offset f nonzero (faults records at.seen.reached at.flagged at.stands.step) in
-    let is : whole root records nodes0 ≡ refused f = sym at.stands.outcome
-    ∙ (ap (λ z. finish root.first_place records ms step.begins z) bad ∙ finish_refused root.first_place records ms step.begins f) in
-    ap (λ w. end_of_links start es records w) (walk_of_whole root entries start es records nodes0 read ∙ ap walked_of is)
+same_unreached : (more names : List ℕ) (records : List Record) → ((p : ℕ) → is_one_of p more ≡ is_one_of p names) → unreached_fault more records ≡ unreached_fault names records
+same_unreached more names [] members = refl
+same_unreached more names (r ∷ records) members =
+    let rest = same_unreached more names records members in
+    λ i. if not (carried_node r.elements).in_use || members r.place i then rest i else fault 63 r.place
 
-went_whole : (root : Root) (entries : List ReadRecord) (start : ℕ) (es : Elements) (records : List Record) (flags : List Bool) (ms : List Mark) (nodes nodes0 : List LevelNode) (last : ℕ)
-    → AreRead root entries start es records → (at : Following root.first_place entries records flags ms None nodes last (whole root records nodes0))
-    → links_fault start es records ≡ end_of_links start es records (went at.seen.reached last)
-went_whole root entries start es records flags ms nodes nodes0 last read at =
-    ap (λ w. end_of_links start es records w) (walk_of_whole root entries start es records nodes0 read ∙ ap walked_of (sym at.stands.outcome))
+-- then the root's last offset, and what was not reached, decide
+ends : (start : ℕ) (es : Elements) (links : Links) (entries : List ReadRecord) (flags : List Bool) (ms : List Mark) (before nodes : List LevelNode) (last : ℕ)
+    → (at : Following links entries flags ms None before nodes last)
+    → links_fault start es links
+    ≡ ((if nat_eq (or_zero (last_offset start es)) last then None else fault 60 (place_in (found 0x00041202 start es))) or_else unreached_fault at.reached links.records)
+ends start es links entries flags ms before nodes last at =
+    let all : paths_of links ≡ at.gone = at.whole ∙ append-nil at.gone in
+    let free : first_fault links [] (paths_of links) ≡ None = ap (λ z. first_fault links [] z) at.whole ∙ at.good [] in
+    let last_is : last_from 0 (root_records links (paths_of links)) ≡ last = ap (λ z. last_from 0 (root_records links z)) all ∙ at.last_is in
+    let left : unreached_fault (reached_by links (paths_of links)) links.records ≡ unreached_fault at.reached links.records =
+    ap (λ z. unreached_fault (reached_by links z) links.records) all ∙ sym (same_unreached at.reached (reached_by links at.gone) links.records at.members) in
+    or_none (first_fault links [] (paths_of links)) _ free
+    ∙ (λ i. (if nat_eq (or_zero (last_offset start es)) (last_is i) then None else fault 60 (place_in (found 0x00041202 start es))) or_else left i)
 
-if_true : (b : Bool) (x y : Option Fault) → b ≡ true → (if b then x else y) ≡ x
-if_true true x y e = refl
-if_true false x y e = absurd cc
-
-if_false : (b : Bool) (x y : Option Fault) → b ≡ false → (if b then x else y) ≡ y
-if_false true x y e = absurd cc
-if_false false x y e = refl
-
-pub ends_elsewhere : (root : Root) (entries : List ReadRecord) (start : ℕ) (es : Elements) (records : List Record) (flags : List Bool) (ms : List Mark) (nodes nodes0 : List LevelNode) (last : ℕ)
-    → AreRead root entries start es records → Following root.first_place entries records flags ms None nodes last (whole root records nodes0)
-    → (root.last ≡ last → ⊥) → links_fault start es records ≡ fault 60 root.last_place
-ends_elsewhere root entries start es records flags ms nodes nodes0 last read at other =
+pub ends_elsewhere : (root : Root) (entries : List ReadRecord) (start : ℕ) (es : Elements) (records : List Record) (flags : List Bool) (ms : List Mark) (before nodes : List LevelNode) (last : ℕ)
+    → AreRead root entries start es records → Following (links_of start es records) entries flags ms None before nodes last
+    → (root.last ≡ last → ⊥) → links_fault start es (links_of start es records) ≡ fault 60 root.last_place
+ends_elsewhere root entries start es records flags ms before nodes last read at other =
     let there : ℕ = or_zero (last_offset start es) in
     let differs : (there ≡ last) → ⊥ = λ same. other (read.last ∙ same) in
     let test : nat_eq there last ≡ false = grind (arith, nat_tests, differs) in
-    went_whole root entries start es records flags ms nodes nodes0 last read at
-    ∙ (ap (λ z. z or_else unreached_fault at.seen.reached records) (if_false (nat_eq there last) None (fault 60 (place_in (found 0x00041202 start es))) test)
+    ends start es (links_of start es records) entries flags ms before nodes last at
+    ∙ (ap (λ z. z or_else unreached_fault at.reached records) (cond-false (nat_eq there last) None (fault 60 (place_in (found 0x00041202 start es))) test)
     ∙ ap (λ z. fault 60 z) (sym read.last_place))
 
-pub ends_there : (root : Root) (entries : List ReadRecord) (start : ℕ) (es : Elements) (records : List Record) (flags : List Bool) (ms : List Mark) (nodes nodes0 : List LevelNode) (last : ℕ)
-    → AreRead root entries start es records → (at : Following root.first_place entries records flags ms None nodes last (whole root records nodes0))
-    → root.last ≡ last → links_fault start es records ≡ unreached_fault at.seen.reached records
-ends_there root entries start es records flags ms nodes nodes0 last read at same =
+pub ends_there : (root : Root) (entries : List ReadRecord) (start : ℕ) (es : Elements) (records : List Record) (flags : List Bool) (ms : List Mark) (before nodes : List LevelNode) (last : ℕ)
+    → AreRead root entries start es records → (at : Following (links_of start es records) entries flags ms None before nodes last)
+    → root.last ≡ last → links_fault start es (links_of start es records) ≡ unreached_fault at.reached records
+ends_there root entries start es records flags ms before nodes last read at same =
     let there : ℕ = or_zero (last_offset start es) in
     let is : there ≡ last = sym read.last ∙ same in
     let test : nat_eq there last ≡ true = grind (arith, nat_tests, is) in
-    went_whole root entries start es records flags ms nodes nodes0 last read at
-    ∙ ap (λ z. z or_else unreached_fault at.seen.reached records) (if_true (nat_eq there last) None (fault 60 (place_in (found 0x00041202 start es))) test)
+    ends start es (links_of start es records) entries flags ms before nodes last at
+    ∙ ap (λ z. z or_else unreached_fault at.reached records) (cond-true (nat_eq there last) None (fault 60 (place_in (found 0x00041202 start es))) test)
 
-pub nodes_of_whole : (root : Root) (entries : List ReadRecord) (start : ℕ) (es : Elements) (records : List Record) (flags : List Bool) (ms : List Mark) (nodes nodes0 : List LevelNode) (last : ℕ)
-    → AreRead root entries start es records → Following root.first_place entries records flags ms None nodes last (whole root records nodes0)
-    → nodes ≡ nodes0 ++ nodes_in_use 1 (forest_from (suc (length records)) records (or_zero (first_offset start es)))
-unfolding survey_all
-nodes_of_whole root entries start es records flags ms nodes nodes0 last read at =
-    sym at.nodes_are
-    ∙ (survey_collects (suc (length records)) records (way_of root.first_place [] true) true (record { reached = []; nodes = nodes0 }) root.first at.seen last (sym at.stands.outcome)
-    ∙ ap (λ z. nodes0 ++ nodes_in_use 1 (forest_from (suc (length records)) records z)) read.first)
+pub nodes_of_all : (links : Links) (entries : List ReadRecord) (flags : List Bool) (ms : List Mark) (before nodes : List LevelNode) (last : ℕ)
+    → Following links entries flags ms None before nodes last
+    → nodes ≡ before ++ flat_map (node_on links) (paths_of links)
+nodes_of_all links entries flags ms before nodes last at =
+    let all : paths_of links ≡ at.gone = at.whole ∙ append-nil at.gone in
+    sym at.nodes_are ∙ ap (λ z. before ++ flat_map (node_on links) z) (sym all)
 
 pub none_is : (o : Option Step) → ((s : Step) → o ≡ Some s → ⊥) → o ≡ None
 none_is None other = refl
 none_is (Some s) other = absurd (other s refl)
 
-pub ended : (root : ℕ) (entries : List ReadRecord) (records : List Record) (flags : List Bool) (ms : List Mark) (pending : Option Step) (nodes : List LevelNode) (last : ℕ) (all : Surveyed)
-    → pending ≡ None → Following root entries records flags ms pending nodes last all → Following root entries records flags ms None nodes last all
-ended root entries records flags ms pending nodes last all e f = subst (λ z. Following root entries records flags ms z nodes last all) e f
+pub ended : (links : Links) (entries : List ReadRecord) (flags : List Bool) (ms : List Mark) (pending : Option Step) (before nodes : List LevelNode) (last : ℕ)
+    → pending ≡ None → Following links entries flags ms pending before nodes last → Following links entries flags ms None before nodes last
+ended links entries flags ms pending before nodes last e f = subst (λ z. Following links entries flags ms z before nodes last) e f
 
-pub going : (root : ℕ) (entries : List ReadRecord) (records : List Record) (flags : List Bool) (ms : List Mark) (pending : Option Step) (step : Step) (nodes : List LevelNode) (last : ℕ) (all : Surveyed)
-    → pending ≡ Some step → Following root entries records flags ms pending nodes last all → Following root entries records flags ms (Some step) nodes last all
-going root entries records flags ms pending step nodes last all e f = subst (λ z. Following root entries records flags ms z nodes last all) e f
+pub going : (links : Links) (entries : List ReadRecord) (flags : List Bool) (ms : List Mark) (pending : Option Step) (step : Step) (before nodes : List LevelNode) (last : ℕ)
+    → pending ≡ Some step → Following links entries flags ms pending before nodes last → Following links entries flags ms (Some step) before nodes last
+going links entries flags ms pending step before nodes last e f = subst (λ z. Following links entries flags ms z before nodes last) e f
 
 -- a fault of the links, and one of the allocator
 
 pub fault_fails : (root : Root) (entries : List ReadRecord) (f : DirFault) → f.tag ≡ no_tag → (f.number ≡ 67 → ⊥)
-    → ((start : ℕ) (es : Elements) (records : List Record) → AreRead root entries start es records → links_fault start es records ≡ Some (record { number = f.number; place = f.place }))
+    → ((start : ℕ) (es : Elements) (records : List Record) → AreRead root entries start es records → links_fault start es (links_of start es records) ≡ Some (record { number = f.number; place = f.place }))
     → FailsToFollow root entries f
 fault_fails root entries f tag other fault = record {
   tag = tag;

@@ -1,5 +1,6 @@
 -- Rows that are put one after the other into the groups of their keys.
 use Rattle.std.proofs.Common.{◌≡◌, ℕ, suc, ◌+◌, Bool, true, false, cond, not, ◌||◌, List, [], ◌∷◌, ◌++◌, map, get_or, set, refl, sym, ap, ap₂, ◌∙◌, arith}
+use Rattle.std.proofs.lemmas.Bool.{or_parts, or_from, or_right}
 use Rattle.std.specs.List.{list_any, position_or_len}
 use Rattle.std.specs.Str.{bytes_eq}
 use Rattle.std.proofs.lemmas.List.{append-nil, map-append}
@@ -7,6 +8,7 @@ use Rattle.std.proofs.lemmas.List.Elements.{filter-append}
 use Rattle.std.proofs.lemmas.Slice.Eq.{bytes_eq-Decides}
 use Rattle.dicomdir.specs.Row.{Row}
 use Rattle.dicomdir.specs.TreeOf.{with_key, seen_after, rows_with}
+use Rattle.dicomdir.proofs.Distinct.{backwards}
 
 -- the same bytes
 
@@ -16,24 +18,8 @@ same_is a b e = (bytes_eq-Decides a b).0 e
 is_same : (a : List ℕ) → bytes_eq a a ≡ true
 is_same a = (bytes_eq-Decides a a).1 refl
 
-apart_turned : (b c : Bool) → (b ≡ true → c ≡ true) → c ≡ false → b ≡ false
-apart_turned true c h e = absurd (let k = h refl in cc)
-apart_turned false c h e = refl
-
 other_way : (a b : List ℕ) → bytes_eq a b ≡ false → bytes_eq b a ≡ false
-other_way a b e = apart_turned (bytes_eq b a) (bytes_eq a b) (λ same. let s = same_is b a same in rw s (is_same a)) e
-
-or_parts : (a b : Bool) → (a || b) ≡ false → (a ≡ false) × (b ≡ false)
-or_parts true b e = absurd cc
-or_parts false b e = (refl, e)
-
-or_false : (a b : Bool) → a ≡ false → b ≡ false → (a || b) ≡ false
-or_false true b e f = absurd cc
-or_false false b e f = f
-
-or_true : (a b : Bool) → b ≡ true → (a || b) ≡ true
-or_true true b e = refl
-or_true false b e = e
+other_way a b e = backwards (bytes_eq b a) (bytes_eq a b) (λ same. let s = same_is b a same in rw s (is_same a)) e
 
 -- no key stands twice
 abbrev pub Distinct : List (List ℕ) → Type 0
@@ -45,13 +31,13 @@ any_append p [] k e = (refl, (or_parts (p k) false e).0)
 any_append p (x ∷ keys) k e =
     let parts = or_parts (p x) _ e in
     let more = any_append p keys k parts.1 in
-    (or_false (p x) _ parts.0 more.0, more.1)
+    (or_from (p x) _ parts.0 more.0, more.1)
 
 append_any : (p : List ℕ → Bool) (keys : List (List ℕ)) (k : List ℕ) → list_any p keys ≡ false → p k ≡ false → list_any p (keys ++ k ∷ []) ≡ false
-append_any p [] k e f = or_false (p k) false f refl
+append_any p [] k e f = or_from (p k) false f refl
 append_any p (x ∷ keys) k e f =
     let parts = or_parts (p x) _ e in
-    or_false (p x) _ parts.0 (append_any p keys k parts.1 f)
+    or_from (p x) _ parts.0 (append_any p keys k parts.1 f)
 
 distinct_more : (keys : List (List ℕ)) (k : List ℕ) → Distinct keys → list_any (bytes_eq k) keys ≡ false → Distinct (keys ++ k ∷ [])
 distinct_more [] k d e = (refl, tt)
@@ -108,7 +94,7 @@ place_more p (x ∷ keys) k e = ap (λ (n : ℕ). cond (not (p x)) (1 + n) 0) (p
 
 any_last : (p : List ℕ → Bool) (keys : List (List ℕ)) (k : List ℕ) → p k ≡ true → list_any p (keys ++ k ∷ []) ≡ true
 any_last p [] k e = rw e refl
-any_last p (x ∷ keys) k e = or_true (p x) _ (any_last p keys k e)
+any_last p (x ∷ keys) k e = or_right (p x) _ (any_last p keys k e)
 
 seen_more : (keys ks : List (List ℕ)) (k : List ℕ) → seen_after keys (ks ++ k ∷ []) ≡ with_key k (seen_after keys ks)
 seen_more keys [] k = refl
@@ -120,9 +106,6 @@ pub record Grouped (key_of : Row → List ℕ) (done : List Row) (keys : List (L
   pub each : groups ≡ map (λ k. rows_with key_of k done) keys
   pub distinct : Distinct keys
   pub covers : (k : List ℕ) → list_any (bytes_eq k) keys ≡ false → rows_with key_of k done ≡ []
-
-pub grouped_none : (key_of : Row → List ℕ) → Grouped key_of [] [] []
-grouped_none key_of = record { seen = refl; each = refl; distinct = tt; covers = λ k e. refl }
 
 seen_step : (key_of : Row → List ℕ) (done : List Row) (row : Row) (keys : List (List ℕ)) → keys ≡ seen_after [] (map key_of done)
     → with_key (key_of row) keys ≡ seen_after [] (map key_of (done ++ row ∷ []))
@@ -137,7 +120,7 @@ grouped_old key_of done row keys groups g e = record {
   each = ap (λ (gs : List (List Row)). put key_of done row gs (position_or_len (bytes_eq (key_of row)) keys)) g.each ∙ put_there key_of done row keys g.distinct e;
   distinct = g.distinct;
   covers = λ k apart.
-      let other : bytes_eq k (key_of row) ≡ false = apart_turned (bytes_eq k (key_of row)) (list_any (bytes_eq k) keys) (λ same. let s = same_is k (key_of row) same in rw s e) apart in
+      let other : bytes_eq k (key_of row) ≡ false = backwards (bytes_eq k (key_of row)) (list_any (bytes_eq k) keys) (λ same. let s = same_is k (key_of row) same in rw s e) apart in
       other_key key_of done row k other ∙ g.covers k apart;
 }
 

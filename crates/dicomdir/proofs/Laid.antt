@@ -12,6 +12,7 @@ use Rattle.sequence.specs.Tree.{Elements, no_elements, value, sequence, Items, n
 use Rattle.element.specs.declared.syntax.Syntax.{Syntax}
 use Rattle.element.specs.declared.syntax.Syntax.TheVariants.{Implicit, Explicit}
 use Rattle.dicomdir.specs.Layout.{spelled, spelled_items}
+use Rattle.dicomdir.proofs.Distinct.{not_true}
 
 abbrev pub is_vr_or_none : Option (List ℕ) → Bool
 is_vr_or_none None = true
@@ -57,10 +58,6 @@ abbrev mutual
   pub are_laid : Items → Bool
   are_laid no_items = true
   are_laid (item h es is) = (is_item h && nat_eq (length (spelled es)) h.length) && (is_laid 0 es && are_laid is)
-
-not_true : (b : Bool) → not b ≡ true → b ≡ false
-not_true true e = absurd cc
-not_true false e = refl
 
 value_shape : (s : Shape) → is_value s ≡ true → s ≡ Value
 value_shape Value e = refl

@@ -1,6 +1,6 @@
 -- Elements that are written with a VR whose length takes two bytes, and with even values, are laid down as the standard has it.
-use Rattle.std.proofs.Common.{◌≡◌, ℕ, ◌+◌, ◌%◌, ◌<◌, ◌≤◌, Bool, true, false, not, cond, ◌&&◌, ◌||◌, List, [], ◌∷◌, ◌++◌, length, get_or, Some, refl, ap, arith, codes, eqb-true, nat_eq, nat_lt, if◌then◌else◌}
-use Rattle.std.proofs.lemmas.Bool.{and_from, and_parts}
+use Rattle.std.proofs.Common.{◌≡◌, ℕ, ◌+◌, ◌%◌, ◌<◌, ◌≤◌, Bool, true, false, not, cond, ◌&&◌, List, [], ◌∷◌, ◌++◌, length, get_or, Some, refl, ap, arith, codes, eqb-true, nat_eq, nat_lt, if◌then◌else◌}
+use Rattle.std.proofs.lemmas.Bool.{and_from, and_parts, or_right}
 use Rattle.std.proofs.lemmas.Bool.Decides.{nat_tests}
 use Rattle.std.proofs.lemmas.List.{length-append}
 use Rattle.element.specs.declared.tag.Tag.{Tag}
@@ -15,6 +15,7 @@ use Rattle.dicomdir.specs.Directory.{header_size, size_of}
 use Rattle.dicomdir.specs.Layout.{spelled}
 use Rattle.dicomdir.specs.Record.{field}
 use Rattle.dicomdir.specs.Row.{key}
+use Rattle.dicomdir.proofs.Distinct.{not_true}
 use Rattle.dicomdir.proofs.Laid.{is_laid, is_vr_or_none, is_header, is_element, is_value}
 use Rattle.dicomdir.proofs.RecordLemmas.{key_length}
 
@@ -37,10 +38,6 @@ is_fixed last t vr =
     ((nat_lt t.0 65536 && nat_lt t.1 65536) && (is_vr_or_none (Some vr) && not (is_plain Explicit t)))
     && (((nat_lt last (number t) && not (is_marker t)) && (not (nat_eq t.0 0) && not (nat_eq t.0 2)))
     && (not (is_vr (codes "SQ") vr) && is_short_vr vr))
-
-none_of : (b : Bool) → not b ≡ true → b ≡ false
-none_of true e = absurd cc
-none_of false e = refl
 
 short_header : (t : Tag) (vr : List ℕ) (n : ℕ) → is_short_vr vr ≡ true → length vr ≡ 2 → header_size (record { tag = t; vr = Some vr; length = n }) ≡ 8
 short_header t vr n short two =
@@ -67,12 +64,12 @@ fixed_from last t vr e =
       group = tag.0;
       element = tag.1;
       vr_good = letters.0;
-      plain = none_of (is_plain Explicit t) letters.1;
+      plain = not_true (is_plain Explicit t) letters.1;
       rising = order.0;
       no_marker = order.1;
       no_command = groups.0;
       no_file = groups.1;
-      no_sequence = none_of (is_vr (codes "SQ") vr) kind.0;
+      no_sequence = not_true (is_vr (codes "SQ") vr) kind.0;
       eight = λ n. short_header t vr n kind.1 (eqb-true (length vr) 2 two.1);
     }
 
@@ -85,13 +82,9 @@ pub record IsGood (last : ℕ) (es : Elements) : Type 0 where
 pub good_none : (last : ℕ) → IsGood last no_elements
 good_none last = record { laid = refl; size = refl; even = refl }
 
-or_true : (a b : Bool) → b ≡ true → (a || b) ≡ true
-or_true true b e = refl
-or_true false b e = e
-
 fits_short : (plain : Bool) (vr : List ℕ) (n : ℕ) → plain ≡ false → nat_lt n 65536 ≡ true → fits_vr plain (Some vr) n ≡ true
 fits_short true vr n e f = absurd cc
-fits_short false vr n e f = or_true (not (is_short_vr vr)) (nat_lt n 65536) f
+fits_short false vr n e f = or_right (not (is_short_vr vr)) (nat_lt n 65536) f
 
 pub laid_field : (last : ℕ) (t : Tag) (vr v : List ℕ) (es : Elements) → IsFixed last t vr → length v % 2 ≡ 0 → length v < 65536 → is_laid (number t) es ≡ true → is_laid last (field t vr v es) ≡ true
 laid_field last t vr v es f even short laid =

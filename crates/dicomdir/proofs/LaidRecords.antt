@@ -1,6 +1,7 @@
 -- The records of a row are laid down as the standard has it, with any offsets.
 use Rattle.std.proofs.Common.{◌≡◌, ℕ, ◌<◌, ◌≤◌, ◌^◌, Bool, true, false, not, cond, ◌&&◌, ◌||◌, List, [], ◌∷◌, length, nat_le, nat_lt, nat_eq, ltb-true, Option, Some, None, is_some, refl, sym, ap, ◌∙◌, arith, codes}
 use Rattle.std.specs.List.{list_all}
+use Rattle.std.specs.Str.{bytes_eq}
 use Rattle.std.proofs.lemmas.Bool.{and_parts, and_from, leb-true}
 use Rattle.std.proofs.lemmas.Bool.Decides.{nat_tests}
 use Rattle.element.specs.declared.header.Header.{Header}
@@ -19,7 +20,7 @@ use Rattle.sequence.specs.Tree.{Elements, no_elements, value, sequence}
 use Rattle.sequence.specs.Wanted.{Values, value_of}
 use Rattle.dicomdir.specs.declared.key_table.KeyRule.{KeyRule}
 use Rattle.dicomdir.specs.declared.key_table.KeyType.{KeyType}
-use Rattle.dicomdir.specs.declared.key_table.KeyType.TheVariants.{Type1, Type1C, Type2, Type3}
+use Rattle.dicomdir.specs.declared.key_table.KeyType.TheVariants.{Unique, Type1, Type1C, Type2, Type3}
 use Rattle.dicomdir.specs.declared.level.Level.{Level}
 use Rattle.dicomdir.specs.declared.level.Level.TheVariants.{Patient, Study, Series, Image}
 use Rattle.dicomdir.specs.Directory.{missing, found, carried_node, next_offset, lower_offset, has_record, has_file_id}
@@ -30,44 +31,13 @@ use Rattle.dicomdir.specs.Layout.{with_offsets}
 use Rattle.dicomdir.specs.Levels.{is_image}
 use Rattle.dicomdir.specs.Linked.{fits}
 use Rattle.dicomdir.specs.Record.{tag, record_elements, padding_for, key_field_of, written, key_fields, kind_of, file_fields, record_for, patient_record, study_record, series_record, image_record}
-use Rattle.dicomdir.specs.Row.{Row}
+use Rattle.dicomdir.specs.Row.{Row, key}
+use Rattle.dicomdir.proofs.Distinct.{not_true}
 use Rattle.dicomdir.proofs.FileIds.{file_id_room}
 use Rattle.dicomdir.proofs.FileIdText.{file_id_back}
 use Rattle.dicomdir.proofs.Laid.{is_laid, is_header, is_element, is_value, is_sequence}
 use Rattle.dicomdir.proofs.LaidFields.{IsFixed, IsGood, is_fixed, fixed_from, good_none, good_field, good_value, good_key}
 use Rattle.dicomdir.proofs.RecordLemmas.{syntax_uid_short}
-
-fixed_00000000_00041400 : IsFixed 0x00000000 (tag 0x0004 0x1400) (codes "UL")
-unfolding is_short
-fixed_00000000_00041400 = record { group = refl; element = refl; vr_good = refl; plain = refl; rising = refl; no_marker = refl; no_command = refl; no_file = refl; no_sequence = refl; eight = λ n. refl }
-
-fixed_00041400_00041410 : IsFixed 0x00041400 (tag 0x0004 0x1410) (codes "US")
-unfolding is_short
-fixed_00041400_00041410 = record { group = refl; element = refl; vr_good = refl; plain = refl; rising = refl; no_marker = refl; no_command = refl; no_file = refl; no_sequence = refl; eight = λ n. refl }
-
-fixed_00041410_00041420 : IsFixed 0x00041410 (tag 0x0004 0x1420) (codes "UL")
-unfolding is_short
-fixed_00041410_00041420 = record { group = refl; element = refl; vr_good = refl; plain = refl; rising = refl; no_marker = refl; no_command = refl; no_file = refl; no_sequence = refl; eight = λ n. refl }
-
-fixed_00041420_00041430 : IsFixed 0x00041420 (tag 0x0004 0x1430) (codes "CS")
-unfolding is_short
-fixed_00041420_00041430 = record { group = refl; element = refl; vr_good = refl; plain = refl; rising = refl; no_marker = refl; no_command = refl; no_file = refl; no_sequence = refl; eight = λ n. refl }
-
-fixed_00041430_00041500 : IsFixed 0x00041430 (tag 0x0004 0x1500) (codes "CS")
-unfolding is_short
-fixed_00041430_00041500 = record { group = refl; element = refl; vr_good = refl; plain = refl; rising = refl; no_marker = refl; no_command = refl; no_file = refl; no_sequence = refl; eight = λ n. refl }
-
-fixed_00041500_00041510 : IsFixed 0x00041500 (tag 0x0004 0x1510) (codes "UI")
-unfolding is_short
-fixed_00041500_00041510 = record { group = refl; element = refl; vr_good = refl; plain = refl; rising = refl; no_marker = refl; no_command = refl; no_file = refl; no_sequence = refl; eight = λ n. refl }
-
-fixed_00041510_00041511 : IsFixed 0x00041510 (tag 0x0004 0x1511) (codes "UI")
-unfolding is_short
-fixed_00041510_00041511 = record { group = refl; element = refl; vr_good = refl; plain = refl; rising = refl; no_marker = refl; no_command = refl; no_file = refl; no_sequence = refl; eight = λ n. refl }
-
-fixed_00041511_00041512 : IsFixed 0x00041511 (tag 0x0004 0x1512) (codes "UI")
-unfolding is_short
-fixed_00041511_00041512 = record { group = refl; element = refl; vr_good = refl; plain = refl; rising = refl; no_marker = refl; no_command = refl; no_file = refl; no_sequence = refl; eight = λ n. refl }
 
 uid_room : (text : List ℕ) → is_uid text ≡ true → length text ≤ 1024
 uid_room text e =
@@ -78,11 +48,12 @@ uid_room text e =
 
 -- a record's offsets, its flag and its type, before good elements
 good_start : (next lower : ℕ) (kind : List ℕ) (es : Elements) → length kind ≤ 1024 → IsGood 0x00041430 es → IsGood 0 (with_offsets next lower (record_elements kind es))
+unfolding is_short
 good_start next lower kind es short good =
-    good_field 0 (tag 0x0004 0x1400) (codes "UL") (le next 4) _ fixed_00000000_00041400 refl (omega arith)
-    (good_field 0x00041400 (tag 0x0004 0x1410) (codes "US") (le 0xffff 2) _ fixed_00041400_00041410 refl (omega arith)
-    (good_field 0x00041410 (tag 0x0004 0x1420) (codes "UL") (le lower 4) _ fixed_00041410_00041420 refl (omega arith)
-    (good_value 0x00041420 (tag 0x0004 0x1430) (codes "CS") 32 kind es fixed_00041420_00041430 short good)))
+    good_field 0 (tag 0x0004 0x1400) (codes "UL") (le next 4) _ (fixed_from _ _ _ refl) refl (omega arith)
+    (good_field 0x00041400 (tag 0x0004 0x1410) (codes "US") (le 0xffff 2) _ (fixed_from _ _ _ refl) refl (omega arith)
+    (good_field 0x00041410 (tag 0x0004 0x1420) (codes "UL") (le lower 4) _ (fixed_from _ _ _ refl) refl (omega arith)
+    (good_value 0x00041420 (tag 0x0004 0x1430) (codes "CS") 32 kind es (fixed_from _ _ _ refl) short good)))
 
 rising_more : (last more : ℕ) (es : Elements) → last ≤ more → IsGood more es → IsGood last es
 rising_more last more es le good = record { laid = later last more es le good.laid; size = good.size; even = good.even }
@@ -117,6 +88,8 @@ unfolding is_short
 table_fixed = refl
 
 written_size : (kind : KeyType) (o : Option (List ℕ)) → optional_size (written kind o) ≤ optional_size o
+written_size Unique None = omega arith
+written_size Unique (Some v) = omega arith
 written_size Type1 None = omega arith
 written_size Type1 (Some v) = omega arith
 written_size Type1C o = omega arith
@@ -153,14 +126,15 @@ good_row : (level : Level) (row : Row) → IsRow row → IsGood 0x00041512 (key_
 good_row level row is = good_keys level 0x00041512 key_table row.values table_fixed is.fits
 
 good_file : (level : Level) (row : Row) → IsRow row → IsGood 0x00041430 (file_fields level row (key_fields level key_table row.values))
+unfolding is_short
 good_file Patient row is = rising_more 0x00041430 0x00041512 _ (omega arith) (good_row Patient row is)
 good_file Study row is = rising_more 0x00041430 0x00041512 _ (omega arith) (good_row Study row is)
 good_file Series row is = rising_more 0x00041430 0x00041512 _ (omega arith) (good_row Series row is)
 good_file Image row is =
-    good_value 0x00041430 (tag 0x0004 0x1500) (codes "CS") 32 row.file_id _ fixed_00041430_00041500 (let room = file_id_room row.file_id is.file_id in omega (arith, room))
-    (good_value 0x00041500 (tag 0x0004 0x1510) (codes "UI") 0 row.class _ fixed_00041500_00041510 (uid_room row.class is.class)
-    (good_value 0x00041510 (tag 0x0004 0x1511) (codes "UI") 0 row.instance _ fixed_00041510_00041511 (uid_room row.instance is.instance)
-    (good_value 0x00041511 (tag 0x0004 0x1512) (codes "UI") 0 (syntax_uid row.syntax) _ fixed_00041511_00041512 (let room = syntax_uid_short row.syntax in omega (arith, room))
+    good_value 0x00041430 (tag 0x0004 0x1500) (codes "CS") 32 row.file_id _ (fixed_from _ _ _ refl) (let room = file_id_room row.file_id is.file_id in omega (arith, room))
+    (good_value 0x00041500 (tag 0x0004 0x1510) (codes "UI") 0 row.class _ (fixed_from _ _ _ refl) (uid_room row.class is.class)
+    (good_value 0x00041510 (tag 0x0004 0x1511) (codes "UI") 0 row.instance _ (fixed_from _ _ _ refl) (uid_room row.instance is.instance)
+    (good_value 0x00041511 (tag 0x0004 0x1512) (codes "UI") 0 (syntax_uid row.syntax) _ (fixed_from _ _ _ refl) (let room = syntax_uid_short row.syntax in omega (arith, room))
     (good_row Image row is))))
 
 good_record : (level : Level) (row : Row) (next lower : ℕ) → IsRow row → IsGood 0 (with_offsets next lower (record_for level row))
@@ -182,13 +156,9 @@ no_file_id level [] values place e = refl
 no_file_id level (rule ∷ rules) values place e =
     let parts = and_parts (not (nat_eq (number rule.tag) 0x00041500)) _ e in
     by (has_level rule.levels level) (written rule.kind (value_of values (number rule.tag)))
-    (not_same (nat_eq (number rule.tag) 0x00041500) parts.0)
+    (not_true (nat_eq (number rule.tag) 0x00041500) parts.0)
     (λ p. no_file_id level rules values p parts.1)
   where
-    not_same : (b : Bool) → not b ≡ true → b ≡ false
-    not_same true e = absurd cc
-    not_same false e = refl
-
     by : (b : Bool) (o : Option (List ℕ)) → nat_eq (number rule.tag) 0x00041500 ≡ false → ((p : ℕ) → found 0x00041500 p (key_fields level rules values) ≡ missing)
         → found 0x00041500 place (cond b (key_field_of rule o (key_fields level rules values)) (key_fields level rules values)) ≡ missing
     by false o other none = none place
@@ -216,31 +186,26 @@ node_level Image = 4
 -- a record that has no file ID
 plain_node : (level : Level) (keys : Elements) → is_image level ≡ false → ((next lower : ℕ) → IsGood 0 (with_offsets next lower (record_elements (kind_of level) keys)))
     → ((place : ℕ) → found 0x00041500 place keys ≡ missing) → IsNode (node_level level) (record_elements (kind_of level) keys)
-plain_node Patient keys e good none = record {
+plain_node level keys e good none = record {
   good = good;
   carries = λ n l. rw (none _, none _) refl;
   names_next = λ n l small. number_back n small;
   names_lower = λ n l small. number_back l small;
-  whole = λ n l. rw (none _) refl;
-  fit = refl;
+  whole = λ n l. rw (none _) (named level e);
+  fit = fit level e;
 }
-plain_node Study keys e good none = record {
-  good = good;
-  carries = λ n l. rw (none _, none _) refl;
-  names_next = λ n l small. number_back n small;
-  names_lower = λ n l small. number_back l small;
-  whole = λ n l. rw (none _) refl;
-  fit = refl;
-}
-plain_node Series keys e good none = record {
-  good = good;
-  carries = λ n l. rw (none _, none _) refl;
-  names_next = λ n l small. number_back n small;
-  names_lower = λ n l small. number_back l small;
-  whole = λ n l. rw (none _) refl;
-  fit = refl;
-}
-plain_node Image keys e good none = absurd cc
+  where
+    named : (l : Level) → is_image l ≡ false → (not (bytes_eq (key (padded 32 (kind_of l))) []) && not (bytes_eq (key (padded 32 (kind_of l))) (codes "IMAGE"))) ≡ true
+    named Patient e = refl
+    named Study e = refl
+    named Series e = refl
+    named Image e = absurd cc
+
+    fit : (l : Level) → is_image l ≡ false → fits (node_level l) (carried_node (record_elements (kind_of l) keys)) ≡ true
+    fit Patient e = refl
+    fit Study e = refl
+    fit Series e = refl
+    fit Image e = absurd cc
 
 plain_row : (level : Level) (row : Row) → is_image level ≡ false → IsRow row → ((next lower : ℕ) → IsGood 0 (with_offsets next lower (record_elements (kind_of level) (key_fields level key_table row.values))))
     → IsNode (node_level level) (record_elements (kind_of level) (key_fields level key_table row.values))

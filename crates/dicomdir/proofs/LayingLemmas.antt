@@ -13,11 +13,11 @@ use Rattle.dicomdir.specs.Grouping.{groups_of, rows_at, row_groups}
 use Rattle.dicomdir.specs.Laying.{StopsFor, place_from_end, entry_text, laid_text, forest_text, has_none, Adds, groups_forest, Lays}
 use Rattle.dicomdir.specs.Layout.{spelled, spelled_items, with_offsets, record_item}
 use Rattle.dicomdir.specs.Record.{record_for}
-use Rattle.dicomdir.specs.Levels.{key_for, forest_for, lower_level, is_image}
+use Rattle.dicomdir.specs.Levels.{forest_for, lower_level, is_image}
 use Rattle.dicomdir.specs.Places.{record_size, forest_size, with_places, first_record_place, last_record_place, last_record_place_after}
 use Rattle.dicomdir.specs.RecordText.{record_text}
 use Rattle.dicomdir.specs.Row.{Row}
-use Rattle.dicomdir.specs.TreeOf.{Forest, no_nodes, node, group_node, group_nodes, rows_with, seen_after, images}
+use Rattle.dicomdir.specs.TreeOf.{Forest, no_nodes, node, group_node, group_nodes, rows_with, seen_after, images, key_for}
 
 none_is : (n : ℕ) → 0 < n → nat_eq n 0 ≡ false
 none_is n h = grind (arith, nat_tests)

@@ -3,7 +3,7 @@ pub mod HeaderFaults
 pub mod Laid
 pub mod NoFault
 pub mod OneImage
-pub mod Walking
+pub mod Distinct
 pub mod Places
 pub mod Within
 pub mod Sizes
@@ -17,6 +17,8 @@ pub mod CheckLemmas
 pub mod TextLemmas
 pub mod UnreachedLemmas
 pub mod WalkLemmas
+pub mod PathForests
+pub mod FreePaths
 pub mod Linking
 pub mod FaultFree
 pub mod OneTree
@@ -41,9 +43,9 @@ pub mod LayingLemmas
 pub mod RowWalking
 pub mod RowLemmas
 pub mod RowLaws
-pub mod Surveying
 pub mod Trails
 pub mod EntryLemmas
 pub mod Following
 pub mod Targets
 pub mod FiledLaws
+pub mod PathLaws

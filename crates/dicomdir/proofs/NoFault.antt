@@ -1,14 +1,20 @@
 -- A directory whose records are linked, with none left out, has no fault.
-use Rattle.std.proofs.Common.{◌≡◌, ℕ, suc, Bool, true, false, not, ◌&&◌, ◌||◌, List, [], ◌∷◌, length, Option, Some, None, refl, ap, ◌∙◌, arith, nat_eq, if◌then◌else◌}
+use Rattle.std.proofs.Common.{◌≡◌, ℕ, zero, suc, Bool, true, false, not, ◌&&◌, ◌||◌, List, [], ◌∷◌, ◌++◌, length, Option, Some, None, is_none, refl, sym, ap, subst, ◌∙◌, arith, nat_eq, if◌then◌else◌}
 use Rattle.std.specs.List.{list_all}
-use Rattle.std.proofs.lemmas.Bool.{and_parts}
-use Rattle.std.proofs.Math.Bool.{or-false}
-use Rattle.dicomdir.specs.Directory.{Found, missing, value_at, items_at, found, number_in, records_in, records_of, Record, carried_node, first_offset, last_offset, has_record, has_file_id}
-use Rattle.dicomdir.specs.Linked.{places_of, first_place, last_place, are_records}
-use Rattle.dicomdir.specs.DirFault.{Fault, fault, offset_fault, records_fault, root_fault, record_fault, each_fault, unreached_fault, end_of_links, links_fault, records_then_links, directory_fault, is_one_of, or_zero, ◌or_else◌, root_way, walk, went}
+use Rattle.std.proofs.lemmas.Bool.{and_parts, and_from, cond-true}
+use Rattle.std.proofs.lemmas.List.Folds.{list_all-append}
+use Rattle.sequence.specs.Tree.{Elements, no_elements}
+use Rattle.dicomdir.specs.TreeOf.{Forest, no_nodes, node}
+use Rattle.dicomdir.specs.Directory.{Node, Found, first_offset, missing, value_at, items_at, found, number_in, records_in, records_of, Record, carried_node, last_offset, or_zero, has_record, has_file_id}
+use Rattle.dicomdir.specs.Linked.{PlacedNode, LinkedElements, places_of, last_place, are_records, AreLinked, is_one_of, is_distinct, record_at, elements_at, fits}
+use Rattle.dicomdir.specs.Paths.{Links, Turn, named_by, level_of, paths_from, paths_of, reached_by, root_records, last_from}
+use Rattle.dicomdir.specs.DirFault.{fault, offset_fault, records_fault, root_fault, record_fault, each_fault, unreached_fault, last_fault, links_of, links_fault, records_then_links, directory_fault, ◌or_else◌}
 use Rattle.dicomdir.specs.NoFault.{LinkedHasNoFault}
+use Rattle.dicomdir.specs.PathLaws.{PathsNameNodes}
+use Rattle.dicomdir.proofs.Distinct.{same_place}
 use Rattle.dicomdir.proofs.Within.{nodes_are_records}
-use Rattle.dicomdir.proofs.Walking.{goes, IsApart, same_place}
+use Rattle.dicomdir.proofs.PathForests.{forest_from, lower_path, next_path, forest_places, forest_last, followed_is}
+use Rattle.dicomdir.proofs.FreePaths.{is_good, AreFree, free_paths, two_none}
 
 sized : (b : Bool) (x n place : ℕ) → (if b then Some x else None) ≡ Some n → (if b then None else fault 68 place) ≡ None
 sized true x n place e = refl
@@ -37,45 +43,76 @@ each_none (r ∷ records) e =
     by true false place e f = absurd cc
     by false b place e f = absurd cc
 
-when_true : (b : Bool) (x y : Option Fault) → b ≡ true → (if b then x else y) ≡ x
-when_true true x y e = refl
-when_true false x y e = absurd cc
+unreached_none : (places : List ℕ) (records : List Record) → list_all (λ r. not (carried_node r.elements).in_use || is_one_of r.place places) records ≡ true → unreached_fault places records ≡ None
+unreached_none places [] e = refl
+unreached_none places (r ∷ records) e =
+    let parts = and_parts (not (carried_node r.elements).in_use || is_one_of r.place places) (list_all (λ r. not (carried_node r.elements).in_use || is_one_of r.place places) records) e in
+    cond-true (not (carried_node r.elements).in_use || is_one_of r.place places) (unreached_fault places records) (fault 63 r.place) parts.0 ∙ unreached_none places records parts.1
 
-unreached_none : (places more : List ℕ) (records : List Record) → ((p : ℕ) → is_one_of p more ≡ (is_one_of p places || false))
-    → list_all (λ r. not (carried_node r.elements).in_use || is_one_of r.place places) records ≡ true → unreached_fault more records ≡ None
-unreached_none places more [] members e = refl
-unreached_none places more (r ∷ records) members e =
-    let inactive : Bool = not (carried_node r.elements).in_use in
-    let parts = and_parts (inactive || is_one_of r.place places) (list_all (λ r. not (carried_node r.elements).in_use || is_one_of r.place places) records) e in
-    let here : (inactive || is_one_of r.place more) ≡ true = ap (λ z. inactive || z) (members r.place ∙ or-false (is_one_of r.place places)) ∙ parts.0 in
-    when_true (inactive || is_one_of r.place more) (unreached_fault more records) (fault 63 r.place) here ∙ unreached_none places more records members parts.1
+-- the paths to the records of a linked forest name records that fit their levels
 
-two_none : (a b : Option Fault) → a ≡ None → b ≡ None → (a or_else b) ≡ None
-two_none None b e f = f
-two_none (Some x) b e f = absurd cc
+good_path : (links : Links) (path : List Turn) (es : Elements) → record_at (named_by links path) links.records ≡ Some es → fits (level_of path) (carried_node es) ≡ true → is_good links path ≡ true
+good_path links path es stands fit = by (record_at (named_by links path) links.records) stands
+  where
+    by : (o : Option Elements) → o ≡ Some es → (not (is_none o) && not (not (fits (level_of path) (carried_node (elim o [ None ↦ no_elements | Some es ↦ es ]))))) ≡ true
+    by None e = absurd cc
+    by (Some found) e =
+        let same : found ≡ es = cc in
+        let fit_there : fits (level_of path) (carried_node found) ≡ true = ap (λ z. fits (level_of path) (carried_node z)) same ∙ fit in
+        rw fit_there refl
 
-last_named : (o : Option ℕ) (last place : ℕ) → o ≡ Some last → (if nat_eq (or_zero o) last then None else fault 60 place) ≡ None
-last_named o last place e =
-    when_true (nat_eq (or_zero o) last) None (fault 60 place) (ap (λ z. nat_eq (or_zero z) last) e ∙ same_place last)
+good_paths : (most : ℕ) (links : Links) (path : List Turn) → AreLinked links.records (level_of path) (forest_from most links.records (named_by links path))
+    → list_all (is_good links) (paths_from most links path) ≡ true
+good_paths zero links path linked = refl
+good_paths (suc most) links path linked =
+    by (nat_eq (named_by links path) 0) _ _ _ _ (good_paths most links (lower_path links path)) (good_paths most links (next_path links path)) linked
+  where
+    by : (b : Bool) (below next : Forest PlacedNode) (xs ys : List (List Turn))
+        → (AreLinked links.records (suc (level_of path)) below → list_all (is_good links) xs ≡ true) → (AreLinked links.records (level_of path) next → list_all (is_good links) ys ≡ true)
+        → AreLinked links.records (level_of path)
+        (if b then no_nodes else node (record { place = named_by links path; carries = carried_node (elements_at links.records (named_by links path)) }) below next)
+        → list_all (is_good links) (if b then [] else path ∷ (xs ++ ys)) ≡ true
+    by true below next xs ys low nxt linked = refl
+    by false below next xs ys low nxt linked =
+        let here = linked.0 in
+        let fit : fits (level_of path) (carried_node here.elements) ≡ true = ap (λ z. fits (level_of path) z) here.carries ∙ here.fits_there in
+        and_from (is_good links path) (list_all (is_good links) (xs ++ ys)) (good_path links path here.elements here.stands fit)
+        (list_all-append (is_good links) xs ys ∙ and_from (list_all (is_good links) xs) (list_all (is_good links) ys) (low linked.1) (nxt linked.2))
+
+last_named : (o : Option ℕ) (last there place : ℕ) → o ≡ Some last → last ≡ there → (if nat_eq (or_zero o) there then None else fault 60 place) ≡ None
+last_named o last there place e f =
+    cond-true (nat_eq (or_zero o) there) None (fault 60 place) ((λ i. nat_eq (or_zero (e i)) (sym f i)) ∙ same_place last)
+
+followed : (start : ℕ) (elements : Elements) (tree : Forest Node) (linked : LinkedElements start elements tree)
+    → forest_from (suc (length linked.records)) linked.records (or_zero (first_offset start elements)) ≡ linked.placed
+followed start elements tree linked =
+    let facts = nodes_are_records start elements tree linked in
+    let few = facts.0 in
+    ap (λ z. forest_from (suc (length linked.records)) linked.records z) (ap or_zero linked.names_first)
+    ∙ followed_is linked.placed (suc (length linked.records)) linked.records 1 linked.linked facts.1 (omega (arith, few))
+
+pub paths_name_nodes : PathsNameNodes
+paths_name_nodes start elements tree linked =
+    sym (forest_places (suc (length linked.records)) (links_of start elements linked.records) []) ∙ ap places_of (followed start elements tree linked)
 
 pub linked_has_no_fault : LinkedHasNoFault
 unfolding directory_fault
 linked_has_no_fault start elements tree linked all =
-    let facts = nodes_are_records start elements tree linked in
-    let few = facts.0 in
-    let nonzero = facts.1 in
-    let way = root_way start elements in
-    let apart : IsApart (places_of linked.placed) [] = record { distinct = linked.distinct; nonzero = nonzero; unreached = λ p h. refl } in
-    let walked = goes linked.placed (suc (length linked.records)) linked.records way [] linked.linked (omega (arith, few)) apart in
-    let from : or_zero (first_offset start elements) ≡ first_place linked.placed = ap or_zero linked.names_first in
-    let is : walk (suc (length linked.records)) linked.records way [] (or_zero (first_offset start elements)) ≡ went walked.more (last_place linked.placed) =
-    ap (λ z. walk (suc (length linked.records)) linked.records way [] z) from ∙ walked.is in
-    let ends : end_of_links start elements linked.records (went walked.more (last_place linked.placed)) ≡ None =
-    two_none _ _ (last_named (last_offset start elements) (last_place linked.placed) _ linked.names_last)
-    (unreached_none (places_of linked.placed) walked.more linked.records walked.members all) in
-    let links : links_fault start elements linked.records ≡ None = ap (λ w. end_of_links start elements linked.records w) is ∙ ends in
+    let most : ℕ = suc (length linked.records) in
+    let links : Links = links_of start elements linked.records in
+    let same : forest_from most linked.records links.first ≡ linked.placed = followed start elements tree linked in
+    let names = paths_name_nodes start elements tree linked in
+    let last : last_place linked.placed ≡ last_from 0 (root_records links (paths_of links)) = ap last_place (sym same) ∙ forest_last most links [] 0 refl in
+    let free : AreFree links [] (paths_of links) = record {
+      distinct = ap is_distinct names ∙ linked.distinct;
+      apart = λ p h. refl;
+      good = good_paths most links [] (subst (λ z. AreLinked linked.records 1 z) (sym same) linked.linked);
+    } in
+    let ends : last_fault start elements links ≡ None = last_named (last_offset start elements) (last_place linked.placed) (last_from 0 (root_records links (paths_of links))) _ linked.names_last last in
+    let left : unreached_fault (reached_by links (paths_of links)) linked.records ≡ None = ap (λ z. unreached_fault z linked.records) names ∙ unreached_none (places_of linked.placed) linked.records all in
+    let of_links : links_fault start elements links ≡ None = two_none _ _ (free_paths links [] (paths_of links) free) (two_none _ _ ends left) in
     let after : records_then_links start elements (records_of start elements) ≡ None =
-    ap (λ o. records_then_links start elements o) linked.has_records ∙ two_none _ _ (each_none linked.records linked.good) links in
+    ap (λ o. records_then_links start elements o) linked.has_records ∙ two_none _ _ (each_none linked.records linked.good) of_links in
     let root : root_fault start elements ≡ None =
     two_none _ _ (offset_none start (found 0x00041200 start elements) _ linked.names_first)
     (two_none _ _ (offset_none start (found 0x00041202 start elements) _ linked.names_last)

@@ -15,7 +15,7 @@ use Rattle.dicomdir.specs.DirFault.{Fault, directory_fault}
 use Rattle.dicomdir.specs.NodesInUse.{nodes_in_use}
 use Rattle.dicomdir.specs.OneCheck.{AcceptedHasNoFault, OneCheckFault, OneListOfNodes}
 use Rattle.dicomdir.proofs.NoFault.{linked_has_no_fault}
-use Rattle.dicomdir.proofs.OneTree.{meta_of, same_fronts, same_files, same_placed}
+use Rattle.dicomdir.proofs.OneTree.{some_same, meta_of, same_fronts, same_files, same_placed}
 
 -- ---- the file header
 
@@ -64,9 +64,6 @@ one_list_of_nodes file nodes other a b =
     sym a.nodes_are ∙ (ap (nodes_in_use 1) placed ∙ b.nodes_are)
 
 -- ---- one fault
-
-some_same : (x y : Fault) → Some x ≡ Some y → x ≡ y
-some_same x y e = cc
 
 same_directory_faults : {file front back front2 back2 : List ℕ} {elements elements2 : Elements} {f f2 : Fault} → IsExplicitFile file front back → IsExplicitFile file front2 back2
     → DataSet Explicit 0 elements back → DataSet Explicit 0 elements2 back2

@@ -9,8 +9,8 @@ use Rattle.part10.proofs.Public.{head_is_read}
 use Rattle.sequence.specs.Tree.{Elements}
 use Rattle.dicomdir.specs.TreeOf.{Forest, no_nodes, node, TreeOf}
 use Rattle.dicomdir.specs.Directory.{IsExplicitFile, IsDirectoryFile, Record, carried_node, records_of}
-use Rattle.dicomdir.specs.Linked.{Linked, PlacedNode, carried_forest, record_at, first_place, AreLinked}
-use Rattle.dicomdir.specs.DirFault.{directory_fault, elements_at}
+use Rattle.dicomdir.specs.Linked.{Linked, PlacedNode, carried_forest, record_at, first_place, AreLinked, elements_at}
+use Rattle.dicomdir.specs.DirFault.{directory_fault}
 use Rattle.dicomdir.specs.Layout.{spelled}
 use Rattle.dicomdir.specs.OneImage.{one_image_row, one_image_header, one_image_file, one_image_elements, OneImageIsLinked, OneImageFaults, preamble_left_out, PreambleCounts, RecordFaults, no_rows_elements, NoRowsAreLinked}
 use Rattle.dicomdir.specs.NodesInUseExamples.{OneImageHasNodes}

@@ -8,12 +8,11 @@ use Rattle.sequence.specs.Tree.{Elements, DataSet}
 use Rattle.sequence.proofs.Public.{one_tree}
 use Rattle.dicomdir.specs.TreeOf.{Forest, no_nodes, node}
 use Rattle.dicomdir.specs.Directory.{Record, Node, carried_node, found, first_offset, records_of, next_offset, lower_offset, IsExplicitFile, IsDirectoryFile}
-use Rattle.dicomdir.specs.Linked.{LinkedElements, PlacedNode, nodes_of, first_place, record_at, AreLinked}
-use Rattle.dicomdir.specs.DirFault.{is_one_of}
+use Rattle.dicomdir.specs.Linked.{LinkedElements, PlacedNode, nodes_of, first_place, record_at, AreLinked, is_one_of}
 use Rattle.dicomdir.specs.NoFault.{OneTreeOfFile}
 use Rattle.dicomdir.proofs.Within.{places, stands_there, none_in}
 
-some_same : {A : Type 0} (x y : A) → Some x ≡ Some y → x ≡ y
+pub some_same : {A : Type 0} (x y : A) → Some x ≡ Some y → x ≡ y
 some_same x y e = cc
 
 not_zero : (records : List Record) (p : ℕ) (es : Elements) → is_one_of 0 (places records) ≡ false → record_at p records ≡ Some es → 0 ≡ p → ⊥

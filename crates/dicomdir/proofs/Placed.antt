@@ -1,19 +1,17 @@
 -- The records of a forest with places: where they stand, what stands there, and how they are linked.
 use Rattle.std.proofs.Common.{◌≡◌, ℕ, suc, ◌+◌, ◌^◌, ◌<◌, ◌≤◌, Bool, true, false, not, ◌||◌, List, [], ◌∷◌, ◌++◌, Option, Some, None, refl, sym, ap, ap₂, ◌∙◌, arith, nat_eq, nat_lt, ltb-true, if◌then◌else◌}
 use Rattle.std.specs.List.{list_any, list_all}
-use Rattle.std.proofs.lemmas.Bool.{and_from, and_parts, ltb-false}
+use Rattle.std.proofs.lemmas.Bool.{and_from, and_parts, ltb-false, or_right, or_left, or_from}
 use Rattle.std.proofs.lemmas.Bool.Decides.{nat_tests}
 use Rattle.std.proofs.lemmas.List.Folds.{list_any-append, list_all-append}
 use Rattle.sequence.specs.Tree.{Elements}
 use Rattle.dicomdir.specs.Directory.{Record, carried_node}
 use Rattle.dicomdir.specs.Layout.{with_offsets}
-use Rattle.dicomdir.specs.Linked.{PlacedNode, carried_forest, nodes_of, places_of, first_place, last_place_behind, is_distinct, record_at, are_records, AreLinked}
-use Rattle.dicomdir.specs.DirFault.{is_one_of}
+use Rattle.dicomdir.specs.Linked.{PlacedNode, carried_forest, nodes_of, places_of, first_place, last_place_behind, is_distinct, record_at, are_records, AreLinked, is_one_of}
 use Rattle.dicomdir.specs.Places.{record_size, forest_size, with_places, first_record_place, last_record_place_after}
 use Rattle.dicomdir.specs.TreeOf.{Forest, no_nodes, node}
 use Rattle.dicomdir.proofs.LaidRecords.{IsNode}
-use Rattle.dicomdir.proofs.Walking.{not_true, same_place, second_true, third_true}
-use Rattle.dicomdir.proofs.Within.{or_first, or_second}
+use Rattle.dicomdir.proofs.Distinct.{not_true, same_place, second_true, third_true}
 
 -- each record of the tree is one of its level
 abbrev pub AreNodes : ℕ → Forest Elements → Type 0
@@ -151,10 +149,6 @@ linked place (node es below next) level records nodes small whole =
 
 -- the places are distinct
 
-no_other : (a b : Bool) → a ≡ false → b ≡ false → (a || b) ≡ false
-no_other true b e f = absurd cc
-no_other false b e f = f
-
 one_before : (p place : ℕ) (tree : Forest Elements) → p < place → is_one_of p (places_of (placed (with_places place tree))) ≡ false
 one_before p place no_nodes lt = refl
 one_before p place (node es below next) lt =
@@ -163,7 +157,7 @@ one_before p place (node es below next) lt =
     let b = one_before p after below (omega (arith, lt)) in
     let n = one_before p (after + forest_size below) next (omega (arith, lt)) in
     let other : nat_eq p place ≡ false = grind (arith, nat_tests) in
-    no_other _ _ other (list_any-append (nat_eq p) (places_of (placed (with_places after below))) (places_of (placed (with_places (after + forest_size below) next))) ∙ no_other _ _ b n)
+    or_from _ _ other (list_any-append (nat_eq p) (places_of (placed (with_places after below))) (places_of (placed (with_places (after + forest_size below) next))) ∙ or_from _ _ b n)
 
 one_after : (p place : ℕ) (tree : Forest Elements) → place + forest_size tree ≤ p → is_one_of p (places_of (placed (with_places place tree))) ≡ false
 one_after p place no_nodes le = refl
@@ -174,15 +168,15 @@ one_after p place (node es below next) le =
     let n = one_after p (after + forest_size below) next (omega (arith, le)) in
     let apart : place < p = omega (arith, le, some) in
     let other : nat_eq p place ≡ false = grind (arith, nat_tests) in
-    no_other _ _ other (list_any-append (nat_eq p) (places_of (placed (with_places after below))) (places_of (placed (with_places (after + forest_size below) next))) ∙ no_other _ _ b n)
+    or_from _ _ other (list_any-append (nat_eq p) (places_of (placed (with_places after below))) (places_of (placed (with_places (after + forest_size below) next))) ∙ or_from _ _ b n)
 
 join_distinct : (xs ys : List ℕ) → is_distinct xs ≡ true → is_distinct ys ≡ true → ((p : ℕ) → is_one_of p xs ≡ true → is_one_of p ys ≡ false) → is_distinct (xs ++ ys) ≡ true
 join_distinct [] ys d e apart = e
 join_distinct (x ∷ xs) ys d e apart =
     let parts = and_parts (not (is_one_of x xs)) (is_distinct xs) d in
-    let other : is_one_of x ys ≡ false = apart x (or_first (nat_eq x x) (is_one_of x xs) (same_place x)) in
-    let none : is_one_of x (xs ++ ys) ≡ false = list_any-append (nat_eq x) xs ys ∙ no_other _ _ (not_true (is_one_of x xs) parts.0) other in
-    and_from _ _ (ap not none) (join_distinct xs ys parts.1 e (λ p h. apart p (or_second (nat_eq p x) (is_one_of p xs) h)))
+    let other : is_one_of x ys ≡ false = apart x (or_left (nat_eq x x) (is_one_of x xs) (same_place x)) in
+    let none : is_one_of x (xs ++ ys) ≡ false = list_any-append (nat_eq x) xs ys ∙ or_from _ _ (not_true (is_one_of x xs) parts.0) other in
+    and_from _ _ (ap not none) (join_distinct xs ys parts.1 e (λ p h. apart p (or_right (nat_eq p x) (is_one_of p xs) h)))
 
 pub distinct : (place : ℕ) (tree : Forest Elements) → is_distinct (places_of (placed (with_places place tree))) ≡ true
 distinct place no_nodes = refl
@@ -193,7 +187,7 @@ distinct place (node es below next) =
     let bs = places_of (placed (with_places after below)) in
     let ns = places_of (placed (with_places beyond next)) in
     let none : is_one_of place (bs ++ ns) ≡ false =
-    list_any-append (nat_eq place) bs ns ∙ no_other _ _ (one_before place after below (omega (arith, some))) (one_before place beyond next (omega (arith, some))) in
+    list_any-append (nat_eq place) bs ns ∙ or_from _ _ (one_before place after below (omega (arith, some))) (one_before place beyond next (omega (arith, some))) in
     and_from _ _ (ap not none) (join_distinct bs ns (distinct after below) (distinct beyond next) (λ p h. by p h (nat_lt p beyond) refl))
   where
     by : (p : ℕ) → is_one_of p (places_of (placed (with_places (place + record_size es) below))) ≡ true → (b : Bool) → nat_lt p (place + record_size es + forest_size below) ≡ b
@@ -210,7 +204,7 @@ reached (node r below next) all sub =
     let bs = places_of (placed below) in
     let ns = places_of (placed next) in
     and_from _ _
-    (or_second _ _ (sub r.place (or_first (nat_eq r.place r.place) (is_one_of r.place (bs ++ ns)) (same_place r.place))))
+    (or_right _ _ (sub r.place (or_left (nat_eq r.place r.place) (is_one_of r.place (bs ++ ns)) (same_place r.place))))
     (list_all-append _ (written below) (written next)
     ∙ and_from _ _
     (reached below all (λ p h. sub p (ap (λ z. nat_eq p r.place || z) (list_any-append (nat_eq p) bs ns) ∙ second_true (nat_eq p r.place) (is_one_of p bs) (is_one_of p ns) h)))

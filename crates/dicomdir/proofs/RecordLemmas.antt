@@ -1,7 +1,7 @@
 -- The bytes of a record are those of its elements, one after the other.
 use Rattle.std.proofs.Common.{◌≡◌, ℕ, ◌≤◌, ◌<◌, ◌+◌, Bool, true, false, ◌&&◌, cond, List, [], ◌∷◌, ◌++◌, length, get_or, drop, Option, Some, None, codes, refl, sym, ap, ◌∙◌, append_assoc, arith}
 use Rattle.std.specs.List.{list_all}
-use Rattle.std.proofs.lemmas.List.{append-nil, at_drop_more, at_drop_all}
+use Rattle.std.proofs.lemmas.List.{append-nil, at_drop_more}
 use Rattle.element.specs.declared.tag.Tag.{Tag}
 use Rattle.element.specs.declared.syntax.Syntax.{Syntax}
 use Rattle.element.specs.declared.syntax.Syntax.TheVariants.{Implicit, Explicit}
@@ -93,11 +93,6 @@ keys_skip level rules values out whole i d lt has h =
     at_drop_more (λ r. spelled (key_fields level r values)) rules i d lt
     ∙ ap (λ (b : Bool). spelled (cond b (key_field_of rule (written rule.kind (value_of values (number rule.tag))) later) later)) has in
     ap (λ z. out ++ z) (sym step) ∙ h
-
-pub keys_all : (level : Level) (rules : List KeyRule) (values : Values) (out whole : List ℕ) (i : ℕ) → length rules ≤ i
-    → out ++ spelled (key_fields level (drop i rules) values) ≡ whole → out ≡ whole
-keys_all level rules values out whole i past h =
-    sym (append-nil out) ∙ ap (λ z. out ++ z) (sym (at_drop_all (λ r. spelled (key_fields level r values)) rules i past)) ∙ h
 
 -- the room that the loop has left
 

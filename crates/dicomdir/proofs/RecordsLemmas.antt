@@ -3,7 +3,6 @@ use Rattle.element.specs.Header.{item_tag, sequence_end_tag}
 use Rattle.std.proofs.Common.{◌≡◌, ◌≢◌, ℕ, suc, ◌+◌, ◌-◌, ◌≤◌, Bool, true, false, not, List, [], ◌∷◌, ◌++◌, length, drop, Option, Some, None, refl, sym, ap, subst, ◌∙◌, arith, append_assoc, length-append, if◌then◌else◌}
 use Rattle.std.proofs.lemmas.List.{append-nil}
 use Rattle.element.specs.declared.syntax.Syntax.{Syntax}
-use Rattle.sequence.specs.Rules.{no_tag}
 use Rattle.sequence.specs.Tree.{Elements, Items, no_items, item}
 use Rattle.dicomdir.specs.declared.fault.DirFault.{DirFault}
 use Rattle.dicomdir.specs.declared.found.Head.{Head}
@@ -15,7 +14,7 @@ use Rattle.dicomdir.specs.machine.Heads.{head_at}
 use Rattle.dicomdir.specs.machine.Reading.{FailsAs}
 use Rattle.dicomdir.specs.machine.Texts.{ItemsThen, IsAfter, nothing_after, end_after, HasElements, HasItems, IsItemContent, content_at}
 use Rattle.dicomdir.proofs.HeadLemmas.{head_read}
-use Rattle.dicomdir.proofs.TextLemmas.{FrontOfItems, no_item, at_item, front_of_items, header_length, is_head, mark_head, no_head}
+use Rattle.dicomdir.proofs.TextLemmas.{FrontOfItems, no_item, at_item, front_of_items, header_length, is_head, marked_head, no_head}
 use Rattle.dicomdir.proofs.SkipLemmas.{fits_sequence_end}
 use Rattle.dicomdir.proofs.FindLemmas.{item_content}
 
@@ -74,9 +73,7 @@ read_none s first items text old has =
 no_item_head : (s : Syntax) (more text : List ℕ) (head : Head) → IsAfter sequence_end_tag more → text ≡ more → head_at s text ≡ Some head → head.header.tag ≢ item_tag
 no_item_head s more text head (nothing_after) whole read tagged = let none = no_head s text whole in absurd cc
 no_item_head s more text head (end_after rest) whole read tagged =
-    let there = mark_head s sequence_end_tag rest text refl fits_sequence_end whole in
-    let same : Some (record { header = record { tag = sequence_end_tag; vr = None; length = 0 }; size = 8 }) ≡ Some head = sym there ∙ read in
-    let is : record { header = record { tag = sequence_end_tag; vr = None; length = 0 }; size = 8 } ≡ head = cc in
+    let is = marked_head s sequence_end_tag rest text head refl fits_sequence_end whole read in
     let tags : 0xe0dd ≡ 0xe000 = ap (λ z. z.header.tag.1) is ∙ ap (λ t. t.1) tagged in
     absurd (omega (arith, tags))
 
@@ -141,9 +138,6 @@ read_fails s first items text rest old now head f r read tagged fails = by (fron
         let all : each_fault (records_at first items) ≡ (record_fault one or_else each_fault others) =
         ap each_fault (r.all ∙ ap (λ z. r.done ++ records_at here z) i.first) ∙ each_append r.done (one ∷ others) r.good in
         record { tag = told.tag; memory = told.memory; fault = λ other. all ∙ ap (λ o. o or_else each_fault others) (told.fault other) }
-
-pub out_of_memory_as : (o : Option Fault) (f : DirFault) → f ≡ record { number = 67; place = 0; tag = no_tag } → FailsAs o f
-out_of_memory_as o f is = record { tag = ap (λ z. z.tag) is; memory = λ e. ap (λ z. z.place) is; fault = λ other. absurd (other (ap (λ z. z.number) is)) }
 
 -- ---- all records
 

@@ -30,10 +30,6 @@ use Rattle.dicomdir.proofs.HeaderChecks.{not_same}
 
 -- ---- a file has one row
 
--- what a file header says and where it ends
-said_by : {file : List ℕ} → IsInstance file → Said
-said_by is = record { class = is.class; instance = is.instance; syntax = syntax_uid is.syntax }
-
 has_meta : {file : List ℕ} (is : IsInstance file) → HasMeta (record { class = is.class; instance = is.instance; syntax = syntax_uid is.syntax }) file
 has_meta is = record { front = is.front; back = is.back; whole = is.whole; spelled = is.header }
 

@@ -1,5 +1,5 @@
 -- Walking the data set of a file for its row, piece by piece.
-use Rattle.std.proofs.Common.{◌≡◌, ℕ, zero, suc, ◌-◌, ◌<◌, ◌≤◌, List, [], ◌∷◌, ◌++◌, length, take, drop, Option, Some, None, IfSome, refl, sym, ap, subst, ◌∙◌, arith, append_assoc}
+use Rattle.std.proofs.Common.{◌≡◌, ℕ, ◌-◌, ◌<◌, ◌≤◌, List, [], ◌++◌, length, take, drop, Option, Some, None, IfSome, refl, sym, ap, subst, ◌∙◌, arith, append_assoc}
 use Rattle.std.proofs.lemmas.List.{append-nil, take_rest}
 use Rattle.std.specs.Io.KnownBytes.{Consumes, IsAtEnd}
 use Rattle.std.proofs.KnownBytes.{Consumes-nil, Consumes-trans, Consumes-all}
@@ -80,16 +80,6 @@ walks_fails w0 w piece rest n step fault g within answers was b more stands byte
     let whole : text ≡ (front ++ take n rest) ++ (drop n rest ++ more) = regrouped b piece more (take a piece) (take n rest) (drop n rest) far.whole in
     failed_text (walker_syntax w0) (limits_of w0) text fault g.same.0 g.same.1 (refused_fails (drop n rest ++ more) text fault (answers front (g.along b stands)) was bytes whole)
 
-take_whole : (n : ℕ) (piece : List ℕ) → n ≡ length piece → take n piece ≡ piece
-take_whole zero [] e = refl
-take_whole zero (x ∷ piece) e = absurd cc
-take_whole (suc n) [] e = refl
-take_whole (suc n) (x ∷ piece) e = ap (λ z. x ∷ z) (take_whole n piece (omega (arith, e)))
-
-pub walks_whole : {V D : ℕ} (w0 w : Walker V D) (piece rest : List ℕ) → Walks w0 w piece rest → length rest ≡ 0 → (b : List ℕ) → StandsAt w0 b → StandsAt w (b ++ piece)
-walks_whole w0 w piece rest g none b stands =
-    subst (λ z. StandsAt w (b ++ z)) (take_whole (length piece - length rest) piece (omega (arith, none))) (g.along b stands)
-
 -- ---- over what a reader gives
 
 -- what was read so far is what the walker took
@@ -107,19 +97,6 @@ reads_first w old stands = record {
   stands = stands;
   good = tells_none stands.tells (nothing_unbroken (walker_syntax w) (limits_of w));
   same = (refl, refl);
-}
-
-pub reads_going : {V D : ℕ} (w0 w : Walker V D) (old new : Option (List ℕ)) → Reads w0 w old new → IsGoing w
-reads_going w0 w old new r = (r.taken, r.stands, r.good)
-
-pub reads_on : {V D : ℕ} (w0 w v : Walker V D) (old mid new : Option (List ℕ)) (piece : List ℕ) → Reads w0 w old mid → Consumes mid new piece
-    → ((b : List ℕ) → StandsAt w b → StandsAt v (b ++ piece)) → fault_of v ≡ None → IsSameSet w v → Reads w0 v old new
-reads_on w0 w v old mid new piece r more along good same = record {
-  taken = r.taken ++ piece;
-  consumed = Consumes-trans old mid new r.taken piece r.consumed more;
-  stands = along r.taken r.stands;
-  good = good;
-  same = (same.0 ∙ r.same.0, same.1 ∙ r.same.1);
 }
 
 -- a read at the end takes nothing

@@ -13,7 +13,7 @@ use Rattle.dicomdir.specs.Directory.{Found}
 use Rattle.dicomdir.specs.machine.Heads.{head_at}
 use Rattle.dicomdir.specs.machine.Texts.{ElementsThen, ItemsThen, IsContent, of_value, of_items, IsItemContent, of_elements}
 use Rattle.dicomdir.proofs.HeadLemmas.{head_read}
-use Rattle.dicomdir.proofs.TextLemmas.{Front, at_end, at_element, front_of, FrontOfItems, no_item, at_item, front_of_items, mark_head, is_head}
+use Rattle.dicomdir.proofs.TextLemmas.{Front, at_end, at_element, front_of, FrontOfItems, no_item, at_item, front_of_items, mark_head, marked_head, is_head}
 
 -- ---- a defined length
 
@@ -63,10 +63,6 @@ content_items s inner h place f c rest text unsized is (of_items {inner = other}
     subst (λ z. SomeItems z (delimitation sequence_end_tag ++ rest) text) inner_is
     (record { items = items; spelled = record { bytes = b; items = list; whole = delimited_text rest text end unsized whole } })
 
-pub no_content : (s : Syntax) (h : Header) (place : ℕ) (f : Found) (c : List ℕ) → h.length ≡ undefined_length → ((inner : Syntax) → shape s h ≡ Sequence inner → ⊥) → IsContent s h place f c → ⊥
-no_content s h place f c unsized none (of_value sh val) = odd h.length val.even unsized
-no_content s h place f c unsized none (of_items {inner = inner} sh list end) = none inner sh
-
 pub item_elements : (s : Syntax) (h : Header) (es : Elements) (c rest text : List ℕ) → h.length ≡ undefined_length → IsItemContent s h es c → text ≡ c ++ rest
     → ElementsThen s 0 es (delimitation item_end_tag ++ rest) text
 item_elements s h es c rest text unsized (of_elements {b = b} elements end) whole = record { bytes = b; data_set = elements; whole = delimited_text rest text end unsized whole }
@@ -87,9 +83,7 @@ next_elements s head rest after text some read plain passes = by (front_of (deli
   where
     by : Front s some.last (delimitation item_end_tag ++ rest) text some.elements → SomeElements s (delimitation item_end_tag ++ rest) after
     by (at_end none whole) =
-        let there = mark_head s item_end_tag rest text refl fits_end whole in
-        let same : Some (record { header = record { tag = item_end_tag; vr = None; length = 0 }; size = 8 }) ≡ Some head = sym there ∙ read in
-        let is : record { header = record { tag = item_end_tag; vr = None; length = 0 }; size = 8 } ≡ head = cc in
+        let is = marked_head s item_end_tag rest text head refl fits_end whole read in
         let marks : true ≡ false = ap (λ z. is_marker z.header.tag) is ∙ plain in
         absurd cc
     by (at_element f) =
@@ -108,9 +102,7 @@ end_of_elements s head rest text some read marks = by (front_of (delimitation it
   where
     by : Front s some.last (delimitation item_end_tag ++ rest) text some.elements → drop head.size text ≡ rest
     by (at_end none whole) =
-        let there = mark_head s item_end_tag rest text refl fits_end whole in
-        let same : Some (record { header = record { tag = item_end_tag; vr = None; length = 0 }; size = 8 }) ≡ Some head = sym there ∙ read in
-        let is : record { header = record { tag = item_end_tag; vr = None; length = 0 }; size = 8 } ≡ head = cc in
+        let is = marked_head s item_end_tag rest text head refl fits_end whole read in
         ap (λ z. drop z.size text) (sym is) ∙ ap (λ z. drop 8 z) whole
     by (at_element f) =
         let at = is_head s head f.header f.spelling (f.content ++ f.rest) text f.is_element.spelled f.whole read in
@@ -138,9 +130,7 @@ next_items s head rest after text some read tagged passes = by (front_of_items (
   where
     by : FrontOfItems s (delimitation sequence_end_tag ++ rest) text some.items → SomeItems s (delimitation sequence_end_tag ++ rest) after
     by (no_item none whole) =
-        let there = mark_head s sequence_end_tag rest text refl fits_sequence_end whole in
-        let same : Some (record { header = record { tag = sequence_end_tag; vr = None; length = 0 }; size = 8 }) ≡ Some head = sym there ∙ read in
-        let is : record { header = record { tag = sequence_end_tag; vr = None; length = 0 }; size = 8 } ≡ head = cc in
+        let is = marked_head s sequence_end_tag rest text head refl fits_sequence_end whole read in
         let tags : 0xe0dd ≡ 0xe000 = ap (λ z. z.header.tag.1) is ∙ ap (λ t. t.1) tagged in
         absurd (omega (arith, tags))
     by (at_item f) =
@@ -155,9 +145,7 @@ end_of_items s head rest text some read other = by (front_of_items (delimitation
   where
     by : FrontOfItems s (delimitation sequence_end_tag ++ rest) text some.items → drop head.size text ≡ rest
     by (no_item none whole) =
-        let there = mark_head s sequence_end_tag rest text refl fits_sequence_end whole in
-        let same : Some (record { header = record { tag = sequence_end_tag; vr = None; length = 0 }; size = 8 }) ≡ Some head = sym there ∙ read in
-        let is : record { header = record { tag = sequence_end_tag; vr = None; length = 0 }; size = 8 } ≡ head = cc in
+        let is = marked_head s sequence_end_tag rest text head refl fits_sequence_end whole read in
         ap (λ z. drop z.size text) (sym is) ∙ ap (λ z. drop 8 z) whole
     by (at_item f) =
         let at = is_head s head f.header f.spelling (f.content ++ f.rest) text f.is_item.spelled f.whole read in

@@ -1,5 +1,5 @@
 -- The record that an offset leads to, and the fault of that offset.
-use Rattle.std.proofs.Common.{◌≡◌, ℕ, ◌<◌, min, Bool, true, false, not, ◌||◌, List, [], ◌∷◌, length, get_or, Option, Some, None, inl, inr, refl, sym, ap, ◌∙◌, arith, nat_eq, if◌then◌else◌}
+use Rattle.std.proofs.Common.{◌≡◌, ℕ, ◌<◌, min, Bool, true, false, not, ◌||◌, List, [], ◌∷◌, length, get_or, Some, None, is_none, inl, inr, refl, sym, ap, ◌∙◌, arith, nat_eq, if◌then◌else◌}
 use Rattle.std.proofs.lemmas.Bool.{cases_lt}
 use Rattle.std.proofs.lemmas.Bool.Decides.{nat_tests}
 use Rattle.std.proofs.lemmas.List.{get_or_default}
@@ -8,11 +8,14 @@ use Rattle.dicomdir.specs.declared.links.Mark.{Mark}
 use Rattle.dicomdir.specs.declared.links.Step.{Step}
 use Rattle.dicomdir.specs.declared.records.ReadRecord.{ReadRecord}
 use Rattle.dicomdir.specs.Directory.{Record, Node, carried_node}
-use Rattle.dicomdir.specs.Linked.{record_at, fits, fits_level}
-use Rattle.dicomdir.specs.DirFault.{fault, Way, leads_back, is_one_of, named_fault}
+use Rattle.dicomdir.specs.Linked.{record_at, fits, fits_level, is_one_of, elements_at}
 use Rattle.dicomdir.specs.machine.Entries.{carried_by}
-use Rattle.dicomdir.specs.machine.Trail.{way_of, IsStep}
-use Rattle.dicomdir.specs.machine.Survey.{AreFlagged, IsTarget}
+use Rattle.dicomdir.specs.Paths.{Links, Turn, named_by, told_at, level_of, line_of}
+use Rattle.dicomdir.specs.DirFault.{fault, names_no_record, names_wrong_level, path_fault}
+use Rattle.dicomdir.specs.machine.Trail.{path_along, told_along, IsStep}
+use Rattle.dicomdir.specs.machine.Turns.{AreFlagged, IsTarget}
+use Rattle.dicomdir.proofs.FreePaths.{free_path, wrong_path}
+use Rattle.dicomdir.proofs.PathForests.{elements_is}
 use Rattle.dicomdir.proofs.EntryLemmas.{at_entry}
 
 -- a level of more than 5 is as 5
@@ -61,57 +64,66 @@ at_offset (e ∷ es) flags records reached offset at flagged fits found = at_off
 
 -- the fault of an offset
 
-reached_fault : (way : Way) (reached : List ℕ) (offset : ℕ) (o : Option Elements) (es : Elements) (b : Bool) → o ≡ Some es → is_one_of offset reached ≡ true → leads_back way offset ≡ b
-    → named_fault way reached offset o ≡ fault (if b then 61 else 62) way.told
-reached_fault way reached offset None es b stands old back = absurd cc
-reached_fault way reached offset (Some found) es b stands old back = rw (old, back) refl
+reached_fault : (links : Links) (path : List Turn) (reached : List ℕ) (offset : ℕ) (es : Elements) (b : Bool) (told : ℕ) → named_by links path ≡ offset → record_at offset links.records ≡ Some es
+    → is_one_of offset reached ≡ true → is_one_of offset (line_of path) ≡ b → told_at links path ≡ told → path_fault links reached path ≡ fault (if b then 61 else 62) told
+reached_fault links path reached offset es b told named stands old back is = rw (named, stands, old, back, is) refl
 
-unfit_fault : (way : Way) (reached : List ℕ) (offset : ℕ) (o : Option Elements) (es : Elements) → o ≡ Some es → is_one_of offset reached ≡ false → fits way.level (carried_node es) ≡ false
-    → named_fault way reached offset o ≡ fault 64 offset
-unfit_fault way reached offset None es stands new unfit = absurd cc
-unfit_fault way reached offset (Some found) es stands new unfit =
-    let same : found ≡ es = cc in
-    let bad : fits way.level (carried_node found) ≡ false = ap (λ z. fits way.level (carried_node z)) same ∙ unfit in
-    rw (new, bad) refl
+has_record : (links : Links) (path : List Turn) (offset : ℕ) (es : Elements) → named_by links path ≡ offset → record_at offset links.records ≡ Some es → names_no_record links path ≡ false
+has_record links path offset es named stands = ap (λ z. is_none (record_at z links.records)) named ∙ ap is_none stands
 
-no_fault : (way : Way) (reached : List ℕ) (offset : ℕ) (o : Option Elements) (es : Elements) → o ≡ Some es → is_one_of offset reached ≡ false → fits way.level (carried_node es) ≡ true
-    → named_fault way reached offset o ≡ None
-no_fault way reached offset None es stands new fit = absurd cc
-no_fault way reached offset (Some found) es stands new fit =
-    let same : found ≡ es = cc in
-    let good : fits way.level (carried_node found) ≡ true = ap (λ z. fits way.level (carried_node z)) same ∙ fit in
-    rw (new, good) refl
+fits_there : (links : Links) (path : List Turn) (offset : ℕ) (es : Elements) (b : Bool) → named_by links path ≡ offset → record_at offset links.records ≡ Some es
+    → fits (level_of path) (carried_node es) ≡ b → names_wrong_level links path ≡ not b
+fits_there links path offset es b named stands fit =
+    ap (λ z. not (fits (level_of path) (carried_node (elements_at links.records z)))) named
+    ∙ (ap (λ z. not (fits (level_of path) (carried_node z))) (elements_is (record_at offset links.records) es stands) ∙ ap not fit)
 
-pub old_target : (root : ℕ) (entries : List ReadRecord) (flags : List Bool) (records : List Record) (reached : List ℕ) (ms : List Mark) (step : Step) (at told : ℕ) (b : Bool)
-    → AreFlagged entries flags records reached → at < length entries → ((d : ReadRecord) → (get_or entries at d).place ≡ step.offset)
-    → get_or flags at false ≡ true → leads_back (way_of root ms step.begins) step.offset ≡ b → told ≡ (way_of root ms step.begins).told
-    → named_fault (way_of root ms step.begins) reached step.offset (record_at step.offset records) ≡ fault (if b then 61 else 62) told
-old_target root entries flags records reached ms step at told b flagged fits found old back is =
-    let there = at_offset entries flags records reached step.offset at flagged fits found in
-    reached_fault (way_of root ms step.begins) reached step.offset (record_at step.offset records) there.elements b there.stands (sym (there.flag false) ∙ old) back
-    ∙ ap (λ z. fault (if b then 61 else 62) z) (sym is)
+unfit_fault : (links : Links) (path : List Turn) (reached : List ℕ) (offset : ℕ) (es : Elements) → named_by links path ≡ offset → record_at offset links.records ≡ Some es
+    → is_one_of offset reached ≡ false → fits (level_of path) (carried_node es) ≡ false → path_fault links reached path ≡ fault 64 offset
+unfit_fault links path reached offset es named stands new unfit =
+    wrong_path links reached path (has_record links path offset es named stands) (ap (λ z. is_one_of z reached) named ∙ new) (fits_there links path offset es false named stands unfit)
+    ∙ ap (λ z. fault 64 z) named
 
-pub unfit_target : (root : ℕ) (entries : List ReadRecord) (flags : List Bool) (records : List Record) (reached : List ℕ) (ms : List Mark) (step : Step) (at : ℕ) (e : ReadRecord)
-    → AreFlagged entries flags records reached → IsStep ms (Some step) → at < length entries → ((d : ReadRecord) → (get_or entries at d).place ≡ step.offset)
+no_fault : (links : Links) (path : List Turn) (reached : List ℕ) (offset : ℕ) (es : Elements) → named_by links path ≡ offset → record_at offset links.records ≡ Some es
+    → is_one_of offset reached ≡ false → fits (level_of path) (carried_node es) ≡ true → path_fault links reached path ≡ None
+no_fault links path reached offset es named stands new fit =
+    free_path links reached path (has_record links path offset es named stands) (ap (λ z. is_one_of z reached) named ∙ new) (fits_there links path offset es true named stands fit)
+
+same_line : (b : Bool) (ms : List Mark) → line_of (path_along b ms) ≡ line_of (path_along true ms)
+same_line b [] = refl
+same_line b (m ∷ ms) = refl
+
+told_is : (links : Links) (b : Bool) (ms : List Mark) (root : ℕ) → root ≡ links.place → told_at links (path_along b ms) ≡ told_along root ms
+told_is links b [] root is = sym is
+told_is links b (m ∷ ms) root is = refl
+
+pub old_target : (links : Links) (entries : List ReadRecord) (flags : List Bool) (reached : List ℕ) (ms : List Mark) (step : Step) (at root told : ℕ) (b : Bool)
+    → AreFlagged entries flags links.records reached → IsStep links ms (Some step) → root ≡ links.place → at < length entries → ((d : ReadRecord) → (get_or entries at d).place ≡ step.offset)
+    → get_or flags at false ≡ true → is_one_of step.offset (line_of (path_along true ms)) ≡ b → told ≡ told_along root ms
+    → path_fault links reached (path_along step.begins ms) ≡ fault (if b then 61 else 62) told
+old_target links entries flags reached ms step at root told b flagged is_step root_is fits found old back is =
+    let there = at_offset entries flags links.records reached step.offset at flagged fits found in
+    reached_fault links (path_along step.begins ms) reached step.offset there.elements b told (sym is_step.1) there.stands (sym (there.flag false) ∙ old)
+    (ap (λ z. is_one_of step.offset z) (same_line step.begins ms) ∙ back) (told_is links step.begins ms root root_is ∙ sym is)
+
+pub unfit_target : (links : Links) (entries : List ReadRecord) (flags : List Bool) (reached : List ℕ) (ms : List Mark) (step : Step) (at : ℕ) (e : ReadRecord)
+    → AreFlagged entries flags links.records reached → IsStep links ms (Some step) → at < length entries → ((d : ReadRecord) → (get_or entries at d).place ≡ step.offset)
     → get_or flags at false ≡ false → e ≡ get_or entries at e → fits step.level (carried_by e) ≡ false
-    → named_fault (way_of root ms step.begins) reached step.offset (record_at step.offset records) ≡ fault 64 step.offset
-unfit_target root entries flags records reached ms step at e flagged is_step fits_in found new is unfit =
-    let way = way_of root ms step.begins in
-    let there = at_offset entries flags records reached step.offset at flagged fits_in found in
+    → path_fault links reached (path_along step.begins ms) ≡ fault 64 step.offset
+unfit_target links entries flags reached ms step at e flagged is_step fits_in found new is unfit =
+    let there = at_offset entries flags links.records reached step.offset at flagged fits_in found in
     let carries : carried_by e ≡ carried_node there.elements = ap carried_by is ∙ there.carries e in
-    unfit_fault way reached step.offset (record_at step.offset records) there.elements there.stands (sym (there.flag false) ∙ new)
-    (sym (fits_same step.level way.level (carried_node there.elements) is_step.1) ∙ (ap (λ z. fits step.level z) (sym carries) ∙ unfit))
+    unfit_fault links (path_along step.begins ms) reached step.offset there.elements (sym is_step.1) there.stands (sym (there.flag false) ∙ new)
+    (sym (fits_same step.level (level_of (path_along step.begins ms)) (carried_node there.elements) is_step.2.0) ∙ (ap (λ z. fits step.level z) (sym carries) ∙ unfit))
 
-pub good_target : (root : ℕ) (entries : List ReadRecord) (flags : List Bool) (records : List Record) (reached : List ℕ) (ms : List Mark) (step : Step) (at : ℕ) (e : ReadRecord)
-    → AreFlagged entries flags records reached → IsStep ms (Some step) → at < length entries → ((d : ReadRecord) → (get_or entries at d).place ≡ step.offset)
+pub good_target : (links : Links) (entries : List ReadRecord) (flags : List Bool) (reached : List ℕ) (ms : List Mark) (step : Step) (at : ℕ) (e : ReadRecord)
+    → AreFlagged entries flags links.records reached → IsStep links ms (Some step) → at < length entries → ((d : ReadRecord) → (get_or entries at d).place ≡ step.offset)
     → get_or flags at false ≡ false → e ≡ get_or entries at e → fits step.level (carried_by e) ≡ true
-    → IsTarget root entries records ms step reached at
-good_target root entries flags records reached ms step at e flagged is_step fits_in found new is fit =
-    let way = way_of root ms step.begins in
-    let there = at_offset entries flags records reached step.offset at flagged fits_in found in
+    → IsTarget links entries ms step reached at
+good_target links entries flags reached ms step at e flagged is_step fits_in found new is fit =
+    let there = at_offset entries flags links.records reached step.offset at flagged fits_in found in
     let carries : carried_by e ≡ carried_node there.elements = ap carried_by is ∙ there.carries e in
     record {
       place = found;
-      good = no_fault way reached step.offset (record_at step.offset records) there.elements there.stands (sym (there.flag false) ∙ new)
-          (sym (fits_same step.level way.level (carried_node there.elements) is_step.1) ∙ (ap (λ z. fits step.level z) (sym carries) ∙ fit));
+      good = no_fault links (path_along step.begins ms) reached step.offset there.elements (sym is_step.1) there.stands (sym (there.flag false) ∙ new)
+          (sym (fits_same step.level (level_of (path_along step.begins ms)) (carried_node there.elements) is_step.2.0) ∙ (ap (λ z. fits step.level z) (sym carries) ∙ fit));
     }

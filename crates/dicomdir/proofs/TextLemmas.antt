@@ -1,5 +1,6 @@
 -- What stands at the front of a text that spells elements or items.
 use Rattle.std.proofs.Common.{◌≡◌, ◌≢◌, ℕ, ◌+◌, Bool, true, false, List, [], ◌∷◌, ◌++◌, length, drop, Some, None, refl, sym, ap, ◌∙◌, arith, append_assoc, length-append, eqb-true, eq-eqb, not, ◌&&◌, nat_eq, if◌then◌else◌, lit<}
+use Rattle.std.proofs.lemmas.Bool.{cond-true, cond-false}
 use Rattle.std.proofs.lemmas.Bool.Decides.{nat_tests}
 use Rattle.std.proofs.Math.Seq.{drop-append_seam}
 use Rattle.element.specs.declared.syntax.Syntax.{Syntax}
@@ -19,18 +20,10 @@ use Rattle.dicomdir.proofs.HeadLemmas.{head_read}
 
 -- ---- sizes
 
-vr_size : (b : Bool) (x y : List ℕ) → b ≡ true → length (if b then x else y) ≡ length x
-vr_size true x y e = refl
-vr_size false x y e = absurd cc
-
-vr_size_else : (b : Bool) (x y : List ℕ) → b ≡ false → length (if b then x else y) ≡ length y
-vr_size_else true x y e = absurd cc
-vr_size_else false x y e = refl
-
 pub header_length : {s : Syntax} {h : Header} {b : List ℕ} → SpellsHeader s h b → length b ≡ header_size h
 header_length (plain tag n fits p lt) = refl
-header_length (short tag a b n fits m c h lt) = let e = vr_size _ (a ∷ b ∷ le n 2) (a ∷ b ∷ 0 ∷ 0 ∷ le n 4) h in omega (arith, e)
-header_length (long tag a b r q n fits m c h lt) = let e = vr_size_else _ (a ∷ b ∷ le n 2) (a ∷ b ∷ 0 ∷ 0 ∷ le n 4) h in omega (arith, e)
+header_length (short tag a b n fits m c h lt) = let e = ap length (cond-true _ (a ∷ b ∷ le n 2) (a ∷ b ∷ 0 ∷ 0 ∷ le n 4) h) in omega (arith, e)
+header_length (long tag a b r q n fits m c h lt) = let e = ap length (cond-false _ (a ∷ b ∷ le n 2) (a ∷ b ∷ 0 ∷ 0 ∷ le n 4) h) in omega (arith, e)
 
 not_undefined : (n : ℕ) → n ≢ undefined_length → is_undefined n ≡ false
 not_undefined n other = by (is_undefined n) refl
@@ -97,14 +90,6 @@ pub data Front (s : Syntax) (last : ℕ) (more text : List ℕ) (es : Elements) 
 regrouped : (a b c more text : List ℕ) → text ≡ (a ++ (b ++ c)) ++ more → text ≡ a ++ (b ++ (c ++ more))
 regrouped a b c more text e = e ∙ (append_assoc a (b ++ c) more ∙ ap (λ z. a ++ z) (append_assoc b c more))
 
-pub if_yes : {T : Type 0} (b : Bool) (x y : T) → b ≡ true → (if b then x else y) ≡ x
-if_yes true x y e = refl
-if_yes false x y e = absurd cc
-
-pub if_no : {T : Type 0} (b : Bool) (x y : T) → b ≡ false → (if b then x else y) ≡ y
-if_no true x y e = absurd cc
-if_no false x y e = refl
-
 pub front_of : {s : Syntax} {last : ℕ} {es : Elements} {b : List ℕ} (more text : List ℕ) → DataSet s last es b → text ≡ b ++ more → Front s last more text es
 front_of more text nothing whole = at_end refl whole
 front_of more text (value_then {h = h} {hb = hb} {v = v} {es = es} {b = b} e sh val rest) whole = at_element (record {
@@ -118,9 +103,9 @@ front_of more text (value_then {h = h} {hb = hb} {v = v} {es = es} {b = b} e sh 
   content_is = λ place. of_value sh val;
   whole = regrouped hb v b more text whole;
   spelled = record { bytes = b; data_set = rest; whole = refl };
-  here = λ tag place same. if_yes (nat_eq (number h.tag) tag) (value_at place v) (found tag (place + header_size h + length v) es) same;
+  here = λ tag place same. cond-true (nat_eq (number h.tag) tag) (value_at place v) (found tag (place + header_size h + length v) es) same;
   there = λ tag place other.
-      if_no (nat_eq (number h.tag) tag) (value_at place v) (found tag (place + header_size h + length v) es) other
+      cond-false (nat_eq (number h.tag) tag) (value_at place v) (found tag (place + header_size h + length v) es) other
       ∙ ap (λ n. found tag (place + n + length v) es) (sym (header_length e.spelled));
 })
 front_of more text (sequence_then {h = h} {hb = hb} {is = is} {ib = ib} {cb = cb} {es = es} {b = b} e sh items end rest) whole =
@@ -136,11 +121,11 @@ front_of more text (sequence_then {h = h} {hb = hb} {is = is} {ib = ib} {cb = cb
       content_is = λ place. of_items sh items end;
       whole = regrouped hb cb b more text whole;
       spelled = record { bytes = b; data_set = rest; whole = refl };
-      here = λ tag place same. if_yes (nat_eq (number h.tag) tag) (items_at place h is) (found tag (place + header_size h + size_of_items is + end_size h.length) es) same;
+      here = λ tag place same. cond-true (nat_eq (number h.tag) tag) (items_at place h is) (found tag (place + header_size h + size_of_items is + end_size h.length) es) same;
       there = λ tag place other.
           let a = header_length e.spelled in
           let at : place + header_size h + size_of_items is + end_size h.length ≡ place + length hb + length cb = omega (arith, a, size) in
-          if_no (nat_eq (number h.tag) tag) (items_at place h is) (found tag (place + header_size h + size_of_items is + end_size h.length) es) other
+          cond-false (nat_eq (number h.tag) tag) (items_at place h is) (found tag (place + header_size h + size_of_items is + end_size h.length) es) other
           ∙ ap (λ n. found tag n es) at;
     })
 
@@ -185,12 +170,16 @@ marker_plain : (s : Syntax) (t : Tag) → is_marker t ≡ true → is_plain s t 
 marker_plain Implicit t e = refl
 marker_plain Explicit t e = e
 
-mark_header : Tag → Header
-mark_header t = record { tag = t; vr = None; length = 0 }
-
 pub mark_head : (s : Syntax) (mark : Tag) (rest text : List ℕ) → is_marker mark ≡ true → IsTag mark → text ≡ delimitation mark ++ rest
     → head_at s text ≡ Some (record { header = record { tag = mark; vr = None; length = 0 }; size = 8 })
 mark_head s mark rest text marks fits e = head_read s (record { tag = mark; vr = None; length = 0 }) (delimitation mark) rest text (plain mark 0 fits (marker_plain s mark marks) (lit< tt)) e
+
+-- the header that is read there
+pub marked_head : (s : Syntax) (mark : Tag) (rest text : List ℕ) (head : Head) → is_marker mark ≡ true → IsTag mark → text ≡ delimitation mark ++ rest → head_at s text ≡ Some head
+    → record { header = record { tag = mark; vr = None; length = 0 }; size = 8 } ≡ head
+marked_head s mark rest text head marks fits e read =
+    let same : Some (record { header = record { tag = mark; vr = None; length = 0 }; size = 8 }) ≡ Some head = sym (mark_head s mark rest text marks fits e) ∙ read in
+    cc
 
 pub no_head : (s : Syntax) (text : List ℕ) → text ≡ [] → head_at s text ≡ None
 unfolding need

@@ -1,13 +1,14 @@
--- The trail: what leads back, and what comes of the whole as chains end.
-use Rattle.std.proofs.Common.{◌≡◌, ℕ, zero, suc, ◌<◌, ◌≤◌, ◌-◌, ◌+◌, Bool, true, false, not, ◌&&◌, ◌||◌, List, [], ◌∷◌, ◌++◌, length, reverse, take, get_or, slice_get, Some, ◌⊎◌, inl, inr, refl, sym, ap, subst, ◌∙◌, arith, nat_eq, if◌then◌else◌}
+-- The trail: what leads back, and the paths that are to come as chains end.
+use Rattle.std.proofs.Common.{◌≡◌, ℕ, zero, suc, ◌<◌, ◌≤◌, ◌-◌, ◌+◌, Bool, true, false, not, ◌&&◌, ◌||◌, List, [], ◌∷◌, ◌++◌, length, reverse, take, get_or, slice_get, Option, Some, ◌⊎◌, inl, inr, refl, sym, ap, subst, ◌∙◌, arith, nat_eq, if◌then◌else◌}
 use Rattle.std.proofs.lemmas.Bool.Decides.{nat_tests}
-use Rattle.std.proofs.lemmas.List.{reverse-append, take_all, take_more}
+use Rattle.std.proofs.lemmas.List.{reverse-append, append-nil, take_all, take_more, length-reverse}
 use Rattle.dicomdir.specs.declared.links.Mark.{Mark}
-use Rattle.dicomdir.specs.Directory.{Record}
-use Rattle.dicomdir.specs.DirFault.{Fault, is_one_of, first_alone}
-use Rattle.dicomdir.specs.machine.Survey.{Seen, Surveyed, refused, surveyed, survey_all, finish, Stands}
-use Rattle.dicomdir.specs.machine.Trail.{chain_of, above_of, way_of, left_of, AreLevels}
-use Rattle.dicomdir.proofs.Surveying.{all_ends}
+use Rattle.dicomdir.specs.declared.links.Step.{Step}
+use Rattle.dicomdir.specs.Linked.{is_one_of}
+use Rattle.dicomdir.specs.Paths.{Links, Turn, named_by, paths_from, paths_of, above, before, line_of}
+use Rattle.dicomdir.specs.machine.Trail.{path_along, left_of, paths_on, later, to_come, AreMarks, IsStep}
+use Rattle.dicomdir.specs.machine.Turns.{IsToCome}
+use Rattle.dicomdir.proofs.PathForests.{paths_none}
 
 -- a trail as it is gone through from its last mark
 
@@ -19,28 +20,20 @@ looks offset in_chain is_above (m ∷ ms) =
 nat_eq_sym : (a b : ℕ) → nat_eq a b ≡ nat_eq b a
 nat_eq_sym a b = grind (arith, nat_tests)
 
-pub looks_above : (offset : ℕ) (ms : List Mark)
-    → (looks offset false false ms ≡ is_one_of offset (above_of ms)) × (looks offset false true ms ≡ is_one_of offset (first_alone (chain_of ms) ++ above_of ms))
-looks_above offset [] = (refl, refl)
-looks_above offset (m ∷ ms) = by m.begins (looks_above offset ms)
-  where
-    by : (b : Bool)
-        → (looks offset false false ms ≡ is_one_of offset (above_of ms)) × (looks offset false true ms ≡ is_one_of offset (first_alone (chain_of ms) ++ above_of ms))
-        → (looks offset false b ms ≡ is_one_of offset (if b then first_alone (chain_of ms) ++ above_of ms else above_of ms))
-        × ((nat_eq m.place offset || looks offset false b ms) ≡ (nat_eq offset m.place || is_one_of offset (if b then first_alone (chain_of ms) ++ above_of ms else above_of ms)))
-    by true h = (h.1, ap (λ z. z || looks offset false true ms) (nat_eq_sym m.place offset) ∙ ap (λ z. nat_eq offset m.place || z) h.1)
-    by false h = (h.0, ap (λ z. z || looks offset false false ms) (nat_eq_sym m.place offset) ∙ ap (λ z. nat_eq offset m.place || z) h.0)
+looks_above : (offset : ℕ) (lower : Bool) (ms : List Mark) → looks offset false lower ms ≡ is_one_of offset (above (path_along lower ms))
+looks_above offset lower [] = refl
+looks_above offset true (m ∷ ms) = λ i. nat_eq_sym m.place offset i || looks_above offset m.begins ms i
+looks_above offset false (m ∷ ms) = looks_above offset m.begins ms
 
-pub looks_back : (offset : ℕ) (ms : List Mark) → looks offset true false ms ≡ is_one_of offset (chain_of ms ++ above_of ms)
+looks_on : (offset : ℕ) (lower : Bool) (ms : List Mark) → looks offset (not lower) lower ms ≡ is_one_of offset (before (path_along lower ms) ++ above (path_along lower ms))
+looks_on offset true [] = refl
+looks_on offset false [] = refl
+looks_on offset true (m ∷ ms) = looks_above offset true (m ∷ ms)
+looks_on offset false (m ∷ ms) = λ i. nat_eq_sym m.place offset i || looks_on offset m.begins ms i
+
+looks_back : (offset : ℕ) (ms : List Mark) → looks offset true false ms ≡ is_one_of offset (line_of (path_along true ms))
 looks_back offset [] = refl
-looks_back offset (m ∷ ms) = by m.begins (looks_back offset ms) (looks_above offset ms).1
-  where
-    by : (b : Bool) → looks offset true false ms ≡ is_one_of offset (chain_of ms ++ above_of ms)
-        → looks offset false true ms ≡ is_one_of offset (first_alone (chain_of ms) ++ above_of ms)
-        → (nat_eq m.place offset || looks offset (not b) b ms)
-        ≡ (nat_eq offset m.place || is_one_of offset ((if b then [] else chain_of ms) ++ (if b then first_alone (chain_of ms) ++ above_of ms else above_of ms)))
-    by true same other = ap (λ z. z || looks offset false true ms) (nat_eq_sym m.place offset) ∙ ap (λ z. nat_eq offset m.place || z) other
-    by false same other = ap (λ z. z || looks offset true false ms) (nat_eq_sym m.place offset) ∙ ap (λ z. nat_eq offset m.place || z) same
+looks_back offset (m ∷ ms) = looks_on offset false (m ∷ ms)
 
 -- the marks of a list, the last first
 
@@ -72,14 +65,14 @@ looks_here false false p o (inr second) same = absurd (contra second.1)
 pub looks_found : (offset : ℕ) (in_chain is_above : Bool) (xs : List Mark) (at : ℕ) (m : Mark) → 0 < at → at ≤ length xs → m ≡ get_or xs (at - 1) m
     → ((in_chain || is_above) && nat_eq m.place offset) ≡ true
     → looks offset in_chain is_above (reverse (take at xs)) ≡ looks offset true false (reverse xs)
-    → true ≡ is_one_of offset (chain_of (reverse xs) ++ above_of (reverse xs))
+    → true ≡ is_one_of offset (line_of (path_along true (reverse xs)))
 looks_found offset in_chain is_above xs at m some within is found same =
     sym (ap (λ z. z || looks offset (in_chain && not m.begins) m.begins (reverse (take (at - 1) xs))) found)
     ∙ (sym (looks_at offset in_chain is_above xs at m some within is) ∙ (same ∙ looks_back offset (reverse xs)))
 
 pub looks_none : (offset : ℕ) (in_chain is_above : Bool) (xs : List Mark) (at : ℕ) → at ≤ 0
     → looks offset in_chain is_above (reverse (take at xs)) ≡ looks offset true false (reverse xs)
-    → false ≡ is_one_of offset (chain_of (reverse xs) ++ above_of (reverse xs))
+    → false ≡ is_one_of offset (line_of (path_along true (reverse xs)))
 looks_none offset in_chain is_above xs at none same =
     let zero_is : 0 ≡ at = omega (arith, none) in
     ap (λ z. looks offset in_chain is_above (reverse (take z xs))) zero_is ∙ (same ∙ looks_back offset (reverse xs))
@@ -101,66 +94,83 @@ last_first xs m e =
     ap reverse (sym (take_all (length xs - 1 + 1) xs (omega (arith, some))))
     ∙ (reverse_more xs (length xs - 1) m some ∙ ap (λ z. z ∷ reverse (take (length xs - 1) xs)) (got_is xs m (length xs - 1) e))
 
+-- the paths of the open path, and all of them
+
+pub length_along : (lower : Bool) (ms : List Mark) → length (path_along lower ms) ≡ length ms
+length_along lower [] = refl
+length_along lower (m ∷ ms) = ap suc (length_along m.begins ms)
+
+pub paths_first : (links : Links) → paths_of links ≡ paths_on links [] ++ []
+paths_first links =
+    let all : suc (length links.records) ≡ suc (length links.records) - length {A = Turn} [] = omega arith in
+    ap (λ n. paths_from n links []) all ∙ sym (append-nil (paths_on links []))
+
 -- chains that end
 
-pub finish_refused : (root : ℕ) (records : List Record) (ms : List Mark) (begins : Bool) (f : Fault) → finish root records ms begins (refused f) ≡ refused f
-finish_refused root records [] begins f = refl
-finish_refused root records (m ∷ ms) true f = finish_refused root records ms m.begins f
-finish_refused root records (m ∷ ms) false f = finish_refused root records ms m.begins f
-
-left_finish : (root : ℕ) (records : List Record) (ms : List Mark) (w : Surveyed) → finish root records ms false w ≡ finish root records (left_of ms) true w
-left_finish root records [] w = refl
-left_finish root records (m ∷ ms) w = by m.begins (left_finish root records ms w)
+later_left : (links : Links) (ms : List Mark) → later links false ms ≡ later links true (left_of ms)
+later_left links [] = refl
+later_left links (m ∷ ms) = by m.begins (later_left links ms)
   where
-    by : (b : Bool) → finish root records ms false w ≡ finish root records (left_of ms) true w
-        → finish root records ms b w ≡ finish root records (if b then ms else left_of ms) true w
+    by : (b : Bool) → later links false ms ≡ later links true (left_of ms) → later links b ms ≡ later links true (if b then ms else left_of ms)
     by true e = refl
     by false e = e
 
-pub left_levels : (ms : List Mark) → AreLevels ms → AreLevels (left_of ms)
-left_levels [] levels = tt
-left_levels (m ∷ ms) levels = by m.begins levels.1 (left_levels ms levels.1)
+left_marks : (links : Links) (ms : List Mark) → AreMarks links ms → AreMarks links (left_of ms)
+left_marks links [] marks = tt
+left_marks links (m ∷ ms) marks = by m.begins marks.2 (left_marks links ms marks.2)
   where
-    by : (b : Bool) → AreLevels ms → AreLevels (left_of ms) → AreLevels (if b then ms else left_of ms)
+    by : (b : Bool) → AreMarks links ms → AreMarks links (left_of ms) → AreMarks links (if b then ms else left_of ms)
     by true here rest = here
     by false here rest = rest
 
+-- a trail from which chains were dropped that were at their end
+pub record Climbed (links : Links) (ms ms2 : List Mark) : Type 0 where
+  pub come : later links true ms ≡ later links true ms2
+  pub fewer : length ms2 ≤ length ms
+  pub marks : AreMarks links ms2
+
 -- the last chain is at its end
-pub chain_ends : (root : ℕ) (records : List Record) (m : Mark) (ms : List Mark) (seen : Seen) (last : ℕ) → m.next ≡ 0
-    → finish root records (m ∷ ms) true (surveyed seen last) ≡ finish root records (left_of (m ∷ ms)) true (surveyed seen m.place)
-chain_ends root records m ms seen last none =
-    ap (λ z. finish root records ms m.begins (survey_all records (way_of root (m ∷ ms) false) m.shown seen z)) none
-    ∙ (ap (λ z. finish root records ms m.begins z) (all_ends records (way_of root (m ∷ ms) false) m.shown seen)
-    ∙ left_finish root records (m ∷ ms) (surveyed seen m.place))
+chain_ends : (links : Links) (m : Mark) (ms : List Mark) → m.next ≡ 0 → AreMarks links (m ∷ ms) → later links true (m ∷ ms) ≡ later links true (left_of (m ∷ ms))
+chain_ends links m ms none marks =
+    ap (λ z. z ++ later links m.begins ms) (paths_none _ links (path_along false (m ∷ ms)) (sym marks.0 ∙ none)) ∙ later_left links (m ∷ ms)
 
--- it goes on
-pub chain_goes : (root : ℕ) (records : List Record) (m : Mark) (ms : List Mark) (seen : Seen) (last : ℕ) (all : Surveyed) → 0 < m.next → AreLevels (m ∷ ms)
-    → finish root records (m ∷ ms) true (surveyed seen last) ≡ all
-    → Stands root records (m ∷ ms) (Some (record { offset = m.next; begins = false; level = m.level; shown = m.shown })) seen last all
-chain_goes root records m ms seen last all some levels e = record { outcome = e; levels = levels; step = (some, levels.0) }
-
--- what comes of an offset below the last mark, where it is zero, has no last place of its own
-pub any_last : (root : ℕ) (records : List Record) (ms : List Mark) (seen : Seen) (a b : ℕ) → 0 < length ms
-    → finish root records ms true (surveyed seen a) ≡ finish root records ms true (surveyed seen b)
-any_last root records [] seen a b some = absurd (omega (arith, some))
-any_last root records (m ∷ ms) seen a b some = refl
-
-pub climbed : (root : ℕ) (records : List Record) (seen : Seen) (all : Surveyed) (last : ℕ) (xs ys : List Mark) (m : Mark) → Some m ≡ slice_get xs (length xs - 1) → m.next ≡ 0
-    → ys ≡ left_of (reverse xs) → AreLevels (reverse xs) × (finish root records (reverse xs) true (surveyed seen last) ≡ all)
-    → AreLevels ys × (finish root records ys true (surveyed seen m.place) ≡ all)
-climbed root records seen all last xs ys m got none left before =
+pub climbed : (links : Links) (ms : List Mark) (xs ys : List Mark) (m : Mark) → Some m ≡ slice_get xs (length xs - 1) → m.next ≡ 0 → reverse ys ≡ left_of (reverse xs)
+    → (0 < length xs → length ys < length xs) → Climbed links ms (reverse xs) → Climbed links ms (reverse ys)
+climbed links ms xs ys m got none left fewer before =
     let shape = last_first xs m got in
     let rest : List Mark = reverse (take (length xs - 1) xs) in
-    let ends : finish root records (m ∷ rest) true (surveyed seen last) ≡ all = ap (λ z. finish root records z true (surveyed seen last)) (sym shape) ∙ before.1 in
-    let there : ys ≡ left_of (m ∷ rest) = left ∙ ap left_of shape in (
-      subst AreLevels (sym left) (left_levels (reverse xs) before.0),
-      ap (λ z. finish root records z true (surveyed seen m.place)) there ∙ (sym (chain_ends root records m rest seen last none) ∙ ends),
-    )
+    let marks : AreMarks links (m ∷ rest) = subst (λ z. AreMarks links z) shape before.marks in
+    let there : reverse ys ≡ left_of (m ∷ rest) = left ∙ ap left_of shape in
+    let few = before.fewer in
+    let size = length-reverse xs in
+    let size2 = length-reverse ys in
+    let some = some_length xs m (length xs - 1) got in
+    let less = fewer (omega (arith, some)) in
+    record {
+      come = before.come ∙ (ap (λ z. later links true z) shape ∙ (chain_ends links m rest none marks ∙ ap (λ z. later links true z) (sym there)));
+      fewer = omega (arith, few, size, size2, less);
+      marks = subst (λ z. AreMarks links z) (sym there) (left_marks links (m ∷ rest) marks);
+    }
 
-pub lower_none : (root : ℕ) (records : List Record) (ms : List Mark) (shown : Bool) (seen : Seen) (lower last : ℕ) (all : Surveyed) → 0 < length ms → lower ≡ 0
-    → finish root records ms true (survey_all records (way_of root ms true) shown seen lower) ≡ all
-    → finish root records ms true (surveyed seen last) ≡ all
-lower_none root records ms shown seen lower last all some none e =
-    any_last root records ms seen last 0 some
-    ∙ (ap (λ z. finish root records ms true z) (sym (all_ends records (way_of root ms true) shown seen))
-    ∙ (ap (λ z. finish root records ms true (survey_all records (way_of root ms true) shown seen z)) (sym none) ∙ e))
+-- it goes on
+pub goes_next : (links : Links) (ms xs : List Mark) (m : Mark) → Some m ≡ slice_get xs (length xs - 1) → (m.next ≡ 0 → ⊥) → Climbed links ms (reverse xs)
+    → IsToCome links (later links true ms) ms (reverse xs) (Some (record { offset = m.next; begins = false; level = m.level; shown = m.shown }))
+goes_next links ms xs m got other before =
+    let some : 0 < m.next = omega (arith, other) in
+    let shape = last_first xs m got in
+    let rest : List Mark = reverse (take (length xs - 1) xs) in
+    let marks : AreMarks links (m ∷ rest) = subst (λ z. AreMarks links z) shape before.marks in
+    let step : IsStep links (m ∷ rest) (Some (record { offset = m.next; begins = false; level = m.level; shown = m.shown })) = (some, marks.0, marks.1) in
+    record {
+      come = before.come ∙ (ap (λ z. later links true z) shape ∙ ap (λ z. to_come links z (Some (record { offset = m.next; begins = false; level = m.level; shown = m.shown }))) (sym shape));
+      fewer = before.fewer;
+      marks = before.marks;
+      step = subst (λ z. IsStep links z (Some (record { offset = m.next; begins = false; level = m.level; shown = m.shown }))) (sym shape) step;
+    }
+
+-- no record is below the last mark
+pub lower_none : (links : Links) (ms ms2 : List Mark) (pending : Option Step) (lower : ℕ) → lower ≡ 0 → lower ≡ named_by links (path_along true ms)
+    → IsToCome links (later links true ms) ms ms2 pending → IsToCome links (paths_on links (path_along true ms) ++ later links true ms) ms ms2 pending
+lower_none links ms ms2 pending lower none named comes =
+    let nothing = paths_none _ links (path_along true ms) (sym named ∙ none) in
+    record { come = ap (λ z. z ++ later links true ms) nothing ∙ comes.come; fewer = comes.fewer; marks = comes.marks; step = comes.step }

@@ -4,9 +4,10 @@ use Rattle.std.specs.List.{list_any, AllByRecursion}
 use Rattle.std.specs.Str.{bytes_eq}
 use Rattle.sequence.specs.Tree.{Elements}
 use Rattle.dicomdir.specs.Keys.{IsRow}
-use Rattle.dicomdir.specs.Record.{tag, patient_record, study_record, series_record}
-use Rattle.dicomdir.specs.Row.{Row, key, key_in, without_doubles}
-use Rattle.dicomdir.specs.TreeOf.{Forest, rows_with, group_node, group_nodes, images, series, studies, TreeOf}
+use Rattle.dicomdir.specs.Record.{patient_record, study_record, series_record}
+use Rattle.dicomdir.specs.Row.{Row, without_doubles}
+use Rattle.dicomdir.specs.declared.level.Level.TheVariants.{Patient, Study, Series}
+use Rattle.dicomdir.specs.TreeOf.{Forest, key_for, rows_with, group_node, group_nodes, images, series, studies, TreeOf}
 use Rattle.dicomdir.proofs.LaidRecords.{IsNode, patient_node, study_node, series_node, image_node}
 use Rattle.dicomdir.proofs.Placed.{AreNodes}
 
@@ -44,11 +45,11 @@ module _ (level : ℕ) (key_of : Row → List ℕ) (record_of : Row → Elements
   groups_are rows (k ∷ keys) all = group_is (rows_with key_of k rows) _ (with_rows (λ row. bytes_eq k (key_of row)) rows all) (groups_are rows keys all)
 
 series_are : (rows : List Row) → AreRows rows → AreNodes 3 (series rows)
-series_are rows all = groups_are 3 (λ row. key (key_in row.values (tag 0x0020 0x000e))) series_record images series_node images_are rows _ all
+series_are rows all = groups_are 3 (key_for Series) series_record images series_node images_are rows _ all
 
 studies_are : (rows : List Row) → AreRows rows → AreNodes 2 (studies rows)
-studies_are rows all = groups_are 2 (λ row. key (key_in row.values (tag 0x0020 0x000d))) study_record series study_node series_are rows _ all
+studies_are rows all = groups_are 2 (key_for Study) study_record series study_node series_are rows _ all
 
 pub tree_nodes : (rows : List Row) → AllByRecursion IsRow rows → AreNodes 1 (TreeOf rows)
 unfolding TreeOf
-tree_nodes rows all = groups_are 1 (λ row. key (key_in row.values (tag 0x0010 0x0020))) patient_record studies patient_node studies_are (without_doubles [] rows) _ (no_doubles [] rows all)
+tree_nodes rows all = groups_are 1 (key_for Patient) patient_record studies patient_node studies_are (without_doubles [] rows) _ (no_doubles [] rows all)

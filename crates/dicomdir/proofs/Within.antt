@@ -1,6 +1,6 @@
 -- The nodes of a linked directory stand at records: there are no more of them than records, and none at place 0.
 use Rattle.std.proofs.Common.{◌≡◌, ℕ, suc, ◌+◌, ◌<◌, ◌≤◌, Bool, true, false, not, ◌||◌, List, [], ◌∷◌, ◌++◌, length, Some, refl, sym, ap, ◌∙◌, arith, nat_eq, if◌then◌else◌}
-use Rattle.std.proofs.lemmas.Bool.{and_parts}
+use Rattle.std.proofs.lemmas.Bool.{and_parts, or_right, or_left}
 use Rattle.std.proofs.lemmas.List.{length-append}
 use Rattle.std.proofs.lemmas.List.Folds.{list_any-append}
 use Rattle.std.proofs.lemmas.Bool.Decides.{nat_tests}
@@ -8,18 +8,9 @@ use Rattle.element.specs.declared.header.Header.{Header}
 use Rattle.sequence.specs.Tree.{Elements, Items, no_items, item}
 use Rattle.dicomdir.specs.TreeOf.{Forest, no_nodes, node, count_of}
 use Rattle.dicomdir.specs.Directory.{Found, missing, value_at, items_at, found, Record, header_size, size_of, end_size, records_at, records_in}
-use Rattle.dicomdir.specs.Linked.{PlacedNode, places_of, is_distinct, record_at, AreLinked}
-use Rattle.dicomdir.specs.DirFault.{is_one_of}
+use Rattle.dicomdir.specs.Linked.{PlacedNode, places_of, is_distinct, record_at, AreLinked, is_one_of}
 use Rattle.dicomdir.specs.NoFault.{NodesAreRecords}
-use Rattle.dicomdir.proofs.Walking.{not_true, not_place, same_place}
-
-pub or_second : (a b : Bool) → b ≡ true → (a || b) ≡ true
-or_second true b e = refl
-or_second false b e = e
-
-pub or_first : (a b : Bool) → a ≡ true → (a || b) ≡ true
-or_first true b e = refl
-or_first false b e = absurd cc
+use Rattle.dicomdir.proofs.Distinct.{not_true, not_place, same_place, same_one, backwards}
 
 -- distinct places that are all among others are no more than those
 
@@ -44,18 +35,18 @@ still_one x p (q ∷ qs) other e = by (nat_eq p q) refl (nat_eq x q) refl (still
         → is_one_of x (if b then qs else q ∷ without p qs) ≡ true
     by true same true here rest e = absurd (grind (arith, nat_tests, same, here, other))
     by true same false here rest e = e
-    by false same true here rest e = or_first (nat_eq x q) (is_one_of x (without p qs)) here
-    by false same false here rest e = or_second (nat_eq x q) (is_one_of x (without p qs)) (rest e)
+    by false same true here rest e = or_left (nat_eq x q) (is_one_of x (without p qs)) here
+    by false same false here rest e = or_right (nat_eq x q) (is_one_of x (without p qs)) (rest e)
 
 pub no_more : (ps qs : List ℕ) → is_distinct ps ≡ true → ((x : ℕ) → is_one_of x ps ≡ true → is_one_of x qs ≡ true) → length ps ≤ length qs
 no_more [] qs distinct all = omega arith
 no_more (p ∷ ps) qs distinct all =
     let parts = and_parts (not (is_one_of p ps)) (is_distinct ps) distinct in
     let none : is_one_of p ps ≡ false = not_true (is_one_of p ps) parts.0 in
-    let here : is_one_of p qs ≡ true = all p (or_first (nat_eq p p) (is_one_of p ps) (same_place p)) in
+    let here : is_one_of p qs ≡ true = all p (or_left (nat_eq p p) (is_one_of p ps) (same_place p)) in
     let fewer = one_fewer p qs here in
     let rest = no_more ps (without p qs) parts.1
-    (λ x h. still_one x p qs (not_place x p ps none h) (all x (or_second (nat_eq x p) (is_one_of x ps) h))) in
+    (λ x h. still_one x p qs (not_place x p ps none h) (all x (or_right (nat_eq x p) (is_one_of x ps) h))) in
     omega (arith, fewer, rest)
 
 -- the places of records
@@ -74,8 +65,8 @@ stands_there p (r ∷ records) es e = by (nat_eq r.place p) refl (stands_there p
   where
     by : (b : Bool) → nat_eq r.place p ≡ b → (record_at p records ≡ Some es → is_one_of p (places records) ≡ true)
         → (if b then Some r.elements else record_at p records) ≡ Some es → (nat_eq p r.place || is_one_of p (places records)) ≡ true
-    by true same rest e = or_first (nat_eq p r.place) (is_one_of p (places records)) (grind (arith, nat_tests, same))
-    by false same rest e = or_second (nat_eq p r.place) (is_one_of p (places records)) (rest e)
+    by true same rest e = or_left (nat_eq p r.place) (is_one_of p (places records)) (grind (arith, nat_tests, same))
+    by false same rest e = or_right (nat_eq p r.place) (is_one_of p (places records)) (rest e)
 
 pub either : (a b c : Bool) → (a ≡ true → c ≡ true) → (b ≡ true → c ≡ true) → (a || b) ≡ true → c ≡ true
 either true b c f g e = f refl
@@ -93,9 +84,6 @@ at_records (node n below next) records level linked x h =
     (at_records next records level linked.2 x)
     (sym (list_any-append (nat_eq x) (places_of below) (places_of next)) ∙ e))
     h
-  where
-    same_one : (x y : ℕ) (ps : List ℕ) → nat_eq x y ≡ true → is_one_of y ps ≡ true → is_one_of x ps ≡ true
-    same_one x y ps e h = let same : x ≡ y = grind (arith, nat_tests, e) in rw same h
 
 count_is : (f : Forest PlacedNode) → length (places_of f) ≡ count_of f
 count_is no_nodes = refl
@@ -124,10 +112,6 @@ none_in (items_at place h is) records e =
     let same : records_at (place + header_size h) is ≡ records = cc in
     let some = header_some h in
     ap (λ r. is_one_of 0 (places r)) (sym same) ∙ none_at_zero (place + header_size h) is (omega (arith, some))
-
-backwards : (a b : Bool) → (a ≡ true → b ≡ true) → b ≡ false → a ≡ false
-backwards true b f e = let g : b ≡ true = f refl in absurd cc
-backwards false b f e = refl
 
 pub nodes_are_records : NodesAreRecords
 nodes_are_records start elements tree linked =

@@ -25,7 +25,7 @@ use Rattle.dicomdir.specs.TreeOf.{Forest, no_nodes, node, TreeOf}
 use Rattle.dicomdir.specs.WrittenIsLinked.{IsDirectoryOf, WrittenIsLinked}
 use Rattle.dicomdir.proofs.BuildingLemmas.{directory_text, root_size_is}
 use Rattle.dicomdir.proofs.Laid.{is_laid, are_laid, is_item, laid_elements}
-use Rattle.dicomdir.proofs.LaidFields.{IsFixed, laid_field, padded_short}
+use Rattle.dicomdir.proofs.LaidFields.{fixed_from, laid_field, padded_short}
 use Rattle.dicomdir.proofs.LaidRecords.{number_back}
 use Rattle.dicomdir.proofs.NoFault.{linked_has_no_fault}
 use Rattle.dicomdir.proofs.Placed.{AreNodes, written, placed, nodes_are, first_same, last_same, first_small, last_small, linked, distinct, reached, good_records}
@@ -90,22 +90,6 @@ records_are place (node es below next) level others nodes small =
 
 -- the root
 
-fixed_1130 : IsFixed 0 (tag 0x0004 0x1130) (codes "CS")
-unfolding is_short
-fixed_1130 = record { group = refl; element = refl; vr_good = refl; plain = refl; rising = refl; no_marker = refl; no_command = refl; no_file = refl; no_sequence = refl; eight = λ n. refl }
-
-fixed_1200 : IsFixed 0x00041130 (tag 0x0004 0x1200) (codes "UL")
-unfolding is_short
-fixed_1200 = record { group = refl; element = refl; vr_good = refl; plain = refl; rising = refl; no_marker = refl; no_command = refl; no_file = refl; no_sequence = refl; eight = λ n. refl }
-
-fixed_1202 : IsFixed 0x00041200 (tag 0x0004 0x1202) (codes "UL")
-unfolding is_short
-fixed_1202 = record { group = refl; element = refl; vr_good = refl; plain = refl; rising = refl; no_marker = refl; no_command = refl; no_file = refl; no_sequence = refl; eight = λ n. refl }
-
-fixed_1212 : IsFixed 0x00041202 (tag 0x0004 0x1212) (codes "US")
-unfolding is_short
-fixed_1212 = record { group = refl; element = refl; vr_good = refl; plain = refl; rising = refl; no_marker = refl; no_command = refl; no_file = refl; no_sequence = refl; eight = λ n. refl }
-
 sequence_laid : (is : Items) → length (spelled_items is) < undefined_length → length (spelled_items is) % 2 ≡ 0 → are_laid is ≡ true
     → is_laid 0x00041212 (sequence (records_header is) is no_elements) ≡ true
 unfolding is_short
@@ -117,15 +101,16 @@ sequence_laid is short even laid =
     and_from _ _ (and_from _ _ (and_from _ _ (and_from _ _ (and_from _ _ defined two) refl) refl) refl) (and_from _ _ (and_from _ _ same laid) refl)
 
 root_laid : (first last : ℕ) (is : Items) → length (spelled_items is) < undefined_length → length (spelled_items is) % 2 ≡ 0 → are_laid is ≡ true → is_laid 0 (root_elements first last is) ≡ true
+unfolding is_short
 root_laid first last is short even laid =
     let records : Elements = sequence (records_header is) is no_elements in
     let flag : Elements = field (tag 0x0004 0x1212) (codes "US") (le 0 2) records in
     let last_one : Elements = field (tag 0x0004 0x1202) (codes "UL") (le last 4) flag in
     let first_one : Elements = field (tag 0x0004 0x1200) (codes "UL") (le first 4) last_one in
-    laid_field 0 (tag 0x0004 0x1130) (codes "CS") [] first_one fixed_1130 refl (omega arith)
-    (laid_field 0x00041130 (tag 0x0004 0x1200) (codes "UL") (le first 4) last_one fixed_1200 refl (omega arith)
-    (laid_field 0x00041200 (tag 0x0004 0x1202) (codes "UL") (le last 4) flag fixed_1202 refl (omega arith)
-    (laid_field 0x00041202 (tag 0x0004 0x1212) (codes "US") (le 0 2) records fixed_1212 refl (omega arith)
+    laid_field 0 (tag 0x0004 0x1130) (codes "CS") [] first_one (fixed_from _ _ _ refl) refl (omega arith)
+    (laid_field 0x00041130 (tag 0x0004 0x1200) (codes "UL") (le first 4) last_one (fixed_from _ _ _ refl) refl (omega arith)
+    (laid_field 0x00041200 (tag 0x0004 0x1202) (codes "UL") (le last 4) flag (fixed_from _ _ _ refl) refl (omega arith)
+    (laid_field 0x00041202 (tag 0x0004 0x1212) (codes "US") (le 0 2) records (fixed_from _ _ _ refl) refl (omega arith)
     (sequence_laid is short even laid))))
 
 same_records : (a b : ℕ) (is : Items) → a ≡ b → Some (records_at a is) ≡ Some (records_at b is)

@@ -101,6 +101,11 @@ next_offset es = number_in 4 (found 0x00041400 0 es)
 abbrev pub lower_offset : Elements → Option ℕ
 lower_offset es = number_in 4 (found 0x00041420 0 es)
 
+-- an offset that is missing counts as 0, which names no record
+abbrev pub or_zero : Option ℕ → ℕ
+or_zero None = 0
+or_zero (Some n) = n
+
 abbrev pub is_in_use : Option ℕ → Bool
 is_in_use None = false
 is_in_use (Some flag) = nat_eq flag 0xffff

@@ -1,22 +1,14 @@
--- The levels of the tree that is built of rows (PS3.3 section F.4): by which key rows are grouped, and which record a
--- group has.
+-- The levels of the tree that is built of rows (PS3.3 section F.4).
 use Rattle.std.specs.Prelude.{ℕ, Bool, true, false, List}
 use Rattle.sequence.specs.Tree.{Elements}
 use Rattle.dicomdir.specs.declared.level.Level.{Level}
 use Rattle.dicomdir.specs.declared.level.Level.TheVariants.{Patient, Study, Series, Image}
-use Rattle.dicomdir.specs.Row.{Row, key, key_in}
-use Rattle.dicomdir.specs.Record.{tag, patient_record}
-use Rattle.dicomdir.specs.TreeOf.{Forest, grouped, images, series, studies}
-
-abbrev pub key_for : Level → Row → List ℕ
-key_for Patient row = key (key_in row.values (tag 0x0010 0x0020))
-key_for Study row = key (key_in row.values (tag 0x0020 0x000d))
-key_for Series row = key (key_in row.values (tag 0x0020 0x000e))
-key_for Image row = key row.instance
+use Rattle.dicomdir.specs.Row.{Row}
+use Rattle.dicomdir.specs.TreeOf.{Forest, images, series, studies, patients}
 
 -- the nodes at a level and below it
 abbrev pub forest_for : Level → List Row → Forest Elements
-forest_for Patient rows = grouped (λ row. key (key_in row.values (tag 0x0010 0x0020))) patient_record studies rows
+forest_for Patient rows = patients rows
 forest_for Study rows = studies rows
 forest_for Series rows = series rows
 forest_for Image rows = images rows

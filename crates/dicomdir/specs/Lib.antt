@@ -7,6 +7,8 @@ pub mod Directory
 pub mod Linked
 pub mod FaultNumbers
 pub mod DirFault
+pub mod Paths
+pub mod PathLaws
 pub mod CheckFault
 pub mod OneCheck
 pub mod Layout
@@ -21,7 +23,6 @@ pub mod KeptExamples
 pub mod NodesInUse
 pub mod NodesInUseExamples
 pub mod machine
-pub mod Followed
 pub mod TreeNodes
 pub mod KeyTable
 pub mod Keys

@@ -3,9 +3,9 @@
 use Rattle.std.specs.Prelude.{◌≡◌, ℕ, suc, Bool, true, not, ◌&&◌, ◌||◌, List, [], ◌∷◌, ◌++◌, Option, Some, None, nat_eq, if◌then◌else◌, codes}
 use Rattle.std.specs.List.{list_any, list_all}
 use Rattle.std.specs.Str.{bytes_eq}
-use Rattle.sequence.specs.Tree.{Elements}
+use Rattle.sequence.specs.Tree.{Elements, no_elements}
 use Rattle.dicomdir.specs.TreeOf.{Forest, no_nodes, node}
-use Rattle.dicomdir.specs.Directory.{IsDirectoryFile, Record, Node, carried_node, first_offset, last_offset, records_of, next_offset, lower_offset, has_record, has_file_id}
+use Rattle.dicomdir.specs.Directory.{IsDirectoryFile, Record, Node, carried_node, first_offset, last_offset, records_of, next_offset, lower_offset, or_zero, has_record, has_file_id}
 
 -- what the nodes carry whose elements are those of a forest
 abbrev pub carried_forest : Forest Elements → Forest Node
@@ -53,13 +53,28 @@ last_place_behind place (node n below next) = last_place_behind n.place next
 abbrev pub last_place : Forest PlacedNode → ℕ
 last_place nodes = last_place_behind 0 nodes
 
+abbrev pub is_one_of : ℕ → List ℕ → Bool
+is_one_of place places = list_any (nat_eq place) places
+
 abbrev pub is_distinct : List ℕ → Bool
 is_distinct [] = true
-is_distinct (place ∷ places) = not (list_any (nat_eq place) places) && is_distinct places
+is_distinct (place ∷ places) = not (is_one_of place places) && is_distinct places
 
 abbrev pub record_at : ℕ → List Record → Option Elements
 record_at place [] = None
 record_at place (r ∷ records) = if nat_eq r.place place then Some r.elements else record_at place records
+
+-- the elements of the record at a place, none where no record stands there
+abbrev pub elements_at : List Record → ℕ → Elements
+elements_at records place = elim (record_at place records) [ None ↦ no_elements | Some es ↦ es ]
+
+-- the lower offset of the record at a place
+abbrev pub lower_at : List Record → ℕ → ℕ
+lower_at records place = or_zero (lower_offset (elements_at records place))
+
+-- the next offset of the record at a place
+abbrev pub next_at : List Record → ℕ → ℕ
+next_at records place = or_zero (next_offset (elements_at records place))
 
 -- one of the records stands at the node's place, is of its type and file ID, fits its level, and names these places
 pub record IsRecordOf (records : List Record) (level : ℕ) (n : PlacedNode) (lower next : ℕ) : Type 0 where
@@ -102,4 +117,4 @@ pub record Linked (file : List ℕ) (tree : Forest Node) : Type 0 where
 
 -- each of its records in use is a node of the tree
 abbrev pub IsAllReached : {start : ℕ} {elements : Elements} {tree : Forest Node} → LinkedElements start elements tree → Type 0
-IsAllReached linked = list_all (λ r. not (carried_node r.elements).in_use || list_any (nat_eq r.place) (places_of linked.placed)) linked.records ≡ true
+IsAllReached linked = list_all (λ r. not (carried_node r.elements).in_use || is_one_of r.place (places_of linked.placed)) linked.records ≡ true

@@ -3,8 +3,8 @@ use Rattle.std.specs.Prelude.{◌≡◌, ℕ, ◌≤◌, false, List, length, No
 use Rattle.sequence.specs.Tree.{Elements}
 use Rattle.dicomdir.specs.TreeOf.{Forest, count_of}
 use Rattle.dicomdir.specs.Directory.{Node}
-use Rattle.dicomdir.specs.Linked.{Linked, LinkedElements, IsAllReached, places_of}
-use Rattle.dicomdir.specs.DirFault.{directory_fault, is_one_of}
+use Rattle.dicomdir.specs.Linked.{Linked, LinkedElements, IsAllReached, places_of, is_one_of}
+use Rattle.dicomdir.specs.DirFault.{directory_fault}
 
 -- of a linked directory the nodes are no more than the records, and none is at place 0
 abbrev pub NodesAreRecords : Type 0

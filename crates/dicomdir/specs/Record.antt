@@ -10,7 +10,7 @@ use Rattle.sequence.specs.Tree.{Elements, no_elements, value}
 use Rattle.sequence.specs.Wanted.{Values, value_of}
 use Rattle.dicomdir.specs.declared.key_table.KeyRule.{KeyRule}
 use Rattle.dicomdir.specs.declared.key_table.KeyType.{KeyType}
-use Rattle.dicomdir.specs.declared.key_table.KeyType.TheVariants.{Type1, Type1C, Type2, Type3}
+use Rattle.dicomdir.specs.declared.key_table.KeyType.TheVariants.{Unique, Type1, Type1C, Type2, Type3}
 use Rattle.dicomdir.specs.declared.level.Level.{Level}
 use Rattle.dicomdir.specs.declared.level.Level.TheVariants.{Patient, Study, Series, Image}
 use Rattle.dicomdir.specs.KeyTable.{has_level, key_table}
@@ -37,6 +37,7 @@ key_field_of rule (Some v) behind = key_field rule v behind
 
 -- what a record has of a key: nothing, or the value, which may be empty
 abbrev pub written : KeyType → Option (List ℕ) → Option (List ℕ)
+written Unique v = Some (unwrap_or v [])
 written Type1 v = Some (unwrap_or v [])
 written Type1C v = v
 written Type2 v = Some (unwrap_or v [])

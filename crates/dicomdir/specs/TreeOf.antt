@@ -1,10 +1,14 @@
 -- The tree of a directory (PS3.3 section F.4): patients, their studies, their series, their images.
-use Rattle.std.specs.Prelude.{ℕ, suc, ◌+◌, List, [], ◌∷◌, ◌++◌, map, filter, if◌then◌else◌}
-use Rattle.std.specs.List.{list_any}
+use Rattle.std.specs.Prelude.{ℕ, suc, ◌+◌, List, [], ◌∷◌, ◌++◌, map, filter, Option, Some, None, if◌then◌else◌}
+use Rattle.std.specs.List.{list_any, find}
 use Rattle.std.specs.Str.{bytes_eq}
 use Rattle.sequence.specs.Tree.{Elements}
+use Rattle.dicomdir.specs.declared.key_table.KeyRule.{KeyRule}
+use Rattle.dicomdir.specs.declared.level.Level.{Level}
+use Rattle.dicomdir.specs.declared.level.Level.TheVariants.{Patient, Study, Series}
 use Rattle.dicomdir.specs.Row.{Row, key, key_in, without_doubles}
-use Rattle.dicomdir.specs.Record.{tag, patient_record, study_record, series_record, image_record}
+use Rattle.dicomdir.specs.KeyTable.{groups, key_table}
+use Rattle.dicomdir.specs.Record.{patient_record, study_record, series_record, image_record}
 
 -- siblings: each node carries something, and has nodes below it
 pub data Forest (N : Type 0) : Type 0 where
@@ -41,16 +45,28 @@ group_nodes key_of record_for below rows (k ∷ keys) =
 abbrev pub grouped : (Row → List ℕ) → (Row → Elements) → (List Row → Forest Elements) → List Row → Forest Elements
 grouped key_of record_for below rows = group_nodes key_of record_for below rows (seen_after [] (map key_of rows))
 
+-- what a row has of a key, and its instance where there is no key
+abbrev pub key_or_instance : Row → Option KeyRule → List ℕ
+key_or_instance row None = row.instance
+key_or_instance row (Some rule) = key_in row.values rule.tag
+
+-- by what rows are grouped: Patient ID, Study Instance UID, Series Instance UID, SOP Instance UID
+abbrev pub key_for : Level → Row → List ℕ
+key_for level row = key (key_or_instance row (find (groups level) key_table))
+
 abbrev pub images : List Row → Forest Elements
 images [] = no_nodes
 images (row ∷ rows) = node (image_record row) no_nodes (images rows)
 
 abbrev pub series : List Row → Forest Elements
-series rows = grouped (λ row. key (key_in row.values (tag 0x0020 0x000e))) series_record images rows
+series rows = grouped (key_for Series) series_record images rows
 
 abbrev pub studies : List Row → Forest Elements
-studies rows = grouped (λ row. key (key_in row.values (tag 0x0020 0x000d))) study_record series rows
+studies rows = grouped (key_for Study) study_record series rows
+
+abbrev pub patients : List Row → Forest Elements
+patients rows = grouped (key_for Patient) patient_record studies rows
 
 -- the tree of these rows; a node is its record's elements but for the two offsets
 unfoldable pub TreeOf : List Row → Forest Elements
-TreeOf rows = grouped (λ row. key (key_in row.values (tag 0x0010 0x0020))) patient_record studies (without_doubles [] rows)
+TreeOf rows = patients (without_doubles [] rows)

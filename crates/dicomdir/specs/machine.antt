@@ -2,7 +2,6 @@ pub mod Entries
 pub mod Heads
 pub mod Reading
 pub mod Steps
-pub mod Survey
 pub mod Texts
 pub mod RowReading
 pub mod Trail

@@ -1,25 +1,34 @@
 //! Groups rows by their keys.
 ghost use Rattle.std.specs.Prelude.{◌≡◌, ◌<◌, ◌++◌, ◌∷◌, [], IfOk, OnOk, if◌then◌else◌, length, get_or, set};
-ghost use Rattle.dicomdir.specs.Levels.{key_for};
 ghost use Rattle.dicomdir.specs.Grouping.{groups_of, row_groups, rows_at};
 ghost use Rattle.dicomdir.specs.machine.FirstSeen.{Puts, texts};
+ghost use Rattle.dicomdir.specs.TreeOf.{key_for};
+ghost use Rattle.dicomdir.specs.KeyTable as table;
+ghost use Rattle.std.specs.List.{find};
 
 use crate::Row;
 use crate::first_seen::{SeenKeys, see};
+use crate::key_table::{KeyRule, key_table};
 use crate::level::Level;
-use element::{Tag, unpadded};
+use element::unpadded;
 use indexmap::IndexSet;
 use std::alloc::{AllocError, Allocator};
 
-/// Returns the key by which rows are grouped at a level, without its padding.
+/// Returns the first of these keys by which rows are grouped at a level.
+fn grouping_key(rules: &[KeyRule], level: Level) -> Option<KeyRule>
+    ensures { result ≡ find (table.groups level) rules.now }
+{
+    rules.iter().copied().find(|rule| rule.groups(level))
+}
+
+/// Returns the value by which rows are grouped at a level, without its padding: that of the level's unique key, or
+/// the SOP instance.
 fn key_of<A: Allocator>(row: &Row<A>, level: Level) -> &[u8]
     ensures { result.now ≡ key_for level row.now }
 {
-    unpadded(match level {
-        Level::Patient => row.key(Tag(0x0010, 0x0020)),
-        Level::Study => row.key(Tag(0x0020, 0x000d)),
-        Level::Series => row.key(Tag(0x0020, 0x000e)),
-        Level::Image => row.instance(),
+    unpadded(match grouping_key(key_table(), level) {
+        Some(rule) => row.key(rule.tag),
+        None => row.instance(),
     })
 }
 

@@ -8,6 +8,8 @@ use element::Tag;
 /// When a record has a key, and whether the key has a value (PS3.5 section 7.4).
 #[derive(Clone, Copy)]
 pub(crate) enum KeyType {
+    /// Always, with a value, by which the records of its level are told apart.
+    Unique,
     /// Always, with a value.
     Type1,
     /// Where the data set has it.
@@ -53,106 +55,54 @@ pub(crate) struct KeyRule {
     pub(crate) levels: Levels,
 }
 
+impl KeyRule {
+    /// Returns whether rows are grouped by the key at a level.
+    pub(crate) fn groups(&self, level: Level) -> bool
+        ensures { result ≡ table.groups level self.now }
+    {
+        matches!(self.kind, KeyType::Unique) && self.levels.has(level)
+    }
+}
+
+macro_rules! levels {
+    (Each) => {
+        Levels::Each
+    };
+    ($level:ident) => {
+        Levels::Only(Level::$level)
+    };
+}
+
+/// A row of the table: the group and the element of a key's tag, its VR, the greatest size of its value, its type, and
+/// the level of the records that have it.
+macro_rules! key {
+    ($group:literal, $element:literal, $vr:literal, $room:literal, $kind:ident, $levels:ident) => {
+        KeyRule {
+            tag: Tag($group, $element),
+            vr: *$vr,
+            room: $room,
+            kind: KeyType::$kind,
+            levels: levels!($levels),
+        }
+    };
+}
+
 /// The keys of all records, in the order of their tags (PS3.3 section F.5).
 const KEY_TABLE: [KeyRule; 14] = [
-    KeyRule {
-        tag: Tag(0x0008, 0x0005),
-        vr: *b"CS",
-        room: 64,
-        kind: KeyType::Type1C,
-        levels: Levels::Each,
-    },
-    KeyRule {
-        tag: Tag(0x0008, 0x0020),
-        vr: *b"DA",
-        room: 32,
-        kind: KeyType::Type1,
-        levels: Levels::Only(Level::Study),
-    },
-    KeyRule {
-        tag: Tag(0x0008, 0x0030),
-        vr: *b"TM",
-        room: 32,
-        kind: KeyType::Type1,
-        levels: Levels::Only(Level::Study),
-    },
-    KeyRule {
-        tag: Tag(0x0008, 0x0050),
-        vr: *b"SH",
-        room: 64,
-        kind: KeyType::Type2,
-        levels: Levels::Only(Level::Study),
-    },
-    KeyRule {
-        tag: Tag(0x0008, 0x0060),
-        vr: *b"CS",
-        room: 64,
-        kind: KeyType::Type1,
-        levels: Levels::Only(Level::Series),
-    },
-    KeyRule {
-        tag: Tag(0x0008, 0x1030),
-        vr: *b"LO",
-        room: 256,
-        kind: KeyType::Type2,
-        levels: Levels::Only(Level::Study),
-    },
-    KeyRule {
-        tag: Tag(0x0008, 0x103e),
-        vr: *b"LO",
-        room: 256,
-        kind: KeyType::Type3,
-        levels: Levels::Only(Level::Series),
-    },
-    KeyRule {
-        tag: Tag(0x0010, 0x0010),
-        vr: *b"PN",
-        room: 512,
-        kind: KeyType::Type2,
-        levels: Levels::Only(Level::Patient),
-    },
-    KeyRule {
-        tag: Tag(0x0010, 0x0020),
-        vr: *b"LO",
-        room: 256,
-        kind: KeyType::Type1,
-        levels: Levels::Only(Level::Patient),
-    },
-    KeyRule {
-        tag: Tag(0x0020, 0x000d),
-        vr: *b"UI",
-        room: 64,
-        kind: KeyType::Type1,
-        levels: Levels::Only(Level::Study),
-    },
-    KeyRule {
-        tag: Tag(0x0020, 0x000e),
-        vr: *b"UI",
-        room: 64,
-        kind: KeyType::Type1,
-        levels: Levels::Only(Level::Series),
-    },
-    KeyRule {
-        tag: Tag(0x0020, 0x0010),
-        vr: *b"SH",
-        room: 64,
-        kind: KeyType::Type1,
-        levels: Levels::Only(Level::Study),
-    },
-    KeyRule {
-        tag: Tag(0x0020, 0x0011),
-        vr: *b"IS",
-        room: 32,
-        kind: KeyType::Type1,
-        levels: Levels::Only(Level::Series),
-    },
-    KeyRule {
-        tag: Tag(0x0020, 0x0013),
-        vr: *b"IS",
-        room: 32,
-        kind: KeyType::Type1,
-        levels: Levels::Only(Level::Image),
-    },
+    key!(0x0008, 0x0005, b"CS", 64, Type1C, Each),
+    key!(0x0008, 0x0020, b"DA", 32, Type1, Study),
+    key!(0x0008, 0x0030, b"TM", 32, Type1, Study),
+    key!(0x0008, 0x0050, b"SH", 64, Type2, Study),
+    key!(0x0008, 0x0060, b"CS", 64, Type1, Series),
+    key!(0x0008, 0x1030, b"LO", 256, Type2, Study),
+    key!(0x0008, 0x103e, b"LO", 256, Type3, Series),
+    key!(0x0010, 0x0010, b"PN", 512, Type2, Patient),
+    key!(0x0010, 0x0020, b"LO", 256, Unique, Patient),
+    key!(0x0020, 0x000d, b"UI", 64, Unique, Study),
+    key!(0x0020, 0x000e, b"UI", 64, Unique, Series),
+    key!(0x0020, 0x0010, b"SH", 64, Type1, Study),
+    key!(0x0020, 0x0011, b"IS", 32, Type1, Series),
+    key!(0x0020, 0x0013, b"IS", 32, Type1, Image),
 ];
 
 /// Returns the keys of all records, in the order of their tags.

@@ -9,6 +9,7 @@ ghost use Rattle.dicomdir.specs.KeptExamples.{InactiveRecords};
 ghost use Rattle.dicomdir.specs.NoFault.{LinkedHasNoFault, NodesAreRecords, NoFaultIsLinked, OneTreeOfFile};
 ghost use Rattle.dicomdir.specs.OneCheck.{AcceptedHasNoFault, OneCheckFault, OneListOfNodes};
 ghost use Rattle.dicomdir.specs.OneImage.{OneImageIsLinked, OneImageFaults, PreambleCounts, RecordFaults, NoRowsAreLinked};
+ghost use Rattle.dicomdir.specs.PathLaws.{LongerPathsChangeNothing, PathsNameNodes, PathsNameRecords};
 ghost use Rattle.dicomdir.specs.PlacesExamples.{PlacesAreAssigned, SizesAreTrue};
 ghost use Rattle.dicomdir.specs.RowLaws.{KeysFit, OneRow};
 ghost use Rattle.dicomdir.specs.WrittenIsLinked.{WrittenIsLinked};
@@ -151,4 +152,20 @@ pub fn a_filed_instance_has_its_row()
 /// fault.
 pub fn written_is_linked()
     ensures { WrittenIsLinked }
+{}
+
+/// Paths of however many records more have the same first fault, and are no others where they have none.
+pub fn longer_paths_change_nothing()
+    ensures { LongerPathsChangeNothing }
+{}
+
+/// The paths of a directory that is linked to a tree name its nodes, depth first.
+pub fn paths_name_nodes()
+    ensures { PathsNameNodes }
+{}
+
+/// The paths of a directory name its records in order, and an offset back to a record above is a cycle, one to a record
+/// before that is a second way.
+pub fn paths_name_records()
+    ensures { PathsNameRecords }
 {}

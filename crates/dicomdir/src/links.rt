@@ -1,13 +1,13 @@
 //! Follows the offsets of a directory's records.
 ghost use Rattle.std.specs.Prelude.{◌≡◌, ◌≤◌, ◌<◌, ◌+◌, ◌++◌, ◌∷◌, [], min, ◌&&◌, not, nat_eq, if◌then◌else◌, ℕ, List, length, map, reverse, replicate, IsOk, IfOk, IfErr, IfSome, IfNone, get_or, slice_index_or, true, false};
 ghost use Rattle.sequence.specs.Rules.{no_tag};
-ghost use Rattle.dicomdir.specs.DirFault.{is_one_of};
 ghost use Rattle.dicomdir.specs.Linked as linked;
 ghost use Rattle.dicomdir.specs.TreeNodes.{node_of};
 ghost use Rattle.dicomdir.specs.machine.Entries.{AreFollowed, FailsToFollow, carried_by};
-ghost use Rattle.dicomdir.specs.machine.Survey.{own_node};
-ghost use Rattle.dicomdir.specs.machine.Trail.{above_of, chain_of, left_of, mark_of, told_at};
+ghost use Rattle.dicomdir.specs.machine.Trail.{left_of, mark_of, own_node, path_along, told_along};
+ghost use Rattle.dicomdir.specs.Paths.{line_of};
 ghost use Rattle.dicomdir.specs.machine.Turns.{AreAllReached, Begins, Climbs, IsWrongOffset, LeadsTo, GoesOn, IsLeftOver, IsNoPlace};
+ghost use Rattle.dicomdir.specs.Linked.{is_one_of};
 
 use crate::fault::DirFault;
 use crate::records::{ReadRecord, is_text};
@@ -93,7 +93,7 @@ fn index_of(entries: &[ReadRecord], place: u32) -> Option<usize>
 
 /// Returns whether an offset leads back along the trail: to a record of its last chain, or to one above that.
 fn leads_back(trail: &[Mark], offset: u32) -> bool
-    ensures { result ≡ is_one_of offset (chain_of (reverse trail.now) ++ above_of (reverse trail.now)) }
+    ensures { result ≡ is_one_of offset (line_of (path_along true (reverse trail.now))) }
 {
     let mut in_chain = true;
     let mut is_above = false;
@@ -122,10 +122,9 @@ fn leave_chain<A: Allocator + Copy>(trail: &mut Vec<Mark, A>)
     }
 }
 
-/// Returns the next offset of the trail, and drops the chains that are at their end. `last` becomes the last record of
-/// the last chain that was dropped.
-fn climb<A: Allocator + Copy>(trail: &mut Vec<Mark, A>, last: &mut u64) -> Option<Step>
-    ensures climbs { Climbs (reverse trail.old.items) last.old (reverse trail.new.items) result last.new }
+/// Returns the next offset of the trail, and drops the chains that are at their end.
+fn climb<A: Allocator + Copy>(trail: &mut Vec<Mark, A>) -> Option<Step>
+    ensures climbs { Climbs (reverse trail.old.items) (reverse trail.new.items) result }
 {
     while let Some(mark) = trail.last() {
         if mark.next != 0 {
@@ -136,7 +135,6 @@ fn climb<A: Allocator + Copy>(trail: &mut Vec<Mark, A>, last: &mut u64) -> Optio
                 shown: mark.shown,
             });
         }
-        *last = mark.place;
         leave_chain(trail);
     }
     None
@@ -154,7 +152,7 @@ fn none_reached<A: Allocator + Copy>(alloc: A, count: usize) -> Result<Vec<bool,
 
 /// Returns where a fault of the next offset is reported.
 fn told_of(trail: &[Mark], root: &Root) -> u64
-    ensures { result ≡ told_at root.now.first_place (reverse trail.now) }
+    ensures { result ≡ told_along root.now.first_place (reverse trail.now) }
 {
     match trail.last() {
         Some(mark) => mark.place,
@@ -173,7 +171,7 @@ fn target(
     requires { length reached.now ≡ length entries.now }
     ensures within { IfOk result (λ at. at < length entries.now) }
     ensures first { IfOk result (λ at. get_or reached.now at true ≡ false) }
-    ensures good { IfOk result (LeadsTo root.now.first_place entries.now reached.now (reverse trail.now) step.now) }
+    ensures good { IfOk result (LeadsTo entries.now reached.now (reverse trail.now) step.now) }
     ensures fault { IfErr result (IsWrongOffset root.now.first_place entries.now reached.now (reverse trail.now) step.now) }
     ensures links { IfErr result (λ f. record { from : 60 ≤ f.number; to : f.number ≤ 64; tag : f.tag ≡ no_tag }) }
 {
@@ -228,9 +226,8 @@ fn step_after<A: Allocator + Copy>(
     entry: &ReadRecord,
     step: &Step,
     trail: &mut Vec<Mark, A>,
-    last: &mut u64,
 ) -> Option<Step>
-    ensures goes_on { GoesOn (reverse trail.old.items) (reverse trail.new.items) step.now result last.new entry.now }
+    ensures goes_on { GoesOn (reverse trail.old.items) (reverse trail.new.items) step.now result entry.now }
 {
     if entry.lower != 0 {
         return Some(Step {
@@ -240,7 +237,14 @@ fn step_after<A: Allocator + Copy>(
             shown: step.shown && entry.in_use,
         });
     }
-    climb(trail, last)
+    climb(trail)
+}
+
+/// Returns the last record of the root's chain, where this one was reached.
+fn last_of_root(entry: &ReadRecord, step: &Step, last: u64) -> u64
+    ensures { result ≡ (if nat_eq step.now.level 1 then entry.now.place else last) }
+{
+    if step.level == 1 { entry.place } else { last }
 }
 
 fn first_step(root: &Root) -> Option<Step>
@@ -278,7 +282,8 @@ pub(crate) fn follow<'a, A: Allocator + Copy>(
         let entry = &entries[at];
         reached[at] = true;
         reach(entry, &step, &mut trail, tree)?;
-        pending = step_after(entry, &step, &mut trail, &mut last);
+        last = last_of_root(entry, &step, last);
+        pending = step_after(entry, &step, &mut trail);
     }
     if u64::from(root.last) != last {
         return Err(DirFault::at(DirFault::BAD_OFFSET, root.last_place));

@@ -81,7 +81,7 @@ fn put_row_key<A: Allocator>(out: &mut RecordBytes, rule: &KeyRule, row: &Row<A>
     match (rule.kind, row.value(rule.tag)) {
         (_, Some(value)) => put_key(out, rule, value),
         (KeyType::Type1C | KeyType::Type3, None) => {}
-        (KeyType::Type1 | KeyType::Type2, None) => put_key(out, rule, &[]),
+        (KeyType::Unique | KeyType::Type1 | KeyType::Type2, None) => put_key(out, rule, &[]),
     }
 }
 

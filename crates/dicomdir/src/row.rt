@@ -66,8 +66,8 @@ fn is_missing<A: Allocator>(rule: &KeyRule, keys: &Keys<A>) -> bool
     ensures { result ≡ spelling.is_missing (key_values keys.now) rule.now }
 {
     match (rule.kind, keys.value(rule.tag)) {
-        (KeyType::Type1, None) => true,
-        (KeyType::Type1, Some(value)) => is_empty_key(value),
+        (KeyType::Unique | KeyType::Type1, None) => true,
+        (KeyType::Unique | KeyType::Type1, Some(value)) => is_empty_key(value),
         (KeyType::Type1C | KeyType::Type2 | KeyType::Type3, _) => false,
     }
 }

@@ -1,5 +1,7 @@
 pub mod Classes
 pub mod Implementation
+pub mod StorageClasses
+pub mod StorageTable
 pub mod Syntaxes
 pub mod Tags
 pub mod machine

@@ -1,8 +1,9 @@
 //! Laws of the tables, each the contract of a function that does nothing.
-ghost use Rattle.std.specs.Prelude.{◌≡◌, Some};
+ghost use Rattle.std.specs.Prelude.{◌≡◌, Some, length};
 ghost use Rattle.element.specs.declared.syntax.Syntax as element;
 ghost use Rattle.dictionary.specs.Classes.{class_of, class_uid};
 ghost use Rattle.dictionary.specs.Implementation.{implementation_class_uid, implementation_version_name};
+ghost use Rattle.dictionary.specs.StorageClasses.{storage_classes};
 ghost use Rattle.dictionary.specs.Syntaxes.{application_context, syntax_of, syntax_uid};
 ghost use Rattle.dictionary.specs.declared.class.Class as class;
 
@@ -23,4 +24,9 @@ pub fn application_context_is_named()
 pub fn implementation_is_named()
     ensures class { IMPLEMENTATION_CLASS_UID.now ≡ implementation_class_uid }
     ensures version { IMPLEMENTATION_VERSION_NAME.now ≡ implementation_version_name }
+{}
+
+/// The table of storage classes has 157 rows.
+pub fn storage_classes_are_few()
+    ensures { length storage_classes ≡ 157 }
 {}

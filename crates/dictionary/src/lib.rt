@@ -5,10 +5,13 @@
 mod class;
 mod implementation;
 pub mod laws;
+mod storage;
+mod storage_table;
 mod syntaxes;
 mod tags;
 
 pub use class::{Class, class_of};
 pub use implementation::{IMPLEMENTATION_CLASS_UID, IMPLEMENTATION_VERSION_NAME};
+pub use storage::{StorageClass, storage_class};
 pub use syntaxes::{APPLICATION_CONTEXT, syntax_of, syntax_uid};
 pub use tags::{name_of, vr_of};

@@ -1,9 +1,9 @@
 //! Element numbers of group 0000 (PS3.7 annex E).
 
-/// Bytes that follow this element.
+/// Command Group Length (0000,0000): the bytes that follow this element.
 pub const LENGTH: u16 = 0x0000;
 
-/// Affected SOP class.
+/// Affected SOP Class UID (0000,0002).
 pub const CLASS: u16 = 0x0002;
 
 /// Command field.

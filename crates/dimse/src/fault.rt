@@ -4,7 +4,7 @@ ghost use Rattle.dimse.specs.Fault.{fault_name, number_of};
 
 use std::fmt;
 
-/// Why a message is rejected.
+/// Why a message is rejected: each variant with its number.
 #[derive(Clone, Copy, Debug, PartialEq, Eq)]
 pub enum DimseFault {
     /// 40: the command set has more bytes than are kept.

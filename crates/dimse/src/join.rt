@@ -163,7 +163,7 @@ impl<const C: usize> Join<C> {
         self.command.as_slice()
     }
 
-    /// Drops the message.
+    /// Drops the message that was joined so far: the next fragment is the first of a command set.
     pub fn clear(&mut self)
         ensures { ShowsMessage C self.new NoMessage [] }
     {

@@ -4,7 +4,7 @@
 
 mod command;
 mod detail;
-mod element_numbers;
+pub mod element_numbers;
 mod elements;
 mod fault;
 mod join;
@@ -24,3 +24,4 @@ pub use join::Join;
 pub use joined::Joined;
 pub use reading::read_command;
 pub use response::write_response;
+pub use set::CommandSet;

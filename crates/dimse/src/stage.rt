@@ -1,6 +1,6 @@
 //! How far a message has come.
 
-/// How far a message has come.
+/// How far the fragments of a message have come, as they are joined.
 #[derive(Clone, Copy, Debug, PartialEq, Eq)]
 pub enum Stage {
     /// No message is unfinished: the next fragment is the first of a command set.

@@ -1,44 +1,10 @@
 //! Rows that are read of files that end early or are long, by readers that are slow or fail, and with little memory.
-ghost use Rattle.std.specs.Prelude.{◌≤◌, length};
-
 use crate::images::{Element, header, id, image, is_image, put, reason};
 use dicomdir::{Skip, rows_of};
 use element::{Syntax, Tag};
+use fixtures::readers::{FailsWhen, SlowReader};
 use fixtures::refusing::Refusing;
-use std::io;
-use std::io::{ErrorKind, Read};
 use std::test::Fail;
-
-/// Gives its bytes, at most so many a read, and fails at a place, if that comes before their end;
-/// every second read is interrupted, as by a signal.
-#[derive(Drop)]
-struct FailingReader<'a> {
-    bytes: &'a [u8],
-    at: usize,
-    most: usize,
-    fails_at: usize,
-    is_interrupted: bool,
-    ghost within: { at ≤ length bytes.now },
-}
-
-impl Read for FailingReader<'_> {
-    fn read(&mut self, buf: &mut [u8]) -> io::Result<usize> {
-        self.is_interrupted = !self.is_interrupted;
-        if self.is_interrupted {
-            return Err(io::Error::from(ErrorKind::Interrupted));
-        }
-        if self.fails_at <= self.at {
-            return Err(io::Error::from(ErrorKind::Other));
-        }
-        let n = (self.bytes.len() - self.at)
-            .min(buf.len())
-            .min(self.most.max(1))
-            .min(self.fails_at - self.at);
-        buf[..n].copy_from_slice(&self.bytes[self.at..self.at + n]);
-        self.at += n;
-        Ok(n)
-    }
-}
 
 /// Whether the front of this size of a file has no row for the right reason: its header ends at 132 and at `start`.
 fn is_front_of(size: usize, start: usize, found: Option<Skip>) -> bool {
@@ -91,13 +57,7 @@ fn long_data_sets(rt: HostRuntime) -> Result<(), Fail> {
 /// Whether a slow reader that fails at this place gives the image's row or, if the end of the file comes later, 54.
 /// The end of the file is one more read.
 fn fails_at(rt: HostRuntime, file: &[u8], most: usize, fails_at: usize) -> bool {
-    let mut reader = FailingReader {
-        bytes: file,
-        at: 0,
-        most,
-        fails_at,
-        is_interrupted: false,
-    };
+    let mut reader = SlowReader::new(file, most, FailsWhen::AtByte(fails_at));
     let Ok(id) = id() else {
         return false;
     };

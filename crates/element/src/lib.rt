@@ -16,6 +16,7 @@ mod tag;
 mod title;
 pub mod trace;
 pub mod traced;
+pub mod traced_stream;
 mod uid;
 mod values;
 mod vr;

@@ -1,6 +1,6 @@
 //! The size of a header.
 
-/// The size of a header.
+/// How many bytes a header has, as far as the bytes that came of it tell.
 #[derive(Clone, Copy, Debug, PartialEq, Eq)]
 pub enum Need {
     /// The bytes are too few to tell.

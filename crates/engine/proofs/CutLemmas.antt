@@ -7,9 +7,6 @@ use Rattle.engine.specs.Inputs.{Received, Bytes, Close, Expiry, UserAbort}
 use Rattle.engine.specs.Timeline.{Entry, At, Shut, TimedOut, Aborted, entries}
 use Rattle.engine.specs.Laws.{put_together, CutsDoNotShow}
 
-marked : List ℕ → List ℕ → List Entry
-marked came piece = map At (new_marks came piece)
-
 nothing_marked : (came : List ℕ) → map At (new_marks came []) ≡ []
 nothing_marked came = ap (λ (ms : List Mark). map At ms) (new_nothing came)
 

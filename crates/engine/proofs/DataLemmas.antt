@@ -4,7 +4,7 @@ use Rattle.std.proofs.lemmas.List.{append-nil}
 use Rattle.acceptor.specs.declared.state.State.TheVariants.{Sta6}
 use Rattle.element.specs.declared.syntax.Syntax.{Syntax}
 use Rattle.pdu.specs.Sent.{Line}
-use Rattle.pdu.specs.Items.{request_record}
+use Rattle.engine.specs.Requested.{Requested, request_record}
 use Rattle.negotiate.specs.Settings.{Settings}
 use Rattle.negotiate.specs.declared.proposals.Context.{Context}
 use Rattle.negotiate.specs.Contexts.{context_of}
@@ -56,19 +56,19 @@ told_files (Some shelf) bytes = refl
 
 -- which commands are none of a store that is walked
 
-pub unread_store : (request : List ℕ) (id : ℕ) (command : List ℕ) (f : DimseFault) → command_in command ≡ Err f → InStore request (InSet id command []) → ⊥
+pub unread_store : (request : Requested) (id : ℕ) (command : List ℕ) (f : DimseFault) → command_in command ≡ Err f → InStore request (InSet id command []) → ⊥
 unread_store request id command f e s =
     let same : command ≡ s.command = let x : InSet id command [] ≡ InSet s.id s.command s.set = s.begun in cc in
     let wrong : ◌≡◌ {A = Result CommandRecord DimseFault} (Ok s.asked) (Err f) = sym s.spelled ∙ ap command_in (sym same) ∙ e in
     cc
 
-pub unaccepted_store : (request : List ℕ) (id : ℕ) (command : List ℕ) → context_of (request_record request) id ≡ None → InStore request (InSet id command []) → ⊥
+pub unaccepted_store : (request : Requested) (id : ℕ) (command : List ℕ) → context_of (request_record request) id ≡ None → InStore request (InSet id command []) → ⊥
 unaccepted_store request id command e s =
     let same : id ≡ s.id = let x : InSet id command [] ≡ InSet s.id s.command s.set = s.begun in cc in
     let wrong : Some s.context ≡ None = sym s.accepted ∙ ap (context_of (request_record request)) (sym same) ∙ e in
     cc
 
-pub other_store : (request : List ℕ) (id : ℕ) (command : List ℕ) (c : CommandRecord) (context : Context) → command_in command ≡ Ok c → context_of (request_record request) id ≡ Some context → (IsOfContext context c → ⊥)
+pub other_store : (request : Requested) (id : ℕ) (command : List ℕ) (c : CommandRecord) (context : Context) → command_in command ≡ Ok c → context_of (request_record request) id ≡ Some context → (IsOfContext context c → ⊥)
     → InStore request (InSet id command []) → ⊥
 other_store request id command c context e accepted none s =
     let begun : InSet id command [] ≡ InSet s.id s.command s.set = s.begun in
@@ -87,12 +87,12 @@ begins_drafts syntax lim bytes (Walking walker true) drafting old new (takes, st
 begins_drafts syntax lim bytes (Walking walker false) drafting old new (takes, step) = record { there = λ e. absurd cc; own = λ e. ap (λ (x : Store). x.has_draft) step }
 
 -- nothing is kept
-pub idle_proceeds : (depth most : ℕ) (request : List ℕ) (m : Begun) (stored : Stored) (store : Store) → stored ≡ Nothing → (InStore request m → ⊥) → Proceeds depth most request m false stored store store
+pub idle_proceeds : (depth most : ℕ) (request : Requested) (m : Begun) (stored : Stored) (store : Store) → stored ≡ Nothing → (InStore request m → ⊥) → Proceeds depth most request m false stored store store
 idle_proceeds depth most request m stored store e none =
     let c = none_carried depth most stored store request m false e none in
     record { failed = false; may = λ x. absurd cc; walks = c.0; draft = c.1; files = refl; count = omega arith }
 
-pub begun_proceeds : (depth most : ℕ) (request : List ℕ) (m : Begun) (s : InStore request m) (bytes : List ℕ) (stored : Stored) (old new : Store) → s.set ≡ [] → bytes ≡ head (meta_by request s.context s.asked)
+pub begun_proceeds : (depth most : ℕ) (request : Requested) (m : Begun) (s : InStore request m) (bytes : List ℕ) (stored : Stored) (old new : Store) → s.set ≡ [] → bytes ≡ head (meta_by request s.context s.asked)
     → BeginsStore s.context.syntax (limits depth most) bytes stored old new → Proceeds depth most request m false stored old new
 begun_proceeds depth most request m s bytes Nothing old new none is h = absurd h
 begun_proceeds depth most request m s bytes (Walking walker true) old new none is (takes, step) =

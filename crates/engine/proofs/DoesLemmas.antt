@@ -157,8 +157,3 @@ module _ (rooms : Rooms) (s : Settings) where
   pub does_more : (p : Progress) (x : Entry) (ys : List Entry) (k n : Kept) (b f body begun : List ℕ) (d e g : Devices) → (h : Does rooms s p x k b f d e)
       → DoesAll rooms s (gives rooms s p (x, h.outcome)).next ys n body begun e g → DoesAll rooms s p (x ∷ ys) n body begun d g
   does_more p x ys k n b f body begun d e g h j = does_then p (x ∷ []) ys k n b f body begun d e g (does_one p x k b f d e h) j
-
-  -- a part of a fragment, and the entries from there
-  pub does_after : (p : Progress) (ys : List Entry) (k n : Kept) (b f body begun : List ℕ) (d e g : Devices) → (a : Appends rooms s p k b f d e)
-      → DoesAll rooms s (absorb a.failed p) ys n body begun e g → DoesAll rooms s p ys n body begun d g
-  does_after p ys k n b f body begun d e g a j = does_then p [] ys k n b f body begun d e g (does_appended p k b f d e a) j

@@ -6,7 +6,7 @@ use Rattle.acceptor.specs.declared.state.State.TheVariants.{Sta6}
 use Rattle.sequence.specs.declared.walker.Walker.{Walker}
 use Rattle.pdu.specs.declared.wire.WireFailed.{WireFailed}
 use Rattle.pdu.specs.Sent.{Line, Sends}
-use Rattle.pdu.specs.Items.{request_record}
+use Rattle.engine.specs.Requested.{Requested, request_record}
 use Rattle.pdu.specs.Record.{RequestRecord}
 use Rattle.negotiate.specs.Settings.{Settings}
 use Rattle.negotiate.specs.declared.proposals.Context.{Context}
@@ -162,14 +162,14 @@ told_kept None = refl
 told_kept (Some shelf) = refl
 
 -- the store is judged, and this came of its draft
-pub record StoreEnds (depth most : ℕ) (request : List ℕ) (m : Message) (come : Begun) (c : CommandRecord) (before : Bool) (f : Finding) (old new : Store) : Type 0 where
+pub record StoreEnds (depth most : ℕ) (request : Requested) (m : Message) (come : Begun) (c : CommandRecord) (before : Bool) (f : Finding) (old new : Store) : Type 0 where
   pub failed_then : Bool
   pub may : failed_then ≡ true → (before ≡ false) × InStore request come
   pub verdict : (context : Context) → context_of (request_record request) m.context ≡ Some context → Verdict depth most context c m.set (failed_then || before) f
   pub files : files_in new ≡ with_files (file_put (request_record request) m.context c m.set f) (files_in old)
   pub count : new.failures ≡ old.failures + counted failed_then
 
-module _ (depth most : ℕ) (request : List ℕ) (m : Message) (come : Begun) (c : CommandRecord) (before : Bool) (f : Finding) (old new : Store) where
+module _ (depth most : ℕ) (request : Requested) (m : Message) (come : Begun) (c : CommandRecord) (before : Bool) (f : Finding) (old new : Store) where
   kept_files : (f.status ≡ success → ⊥) → files_in new ≡ files_in old → files_in new ≡ with_files (file_put (request_record request) m.context c m.set f) (files_in old)
   kept_files h e = e ∙ filed_nothing (files_in old) ∙ ap (λ (fs : List (List ℕ)). with_files fs (files_in old)) (sym (not_put (request_record request) m.context c m.set f h))
 
@@ -262,7 +262,7 @@ store_ended rooms s p m come c f old new r lo ln id maximum e field i x ends sen
       count = ends.count;
     }
 
-pub judged_store : (depth most : ℕ) (request : List ℕ) (m : Message) (come : Begun) (c : CommandRecord) (before : Bool) (f : Finding) (old new : Store) (stored : Stored) → Walks depth most request come stored
+pub judged_store : (depth most : ℕ) (request : Requested) (m : Message) (come : Begun) (c : CommandRecord) (before : Bool) (f : Finding) (old new : Store) (stored : Stored) → Walks depth most request come stored
     → IsDraft request come before old (drafting_in stored) → HasCome m come → command_in m.command ≡ Ok c → (c.field ≡ 0x0001) × (c.with_data ≡ true)
     → (stored ≡ Nothing → (f ≡ record { status = class_not_supported; detail = None }) × (new ≡ old))
     → ((W E : ℕ) (walker : Walker W E) (drafting : Bool) (context : Context) (levels bytes : ℕ) (set : List ℕ) → stored ≡ Walking walker drafting → HasWalked walker context.syntax (limits levels bytes) set

@@ -81,15 +81,6 @@ after_head_settled r c head (position.Fragment left more) later lt six is m all 
 after_head_settled r c head (position.Leftover left) later lt six is m all w at = absurd w
 after_head_settled r c head (position.Skipped kind left) later lt six is m all w at = absurd w
 
--- no byte was taken while a mark is due
-same_rest : (q new : Position) (r : List ℕ) (m : Mark) (due ms : List Mark) (c : List ℕ) (e : Event) → At q r due → due ≡ m ∷ ms → Took new r due c (Some e) → rest_of (r ++ c) ≡ r
-same_rest q new r m due ms c e at is t =
-    let nothing : c ≡ [] = elim (cases_lt 0 (length c)) [
-      | inl lt ↦ absurd (let wrong : m ∷ ms ≡ [] = sym is ∙ t.prompt lt in cc)
-      | inr ge ↦ no_items c (omega arith)
-    ] in
-    ap (λ (x : List ℕ). rest_of (r ++ x)) nothing ∙ ap rest_of (append-nil r) ∙ rest_alone r (at_rest q r due at)
-
 fragment_room : (r b : List ℕ) → IsRest r → spot r ≡ InPdv b → 6 ≤ length b → pdv_size b ≤ room_left r + length b
 fragment_room r b rest is six = go (unfinished_pdv r b rest is) where
   go : parts.IsUnfinishedPdv (room_left r + length b) b → pdv_size b ≤ room_left r + length b

@@ -14,6 +14,7 @@ use Rattle.element.specs.declared.syntax.Syntax.{Syntax}
 use Rattle.sequence.specs.Rules.{Limits}
 use Rattle.sequence.specs.Walk.{Told, Tells, going, refused}
 use Rattle.sequence.specs.Taken.{walker_syntax, limits_of, told_by}
+use Rattle.engine.specs.Requested.{Requested}
 use Rattle.engine.specs.Stores.{limits}
 use Rattle.engine.specs.Run.{Rooms}
 use Rattle.engine.specs.Reached.{Reached, takes_pdvs, begun_in, begun_pdv, message_so_far}
@@ -114,7 +115,7 @@ held_told : {syntax : Syntax} {lim : Limits} {set : List ℕ} {told : Told} → 
 held_told (going whole front) = unbroken whole front
 held_told (refused fault front) = faulty fault front
 
-held_walked : {depth most : ℕ} {request : List ℕ} {m : Begun} {stored : Stored} → (rooms : Rooms) (s : Settings) → rooms.depth ≡ depth → s.max_data ≡ most
+held_walked : {depth most : ℕ} {request : Requested} {m : Begun} {stored : Stored} → (rooms : Rooms) (s : Settings) → rooms.depth ≡ depth → s.max_data ≡ most
     → Walks depth most request m stored → IsHeldOfMessage rooms s request m (held_in stored)
 held_walked rooms s d l (not_walked none) = holding.not_walked none
 held_walked rooms s d l (walked {walker = w} store takes) =

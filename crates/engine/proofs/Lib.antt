@@ -42,3 +42,7 @@ pub mod OutputLemmas
 pub mod Public
 pub mod AcceptedLemmas
 pub mod OneHeld
+pub mod HeadedLemmas
+pub mod RoomLemmas
+pub mod BoundLemmas
+pub mod PortionLemmas

@@ -10,7 +10,7 @@ use Rattle.pdu.specs.declared.head.PdvHead.{PdvHead}
 use Rattle.pdu.specs.Heads.{pdv_head_of, is_command, is_last}
 use Rattle.pdu.specs.Marks as mark
 use Rattle.pdu.specs.Marks.{Pdv}
-use Rattle.pdu.specs.Items.{request_record}
+use Rattle.engine.specs.Requested.{Requested, request_record}
 use Rattle.negotiate.specs.Settings.{Settings}
 use Rattle.negotiate.specs.declared.proposals.Context.{Context}
 use Rattle.negotiate.specs.Contexts.{context_of}
@@ -148,7 +148,7 @@ join_between k store p body h =
     let shows : ShowsMessage k.room k.join p.message [] = subst (λ (xs : List ℕ). ShowsMessage k.room k.join p.message xs) (if_nothing (takes_pdvs p)) h.join_is in
     ap (λ (j : Joining). j.message) shows.shows
 
-pub context_shown : (k : Kept) (store : Store) (p : Progress) (body begun : List ℕ) (id : ℕ) → Pends k store p body begun → takes_pdvs p ≡ true → context_in k.table id ≡ context_of (request_record p.request) id
+pub context_shown : (k : Kept) (store : Store) (p : Progress) (body begun : List ℕ) (id : ℕ) → Pends k store p body begun → takes_pdvs p ≡ true → context_in k.further k.table id ≡ context_of (request_record p.request) id
 context_shown k store p body begun id h t = (h.agreed (taken_state p t)).contexts id
 
 -- ---- a whole PDV
@@ -221,7 +221,7 @@ pub record IsDataDue (room : ℕ) (before : Begun) (h : PdvHead) (bytes : List �
   pub later_is : later ≡ InSet h.context command []
   pub came : with_fragment h.context bytes before ≡ InCommand h.context command
   pub announced : (c : CommandRecord) → command_in command ≡ Ok c → c.with_data ≡ true
-  pub none_before : (request : List ℕ) → InStore request before → ⊥
+  pub none_before : (request : Requested) → InStore request before → ⊥
 
 same_context : (a first : ℕ) (t : Bool) (o : Option DimseFault) → nat_eq a first ≡ t → (if t then o else Some OtherContext) ≡ None → first ≡ a
 same_context a first true o e h = sym (grind (arith, nat_tests))

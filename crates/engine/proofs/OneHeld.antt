@@ -7,7 +7,7 @@ use Rattle.sequence.specs.Rules.{Limits}
 use Rattle.sequence.specs.Wanted.{held_of}
 use Rattle.sequence.specs.FirstFault.{IsUnbroken, FirstFault}
 use Rattle.sequence.proofs.Public.{one_path, one_fault}
-use Rattle.pdu.specs.Items.{request_record}
+use Rattle.engine.specs.Requested.{Requested, request_record}
 use Rattle.negotiate.specs.declared.proposals.Context.{Context}
 use Rattle.negotiate.specs.Contexts.{context_of}
 use Rattle.negotiate.specs.Settings.{Settings}
@@ -17,7 +17,7 @@ use Rattle.engine.specs.Run.{Rooms}
 use Rattle.engine.specs.Fair.{InStore}
 use Rattle.engine.specs.Held.{IsHeldOfSet, unbroken, faulty, IsHeldOfMessage, walked, not_walked}
 use Rattle.engine.specs.Reached.{message_so_far}
-use Rattle.engine.specs.Laws.{HeldIsOne}
+use Rattle.engine.specs.HeldLaws.{HeldIsOne}
 
 no_fault : {s : Syntax} {lim : Limits} {b p u : List ℕ} {rule : ℕ} {tag : Tag} → IsUnbroken s lim b → FirstFault s lim b p u rule tag → ⊥
 no_fault {p = p} {u = u} {rule = rule} {tag = tag} whole f = whole p u f.rest rule tag f.text f.breaks
@@ -41,7 +41,7 @@ same_some : (x y : Context) → ◌≡◌ {A = Option Context} (Some x) (Some y)
 same_some x y e = cc
 
 -- the message is of one store alone
-of_one_store : (rooms : Rooms) (s : Settings) (request : List ℕ) (come : Begun) (n m : ℕ) (a b : InStore request come)
+of_one_store : (rooms : Rooms) (s : Settings) (request : Requested) (come : Begun) (n m : ℕ) (a b : InStore request come)
     → IsHeldOfSet a.context.syntax (limits rooms.depth s.max_data) a.set n → IsHeldOfSet b.context.syntax (limits rooms.depth s.max_data) b.set m → n ≡ m
 of_one_store rooms s request come n m a b h k =
     let same = in_set a.id b.id a.command b.command a.set b.set (sym a.begun ∙ b.begun) in
@@ -50,7 +50,7 @@ of_one_store rooms s request come n m a b h k =
     (subst (λ (x : Context). IsHeldOfSet x.syntax (limits rooms.depth s.max_data) a.set m) (sym accepted)
     (subst (λ (x : List ℕ). IsHeldOfSet b.context.syntax (limits rooms.depth s.max_data) x m) (sym same.1) k))
 
-of_one_message : (rooms : Rooms) (s : Settings) (request : List ℕ) (come : Begun) (n m : ℕ) → IsHeldOfMessage rooms s request come n → IsHeldOfMessage rooms s request come m → n ≡ m
+of_one_message : (rooms : Rooms) (s : Settings) (request : Requested) (come : Begun) (n m : ℕ) → IsHeldOfMessage rooms s request come n → IsHeldOfMessage rooms s request come m → n ≡ m
 of_one_message rooms s request come n m (walked a h) (walked b k) = of_one_store rooms s request come n m a b h k
 of_one_message rooms s request come n m (walked a h) (not_walked none) = absurd (none a)
 of_one_message rooms s request come n m (not_walked none) (walked b k) = absurd (none b)

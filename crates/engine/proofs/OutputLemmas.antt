@@ -15,6 +15,7 @@ use Rattle.acceptor.specs.Effect.{sending, bytes_sent}
 use Rattle.acceptor.specs.Table.{table}
 use Rattle.pdu.specs.declared.fault.PduFault.{PduFault}
 use Rattle.pdu.specs.Items.{request_record}
+use Rattle.engine.specs.Requested as requested
 use Rattle.pdu.specs.Record.{RequestRecord}
 use Rattle.pdu.specs.Refusal.{request_fault}
 use Rattle.pdu.specs.Texts.{reject_text, release_text, abort_text}
@@ -158,7 +159,7 @@ few_marks before (b ∷ piece) =
 
 -- ---- what one entry sends
 
-abbrev Few : ℕ → Advance → Type 0
+abbrev pub Few : ℕ → Advance → Type 0
 Few n g = length g.sent ≤ n
 
 pick : (t : Bool) (a b : Advance) (n : ℕ) → Few n a → Few n b → Few n (if t then a else b)
@@ -227,13 +228,13 @@ released_few p =
 end_few : (s : Settings) (p : Progress) (kind : ℕ) (body : List ℕ) → Few (30 + elim (request_fault body) [ None ↦ length (accept_text s (request_record body)) | Some f ↦ 0 ]) (at_end s p kind body)
 end_few s p kind body =
     pick (nat_eq kind 7) _ _ _ (omega (arith, done_few [] 0 p event.Abort))
-    (pick (nat_eq kind 1 && is_due p.state) _ _ _ (request_few s p (keeping body p) (request_record body) (judged s (request_record body)) (request_fault body))
+    (pick (nat_eq kind 1 && is_due p.state) _ _ _ (request_few s p (keeping s body p) (request_record body) (judged s (request_record body)) (request_fault body))
     (pick (nat_eq kind 5 && is_established p.state) _ _ _ (omega (arith, released_few p)) (omega arith)))
 
 module _ (rooms : Rooms) (s : Settings) where
   mark_few : (q : Progress) (finding : Finding) (mark : Mark) → Few (30 + answer_length s q finding (At mark)) (at_mark rooms s q finding mark)
   mark_few q finding (Head kind n) = head_few q 0 (head_event (rooms.request - 12) s.max_pdu q.state kind n)
-  mark_few q finding (PdvHead n context control) = pick (is_established q.state) _ _ _ (pdv_head_few q (refusal rooms.command q.message n context control) (context_of (request_record q.request) context)) (omega arith)
+  mark_few q finding (PdvHead n context control) = pick (is_established q.state) _ _ _ (pdv_head_few q (refusal rooms.command q.message n context control) (context_of (requested.request_record q.request) context)) (omega arith)
   mark_few q finding (Pdv context control fragment) = pick (is_established q.state) _ _ _ (pdv_few q finding (brought q.message (record { context = context; control = control; fragment = fragment }))) (omega arith)
   mark_few q finding BadPdv = pick (is_established q.state) _ _ _ (omega (arith, done_few [] invalid_parameter q event.Invalid)) (omega arith)
   mark_few q finding Leftover = pick (is_established q.state) _ _ _ (omega (arith, done_few [] invalid_parameter q event.Invalid)) (omega arith)
@@ -260,11 +261,11 @@ few_bytes_but_answers rooms s p finding e = entry_few rooms s p finding e
 
 -- ---- what a piece has an association send
 
-cut_few : (wire : Option ℕ) (p : Progress) (g : Advance) (n : ℕ) → Few n g → Few n (cut wire p g)
+pub cut_few : (wire : Option ℕ) (p : Progress) (g : Advance) (n : ℕ) → Few n g → Few n (cut wire p g)
 cut_few None p g n few = few
 cut_few (Some k) p g n few = omega (arith, few, length-take k g.sent)
 
-sent_few : (rooms : Rooms) (s : Settings) (most : ℕ) (p : Progress) (story : List Happened) → AnswersHave rooms s most p story → length (sent_of rooms s p story) ≤ length story * (30 + most)
+pub sent_few : (rooms : Rooms) (s : Settings) (most : ℕ) (p : Progress) (story : List Happened) → AnswersHave rooms s most p story → length (sent_of rooms s p story) ≤ length story * (30 + most)
 sent_few rooms s most p [] e = omega arith
 sent_few rooms s most p (h ∷ story) e =
     let g = at_entry rooms s (absorb h.1.filing p) h.1.finding h.0 in
@@ -289,7 +290,7 @@ requested_short s body (Some f) e bytes = omega arith
 replied_short : (p : Progress) (finding : Finding) (m : Message) (read : Result CommandRecord DimseFault) → command_in m.command ≡ read → length (replied p finding m read).sent ≤ 4108
 replied_short p finding m (Err fault) e = omega arith
 replied_short p finding m (Ok command) e =
-    let r = request_record p.request in
+    let r = requested.request_record p.request in
     let f = finding_on (context_of r m.context) command finding in
     omega (arith, reply_bounded m.command command f.status f.detail m.context r.maximum e)
 

@@ -6,6 +6,7 @@ use Rattle.acceptor.specs.declared.state.State.TheVariants.{Sta1, Sta2, Sta3, St
 use Rattle.acceptor.specs.declared.event.Event.{Event}
 use Rattle.acceptor.specs.declared.event.Event.TheVariants.{Connected, Request, Ac, Rj, Data, ReleaseRq, ReleaseRp, Abort, Invalid, Closed, Expired, UserAccepts, UserRefuses, UserReleases, UserAborts}
 use Rattle.acceptor.specs.Table.{table}
+use Rattle.engine.specs.Requested.{no_request}
 use Rattle.engine.specs.Held.{is_ended}
 use Rattle.pdu.specs.declared.wire.WireFailed.{WireFailed}
 use Rattle.pdu.specs.Sent.{Line, Sends}
@@ -26,8 +27,8 @@ use Rattle.engine.proofs.StoreLemmas.{Carried, so_far, no_store, none_carried}
 
 -- ---- the association is left
 
-left_carried : (k : Kept) (store : Store) → IsLeft k → Carried k.depth k.most k.storing store [] NoMessage false
-left_carried k store h = none_carried k.depth k.most k.storing store [] NoMessage false h.storing (no_store [] NoMessage refl)
+left_carried : (k : Kept) (store : Store) → IsLeft k → Carried k.depth k.most k.storing store no_request NoMessage false
+left_carried k store h = none_carried k.depth k.most k.storing store no_request NoMessage false h.storing (no_store no_request NoMessage refl)
 
 pub pends_left : (st : State) (p : Progress) (k : Kept) (store : Store) (body begun : List ℕ) → is_left st ≡ true → k.state ≡ st → k.refused ≡ p.refused → IsLeft k → Pends k store (left st p) body begun
 pends_left Sta1 p k store body begun l e r h = let c = left_carried k store h in record { state_is = e; refused_is = λ n. absurd cc; body_is = h.body; join_is = h.join; agreed = λ six. absurd cc; none_left = λ e. refl; unagreed = λ _. h.unagreed; walks = c.0; draft = c.1; failed_in = λ n e. absurd cc }
@@ -97,7 +98,7 @@ pub settled_left : (p : Progress) (st : State) (old new : Kept) (so sn : Store) 
     → (is_ended st ≡ false → is_ended p.state ≡ false) → ComesTo st (Ok tt) old new so sn → Pends new sn (left st p) body begun
 settled_left p st old new so sn body begun h l n s =
     let gone = s.left (ap is_left s.state_is ∙ l) in
-    let c = none_carried new.depth new.most new.storing sn [] (so_far (left st p) begun) false gone.storing (no_store [] (so_far (left st p) begun) (quiet_left st p begun l)) in
+    let c = none_carried new.depth new.most new.storing sn no_request (so_far (left st p) begun) false gone.storing (no_store no_request (so_far (left st p) begun) (quiet_left st p begun l)) in
     record { state_is = s.state_is; refused_is = λ m. s.refused ∙ h.refused_is (n m); body_is = counted_left st p new body l gone; join_is = joined_left st p new begun l gone; agreed = λ six. let x : is_left Sta6 ≡ true = subst (λ (x : State). is_left x ≡ true) six l in absurd cc; none_left = λ e. refl; unagreed = λ _. gone.unagreed; walks = c.0; draft = c.1; failed_in = λ n e. absurd cc }
 
 -- or keeps the state
@@ -111,7 +112,7 @@ settled_stays p st old new so sn body begun h l e s =
 -- a connection is open, and nothing has come
 pub opened : (k : Kept) (store : Store) → k.state ≡ Sta2 → k.refused ≡ false → k.body ≡ [] → ShowsMessage k.room k.join NoMessage [] → k.storing ≡ Nothing → IsUnagreed k.caller k.peer_max k.table → Pends k store at_start [] []
 opened k store state refused body join none unagreed =
-    let c = none_carried k.depth k.most k.storing store [] NoMessage false none (no_store [] NoMessage refl) in
+    let c = none_carried k.depth k.most k.storing store no_request NoMessage false none (no_store no_request NoMessage refl) in
     record { state_is = state; refused_is = λ n. refused; body_is = body; join_is = join; agreed = λ six. absurd cc; none_left = λ e. refl; unagreed = λ _. unagreed; walks = c.0; draft = c.1; failed_in = λ n e. absurd cc }
 
 -- ---- one event

@@ -1,8 +1,9 @@
 -- What the crates above cite of this crate's lemmas: the laws of `engine::laws`, which are their contracts, in the words of
 -- the definitions alone.
 use Rattle.engine.specs.TurnLaws.{TurnsBegin, OneTurnMore, TurnsAreARun, EndedHasNoDraft}
-use Rattle.engine.specs.OutputLaws.{FewMarks, BoundedOutput, FewBytesButAnswers, AnswersAreShort, StoriesAnswerShortly, OutputOfAPiece}
+use Rattle.engine.specs.OutputLaws.{FewMarks, BoundedOutput, FewBytesButAnswers, AnswersAreShort, StoriesAnswerShortly, OutputOfAPiece, EntriesOfMore, SilentSendsNothing, AbortsShortly}
 use Rattle.engine.proofs.OutputLemmas as output
+use Rattle.engine.proofs.PortionLemmas as portions
 use Rattle.engine.proofs.RanLemmas as ran
 
 pub turns_begin : TurnsBegin
@@ -34,3 +35,12 @@ stories_answer_shortly = output.stories_answer_shortly
 
 pub output_of_a_piece : OutputOfAPiece
 output_of_a_piece = output.output_of_a_piece
+
+pub entries_of_more : EntriesOfMore
+entries_of_more = portions.entries_of_more
+
+pub silent_sends_nothing : SilentSendsNothing
+silent_sends_nothing = portions.silent_sends_nothing
+
+pub aborts_shortly : AbortsShortly
+aborts_shortly = portions.aborts_shortly

@@ -22,6 +22,8 @@ use Rattle.negotiate.specs.Settings.{Settings}
 use Rattle.negotiate.specs.Answer.{judged}
 use Rattle.negotiate.specs.Accept.{accept_text, answer_bytes, text_by}
 use Rattle.dimse.specs.Messages.{NoMessage}
+use Rattle.engine.specs.Requested as requested
+use Rattle.engine.specs.Requested.{Requested}
 use Rattle.engine.specs.Progress.{Progress, Advance, at_start, left, done, is_due, is_established}
 use Rattle.engine.specs.Held.{is_ended}
 use Rattle.engine.specs.Requests.{keeping, accepting, declined, answered, at_request}
@@ -38,10 +40,10 @@ use Rattle.engine.proofs.DueLemmas.{none_counted_pdv, if_nothing}
 -- what a request comes to, by its fault and its answer
 abbrev by_fault : Settings → List ℕ → Progress → Option PduFault → Answer → Advance
 by_fault s body p (Some fault) a = done [] 6 p event.Invalid
-by_fault s body p None a = answered s (request_record body) (keeping body p) a
+by_fault s body p None a = answered s (request_record body) (keeping s body p) a
 
 elim_is : (s : Settings) (p : Progress) (body : List ℕ) (o : Option PduFault) →
-    ◌≡◌ {A = Advance} (elim o [ Some fault ↦ done [] 6 p event.Invalid | None ↦ answered s (request_record body) (keeping body p) (judged s (request_record body)) ])
+    ◌≡◌ {A = Advance} (elim o [ Some fault ↦ done [] 6 p event.Invalid | None ↦ answered s (request_record body) (keeping s body p) (judged s (request_record body)) ])
     (by_fault s body p o (judged s (request_record body)))
 elim_is s p body None = refl
 elim_is s p body (Some f) = refl
@@ -50,18 +52,15 @@ request_is : (s : Settings) (p : Progress) (body : List ℕ) → at_request s p 
 request_is s p body = elim_is s p body (request_fault body)
 
 module _ (s : Settings) (body : List ℕ) (none : request_fault body ≡ None) where
-  good_request : (p : Progress) → at_request s p body ≡ answered s (request_record body) (keeping body p) (judged s (request_record body))
+  good_request : (p : Progress) → at_request s p body ≡ answered s (request_record body) (keeping s body p) (judged s (request_record body))
   good_request p = request_is s p body ∙ ap (λ (o : Option PduFault). by_fault s body p o (judged s (request_record body))) none
 
-  pub accepted_request : (p : Progress) → judged s (request_record body) ≡ Accept → at_request s p body ≡ accepting (keeping body p) (accept_text s (request_record body))
-  accepted_request p e = good_request p ∙ ap (λ (a : Answer). answered s (request_record body) (keeping body p) a) e
+  pub accepted_request : (p : Progress) → judged s (request_record body) ≡ Accept → at_request s p body ≡ accepting (keeping s body p) (accept_text s (request_record body))
+  accepted_request p e = good_request p ∙ ap (λ (a : Answer). answered s (request_record body) (keeping s body p) a) e
 
   pub rejected_request : (p : Progress) (x b c : ℕ) → judged s (request_record body) ≡ Reject x b c
-      → at_request s p body ≡ (if nat_eq b 2 then done (reject_text x b c) 0 (keeping body p) (event.Request false) else declined (keeping body p) (reject_text x b c))
-  rejected_request p x b c e = good_request p ∙ ap (λ (a : Answer). answered s (request_record body) (keeping body p) a) e
-
-pub bad_request : (s : Settings) (body : List ℕ) (p : Progress) (f : PduFault) → request_fault body ≡ Some f → at_request s p body ≡ done [] 6 p event.Invalid
-bad_request s body p f e = request_is s p body ∙ ap (λ (o : Option PduFault). by_fault s body p o (judged s (request_record body))) e
+      → at_request s p body ≡ (if nat_eq b 2 then done (reject_text x b c) 0 (keeping s body p) (event.Request false) else declined (keeping s body p) (reject_text x b c))
+  rejected_request p x b c e = good_request p ∙ ap (λ (a : Answer). answered s (request_record body) (keeping s body p) a) e
 
 -- ---- the code's steps from Sta2
 
@@ -90,40 +89,38 @@ module _ (s : Settings) (body : List ℕ) (st : State) (due : st ≡ Sta2) (none
   if_sent false text q e = ap (λ (y : State). step_text (table y (event.Request true)).1 event.UserRefuses 0 text) due ∙ sym (ap (λ (y : State). (declined (record q { state = y }) text).sent) e)
 
   pub rejection_state : (x b c : ℕ) → judged s (request_record body) ≡ Reject x b c → rejected_state st b ≡ (at_request s at_start body).next.state
-  rejection_state x b c e = if_state (nat_eq b 2) (reject_text x b c) (keeping body at_start) refl ∙ ap (λ (g : Advance). g.next.state) (sym (rejected_request s body none at_start x b c e))
+  rejection_state x b c e = if_state (nat_eq b 2) (reject_text x b c) (keeping s body at_start) refl ∙ ap (λ (g : Advance). g.next.state) (sym (rejected_request s body none at_start x b c e))
 
   pub rejection_sent : (x b c : ℕ) (q : RequestRecord) → q ≡ request_record body → judged s (request_record body) ≡ Reject x b c → rejected_text st b (answer_bytes s q) ≡ (at_request s at_start body).sent
   rejection_sent x b c q f e =
       ap (λ (r : RequestRecord). rejected_text st b (answer_bytes s r)) f ∙ ap (λ (a : Answer). rejected_text st b (text_by a s (request_record body))) e
-      ∙ if_sent (nat_eq b 2) (reject_text x b c) (keeping body at_start) refl ∙ ap (λ (g : Advance). g.sent) (sym (rejected_request s body none at_start x b c e))
-
-pub bad_state : (s : Settings) (body : List ℕ) (st n : State) (f : PduFault) → st ≡ Sta2 → n ≡ (table st event.Invalid).1 → request_fault body ≡ Some f → n ≡ (at_request s at_start body).next.state
-bad_state s body st n f due e h = e ∙ ap (λ (y : State). (table y event.Invalid).1) due ∙ ap (λ (g : Advance). g.next.state) (sym (bad_request s body at_start f h))
-
-pub bad_sent : (s : Settings) (body : List ℕ) (st : State) (f : PduFault) → st ≡ Sta2 → request_fault body ≡ Some f → step_text st event.Invalid 6 [] ≡ (at_request s at_start body).sent
-bad_sent s body st f due h = ap (λ (y : State). step_text y event.Invalid 6 []) due ∙ ap (λ (g : Advance). g.sent) (sym (bad_request s body at_start f h))
+      ∙ if_sent (nat_eq b 2) (reject_text x b c) (keeping s body at_start) refl ∙ ap (λ (g : Advance). g.sent) (sym (rejected_request s body none at_start x b c e))
 
 -- ---- in any progress that awaits a request
 
+-- a request to a receiver that takes these further storage classes
+abbrev pub asked : List (List ℕ) → List ℕ → Requested
+asked further body = record { further = further; body = body }
+
 -- the association is left, or established with this request
-abbrev pub LeavesOrStands : List ℕ → Progress → Advance → Advance → Type 0
-LeavesOrStands body p g first =
-    (g.sent ≡ first.sent) × (g.files ≡ []) × (((first.next.state ≡ Sta13) × (g.next ≡ left Sta13 p)) ⊎ ((first.next.state ≡ Sta6) × (g.next ≡ record p { state = Sta6; request = body })))
+abbrev pub LeavesOrStands : List (List ℕ) → List ℕ → Progress → Advance → Advance → Type 0
+LeavesOrStands further body p g first =
+    (g.sent ≡ first.sent) × (g.files ≡ []) × (((first.next.state ≡ Sta13) × (g.next ≡ left Sta13 p)) ⊎ ((first.next.state ≡ Sta6) × (g.next ≡ record p { state = Sta6; request = asked further body })))
 
-rejects : (body : List ℕ) (p : Progress) (t : Bool) (text : List ℕ) → p.state ≡ Sta2
-    → LeavesOrStands body p (if t then done text 0 (keeping body p) (event.Request false) else declined (keeping body p) text) (if t then done text 0 (keeping body at_start) (event.Request false) else declined (keeping body at_start) text)
-rejects body p true text e = subst (λ (y : State). LeavesOrStands body (record p { state = y }) (done text 0 (keeping body (record p { state = y })) (event.Request false)) (done text 0 (keeping body at_start) (event.Request false))) (sym e) (refl, refl, inl (refl, refl))
-rejects body p false text e = subst (λ (y : State). LeavesOrStands body (record p { state = y }) (declined (keeping body (record p { state = y })) text) (declined (keeping body at_start) text)) (sym e) (refl, refl, inl (refl, refl))
+rejects : (s : Settings) (body : List ℕ) (p : Progress) (t : Bool) (text : List ℕ) → p.state ≡ Sta2
+    → LeavesOrStands s.further body p (if t then done text 0 (keeping s body p) (event.Request false) else declined (keeping s body p) text) (if t then done text 0 (keeping s body at_start) (event.Request false) else declined (keeping s body at_start) text)
+rejects s body p true text e = subst (λ (y : State). LeavesOrStands s.further body (record p { state = y }) (done text 0 (keeping s body (record p { state = y })) (event.Request false)) (done text 0 (keeping s body at_start) (event.Request false))) (sym e) (refl, refl, inl (refl, refl))
+rejects s body p false text e = subst (λ (y : State). LeavesOrStands s.further body (record p { state = y }) (declined (keeping s body (record p { state = y })) text) (declined (keeping s body at_start) text)) (sym e) (refl, refl, inl (refl, refl))
 
-comes_to : (s : Settings) (body : List ℕ) (p : Progress) (o : Option PduFault) (a : Answer) → p.state ≡ Sta2 → LeavesOrStands body p (by_fault s body p o a) (by_fault s body at_start o a)
-comes_to s body p (Some f) a e = subst (λ (y : State). LeavesOrStands body (record p { state = y }) (by_fault s body (record p { state = y }) (Some f) a) (by_fault s body at_start (Some f) a)) (sym e) (refl, refl, inl (refl, refl))
-comes_to s body p None Accept e = subst (λ (y : State). LeavesOrStands body (record p { state = y }) (by_fault s body (record p { state = y }) None Accept) (by_fault s body at_start None Accept)) (sym e) (refl, refl, inr (refl, refl))
-comes_to s body p None (Reject x b c) e = rejects body p (nat_eq b 2) (reject_text x b c) e
+comes_to : (s : Settings) (body : List ℕ) (p : Progress) (o : Option PduFault) (a : Answer) → p.state ≡ Sta2 → LeavesOrStands s.further body p (by_fault s body p o a) (by_fault s body at_start o a)
+comes_to s body p (Some f) a e = subst (λ (y : State). LeavesOrStands s.further body (record p { state = y }) (by_fault s body (record p { state = y }) (Some f) a) (by_fault s body at_start (Some f) a)) (sym e) (refl, refl, inl (refl, refl))
+comes_to s body p None Accept e = subst (λ (y : State). LeavesOrStands s.further body (record p { state = y }) (by_fault s body (record p { state = y }) None Accept) (by_fault s body at_start None Accept)) (sym e) (refl, refl, inr (refl, refl))
+comes_to s body p None (Reject x b c) e = rejects s body p (nat_eq b 2) (reject_text x b c) e
 
-pub request_comes : (s : Settings) (body : List ℕ) (p : Progress) → p.state ≡ Sta2 → LeavesOrStands body p (at_request s p body) (at_request s at_start body)
+pub request_comes : (s : Settings) (body : List ℕ) (p : Progress) → p.state ≡ Sta2 → LeavesOrStands s.further body p (at_request s p body) (at_request s at_start body)
 request_comes s body p e =
-    subst (λ (g : Advance). LeavesOrStands body p g (at_request s at_start body)) (sym (request_is s p body))
-    (subst (λ (g : Advance). LeavesOrStands body p (by_fault s body p (request_fault body) (judged s (request_record body))) g) (sym (request_is s at_start body))
+    subst (λ (g : Advance). LeavesOrStands s.further body p g (at_request s at_start body)) (sym (request_is s p body))
+    (subst (λ (g : Advance). LeavesOrStands s.further body p (by_fault s body p (request_fault body) (judged s (request_record body))) g) (sym (request_is s at_start body))
     (comes_to s body p (request_fault body) (judged s (request_record body)) e))
 
 -- the request is given up, and these are kept of it
@@ -141,15 +138,15 @@ pends_due p old store body h due r =
 quiet_between : (p : Progress) → p.message ≡ NoMessage → so_far p [] ≡ NoMessage
 quiet_between p none = ap (λ (xs : List ℕ). with_pdv xs p.message) (none_counted_pdv p) ∙ none
 
-stood : (p : Progress) (body : List ℕ) (old new : Kept) (store : Store) (caller : List ℕ) (maximum : ℕ) (rows : List ContextRow) → Pends old store p body [] → old.state ≡ Sta2
-    → new ≡ record (given_up caller maximum rows old) { state = Sta6 } → (Agreed (record (given_up caller maximum rows old) { state = Sta6 }) (request_record body))
-    → Pends new store (record p { state = Sta6; request = body }) body []
-stood p body old new store caller maximum rows h due is agreed =
-    let q = record p { state = Sta6; request = body } in
+stood : (further : List (List ℕ)) (p : Progress) (body : List ℕ) (old new : Kept) (store : Store) (caller : List ℕ) (maximum : ℕ) (rows : List ContextRow) → Pends old store p body [] → old.state ≡ Sta2
+    → new ≡ record (given_up caller maximum rows old) { state = Sta6 } → (Agreed (record (given_up caller maximum rows old) { state = Sta6 }) (requested.request_record (asked further body)))
+    → Pends new store (record p { state = Sta6; request = asked further body }) body []
+stood further p body old new store caller maximum rows h due is agreed =
+    let q = record p { state = Sta6; request = asked further body } in
     let two : p.state ≡ Sta2 = sym h.state_is ∙ due in
     let none = h.none_left (ap is_established two) in
-    let c = idle_carried old.depth old.most old.storing store store p.request body (so_far p []) (so_far q []) p.filing_failed p.filing_failed
-    (no_store p.request (so_far p []) (quiet_between p none)) (no_store body (so_far q []) (quiet_between q none)) (carried old store p body [] h) in
+    let c = idle_carried old.depth old.most old.storing store store p.request (asked further body) (so_far p []) (so_far q []) p.filing_failed p.filing_failed
+    (no_store p.request (so_far p []) (quiet_between p none)) (no_store (asked further body) (so_far q []) (quiet_between q none)) (carried old store p body [] h) in
     subst (λ (k : Kept). Pends k store q body []) (sym is)
     (record {
       state_is = refl;
@@ -165,9 +162,9 @@ stood p body old new store caller maximum rows h due is agreed =
     })
 
 -- the request that is whole was answered, or the wire failed
-module _ (p : Progress) (g first : Advance) (body : List ℕ) (n : State) (old new : Kept) (caller : List ℕ) (maximum : ℕ) (rows : List ContextRow) (lo ln : Line) (so sn : Store) where
-  pends_answered : Pends old so p body [] → old.state ≡ Sta2 → LeavesOrStands body p g first → n ≡ first.next.state → ComesTo n (Ok tt) (given_up caller maximum rows old) new so sn
-      → (n ≡ Sta6 → Agreed (record (given_up caller maximum rows old) { state = Sta6 }) (request_record body)) → Pends new sn g.next body []
+module _ (further : List (List ℕ)) (p : Progress) (g first : Advance) (body : List ℕ) (n : State) (old new : Kept) (caller : List ℕ) (maximum : ℕ) (rows : List ContextRow) (lo ln : Line) (so sn : Store) where
+  pends_answered : Pends old so p body [] → old.state ≡ Sta2 → LeavesOrStands further body p g first → n ≡ first.next.state → ComesTo n (Ok tt) (given_up caller maximum rows old) new so sn
+      → (n ≡ Sta6 → Agreed (record (given_up caller maximum rows old) { state = Sta6 }) (requested.request_record (asked further body))) → Pends new sn g.next body []
   pends_answered h due (sent, files, inl (st, is)) e settles agreed =
       let gone : is_left new.state ≡ true = ap is_left (settles.state_is ∙ e ∙ st) in
       subst (λ (q : Progress). Pends new sn q body []) (sym is)
@@ -176,10 +173,10 @@ module _ (p : Progress) (g first : Advance) (body : List ℕ) (n : State) (old n
       let six : new.state ≡ Sta6 = settles.state_is ∙ e ∙ st in
       subst (λ (x : Store). Pends new x g.next body []) (sym (settles.store_same (ap is_left six)))
       (subst (λ (q : Progress). Pends new so q body []) (sym is)
-      (stood p body old new so caller maximum rows h due (settles.same (ap is_left six) ∙ ap (λ (y : State). record (given_up caller maximum rows old) { state = y }) six) (agreed (e ∙ st))))
+      (stood further p body old new so caller maximum rows h due (settles.same (ap is_left six) ∙ ap (λ (y : State). record (given_up caller maximum rows old) { state = y }) six) (agreed (e ∙ st))))
 
-  tries_answered : (r : Result (Unit {0}) WireFailed) → Pends old so p body [] → old.state ≡ Sta2 → LeavesOrStands body p g first → n ≡ first.next.state → ComesTo n r (given_up caller maximum rows old) new so sn
-      → (n ≡ Sta6 → Agreed (record (given_up caller maximum rows old) { state = Sta6 }) (request_record body))
+  tries_answered : (r : Result (Unit {0}) WireFailed) → Pends old so p body [] → old.state ≡ Sta2 → LeavesOrStands further body p g first → n ≡ first.next.state → ComesTo n r (given_up caller maximum rows old) new so sn
+      → (n ≡ Sta6 → Agreed (record (given_up caller maximum rows old) { state = Sta6 }) (requested.request_record (asked further body)))
       → Sends first.sent r lo ln → OnErr r (0 < length first.sent) → DoesDue p g new body [] (devices lo so) (devices ln sn)
   tries_answered (Ok u) h due c e settles agreed sends some =
       record { wire = None; fair = tt; pends = pends_answered h due c e settles agreed; line = sends ∙ ap (λ (t : List ℕ). sent_all t lo) (sym c.0); unfiled = settles.unfiled }
@@ -194,14 +191,14 @@ module _ (p : Progress) (g first : Advance) (body : List ℕ) (n : State) (old n
 
 pub request_tries : (s : Settings) (p : Progress) (body : List ℕ) (n : State) (r : Result (Unit {0}) WireFailed) (old new : Kept) (caller : List ℕ) (maximum : ℕ) (rows : List ContextRow) (lo ln : Line) (so sn : Store)
     → Pends old so p body [] → old.state ≡ Sta2 → p.refused ≡ false → n ≡ (at_request s at_start old.body).next.state → ComesTo n r (given_up caller maximum rows old) new so sn
-    → (n ≡ Sta6 → Agreed (record (given_up caller maximum rows old) { state = Sta6 }) (request_record old.body))
+    → (n ≡ Sta6 → Agreed (record (given_up caller maximum rows old) { state = Sta6 }) (requested.request_record (asked s.further old.body)))
     → Sends (at_request s at_start old.body).sent r lo ln → OnErr r (0 < length (at_request s at_start old.body).sent)
     → DoesDue p (at_request s p body) new body [] (devices lo so) (devices ln sn)
 request_tries s p body n r old new caller maximum rows lo ln so sn h due unrefused state settles agreed sends some =
     let same = pends_due p old so body h due unrefused in
-    tries_answered p (at_request s p body) (at_request s at_start body) body n old new caller maximum rows lo ln so sn r h due (request_comes s body p (sym h.state_is ∙ due))
+    tries_answered s.further p (at_request s p body) (at_request s at_start body) body n old new caller maximum rows lo ln so sn r h due (request_comes s body p (sym h.state_is ∙ due))
     (state ∙ ap (λ (b : List ℕ). (at_request s at_start b).next.state) same) settles
-    (λ six. subst (λ (b : List ℕ). Agreed (record (given_up caller maximum rows old) { state = Sta6 }) (request_record b)) same (agreed six))
+    (λ six. subst (λ (b : List ℕ). Agreed (record (given_up caller maximum rows old) { state = Sta6 }) (requested.request_record (asked s.further b))) same (agreed six))
     (subst (λ (b : List ℕ). Sends (at_request s at_start b).sent r lo ln) same sends)
     (subst (λ (b : List ℕ). OnErr r (0 < length (at_request s at_start b).sent)) same some)
 

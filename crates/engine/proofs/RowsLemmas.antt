@@ -1,5 +1,5 @@
 -- A request has more bytes than its contexts' rows.
-use Rattle.std.proofs.Common.{◌≡◌, ℕ, ◌+◌, ◌*◌, ◌≤◌, List, [], ◌∷◌, ◌++◌, length, ap, arith}
+use Rattle.std.proofs.Common.{◌≡◌, ℕ, ◌+◌, ◌*◌, ◌≤◌, List, [], ◌∷◌, ◌++◌, length, ap, arith, map}
 use Rattle.std.proofs.lemmas.List.{length-append}
 use Rattle.std.proofs.lemmas.List.Sums.{length-filter, count_by-le-length}
 use Rattle.std.specs.List.{AllByRecursion}
@@ -9,7 +9,7 @@ use Rattle.pdu.specs.Pieces.{IsWholePiece, joined}
 use Rattle.pdu.specs.Items.{item, is_kind, of_kind}
 use Rattle.pdu.specs.Request.{ContextTexts, RequestText}
 use Rattle.negotiate.specs.ContextRows.{accepted_count}
-use Rattle.negotiate.specs.Contexts.{result_of}
+use Rattle.negotiate.specs.Contexts.{offered, result_of, seen}
 use Rattle.std.proofs.Common.{nat_eq}
 
 -- an item has four bytes at least
@@ -24,8 +24,12 @@ contexts_items [] (i ∷ is) h = absurd h
 contexts_items (p ∷ ps) [] h = absurd h
 contexts_items (p ∷ ps) (i ∷ is) h = omega (arith, contexts_items ps is h.1)
 
-pub few_rows : (r : RequestRecord) (b : List ℕ) → RequestText r b → 68 + 4 * accepted_count r ≤ length b
-few_rows r b h =
+seen_length : (further : List (List ℕ)) (ps : List Proposal) → length (map (seen further) ps) ≡ length ps
+seen_length further [] = omega arith
+seen_length further (p ∷ ps) = omega (arith, seen_length further ps)
+
+pub few_rows : (further : List (List ℕ)) (r : RequestRecord) (b : List ℕ) → RequestText r b → 68 + 4 * accepted_count (offered further r) ≤ length b
+few_rows further r b h =
     let rest = joined h.items in
     let size = ap length h.whole in
     let fixed : length (joined (h.version ∷ h.unused ∷ r.called ∷ r.calling ∷ r.reserved ∷ h.items)) ≡ 68 + length rest =
@@ -42,8 +46,9 @@ few_rows r b h =
       h.calling_size,
       h.reserved_size,
     ) in
-    let few = count_by-le-length (λ (p : Proposal). nat_eq (result_of p) 0) r.contexts in
+    let few = count_by-le-length (λ (p : Proposal). nat_eq (result_of p) 0) (map (seen further) r.contexts) in
+    let proposed = seen_length further r.contexts in
     let same = contexts_items r.contexts (of_kind proposed_context_item h.items) h.contexts in
     let kinds = length-filter (is_kind proposed_context_item) h.items in
     let some = count_by-le-length (is_kind proposed_context_item) h.items in
-    omega (arith, size, fixed, few, same, kinds, some, items_size h.items h.each)
+    omega (arith, size, fixed, few, proposed, same, kinds, some, items_size h.items h.each)

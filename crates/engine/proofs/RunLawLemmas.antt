@@ -1,9 +1,9 @@
 -- Stores in a whole run, and runs without failures.
 use Rattle.std.proofs.Common.{◌≡◌, ◌⊎◌, inl, inr, ℕ, Bool, true, false, not, ◌&&◌, List, [], ◌∷◌, ◌++◌, Option, Some, None, Result, Ok, Err, refl, sym, ap, subst, ◌∙◌, append_assoc, arith, nat_eq, if◌then◌else◌}
 use Rattle.element.specs.Uid.{uid_of}
-use Rattle.pdu.specs.Items.{request_record}
 use Rattle.pdu.specs.Sent.{Line}
 use Rattle.pdu.specs.Frames.{rest_of}
+use Rattle.engine.specs.Requested.{Requested, request_record}
 use Rattle.pdu.specs.Marks.{Head, PdvHead, Pdv, BadPdv, Leftover, End}
 use Rattle.negotiate.specs.declared.proposals.Context.{Context}
 use Rattle.negotiate.specs.Contexts.{context_of}

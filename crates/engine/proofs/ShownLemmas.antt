@@ -6,6 +6,7 @@ use Rattle.acceptor.specs.declared.state.State.TheVariants.{Sta1, Sta2, Sta3, St
 use Rattle.part10.specs.Store.{Store}
 use Rattle.dimse.specs.Messages.{Begun, NoMessage, InSet}
 use Rattle.dimse.specs.Joining.{Joining, ShowsMessage, shown, with_pdv}
+use Rattle.engine.specs.Requested.{Requested}
 use Rattle.engine.specs.Drafts.{IsDraft, none_due}
 use Rattle.engine.specs.Fair.{InStore}
 use Rattle.engine.specs.Held.{is_ended}
@@ -16,17 +17,17 @@ use Rattle.engine.specs.StoredData.{Stored, Nothing, Walks, not_walked, walked, 
 
 -- ---- where no message has begun
 
-no_store : (request : List ℕ) (m : Begun) → m ≡ NoMessage → InStore request m → ⊥
+no_store : (request : Requested) (m : Begun) → m ≡ NoMessage → InStore request m → ⊥
 no_store request m none store = let wrong : NoMessage ≡ InSet store.id store.command store.set = sym none ∙ store.begun in cc
 
-pub none_stored : {depth most : ℕ} {request : List ℕ} {m : Begun} {stored : Stored} → m ≡ NoMessage → Walks depth most request m stored → stored ≡ Nothing
+pub none_stored : {depth most : ℕ} {request : Requested} {m : Begun} {stored : Stored} → m ≡ NoMessage → Walks depth most request m stored → stored ≡ Nothing
 none_stored e (not_walked none) = refl
 none_stored {request = request} {m = m} e (walked store takes) = absurd (no_store request m e store)
 
-pub walks_none : (depth most : ℕ) (request : List ℕ) (m : Begun) → m ≡ NoMessage → Walks depth most request m Nothing
+pub walks_none : (depth most : ℕ) (request : Requested) (m : Begun) → m ≡ NoMessage → Walks depth most request m Nothing
 walks_none depth most request m e = not_walked (no_store request m e)
 
-pub draft_none : (request : List ℕ) (m : Begun) (failed : Bool) (store : Store) → m ≡ NoMessage → IsDraft request m failed store false
+pub draft_none : (request : Requested) (m : Begun) (failed : Bool) (store : Store) → m ≡ NoMessage → IsDraft request m failed store false
 draft_none request m failed store e = none_due (λ file due. no_store request m e due.store)
 
 -- ---- after the end nothing of a PDU counts

@@ -183,14 +183,6 @@ heads_passed k q t =
       | inr b ↦ rw (t, b) (skipped_no_head q)
     ]
 
-pub heads_none : (q : Position) → At q [] [] → in_pdv_head q ≡ false
-heads_none (position.Head bytes) a = refl
-heads_none (position.Body kind left) a = refl
-heads_none (position.PdvHead left bytes) a = absurd (let six = a.inside.headed in omega (arith, six))
-heads_none (position.Fragment left more) a = refl
-heads_none (position.Leftover left) a = refl
-heads_none (position.Skipped kind left) a = refl
-
 -- ---- room
 
 room_skipped : (room : ℕ) (k : Kept) (q : Position) → FitsAt room k q → FitsAt room k (skip_of q)

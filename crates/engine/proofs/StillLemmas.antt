@@ -11,6 +11,7 @@ use Rattle.pdu.specs.Marks.{Mark, Head, PdvHead, Pdv, BadPdv, Leftover, End}
 use Rattle.pdu.specs.Texts.{reject_text}
 use Rattle.negotiate.specs.Settings.{Settings}
 use Rattle.dimse.specs.Messages.{Begun, NoMessage}
+use Rattle.engine.specs.Requested.{Requested, no_request}
 use Rattle.engine.specs.Timeline.{Entry, At, Shut, TimedOut, Aborted, Happened, entries_of, Finding, good, Outcome}
 use Rattle.engine.specs.Progress.{Progress, Advance, nothing, done, refusing}
 use Rattle.engine.specs.Heads.{HeadEvent, NoEvent, AtOnce, TooLong, event_of, is_known, has_four_bytes, is_abort, request_length, data_length}
@@ -21,7 +22,7 @@ use Rattle.engine.specs.Laws.{NothingAfterTheEnd}
 use Rattle.engine.specs.Fair.{IsFair, AreFair, message_at}
 
 -- in Sta1, with all else as it may be
-abbrev at_end_with : List ℕ → Begun → Bool → Bool → Progress
+abbrev at_end_with : Requested → Begun → Bool → Bool → Progress
 at_end_with rq m f b = record { state = Sta1; request = rq; refused = b; message = m; filing_failed = f }
 
 -- nothing is done, and a message that had begun stays or is dropped
@@ -63,17 +64,17 @@ brings p h = elim h [
   | TooLong ↦ refusing (done (reject_text 2 3 2) 0 p (event.Request false))
 ]
 
-module _ (rq : List ℕ) (m : Begun) (f : Bool) where
+module _ (rq : Requested) (m : Begun) (f : Bool) where
   head_still : (b : Bool) {h : HeadEvent} → BringsNothing h → IsStill (at_end_with rq m f b) (brings (at_end_with rq m f false) h)
   head_still b no_event = record { next = at_end_with rq m f false; is = refl; state = refl; message = inl refl }
-  head_still b (at_once reason) = record { next = at_end_with [] NoMessage false true; is = refl; state = refl; message = inr refl }
+  head_still b (at_once reason) = record { next = at_end_with no_request NoMessage false true; is = refl; state = refl; message = inr refl }
 
   kept_still : (b : Bool) → IsStill (at_end_with rq m f b) (nothing (at_end_with rq m f b))
   kept_still b = record { next = at_end_with rq m f b; is = refl; state = refl; message = inl refl }
 
   end_still : (s : Settings) (a b c : Bool) (body : List ℕ) → IsStill (at_end_with rq m f false)
       (if a then done [] 0 (at_end_with rq m f false) event.Abort else (if b && false then at_request s (at_end_with rq m f false) body else (if c && false then released (at_end_with rq m f false) else nothing (at_end_with rq m f false))))
-  end_still s true b c body = record { next = at_end_with [] NoMessage false false; is = refl; state = refl; message = inr refl }
+  end_still s true b c body = record { next = at_end_with no_request NoMessage false false; is = refl; state = refl; message = inr refl }
   end_still s false true true body = kept_still false
   end_still s false true false body = kept_still false
   end_still s false false true body = kept_still false
@@ -95,7 +96,7 @@ module _ (rq : List ℕ) (m : Begun) (f : Bool) where
   mark_still rooms s v false (End kind body) = end_still s (nat_eq kind 7) (nat_eq kind 1) (nat_eq kind 5) body
 
   other_still : (b : Bool) (e : Event) → table Sta1 e ≡ (action.Nothing, Sta1) → IsStill (at_end_with rq m f b) (done [] 0 (at_end_with rq m f b) e)
-  other_still b e is = record { next = at_end_with [] NoMessage false b; is = rw is refl; state = refl; message = inr refl }
+  other_still b e is = record { next = at_end_with no_request NoMessage false b; is = rw is refl; state = refl; message = inr refl }
 
   entry_still : (rooms : Rooms) (s : Settings) (v : Finding) (b : Bool) (x : Entry) → IsStill (at_end_with rq m f b) (at_entry rooms s (at_end_with rq m f b) v x)
   entry_still rooms s v b (At x) = mark_still rooms s v b x

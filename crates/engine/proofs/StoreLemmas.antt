@@ -2,7 +2,7 @@
 use Rattle.std.proofs.Common.{◌≡◌, ℕ, ◌+◌, ◌≤◌, nat_lt, Bool, true, false, not, ◌||◌, List, [], ◌∷◌, ◌++◌, length, drop, get_or, Option, Some, None, option_map, Result, Ok, refl, ap, sym, subst, ◌∙◌, append_assoc, arith, if◌then◌else◌}
 use Rattle.std.proofs.lemmas.Bool.Decides.{nat_tests}
 use Rattle.std.proofs.lemmas.List.{append-nil, length-append, drop_all, drop-append-le, get_or_append_left}
-use Rattle.pdu.specs.Items.{request_record}
+use Rattle.engine.specs.Requested.{Requested, request_record}
 use Rattle.negotiate.specs.declared.proposals.Context.{Context}
 use Rattle.negotiate.specs.Contexts.{context_of}
 use Rattle.part10.specs.declared.meta.Meta.{Meta}
@@ -30,7 +30,7 @@ use Rattle.engine.specs.machine.DoesDue.{Unfiled}
 
 -- ---- what is walked and the draft, together
 
-abbrev pub Carried : (depth most : ℕ) → Stored → Store → List ℕ → Begun → Bool → Type 0
+abbrev pub Carried : (depth most : ℕ) → Stored → Store → Requested → Begun → Bool → Type 0
 Carried depth most stored store request m failed = Walks depth most request m stored × IsDraft request m failed store (drafting_in stored)
 
 -- what has come of the message
@@ -40,22 +40,22 @@ so_far p begun = with_pdv (counted_pdv p begun) p.message
 pub carried : (k : Kept) (store : Store) (p : Progress) (body begun : List ℕ) → Pends k store p body begun → Carried k.depth k.most k.storing store p.request (so_far p begun) p.filing_failed
 carried k store p body begun h = (h.walks, h.draft)
 
-pub no_store : (request : List ℕ) (m : Begun) → m ≡ NoMessage → InStore request m → ⊥
+pub no_store : (request : Requested) (m : Begun) → m ≡ NoMessage → InStore request m → ⊥
 no_store request m e store = let x : NoMessage ≡ InSet store.id store.command store.set = sym e ∙ store.begun in cc
 
-pub no_store_yet : (request : List ℕ) (m : Begun) (id : ℕ) (command : List ℕ) → m ≡ InCommand id command → InStore request m → ⊥
+pub no_store_yet : (request : Requested) (m : Begun) (id : ℕ) (command : List ℕ) → m ≡ InCommand id command → InStore request m → ⊥
 no_store_yet request m id command e store = let x : InCommand id command ≡ InSet store.id store.command store.set = sym e ∙ store.begun in cc
 
-pub none_carried : (depth most : ℕ) (stored : Stored) (store : Store) (request : List ℕ) (m : Begun) (failed : Bool) → stored ≡ Nothing → (InStore request m → ⊥) → Carried depth most stored store request m failed
+pub none_carried : (depth most : ℕ) (stored : Stored) (store : Store) (request : Requested) (m : Begun) (failed : Bool) → stored ≡ Nothing → (InStore request m → ⊥) → Carried depth most stored store request m failed
 none_carried depth most stored store request m failed e none =
     subst (λ (x : Stored). Carried depth most x store request m failed) (sym e) (not_walked none, none_due (λ file due. none due.store))
 
-pub nothing_walked : {depth most : ℕ} {request : List ℕ} {m : Begun} {stored : Stored} → (InStore request m → ⊥) → Walks depth most request m stored → stored ≡ Nothing
+pub nothing_walked : {depth most : ℕ} {request : Requested} {m : Begun} {stored : Stored} → (InStore request m → ⊥) → Walks depth most request m stored → stored ≡ Nothing
 nothing_walked none (not_walked h) = refl
 nothing_walked none (walked store takes) = absurd (none store)
 
 -- no store before and none after
-pub idle_carried : (depth most : ℕ) (stored : Stored) (store other : Store) (request later : List ℕ) (m n : Begun) (failed failed_then : Bool) → (InStore request m → ⊥) → (InStore later n → ⊥)
+pub idle_carried : (depth most : ℕ) (stored : Stored) (store other : Store) (request later : Requested) (m n : Begun) (failed failed_then : Bool) → (InStore request m → ⊥) → (InStore later n → ⊥)
     → Carried depth most stored store request m failed → Carried depth most stored other later n failed_then
 idle_carried depth most stored store other request later m n failed failed_then none none_then c =
     none_carried depth most stored other later n failed_then (nothing_walked none c.0) none_then
@@ -136,7 +136,7 @@ part_more begun part m le =
     ∙ sym (ap (with_fragment (get_or begun 4 0) part) (long_pdv begun m le))
 
 -- the data of a store are those before it, and the other way round
-pub fragment_store : (request : List ℕ) (context : ℕ) (part : List ℕ) (m : Begun) → InStore request (with_fragment context part m) → InStore request m
+pub fragment_store : (request : Requested) (context : ℕ) (part : List ℕ) (m : Begun) → InStore request (with_fragment context part m) → InStore request m
 fragment_store request context part NoMessage s = absurd (no_store_yet request (InCommand context part) context part refl s)
 fragment_store request context part (InCommand first command) s = absurd (no_store_yet request (InCommand first (command ++ part)) first (command ++ part) refl s)
 fragment_store request context part (InSet first command set) s =
@@ -144,7 +144,7 @@ fragment_store request context part (InSet first command set) s =
     let two : command ≡ s.command = let e = s.begun in cc in
     record { id = first; command = command; set = set; asked = s.asked; context = s.context; begun = refl; spelled = ap command_in two ∙ s.spelled; accepted = ap (context_of (request_record request)) one ∙ s.accepted; of_context = s.of_context }
 
-abbrev pub store_fragment : (request : List ℕ) (context : ℕ) (part : List ℕ) (m : Begun) → (s : InStore request m) → InStore request (with_fragment context part m)
+abbrev pub store_fragment : (request : Requested) (context : ℕ) (part : List ℕ) (m : Begun) → (s : InStore request m) → InStore request (with_fragment context part m)
 store_fragment request context part m s = record {
   id = s.id;
   command = s.command;
@@ -157,11 +157,11 @@ store_fragment request context part m s = record {
   of_context = s.of_context;
 }
 
-pub pdv_store : (request : List ℕ) (begun : List ℕ) (m : Begun) → 6 ≤ length begun → InStore request (with_pdv begun m) → InStore request m
+pub pdv_store : (request : Requested) (begun : List ℕ) (m : Begun) → 6 ≤ length begun → InStore request (with_pdv begun m) → InStore request m
 pdv_store request begun m le s = fragment_store request (get_or begun 4 0) (drop 6 begun) m (subst (λ (x : Begun). InStore request x) (long_pdv begun m le) s)
 
 -- a head alone adds nothing
-pub head_carried : (depth most : ℕ) (stored : Stored) (store : Store) (request begun : List ℕ) (m : Begun) (failed : Bool) → length begun ≡ 6 → Carried depth most stored store request m failed
+pub head_carried : (depth most : ℕ) (stored : Stored) (store : Store) (request : Requested) (begun : List ℕ) (m : Begun) (failed : Bool) → length begun ≡ 6 → Carried depth most stored store request m failed
     → Carried depth most stored store request (with_pdv begun m) failed
 head_carried depth most stored store request begun m failed six c =
     let none : drop 6 begun ≡ [] = drop_all 6 begun (omega arith) in
@@ -176,7 +176,7 @@ head_carried depth most stored store request begun m failed six c =
 -- ---- the file of a store
 
 -- in one message there is one
-pub same_file : (request : List ℕ) (m : Begun) (a b : InStore request m) → (a.context ≡ b.context) × (a.asked ≡ b.asked) × (a.set ≡ b.set)
+pub same_file : (request : Requested) (m : Begun) (a b : InStore request m) → (a.context ≡ b.context) × (a.asked ≡ b.asked) × (a.set ≡ b.set)
 same_file request m a b =
     let both : InSet a.id a.command a.set ≡ InSet b.id b.command b.set = sym a.begun ∙ b.begun in
     let id : a.id ≡ b.id = cc in
@@ -186,15 +186,15 @@ same_file request m a b =
     let asked : ◌≡◌ {A = Result CommandRecord DimseFault} (Ok a.asked) (Ok b.asked) = sym a.spelled ∙ ap command_in command ∙ b.spelled in
     (cc, cc, set)
 
-abbrev pub meta_by : List ℕ → Context → CommandRecord → Meta
+abbrev pub meta_by : Requested → Context → CommandRecord → Meta
 meta_by request context asked =
     record { class = asked.class; instance = some_or_nothing asked.instance; syntax = context.syntax; calling = record { 0 = (request_record request).calling } }
 
 -- a draft is due of these bytes
-pub due_file : (request : List ℕ) (m : Begun) (failed : Bool) (s : InStore request m) → failed ≡ false → IsDue request m failed (File (meta_by request s.context s.asked) s.set)
+pub due_file : (request : Requested) (m : Begun) (failed : Bool) (s : InStore request m) → failed ≡ false → IsDue request m failed (File (meta_by request s.context s.asked) s.set)
 due_file request m failed s e = record { store = s; unfailed = e; filed = refl }
 
-pub file_due : (request : List ℕ) (m : Begun) (failed : Bool) (file : List ℕ) (d : IsDue request m failed file) (s : InStore request m) → file ≡ File (meta_by request s.context s.asked) s.set
+pub file_due : (request : Requested) (m : Begun) (failed : Bool) (file : List ℕ) (d : IsDue request m failed file) (s : InStore request m) → file ≡ File (meta_by request s.context s.asked) s.set
 file_due request m failed file d s =
     let same = same_file request m d.store s in
     let is : File (meta_by request d.store.context d.store.asked) d.store.set ∷ [] ≡ file ∷ [] = d.filed in
@@ -203,12 +203,12 @@ file_due request m failed file d s =
     ∙ ap (λ (xs : List ℕ). File (meta_by request s.context s.asked) xs) same.2
 
 -- where a store is open, the draft is missing exactly where a filing call failed
-pub undrafted : (request : List ℕ) (m : Begun) (failed : Bool) (store : Store) (drafting : Bool) → IsDraft request m failed store drafting → InStore request m → not drafting ≡ failed
+pub undrafted : (request : Requested) (m : Begun) (failed : Bool) (store : Store) (drafting : Bool) → IsDraft request m failed store drafting → InStore request m → not drafting ≡ failed
 undrafted request m failed store _ (draft_due due has) s = sym due.unfailed
 undrafted request m true store _ (none_due none) s = refl
 undrafted request m false store _ (none_due none) s = absurd (none (File (meta_by request s.context s.asked) s.set) (due_file request m false s refl))
 
-pub drafted : (request : List ℕ) (m : Begun) (failed : Bool) (store : Store) (drafting : Bool) → IsDraft request m failed store drafting → drafting ≡ true → (file : List ℕ) × IsDue request m failed file × HasDraft store file
+pub drafted : (request : Requested) (m : Begun) (failed : Bool) (store : Store) (drafting : Bool) → IsDraft request m failed store drafting → drafting ≡ true → (file : List ℕ) × IsDue request m failed file × HasDraft store file
 drafted request m failed store _ (draft_due {file = file} due has) e = (file, due, has)
 drafted request m failed store _ (none_due none) e = absurd cc
 
@@ -222,7 +222,7 @@ files_grown : (told : Option Shelf) (part : List ℕ) → option_map (λ (shelf 
 files_grown None part = refl
 files_grown (Some shelf) part = refl
 
-module _ (depth most : ℕ) (request : List ℕ) (m : Begun) (before : Bool) (context : ℕ) (part : List ℕ) (old new : Store) where
+module _ (depth most : ℕ) (request : Requested) (m : Begun) (before : Bool) (context : ℕ) (part : List ℕ) (old new : Store) where
   abbrev later : Begun
   later = with_fragment context part m
 

@@ -1,6 +1,6 @@
 -- One part of a timeline after another, and what the devices gain by both.
 use Rattle.std.proofs.Common.{◌≡◌, ℕ, ◌+◌, Bool, false, List, [], ◌∷◌, ◌++◌, Option, Some, None, refl, sym, ap, ◌∙◌, append_assoc, arith}
-use Rattle.std.proofs.lemmas.List.{append-nil, map-append}
+use Rattle.std.proofs.lemmas.List.{append-nil}
 use Rattle.std.specs.Io.KnownBytes.{append_known}
 use Rattle.pdu.specs.Sent.{Line}
 use Rattle.pdu.proofs.Public.{known_then, known_nothing}
@@ -8,12 +8,9 @@ use Rattle.negotiate.specs.Settings.{Settings}
 use Rattle.engine.specs.Devices.{Devices, line_with, with_files, files_in}
 use Rattle.engine.specs.Fair.{AreFair}
 use Rattle.engine.specs.Gains.{Gains}
-use Rattle.engine.specs.Progress.{Progress, absorb}
+use Rattle.engine.specs.Progress.{Progress}
 use Rattle.engine.specs.Run.{Rooms, gives, progress_of, sent_of, files_of, wire_failures, counted, filing_failures}
-use Rattle.engine.specs.Timeline.{Happened, entries_of}
-
-pub entries_then : (xs ys : List Happened) → entries_of (xs ++ ys) ≡ entries_of xs ++ entries_of ys
-entries_then xs ys = simp map-append
+use Rattle.engine.specs.Timeline.{Happened}
 
 pub failures_then : (xs ys : List Happened) → wire_failures (xs ++ ys) ≡ wire_failures xs + wire_failures ys
 failures_then [] ys = omega arith
@@ -27,11 +24,6 @@ filing_last (x ∷ xs) failed = omega (arith, filing_last xs failed)
 pub filing_then : (xs ys : List Happened) (failed : Bool) → filing_failures (xs ++ ys) failed ≡ filing_failures xs false + filing_failures ys failed
 filing_then [] ys failed = omega arith
 filing_then (x ∷ xs) ys failed = omega (arith, filing_then xs ys failed)
-
--- ---- no filing call failed
-
-pub absorb_none : (p : Progress) → absorb false p ≡ p
-absorb_none p = refl
 
 -- ---- the devices
 

@@ -7,7 +7,10 @@ use Rattle.element.specs.Numbers.{IsBytes}
 use Rattle.element.specs.Header.{number}
 use Rattle.element.specs.Uid.{uid_of}
 use Rattle.dictionary.specs.declared.class.Class.{Class}
-use Rattle.dictionary.specs.Classes.{class_of, class_uid, is_storage}
+use Rattle.dictionary.specs.Classes.{class_of, class_uid}
+use Rattle.negotiate.specs.declared.proposals.Service.{Service}
+use Rattle.negotiate.specs.declared.proposals.Service.TheVariants.{Known, Further}
+use Rattle.negotiate.specs.Contexts.{service_of}
 use Rattle.dictionary.proofs.Public.{class_back}
 use Rattle.sequence.specs.Tree.{Elements, DataSet}
 use Rattle.sequence.specs.Open.{PathEntry, Tail, in_header, in_value, last_of, Nested, at_elements, in_sequence_of, in_item_of, IsTail, header_tail, value_tail, Open}
@@ -23,7 +26,7 @@ use Rattle.dimse.specs.Status.{class_not_supported, data_set_mismatch, cannot_un
 use Rattle.negotiate.specs.declared.proposals.Context.{Context}
 use Rattle.engine.specs.Timeline.{Finding, good}
 use Rattle.dimse.specs.Detail.{class_mismatch, instance_mismatch}
-use Rattle.engine.specs.Stores.{IsOfContext, NamesUid, NamesInstance, Verdict, other_class, cut, names_class, names_instance, unfiled, filed, wanted, limits, class_tag, instance_tag, cause}
+use Rattle.engine.specs.Stores.{IsOfContext, is_storage_service, NamesUid, NamesInstance, Verdict, other_class, cut, names_class, names_instance, unfiled, filed, wanted, limits, class_tag, instance_tag, cause}
 use Rattle.engine.specs.StoreLaws.{AVerdictIsThere}
 use Rattle.engine.specs.machine.Verdicts.{no_resources, of_fault}
 use Rattle.engine.proofs.WalkVerdictLemmas.{rule_found}
@@ -70,20 +73,32 @@ instance_or_not values command = by command.instance refl
 one_class : (a b : Class) → class_uid a ≡ class_uid b → a ≡ b
 one_class a b e = let z : Some a ≡ Some b = sym (class_back a) ∙ ap class_of e ∙ class_back b in cc
 
+same_service : (a b : Service) → (a ≡ b) ⊎ (a ≡ b → ⊥)
+same_service (Known a) (Known b) = by (same_or_not (class_uid a) (class_uid b)) where
+  by : (class_uid a ≡ class_uid b) ⊎ (class_uid a ≢ class_uid b) → (Known a ≡ Known b) ⊎ (Known a ≡ Known b → ⊥)
+  by (inl e) = inl (ap Known (one_class a b e))
+  by (inr other) = inr (λ e. other (let k : a ≡ b = cc in ap class_uid k))
+same_service (Known a) (Further v) = inr (λ e. absurd cc)
+same_service (Further u) (Known b) = inr (λ e. absurd cc)
+same_service (Further u) (Further v) = by (same_or_not u v) where
+  by : (u ≡ v) ⊎ (u ≢ v) → (Further u ≡ Further v) ⊎ (Further u ≡ Further v → ⊥)
+  by (inl e) = inl (ap Further e)
+  by (inr other) = inr (λ e. other (let k : u ≡ v = cc in k))
+
 pub of_context_or_not : (context : Context) (command : CommandRecord) → IsOfContext context command ⊎ (IsOfContext context command → ⊥)
-of_context_or_not context command = by (class_of command.class) refl
+of_context_or_not context command = by (service_of command.class) refl
   where
-    stored : (class : Class) → class_of command.class ≡ Some class → class ≡ context.class → (b : Bool) → is_storage context.class ≡ b → IsOfContext context command ⊎ (IsOfContext context command → ⊥)
-    stored class e same true k = inl (record { named = e ∙ ap Some same; storage = k })
-    stored class e same false k = inr (λ of. let z : false ≡ true = sym k ∙ of.storage in cc)
+    stored : (service : Service) → service_of command.class ≡ Some service → service ≡ context.class → (b : Bool) → is_storage_service context.class ≡ b → IsOfContext context command ⊎ (IsOfContext context command → ⊥)
+    stored service e same true k = inl (record { named = e ∙ ap Some same; storage = k })
+    stored service e same false k = inr (λ of. let z : false ≡ true = sym k ∙ of.storage in cc)
 
-    compared : (class : Class) → class_of command.class ≡ Some class → (class_uid class ≡ class_uid context.class) ⊎ (class_uid class ≢ class_uid context.class) → IsOfContext context command ⊎ (IsOfContext context command → ⊥)
-    compared class e (inl same) = stored class e (one_class class context.class same) (is_storage context.class) refl
-    compared class e (inr other) = inr (λ of. other (let z : Some class ≡ Some context.class = sym e ∙ of.named in ap class_uid (let k : class ≡ context.class = cc in k)))
+    compared : (service : Service) → service_of command.class ≡ Some service → (service ≡ context.class) ⊎ (service ≡ context.class → ⊥) → IsOfContext context command ⊎ (IsOfContext context command → ⊥)
+    compared service e (inl same) = stored service e same (is_storage_service context.class) refl
+    compared service e (inr other) = inr (λ of. other (let z : Some service ≡ Some context.class = sym e ∙ of.named in (let k : service ≡ context.class = cc in k)))
 
-    by : (o : Option Class) → class_of command.class ≡ o → IsOfContext context command ⊎ (IsOfContext context command → ⊥)
-    by None e = inr (λ of. let z : ◌≡◌ {A = Option Class} None (Some context.class) = sym e ∙ of.named in cc)
-    by (Some class) e = compared class e (same_or_not (class_uid class) (class_uid context.class))
+    by : (o : Option Service) → service_of command.class ≡ o → IsOfContext context command ⊎ (IsOfContext context command → ⊥)
+    by None e = inr (λ of. let z : ◌≡◌ {A = Option Service} None (Some context.class) = sym e ∙ of.named in cc)
+    by (Some service) e = compared service e (same_service service context.class)
 
 -- ---- how a text ends
 

@@ -1,5 +1,5 @@
 -- What judging a data set finds, from what its walker reports; and what comes of its draft.
-use Rattle.std.proofs.Common.{◌≡◌, inl, inr, ℕ, Bool, true, false, ◌||◌, List, length, Option, Some, None, Result, Ok, Err, is_some, nat_eq, refl, sym, ap, subst, ◌∙◌, rules, arith}
+use Rattle.std.proofs.Common.{◌≡◌, inl, inr, ℕ, Bool, true, false, ◌||◌, List, length, Result, Ok, Err, nat_eq, refl, sym, ap, subst, ◌∙◌, rules, arith}
 use Rattle.element.specs.declared.syntax.Syntax.{Syntax}
 use Rattle.element.specs.declared.tag.Tag.{Tag}
 use Rattle.sequence.specs.declared.fault.Fault.{Fault}
@@ -11,7 +11,7 @@ use Rattle.sequence.specs.FirstFault.{IsUnbroken, FirstFault}
 use Rattle.sequence.specs.Walk.{Told, Tells, going, refused}
 use Rattle.sequence.specs.Taken.{StandsAt, walker_syntax, limits_of, told_by}
 use Rattle.sequence.proofs.Public.{whole_breaks_no_rule}
-use Rattle.dimse.specs.Command.{CommandRecord, is_request}
+use Rattle.dimse.specs.Command.{CommandRecord}
 use Rattle.dimse.specs.Status.{success, out_of_resources, cannot_understand}
 use Rattle.negotiate.specs.declared.proposals.Context.{Context}
 use Rattle.part10.specs.Store.{Store}
@@ -22,12 +22,6 @@ use Rattle.engine.specs.StoredData.{Stored, Nothing, Walking, HasWalked, draftin
 use Rattle.engine.specs.machine.Storing.{Drops, EndsDraft, EndsStore, finding_of}
 use Rattle.engine.specs.machine.Storing as ends
 use Rattle.engine.specs.machine.Verdicts.{no_resources, of_fault, IsGood, FailsAs, Differs, other_class, other_instance, Compared, WalkHasVerdict, HasVerdict, Commits, done, undone, EndsAs}
-
--- only a C-STORE announces a data set, and it names an instance
-pub data_is_named : (field : ℕ) (announced : Bool) (instance : Option (List ℕ)) → is_request field announced instance ≡ true → announced ≡ true → (nat_eq field 1 ≡ true) × (is_some instance ≡ true)
-data_is_named field true None e d = absurd (grind (rules, arith))
-data_is_named field true (Some x) e d = grind (rules, arith)
-data_is_named field false instance e d = absurd cc
 
 -- ---- what a walker reports of a whole data set
 

@@ -25,10 +25,13 @@ use Rattle.pdu.specs.Marks.{marks, new_marks, pdv_marks}
 use Rattle.pdu.specs.Pieces.{pieces_of}
 use Rattle.pdu.specs.Refusal.{item_fault, items_fault}
 use Rattle.pdu.specs.Spot.{spot}
+use Rattle.pdu.specs.Items as items
+use Rattle.negotiate.specs.declared.proposals.Service.{Service}
+use Rattle.negotiate.specs.declared.proposals.Service.TheVariants.{Known}
 use Rattle.engine.specs.Timeline.{Entry, Finding, good, entries, entries_of}
 use Rattle.engine.specs.Fair.{IsFair, IsVerdict, InStore, message_at}
 use Rattle.negotiate.proofs.Public.{context_in-context_rows}
-use Rattle.pdu.specs.Items.{request_record}
+use Rattle.engine.specs.Requested.{Requested, request_record}
 use Rattle.std.specs.List.{IsDistinct}
 use Rattle.engine.specs.Progress.{Progress, absorb}
 use Rattle.engine.specs.Run.{Rooms}
@@ -76,10 +79,10 @@ the_echo_runs = (
 not_in_set : (id : ℕ) (command set : List ℕ) → NoMessage ≡ InSet id command set → ⊥
 not_in_set id command set e = cc
 
-no_store_in : (request : List ℕ) → InStore request NoMessage → ⊥
+no_store_in : (request : Requested) → InStore request NoMessage → ⊥
 no_store_in request store = not_in_set store.id store.command store.set store.begun
 
-none_held : {r : Rooms} {s : Settings} {request : List ℕ} {b : Begun} {k : ℕ} → IsHeldOfMessage r s request b k → b ≡ NoMessage → k ≡ 0
+none_held : {r : Rooms} {s : Settings} {request : Requested} {b : Begun} {k : ℕ} → IsHeldOfMessage r s request b k → b ≡ NoMessage → k ≡ 0
 none_held {request = request} (walked store set) e = absurd (no_store_in request (subst (λ (m : Begun). InStore request m) e store))
 none_held (not_walked none) e = refl
 
@@ -107,7 +110,7 @@ it_stands_established = (
           refused_is = λ e. refl;
           body_is = refl;
           join_is = record { shows = refl; accepted = λ le. absurd (omega (arith, le)) };
-          agreed = λ e. record { caller = refl; maximum = refl; rows = refl; contexts = context_in-context_rows (request_record (drop 6 request)) (one_distinct 1); count = refl };
+          agreed = λ e. record { caller = refl; maximum = refl; rows = refl; contexts = context_in-context_rows [] (items.request_record (drop 6 request)) (one_distinct 1); count = refl };
           none_left = λ e. absurd cc;
           unagreed = λ e. absurd cc;
           failed_in = λ still failed. absurd cc;
@@ -136,7 +139,7 @@ only_other not (filed of whole kept class same failed) = absurd (not of)
 
 mr_is_no_ct : IsOfContext ct_context (store_of (codes "1.2.840.10008.5.1.4.1.1.4")) → ⊥
 unfolding class_named
-mr_is_no_ct of = let e : ◌≡◌ {A = Option Class} (Some Mr) (Some Ct) = of.named in cc
+mr_is_no_ct of = let e : ◌≡◌ {A = Option Service} (Some (Known Mr)) (Some (Known Ct)) = of.named in cc
 
 nothing_breaks : IsUnbroken Explicit (limits 64 (2 ^ 40)) []
 nothing_breaks = nothing_unbroken Explicit (limits 64 (2 ^ 40))

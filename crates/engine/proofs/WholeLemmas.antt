@@ -118,9 +118,9 @@ undue_body p xs e = ap (λ (t : Bool). if t && not p.refused then xs else []) e
 refused_body : (p : Progress) (xs : List ℕ) → p.refused ≡ true → counted_body p xs ≡ []
 refused_body p xs e = ap (λ (t : Bool). if is_due p.state && not t then xs else []) e ∙ sym (not_counted (is_due p.state) xs)
 
-came_to : (body : List ℕ) (p : Progress) (g first : Advance) (xs : List ℕ) → LeavesOrStands body p g first → counted_body g.next xs ≡ []
-came_to body p g first xs (a, b, inl (x, is)) = ap (λ (q : Progress). counted_body q xs) is
-came_to body p g first xs (a, b, inr (x, is)) = ap (λ (q : Progress). counted_body q xs) is
+came_to : (further : List (List ℕ)) (body : List ℕ) (p : Progress) (g first : Advance) (xs : List ℕ) → LeavesOrStands further body p g first → counted_body g.next xs ≡ []
+came_to further body p g first xs (a, b, inl (x, is)) = ap (λ (q : Progress). counted_body q xs) is
+came_to further body p g first xs (a, b, inr (x, is)) = ap (λ (q : Progress). counted_body q xs) is
 
 is_sta2 : (st : State) → is_due st ≡ true → st ≡ Sta2
 is_sta2 Sta1 h = absurd cc
@@ -131,7 +131,7 @@ is_sta2 Sta8 h = absurd cc
 is_sta2 Sta13 h = absurd cc
 
 request_gone : (s : Settings) (p : Progress) (body xs : List ℕ) (due : Bool) → is_due p.state ≡ due → counted_body (if due then at_request s p body else nothing p).next xs ≡ []
-request_gone s p body xs true e = came_to body p (at_request s p body) (at_request s at_start body) xs (request_comes s body p (is_sta2 p.state e))
+request_gone s p body xs true e = came_to s.further body p (at_request s p body) (at_request s at_start body) xs (request_comes s body p (is_sta2 p.state e))
 request_gone s p body xs false e = undue_body p xs e
 
 end_gone_by : (s : Settings) (p : Progress) (kind : ℕ) (body xs : List ℕ) (r : Bool) → p.refused ≡ r → kind ≡ 1 → counted_body (if r then nothing p else at_end s p kind body).next xs ≡ []

@@ -1,7 +1,7 @@
 -- The draft of a store in the filing, while its data come (PS3.7 section 9.1.1; when it is begun and dropped is this
 -- product's own profile).
 use Rattle.std.specs.Prelude.{◌≡◌, ℕ, Bool, true, false, List, [], ◌∷◌, Option, Some, None}
-use Rattle.pdu.specs.Items.{request_record}
+use Rattle.engine.specs.Requested.{Requested, request_record}
 use Rattle.dimse.specs.Messages.{Begun}
 use Rattle.part10.specs.Store.{Shelf, Store}
 use Rattle.engine.specs.Replies.{file_in}
@@ -9,7 +9,7 @@ use Rattle.engine.specs.Fair.{InStore}
 
 -- A draft is due: in the association of this request the data of a store whose class is its context's have begun, these
 -- bytes of its file have come, and no filing call failed in it.
-pub record IsDue (request : List ℕ) (message : Begun) (failed : Bool) (file : List ℕ) : Type 0 where
+pub record IsDue (request : Requested) (message : Begun) (failed : Bool) (file : List ℕ) : Type 0 where
   pub store : InStore request message
   pub unfailed : failed ≡ false
   pub filed : file_in (request_record request) (Some store.context) store.asked store.set ≡ file ∷ []
@@ -24,7 +24,7 @@ pub record HasDraft (store : Store) (file : List ℕ) : Type 0 where
   pub bytes : TellsDraft store.told file
 
 -- where a draft is due, the association has it in the filing, and it is the file so far; else it has none
-pub data IsDraft (request : List ℕ) (message : Begun) (failed : Bool) (store : Store) : Bool → Type 0 where
+pub data IsDraft (request : Requested) (message : Begun) (failed : Bool) (store : Store) : Bool → Type 0 where
   draft_due : {file : List ℕ} → IsDue request message failed file → HasDraft store file → IsDraft request message failed store true
   none_due : ((file : List ℕ) → IsDue request message failed file → ⊥) → IsDraft request message failed store false
 

@@ -8,6 +8,7 @@ use Rattle.dimse.specs.Messages.{NoMessage}
 use Rattle.engine.specs.Inputs.{Bytes, Close}
 use Rattle.engine.specs.Timeline.{Entry, At, TimedOut, good, Happened, entries}
 use Rattle.engine.specs.Progress.{Progress, at_start}
+use Rattle.engine.specs.Requested.{no_request}
 use Rattle.engine.specs.Run.{Rooms, progress_of, sent_of}
 use Rattle.engine.specs.Held.{held_before_data}
 use Rattle.engine.specs.Reached.{reached}
@@ -17,7 +18,7 @@ abbrev pub rooms : Rooms
 rooms = record { request = 65536; command = 1024; values = 256; depth = 64 }
 
 abbrev pub settings : Settings
-settings = record { ae = codes "DCMBOX          "; callers = []; max_pdu = 16384; max_data = 2 ^ 40 }
+settings = record { ae = codes "DCMBOX          "; callers = []; max_pdu = 16384; max_data = 2 ^ 40; further = [] }
 
 -- nothing fails
 abbrev pub calm : List Entry → List Happened
@@ -41,10 +42,10 @@ BytesThatAreNoPdu =
     × SentBy (entries [] (Bytes (codes "GET /") ∷ [])) [] Sta2
 
 abbrev pub established : Progress
-established = record { state = Sta6; request = []; refused = false; message = NoMessage; filing_failed = false }
+established = record { state = Sta6; request = no_request; refused = false; message = NoMessage; filing_failed = false }
 
 abbrev pub closing : Progress
-closing = record { state = Sta13; request = []; refused = false; message = NoMessage; filing_failed = false }
+closing = record { state = Sta13; request = no_request; refused = false; message = NoMessage; filing_failed = false }
 
 -- a P-DATA one byte above what was announced is aborted at its head, one of that length is taken
 abbrev pub DataAboveTheMaximum : Type 0

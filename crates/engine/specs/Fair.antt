@@ -2,7 +2,7 @@
 -- the filing where they can come (PS3.7 section 9.1.1, PS3.8 section 9.2.2; the profile of failures is this product's
 -- own).
 use Rattle.std.specs.Prelude.{◌≡◌, ℕ, Bool, true, false, not, ◌&&◌, ◌⊎◌, List, [], ◌∷◌, Option, Some, None, Ok, if◌then◌else◌}
-use Rattle.pdu.specs.Items.{request_record}
+use Rattle.engine.specs.Requested.{Requested, request_record}
 use Rattle.pdu.specs.Marks.{Pdv}
 use Rattle.negotiate.specs.Settings.{Settings}
 use Rattle.negotiate.specs.declared.proposals.Context.{Context}
@@ -32,7 +32,7 @@ IsVerdict rooms s p finding (Some m) = (command : CommandRecord) (context : Cont
 
 -- The data of a store whose class is its context's have begun, in the association of this request: filing calls are
 -- made.
-pub record InStore (request : List ℕ) (message : Begun) : Type 0 where
+pub record InStore (request : Requested) (message : Begun) : Type 0 where
   pub id : ℕ
   pub command : List ℕ
   pub set : List ℕ

@@ -5,7 +5,7 @@ use Rattle.acceptor.specs.declared.state.State.TheVariants.{Sta1}
 use Rattle.element.specs.declared.syntax.Syntax.{Syntax}
 use Rattle.element.specs.declared.tag.Tag.{Tag}
 use Rattle.pdu.specs.Marks.{frame_kind}
-use Rattle.pdu.specs.Items.{request_record}
+use Rattle.engine.specs.Requested.{Requested, request_record}
 use Rattle.pdu.specs.Record.{RequestRecord}
 use Rattle.negotiate.specs.Settings.{Settings}
 use Rattle.dimse.specs.Messages.{Begun, NoMessage, InCommand, InSet}
@@ -63,7 +63,7 @@ pub data IsHeldOfSet (syntax : Syntax) (lim : Limits) (bytes : List ℕ) : ℕ �
 
 -- the data of a message in the association of this request: those of a store whose class is its context's are walked,
 -- and of others nothing is held
-pub data IsHeldOfMessage (rooms : Rooms) (s : Settings) (request : List ℕ) (message : Begun) : ℕ → Type 0 where
+pub data IsHeldOfMessage (rooms : Rooms) (s : Settings) (request : Requested) (message : Begun) : ℕ → Type 0 where
   walked : {n : ℕ} → (store : InStore request message) → IsHeldOfSet store.context.syntax (limits rooms.depth s.max_data) store.set n → IsHeldOfMessage rooms s request message n
   not_walked : (InStore request message → ⊥) → IsHeldOfMessage rooms s request message 0
 

@@ -1,6 +1,7 @@
 -- What an association receives: pieces of the stream, the transport's close, the ARTIM timer's expiry and the local
 -- user's abort (PS3.8 section 9.2.1).
 use Rattle.std.specs.Prelude.{◌≡◌, ℕ, zero, suc, List, [], ◌∷◌, ◌++◌, map, Option, Some, None, option_map}
+use Rattle.acceptor.specs.declared.state.State.{State}
 use Rattle.engine.specs.declared.source.Input.{Input}
 use Rattle.engine.specs.declared.source.Input.TheVariants as kind
 use Rattle.engine.specs.declared.list_source.ListedInput.{ListedInput}
@@ -53,6 +54,10 @@ pub record Supply : Type 0 where
 -- these inputs were given too, where it is known what was
 abbrev pub with_given : List Received → Option (List Received) → Option (List Received)
 with_given inputs known = option_map (λ xs. xs ++ inputs) known
+
+-- the state that a source was shown last, where it shows that
+abbrev pub shown_after : State → Option State → Option State
+shown_after state known = option_map (λ _. state) known
 
 -- a source that shows what is to come gives the first of it and keeps the others
 abbrev pub TakesFirst : Option (List Received) → Option (List Received) → Received → Type 0

@@ -3,7 +3,7 @@ use Rattle.std.specs.Prelude.{◌≡◌, ℕ, ◌+◌, ◌*◌, Bool, true, fals
 use Rattle.acceptor.specs.declared.state.State.{State}
 use Rattle.acceptor.specs.declared.state.State.TheVariants.{Sta6}
 use Rattle.pdu.specs.Record.{RequestRecord}
-use Rattle.pdu.specs.Items.{request_record}
+use Rattle.engine.specs.Requested.{request_record}
 use Rattle.negotiate.specs.Settings.{Settings, settings_of}
 use Rattle.negotiate.specs.Contexts.{context_of}
 use Rattle.negotiate.specs.declared.table.ContextRow.{ContextRow}
@@ -32,6 +32,8 @@ pub record Kept : Type 0 where
   pub caller : List ℕ
   pub peer_max : ℕ
   pub table : List ContextRow
+  -- the further storage classes that are taken
+  pub further : List (List ℕ)
   -- what has come of a request's body
   pub body : List ℕ
   pub join : Joining
@@ -40,7 +42,7 @@ pub record Kept : Type 0 where
 
 abbrev pub kept_of : {A C V D : ℕ} → Provider A C V D → Kept
 kept_of {A} {C} {V} {D} p =
-    record { room = C; depth = D; most = p.config.max_data; state = p.state; refused = p.refused; caller = p.caller; peer_max = p.peer_max; table = p.table.items; body = p.body.items; join = p.join; storing = stored_of p.storing }
+    record { room = C; depth = D; most = p.config.max_data; state = p.state; refused = p.refused; caller = p.caller; peer_max = p.peer_max; table = p.table.items; further = (settings_of p.config).further; body = p.body.items; join = p.join; storing = stored_of p.storing }
 
 abbrev pub settings_in : {A C V D : ℕ} → Provider A C V D → Settings
 settings_in p = settings_of p.config
@@ -49,8 +51,8 @@ settings_in p = settings_of p.config
 pub record Agreed (kept : Kept) (r : RequestRecord) : Type 0 where
   pub caller : kept.caller ≡ r.calling
   pub maximum : kept.peer_max ≡ r.maximum
-  pub rows : kept.table ≡ context_rows r
-  pub contexts : (id : ℕ) → context_in kept.table id ≡ context_of r id
+  pub rows : kept.table ≡ context_rows kept.further r
+  pub contexts : (id : ℕ) → context_in kept.further kept.table id ≡ context_of r id
   pub count : length kept.table ≡ accepted_count r
 
 -- nothing of a request: no title, no maximum length and no context

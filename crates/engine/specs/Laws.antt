@@ -1,4 +1,4 @@
--- What the timeline keeps as inputs come, what an association does after its end, and that the number of held bytes is one.
+-- What the timeline keeps as inputs come, and what an association does after its end.
 use Rattle.std.specs.Prelude.{◌≡◌, ℕ, Bool, List, [], ◌∷◌, ◌++◌}
 use Rattle.acceptor.specs.declared.state.State.{State}
 use Rattle.acceptor.specs.declared.state.State.TheVariants.{Sta1}
@@ -7,8 +7,6 @@ use Rattle.engine.specs.Inputs.{Received, Bytes, Close, Expiry, UserAbort, strea
 use Rattle.engine.specs.Timeline.{Entry, Finding, Happened, entries}
 use Rattle.engine.specs.Progress.{Progress, Advance}
 use Rattle.engine.specs.Run.{Rooms, at_entry}
-use Rattle.engine.specs.Reached.{Reached}
-use Rattle.engine.specs.Held.{Held}
 use Rattle.engine.specs.Ran.{Run}
 
 -- the timeline with more inputs is the old one with their entries appended
@@ -45,9 +43,3 @@ abbrev pub CutsDoNotShow : Type 0
 CutsDoNotShow = (rooms : Rooms) (s : Settings) (a b : List Received) → DifferInCuts a b
     → (entries [] a ≡ entries [] b)
     × ((story : List Happened) (failed : Bool) (sent : List ℕ) (files : List (List ℕ)) (state : State) → Run rooms s a story failed sent files state → Run rooms s b story failed sent files state)
-
--- ---- what is held
-
--- There is one number of bytes that are held, and no other, wherever inputs have led.
-abbrev pub HeldIsOne : Type 0
-HeldIsOne = (rooms : Rooms) (s : Settings) (r : Reached) (n m : ℕ) → Held rooms s r n → Held rooms s r m → n ≡ m

@@ -1,6 +1,7 @@
 pub mod Inputs
 pub mod ListSource
 pub mod Timeline
+pub mod Requested
 pub mod Progress
 pub mod Heads
 pub mod Requests
@@ -24,6 +25,7 @@ pub mod Turns
 pub mod TurnLaws
 pub mod OutputLaws
 pub mod Laws
+pub mod HeldLaws
 pub mod StoreLaws
 pub mod RunLaws
 pub mod VerdictExamples

@@ -1,5 +1,5 @@
 -- How much an association sends for what it receives.
-use Rattle.std.specs.Prelude.{◌≡◌, ℕ, ◌+◌, ◌*◌, ◌≤◌, List, [], ◌∷◌, length, Some, None}
+use Rattle.std.specs.Prelude.{◌≡◌, ℕ, ◌+◌, ◌*◌, ◌≤◌, Bool, List, [], ◌∷◌, ◌++◌, length, Some, None}
 use Rattle.std.specs.List.{AllByRecursion}
 use Rattle.element.specs.Numbers.{IsBytes}
 use Rattle.pdu.specs.Items.{request_record}
@@ -9,10 +9,11 @@ use Rattle.negotiate.specs.Accept.{accept_text}
 use Rattle.negotiate.specs.Settings.{Settings}
 use Rattle.dimse.specs.Messages.{Goes, Ends, Refuses, brought}
 use Rattle.dimse.specs.Reading.{command_in}
-use Rattle.engine.specs.Inputs.{Bytes}
-use Rattle.engine.specs.Progress.{Progress, absorb}
+use Rattle.engine.specs.Fair.{IsStory}
+use Rattle.engine.specs.Inputs.{Received, Bytes, Close, Expiry, UserAbort, stream_of}
+use Rattle.engine.specs.Progress.{Progress, at_start, absorb}
 use Rattle.engine.specs.Replies.{replied}
-use Rattle.engine.specs.Run.{Rooms, at_entry, gives, sent_of}
+use Rattle.engine.specs.Run.{Rooms, at_entry, gives, progress_of, sent_of}
 use Rattle.engine.specs.Timeline.{Entry, At, Finding, Happened, entries, entries_of}
 
 -- a byte completes four marks at most
@@ -64,3 +65,31 @@ OutputOfAPiece =
     (rooms : Rooms) (s : Settings) (p : Progress) (story : List Happened) (before piece : List ℕ)
     → entries_of story ≡ entries before (Bytes piece ∷ []) → AllByRecursion IsOfBytes (entries_of story)
     → length (sent_of rooms s p story) ≤ 16552 * length piece
+
+-- wherever these inputs have led, a piece of at most so many bytes has the association send 16,552 at most
+abbrev pub SendsFew : Rooms → Settings → List Received → List Happened → ℕ → Type 0
+SendsFew rooms s inputs story most =
+    (piece : List ℕ) (more : List Happened) → length piece ≤ most → IsBytes (stream_of inputs ++ piece) → entries_of more ≡ entries (stream_of inputs) (Bytes piece ∷ [])
+    → length (sent_of rooms s (progress_of rooms s at_start story) more) ≤ 16552
+
+-- the entries of one input more
+abbrev pub EntriesOfMore : Type 0
+EntriesOfMore =
+    (rooms : Rooms) (s : Settings) (inputs : List Received) (input : Received) (story more : List Happened) (failed failed_then : Bool)
+    → IsStory rooms s inputs story failed → IsStory rooms s (inputs ++ input ∷ []) (story ++ more) failed_then → entries_of more ≡ entries (stream_of inputs) (input ∷ [])
+
+-- an input that sends nothing: the transport's close, and the ARTIM timer's expiry
+abbrev pub IsSilent : Received → Type 0
+IsSilent (Bytes piece) = ⊥
+IsSilent Close = Unit {0}
+IsSilent Expiry = Unit {0}
+IsSilent UserAbort = ⊥
+
+abbrev pub SilentSendsNothing : Type 0
+SilentSendsNothing =
+    (rooms : Rooms) (s : Settings) (p : Progress) (before : List ℕ) (input : Received) (more : List Happened) → IsSilent input → entries_of more ≡ entries before (input ∷ [])
+    → sent_of rooms s p more ≡ []
+
+-- the local user's abort sends 30 bytes at most
+abbrev pub AbortsShortly : Type 0
+AbortsShortly = (rooms : Rooms) (s : Settings) (p : Progress) (before : List ℕ) (more : List Happened) → entries_of more ≡ entries before (UserAbort ∷ []) → length (sent_of rooms s p more) ≤ 30

@@ -8,23 +8,24 @@ use Rattle.acceptor.specs.Table.{table}
 use Rattle.acceptor.specs.Effect.{sending, bytes_sent}
 use Rattle.pdu.specs.Texts.{release_text, abort_text}
 use Rattle.dimse.specs.Messages.{Begun, NoMessage}
+use Rattle.engine.specs.Requested.{Requested, no_request}
 
--- The acceptor's state; the body of the association request, from its end on until the association is left; whether the
+-- The acceptor's state; the association request, from its end on until the association is left; whether the
 -- PDU that has begun was refused; what has come of a message, and whether a filing call failed in it.
 pub record Progress : Type 0 where
   pub state : State
-  pub request : List ℕ
+  pub request : Requested
   pub refused : Bool
   pub message : Begun
   pub filing_failed : Bool
 
 -- the transport connection is open, and a request is due
 abbrev pub at_start : Progress
-at_start = record { state = Sta2; request = []; refused = false; message = NoMessage; filing_failed = false }
+at_start = record { state = Sta2; request = no_request; refused = false; message = NoMessage; filing_failed = false }
 
 -- the association is left: its request and a message that has begun are dropped
 abbrev pub left : State → Progress → Progress
-left next p = record { state = next; request = []; refused = p.refused; message = NoMessage; filing_failed = false }
+left next p = record { state = next; request = no_request; refused = p.refused; message = NoMessage; filing_failed = false }
 
 abbrev pub moved : State → Progress → Progress
 moved Sta1 p = left Sta1 p

@@ -6,8 +6,10 @@ use Rattle.dictionary.specs.declared.class.Class.{Class}
 use Rattle.dictionary.specs.declared.class.Class.TheVariants.{Verification}
 use Rattle.dictionary.specs.Classes.{class_of}
 use Rattle.pdu.specs.Record.{RequestRecord}
-use Rattle.pdu.specs.Items.{request_record}
+use Rattle.engine.specs.Requested.{request_record}
 use Rattle.negotiate.specs.declared.proposals.Context.{Context}
+use Rattle.negotiate.specs.declared.proposals.Service.{Service}
+use Rattle.negotiate.specs.declared.proposals.Service.TheVariants.{Known, Further}
 use Rattle.negotiate.specs.Contexts.{context_of}
 use Rattle.dimse.specs.declared.fault.DimseFault.{DimseFault}
 use Rattle.dimse.specs.Command.{CommandRecord, c_store, c_echo}
@@ -43,9 +45,13 @@ abbrev pub is_verification : Option Class → Bool
 is_verification (Some Verification) = true
 is_verification other = false
 
+abbrev pub known_class : Service → Option Class
+known_class (Known class) = Some class
+known_class (Further uid) = None
+
 abbrev pub class_by : Option Context → Option Class
 class_by None = None
-class_by (Some context) = Some context.class
+class_by (Some context) = known_class context.class
 
 -- C-ECHO: success where the command and its context name Verification, else SOP class not supported
 abbrev pub echo_status : Option Context → CommandRecord → ℕ

@@ -16,8 +16,8 @@ use Rattle.engine.specs.Progress.{Progress, Advance, followed_by, done}
 use Rattle.engine.specs.Heads.{invalid_parameter}
 
 -- the request is kept
-abbrev pub keeping : List ℕ → Progress → Progress
-keeping body p = record p { request = body }
+abbrev pub keeping : Settings → List ℕ → Progress → Progress
+keeping s body p = record p { request = record { further = s.further; body = body } }
 
 -- the request is accepted, and the local user accepts or refuses it, sending these bytes
 abbrev pub accepting : Progress → List ℕ → Advance
@@ -36,5 +36,5 @@ answered s r p (Reject result source reason) =
 abbrev pub at_request : Settings → Progress → List ℕ → Advance
 at_request s p body = elim (request_fault body) [
   | Some fault ↦ done [] invalid_parameter p event.Invalid
-  | None ↦ answered s (request_record body) (keeping body p) (judged s (request_record body))
+  | None ↦ answered s (request_record body) (keeping s body p) (judged s (request_record body))
 ]

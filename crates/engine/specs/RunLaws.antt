@@ -1,7 +1,7 @@
 -- What follows for stores in a whole run.
 use Rattle.std.specs.Prelude.{◌≡◌, ℕ, Bool, List, ◌∷◌, ◌++◌, None}
 use Rattle.acceptor.specs.declared.state.State.{State}
-use Rattle.pdu.specs.Items.{request_record}
+use Rattle.engine.specs.Requested.{request_record}
 use Rattle.dimse.specs.Command.{CommandRecord}
 use Rattle.dimse.specs.Messages.{Message}
 use Rattle.dimse.specs.Reply.{reply_bytes}

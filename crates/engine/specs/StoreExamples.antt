@@ -42,7 +42,7 @@ data_set =
 
 -- the association of this request
 abbrev pub accepted : Progress
-accepted = record { state = Sta6; request = request_body; refused = false; message = NoMessage; filing_failed = false }
+accepted = record { state = Sta6; request = record { further = []; body = request_body }; refused = false; message = NoMessage; filing_failed = false }
 
 -- an entry; whether a filing call failed before it, and the finding on a store that ends in it
 abbrev pub told : Entry → Bool → Finding → Option ℕ → Happened

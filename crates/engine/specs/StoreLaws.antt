@@ -3,7 +3,7 @@
 use Rattle.std.specs.Prelude.{◌≡◌, ℕ, Bool, false, List, [], ◌∷◌, Some, None, Ok}
 use Rattle.element.specs.Numbers.{IsBytes}
 use Rattle.element.specs.declared.syntax.Syntax.{Syntax}
-use Rattle.pdu.specs.Items.{request_record}
+use Rattle.engine.specs.Requested.{request_record}
 use Rattle.dimse.specs.Command.{CommandRecord, c_store}
 use Rattle.dimse.specs.Messages.{Message}
 use Rattle.dimse.specs.Reading.{command_in}

@@ -7,6 +7,7 @@ use Rattle.sequence.specs.Taken.{StandsAt, walker_syntax, limits_of, told_by}
 use Rattle.dimse.specs.Messages.{Begun}
 use Rattle.engine.specs.declared.stores.Storing.{Storing}
 use Rattle.engine.specs.declared.stores.Storing.TheVariants as storing
+use Rattle.engine.specs.Requested.{Requested}
 use Rattle.engine.specs.Fair.{InStore}
 use Rattle.engine.specs.Stores.{limits}
 
@@ -36,7 +37,7 @@ pub record HasWalked {V D : ℕ} (walker : Walker V D) (syntax : Syntax) (lim : 
 
 -- Of a message in the association of this request: the data of a store whose class is its context's are walked, and of
 -- others nothing is kept.
-pub data Walks (depth most : ℕ) (request : List ℕ) (message : Begun) : Stored → Type 0 where
+pub data Walks (depth most : ℕ) (request : Requested) (message : Begun) : Stored → Type 0 where
   not_walked : (InStore request message → ⊥) → Walks depth most request message Nothing
   walked : {V D : ℕ} {walker : Walker V D} {drafting : Bool} → (store : InStore request message)
       → HasWalked walker store.context.syntax (limits depth most) store.set → Walks depth most request message (Walking walker drafting)

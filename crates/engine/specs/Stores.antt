@@ -5,7 +5,10 @@ use Rattle.element.specs.declared.syntax.Syntax.{Syntax}
 use Rattle.element.specs.declared.tag.Tag.{Tag}
 use Rattle.element.specs.Header.{number}
 use Rattle.element.specs.Uid.{uid_of}
-use Rattle.dictionary.specs.Classes.{class_of, is_storage}
+use Rattle.dictionary.specs.Classes.{is_storage}
+use Rattle.negotiate.specs.declared.proposals.Service.{Service}
+use Rattle.negotiate.specs.declared.proposals.Service.TheVariants.{Known, Further}
+use Rattle.negotiate.specs.Contexts.{service_of}
 use Rattle.negotiate.specs.declared.proposals.Context.{Context}
 use Rattle.dimse.specs.Command.{CommandRecord}
 use Rattle.dimse.specs.Detail.{class_mismatch, instance_mismatch}
@@ -38,10 +41,14 @@ pub record HasNoFault (syntax : Syntax) (lim : Limits) (data_set : List ℕ) : T
   pub whole : DataSet syntax 0 elements data_set
   pub unbroken : IsUnbroken syntax lim data_set
 
+abbrev pub is_storage_service : Service → Bool
+is_storage_service (Known class) = is_storage class
+is_storage_service (Further uid) = true
+
 -- the command's class is a storage class, and that of the presentation context
 pub record IsOfContext (context : Context) (command : CommandRecord) : Type 0 where
-  pub named : class_of command.class ≡ Some context.class
-  pub storage : is_storage context.class ≡ true
+  pub named : service_of command.class ≡ Some context.class
+  pub storage : is_storage_service context.class ≡ true
 
 -- the value of this tag names this identifier
 abbrev pub NamesUid : Values → Tag → List ℕ → Type 0

@@ -3,6 +3,7 @@ use Rattle.std.specs.Prelude.{ℕ, ◌^◌, Bool, true, List, Some, None, codes}
 use Rattle.element.specs.declared.syntax.Syntax.{Syntax}
 use Rattle.element.specs.declared.syntax.Syntax.TheVariants.{Implicit, Explicit}
 use Rattle.dictionary.specs.declared.class.Class.TheVariants.{Ct}
+use Rattle.negotiate.specs.declared.proposals.Service.TheVariants.{Known}
 use Rattle.negotiate.specs.declared.proposals.Context.{Context}
 use Rattle.dimse.specs.Command.{CommandRecord}
 use Rattle.dimse.specs.Status.{out_of_resources, cannot_understand}
@@ -12,7 +13,7 @@ use Rattle.engine.specs.Timeline.{Finding}
 use Rattle.engine.specs.Stores.{Verdict, cause}
 
 abbrev pub ct_in : Syntax → Context
-ct_in syntax = record { class = Ct; syntax = syntax }
+ct_in syntax = record { class = Known Ct; syntax = syntax }
 
 abbrev pub ct_store : CommandRecord
 ct_store = record { class = codes "1.2.840.10008.5.1.4.1.1.2"; field = 1; message = 7; with_data = true; instance = Some (codes "1.2.3") }

@@ -6,6 +6,7 @@ use Rattle.acceptor.specs.declared.state.State.TheVariants.{Sta1, Sta6}
 use Rattle.element.specs.declared.syntax.Syntax.TheVariants.{Explicit}
 use Rattle.dictionary.specs.declared.class.Class.TheVariants.{Ct}
 use Rattle.negotiate.specs.declared.proposals.Context.{Context}
+use Rattle.negotiate.specs.declared.proposals.Service.TheVariants.{Known}
 use Rattle.dimse.specs.Command.{CommandRecord}
 use Rattle.part10.specs.Store.{Store}
 use Rattle.engine.specs.Inputs.{Received, Bytes, Close}
@@ -14,7 +15,7 @@ use Rattle.engine.specs.Ran.{Run}
 use Rattle.engine.specs.Held.{Held}
 use Rattle.engine.specs.Reached.{reached}
 use Rattle.negotiate.specs.ContextRows.{context_rows}
-use Rattle.pdu.specs.Items.{request_record}
+use Rattle.engine.specs.Requested.{request_record}
 use Rattle.dimse.specs.Status.{class_not_supported, data_set_mismatch}
 use Rattle.dimse.specs.Messages.{NoMessage}
 use Rattle.dimse.specs.Joining.{shown}
@@ -53,17 +54,17 @@ TheRequestIsHeld =
 abbrev pub established : List ContextRow → Fields
 established table = record {
   position = position.Head (record { items = [] });
-  kept = record { room = 4096; depth = 64; most = 2 ^ 40; state = Sta6; refused = false; caller = codes "SCANNER1        "; peer_max = 16384; table = table; body = []; join = shown NoMessage []; storing = Nothing };
+  kept = record { room = 4096; depth = 64; most = 2 ^ 40; state = Sta6; refused = false; caller = codes "SCANNER1        "; peer_max = 16384; table = table; further = []; body = []; join = shown NoMessage []; storing = Nothing };
 }
 
 -- it stands established with the accepted context, whatever the filing shows, and not without it
 abbrev pub ItStandsEstablished : Type 0
 ItStandsEstablished =
-    ((store : Store) → Stands rooms settings request_inputs (calmly request_inputs) false (established (context_rows (request_record (drop 6 request)))) store)
+    ((store : Store) → Stands rooms settings request_inputs (calmly request_inputs) false (established (context_rows [] (request_record (record { further = []; body = drop 6 request })))) store)
     × ((store : Store) → Stands rooms settings request_inputs (calmly request_inputs) false (established []) store → ⊥)
 
 abbrev pub ct_context : Context
-ct_context = record { class = Ct; syntax = Explicit }
+ct_context = record { class = Known Ct; syntax = Explicit }
 
 abbrev pub unsupported : Finding
 unsupported = record { status = class_not_supported; detail = None }

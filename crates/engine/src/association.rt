@@ -46,6 +46,7 @@ impl<const A: usize, const C: usize, const V: usize, const D: usize> Association
     ghost use Rattle.engine.specs.Held.{Held};
     ghost use Rattle.engine.specs.Inputs.{Received, Bytes, Close, Expiry, UserAbort};
     ghost use Rattle.engine.specs.Moves.{Moved, StaysEnded};
+    ghost use Rattle.engine.specs.OutputLaws.{SendsFew};
     ghost use Rattle.engine.specs.Reached.{reached};
     ghost use Rattle.engine.specs.Stands.{Stands};
     ghost use Rattle.engine.specs.Timeline.{Happened};
@@ -104,6 +105,22 @@ impl<const A: usize, const C: usize, const V: usize, const D: usize> Association
         ensures accepted_room { state_of self.now ≡ Sta6 → result ≤ 544 + C + V + 16 * D }
     {
         self.deframer.held() + self.provider.held()
+    }
+
+    /// Returns how many bytes may be fed at once so that 16,552 are sent at most: those that are to come
+    /// of the part of a PDU that has begun, its head, its body, the head of a presentation data value or
+    /// its fragment, or of a PDU that goes by; and at least one.
+    pub fn portion(&self) -> usize
+        ensures some { 0 < result }
+        ensures few { (inputs : List Received) (story : List Happened) (failed : Bool) (store : Store)
+            → Stands (rooms_of A C V D) (settings_in self.now) inputs story failed (fields_of self.now) store
+            → SendsFew (rooms_of A C V D) (settings_in self.now) inputs story result }
+    {
+        let due = self.deframer.due();
+        if self.is_ended() || due == 0 {
+            return 1;
+        }
+        due
     }
 
     /// Takes the next bytes of the stream.

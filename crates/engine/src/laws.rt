@@ -7,8 +7,9 @@ ghost use Rattle.engine.specs.VerdictExamples.{VerdictsOnFaults};
 ghost use Rattle.engine.specs.StoreLaws.{AVerdictIsThere, AVerdictIsOne, NoGoodImageIsRefused, FiledByItself};
 ghost use Rattle.engine.specs.RunLaws.{EveryGoodImageIsFiled, OneRun, CutsGiveTheSame};
 ghost use Rattle.engine.specs.TurnLaws.{TurnsBegin, OneTurnMore, TurnsAreARun, EndedHasNoDraft};
-ghost use Rattle.engine.specs.OutputLaws.{AnswersAreShort, BoundedOutput, FewBytesButAnswers, FewMarks, OutputOfAPiece, StoriesAnswerShortly};
-ghost use Rattle.engine.specs.Laws.{EntriesAppend, CutsDoNotShow, NothingAfterTheEnd, HeldIsOne};
+ghost use Rattle.engine.specs.OutputLaws.{AbortsShortly, AnswersAreShort, BoundedOutput, EntriesOfMore, FewBytesButAnswers, FewMarks, OutputOfAPiece, SilentSendsNothing, StoriesAnswerShortly};
+ghost use Rattle.engine.specs.Laws.{EntriesAppend, CutsDoNotShow, NothingAfterTheEnd};
+ghost use Rattle.engine.specs.HeldLaws.{HeldIsOne, HeldIsWithinRooms};
 ghost use Rattle.engine.specs.Examples.{ARequestAboveTheRoom, BytesThatAreNoPdu, DataAboveTheMaximum, AfterTheEnd, AnotherCalledTitle, RecordedEcho, HeldWhileTheEchoComes, AGoodPdvBeforeABadOne};
 
 /// The timeline with more inputs is the old one with their entries appended.
@@ -80,10 +81,28 @@ pub fn answers_are_short()
     ensures piece { OutputOfAPiece }
 {}
 
+/// The entries of one input more are those that it brings after the bytes of the inputs before it.
+pub fn entries_of_one_more()
+    ensures { EntriesOfMore }
+{}
+
+/// The transport's close and the ARTIM timer's expiry send nothing, and the local user's abort sends 30
+/// bytes at most.
+pub fn other_inputs_send_little()
+    ensures silent { SilentSendsNothing }
+    ensures abort { AbortsShortly }
+{}
+
 /// The number of held bytes is one: what `Association::held` returns, and `run` reports, is all that the
 /// definition names.
 pub fn the_number_of_held_bytes_is_one()
     ensures { HeldIsOne }
+{}
+
+/// Whatever comes, at most as many bytes are held as the rooms have place for; and once an association is
+/// accepted, 544 and those of a message.
+pub fn held_is_within_the_rooms()
+    ensures { HeldIsWithinRooms }
 {}
 
 /// There is a verdict on every store.

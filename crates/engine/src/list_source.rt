@@ -3,6 +3,7 @@ ghost use Rattle.std.specs.Prelude.{◌≡◌, ◌≤◌, Some, length, map};
 ghost use Rattle.engine.specs.Inputs.{received_of};
 
 use crate::source::{Input, Source};
+use acceptor::State;
 
 /// An input of a list, a piece with its bytes.
 #[derive(Clone, Copy)]
@@ -13,8 +14,8 @@ pub enum ListedInput<'a> {
     LocalAbort,
 }
 
-/// Gives the inputs of a list one after the other, whether the timer runs or not; at the end the
-/// transport connection is closed.
+/// Gives the inputs of a list one after the other, whatever the state; at the end the transport
+/// connection is closed.
 #[derive(Drop)]
 pub struct ListSource<'a> {
     inputs: &'a [ListedInput<'a>],
@@ -46,7 +47,7 @@ impl Source for ListSource<'_> {
 
     ghost last = { λ s. s.piece.now };
 
-    fn next(&mut self, _timer: bool) -> Input {
+    fn next(&mut self, _state: State) -> Input {
         if self.at == self.inputs.len() {
             return Input::Closed;
         }

@@ -31,7 +31,7 @@ impl<const A: usize, const C: usize, const V: usize, const D: usize> Provider<A,
     ghost use Rattle.engine.specs.Drafts.{IsDraft};
     ghost use Rattle.engine.specs.machine.Messages.{Aside, HasCome, Proceeds, Ended, Concludes, with_storing};
     ghost use Rattle.std.specs.Prelude.{true};
-    ghost use Rattle.pdu.specs.Items.{request_record};
+    ghost use Rattle.engine.specs.Requested.{Requested, request_record};
     ghost use Rattle.engine.specs.machine.Does.{Does, Appends};
     ghost use Rattle.engine.specs.Run.{rooms_of};
 
@@ -54,7 +54,7 @@ impl<const A: usize, const C: usize, const V: usize, const D: usize> Provider<A,
         if !self.takes_pdvs() {
             return;
         }
-        let Some(_) = context_of(self.table.as_slice(), head.context) else {
+        let Some(_) = context_of(&self.config, self.table.as_slice(), head.context) else {
             self.refuse(
                 Event::Invalid,
                 INVALID_PARAMETER,
@@ -96,7 +96,7 @@ impl<const A: usize, const C: usize, const V: usize, const D: usize> Provider<A,
         ensures kept { kept_of self.new ≡ with_storing (kept_of self.new).storing (kept_of self.old) }
         ensures settings { settings_in self.new ≡ settings_in self.old }
         ensures drafts { Drafts (drafting_in (kept_of self.old).storing) (F.store filing.old) (drafting_in (kept_of self.new).storing) (F.store filing.new) }
-        ensures proceeds { (request : List ℕ) → Agreed (kept_of self.old) (request_record request) → (kept_of self.old).storing ≡ Nothing
+        ensures proceeds { (request : Requested) → Agreed (kept_of self.old) (request_record request) → (kept_of self.old).storing ≡ Nothing
             → ((c : CommandRecord) → command_in self.old.join.command ≡ Ok c → c.with_data ≡ true)
             → Proceeds D self.old.config.max_data request (messages.InSet context self.old.join.command []) false (kept_of self.new).storing (F.store filing.old) (F.store filing.new) }
     {
@@ -106,7 +106,7 @@ impl<const A: usize, const C: usize, const V: usize, const D: usize> Provider<A,
         if !command.with_data() {
             return;
         }
-        let Some(accepted) = context_of(self.table.as_slice(), context) else {
+        let Some(accepted) = context_of(&self.config, self.table.as_slice(), context) else {
             return;
         };
         if is_of_context(&accepted, &command) {
@@ -135,7 +135,10 @@ impl<const A: usize, const C: usize, const V: usize, const D: usize> Provider<A,
             return Ok(());
         };
         if command.field() == Command::C_ECHO {
-            let status = echo_status(context_of(self.table.as_slice(), context), &command);
+            let status = echo_status(
+                context_of(&self.config, self.table.as_slice(), context),
+                &command,
+            );
             return write_response(&command, status, None, context, self.peer_max, wire);
         }
         let ended = self.storing.end(&command, filing);

@@ -59,9 +59,9 @@ fn answer_request<W: Wire>(
     ensures due { OnErr result.1 (0 < length (at_request (settings_of config.now) at_start body.now).sent) }
     ensures caller { result.0 ≡ Sta6 → caller.new ≡ (request_record body.now).calling }
     ensures maximum { result.0 ≡ Sta6 → peer_max.new ≡ (request_record body.now).maximum }
-    ensures contexts { result.0 ≡ Sta6 → (id : ℕ) → context_in table.new.items id ≡ contexts.context_of (request_record body.now) id }
-    ensures kept_rows { result.0 ≡ Sta6 → table.new.items ≡ context_rows (request_record body.now) }
-    ensures count { result.0 ≡ Sta6 → length table.new.items ≡ accepted_count (request_record body.now) }
+    ensures contexts { result.0 ≡ Sta6 → (id : ℕ) → context_in (settings_of config.now).further table.new.items id ≡ contexts.context_of (contexts.offered (settings_of config.now).further (request_record body.now)) id }
+    ensures kept_rows { result.0 ≡ Sta6 → table.new.items ≡ context_rows (settings_of config.now).further (contexts.offered (settings_of config.now).further (request_record body.now)) }
+    ensures count { result.0 ≡ Sta6 → length table.new.items ≡ accepted_count (contexts.offered (settings_of config.now).further (request_record body.now)) }
     ensures rows { (n : ℕ) → 32 + 4 * array_vec_len table.old ≤ n → length body.now + 12 ≤ n → 32 + 4 * array_vec_len table.new ≤ n }
     ensures answerable { (peer_max.old < 8 → peer_max.old ≡ 0) → peer_max.new < 8 → peer_max.new ≡ 0 }
 {

@@ -1,5 +1,5 @@
 //! A run over a source of inputs, whole or turn by turn.
-ghost use Rattle.std.specs.Prelude.{◌≡◌, ◌≤◌, ◌^◌, ◌+◌, ◌*◌};
+ghost use Rattle.std.specs.Prelude.{◌≡◌, ◌≤◌, ◌<◌, ◌^◌, ◌+◌, ◌*◌};
 ghost use Rattle.negotiate.specs.Settings.{settings_of};
 ghost use Rattle.engine.specs.Devices.{devices};
 ghost use Rattle.engine.specs.Run.{rooms_of};
@@ -8,6 +8,7 @@ ghost use Rattle.engine.specs.Ran.{Ran};
 use crate::association::Association;
 use crate::report::{Report, Standing};
 use crate::source::{Input, Source};
+use acceptor::State;
 use negotiate::Config;
 use part10::Filing;
 use pdu::Wire;
@@ -25,13 +26,13 @@ pub struct Running<const A: usize, const C: usize, const V: usize, const D: usiz
 impl<const A: usize, const C: usize, const V: usize, const D: usize> Running<A, C, V, D> {
     ghost use Rattle.std.specs.Prelude.{Bool, List, [], true, false};
     ghost use Rattle.acceptor.specs.declared.state.State.TheVariants.{Sta1};
-    ghost use Rattle.acceptor.specs.Effect.{timer_runs};
     ghost use Rattle.part10.specs.Store.{Store};
     ghost use Rattle.engine.specs.Drafts.{IsThere};
     ghost use Rattle.engine.specs.Fields.{association_in, drafting_of, fields_of, settings_in, state_of};
     ghost use Rattle.engine.specs.Held as holding;
-    ghost use Rattle.engine.specs.Inputs.{Received, input_of};
+    ghost use Rattle.engine.specs.Inputs.{Received, input_of, shown_after};
     ghost use Rattle.engine.specs.Moves.{Moved, StaysEnded};
+    ghost use Rattle.engine.specs.OutputLaws.{SendsFew};
     ghost use Rattle.engine.specs.Stands.{Stands};
     ghost use Rattle.engine.specs.Timeline.{Happened};
     ghost use Rattle.engine.specs.Turns.{TookInput, Reports};
@@ -54,11 +55,12 @@ impl<const A: usize, const C: usize, const V: usize, const D: usize> Running<A, 
         }
     }
 
-    /// Returns whether the ARTIM timer runs.
-    pub fn artim(&self) -> bool
-        ensures { result ≡ timer_runs (state_of (association_in self.now)) }
+    /// Returns the state of the acceptor. `State::timer_runs` says whether the ARTIM timer runs in it;
+    /// where it does, the timer was started with the input that led into it.
+    pub fn state(&self) -> State
+        ensures { result ≡ state_of (association_in self.now) }
     {
-        self.association.artim()
+        self.association.state()
     }
 
     /// Returns whether the association has ended. Then no draft of it is in the filing.
@@ -67,6 +69,25 @@ impl<const A: usize, const C: usize, const V: usize, const D: usize> Running<A, 
         ensures no_draft { result ≡ true → drafting_of (association_in self.now) ≡ false }
     {
         self.association.is_ended()
+    }
+
+    /// Returns how many bytes a piece may have so that 16,552 are sent at most for it: those that are to
+    /// come of the part of a PDU that has begun, its head, its body, the head of a presentation data
+    /// value or its fragment, or of a PDU that goes by; and at least one.
+    pub fn portion(&self) -> usize
+        ensures some { 0 < result }
+        ensures few { (inputs : List Received) (story : List Happened) (failed : Bool) (store : Store)
+            → Stands (rooms_of A C V D) (settings_in (association_in self.now)) inputs story failed (fields_of (association_in self.now)) store
+            → SendsFew (rooms_of A C V D) (settings_in (association_in self.now)) inputs story result }
+    {
+        self.association.portion()
+    }
+
+    /// Returns whether a store of the association has its draft in the filing.
+    pub fn drafting(&self) -> bool
+        ensures { result ≡ drafting_of (association_in self.now) }
+    {
+        self.association.drafting()
     }
 
     /// Takes an input, with the bytes of its piece.
@@ -95,7 +116,7 @@ impl<const A: usize, const C: usize, const V: usize, const D: usize> Running<A, 
         }
     }
 
-    /// Takes the next input of the source.
+    /// Takes the next input of the source, which is shown the state that the association is in.
     pub fn turn<S: Source, W: Wire, F: Filing>(
         &mut self,
         source: &mut S,
@@ -105,10 +126,11 @@ impl<const A: usize, const C: usize, const V: usize, const D: usize> Running<A, 
         requires draft { IsThere (drafting_of (association_in self.old)) (F.store filing.old) }
         ensures draft { IsThere (drafting_of (association_in self.new)) (F.store filing.new) }
         ensures settings { settings_in (association_in self.new) ≡ settings_in (association_in self.old) }
+        ensures shown { S.shown source.new ≡ shown_after (state_of (association_in self.old)) (S.shown source.old) }
         ensures took { TookInput (rooms_of A C V D) (settings_in (association_in self.old)) (S.supply source.old) (S.supply source.new)
             (fields_of (association_in self.old)) (fields_of (association_in self.new)) (devices (W.line wire.old) (F.store filing.old)) (devices (W.line wire.new) (F.store filing.new)) }
     {
-        let input = source.next(self.artim());
+        let input = source.next(self.state());
         self.take(input, source.piece(), wire, filing);
     }
 

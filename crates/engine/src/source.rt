@@ -1,6 +1,9 @@
 //! Where an association's inputs come from.
-ghost use Rattle.std.specs.Prelude.{◌≡◌, ℕ, List};
-ghost use Rattle.engine.specs.Inputs.{Supply, Gives};
+ghost use Rattle.std.specs.Prelude.{◌≡◌, ℕ, List, Option, None};
+ghost use Rattle.acceptor.specs.declared.state.State.{State};
+ghost use Rattle.engine.specs.Inputs.{Supply, Gives, shown_after};
+
+use acceptor::State;
 
 /// What comes next.
 #[derive(Clone, Copy, Debug, PartialEq, Eq)]
@@ -23,9 +26,15 @@ pub trait Source {
     /// The bytes of the last piece.
     ghost last: { Self → List ℕ };
 
-    /// Takes the next input; `timer` says whether the ARTIM timer runs.
-    fn next(&mut self, timer: bool) -> Input
-        ensures { Gives (supply self.old) (supply self.new) (last self.new) result };
+    /// The state that the source was shown last, where it shows that.
+    ghost shown: { Self → Option State } = { λ _. None };
+
+    /// Takes the next input of an association that is in this state. Where the ARTIM timer runs in it,
+    /// the timer was started since the call before exactly where that one was shown another state
+    /// (`acceptor::laws::starts_are_seen`).
+    fn next(&mut self, state: State) -> Input
+        ensures gives { Gives (supply self.old) (supply self.new) (last self.new) result }
+        ensures shown { shown self.new ≡ shown_after state (shown self.old) };
 
     /// The bytes of the last piece.
     fn piece(&self) -> &[u8]

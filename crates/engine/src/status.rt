@@ -5,7 +5,7 @@ ghost use Rattle.engine.specs.Replies as spelling;
 use dictionary::{Class, class_of};
 use dimse::Command;
 use dimse::status::{CLASS_NOT_SUPPORTED, SUCCESS};
-use negotiate::Context;
+use negotiate::{Context, Service};
 
 fn is_verification(class: Option<Class>) -> bool
     ensures { result ≡ spelling.is_verification class }
@@ -18,7 +18,10 @@ fn class_by(context: Option<Context>) -> Option<Class>
     ensures { result ≡ spelling.class_by context }
 {
     match context {
-        Some(context) => Some(context.class),
+        Some(context) => match context.class {
+            Service::Known(class) => Some(class),
+            Service::Further(_) => None,
+        },
         None => None,
     }
 }

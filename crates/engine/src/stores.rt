@@ -7,16 +7,17 @@ ghost use Rattle.sequence.specs.Taken.{told_by};
 ghost use Rattle.sequence.specs.Stored.{wanted_tags};
 ghost use Rattle.engine.specs.Drafts.{IsThere, Drafts};
 ghost use Rattle.engine.specs.Replies.{some_or_nothing};
+ghost use Rattle.negotiate.specs.declared.proposals.Service.TheVariants as services;
 ghost use Rattle.engine.specs.Stores as spelling;
 ghost use Rattle.engine.specs.Stores.{IsOfContext, NamesUid, NamesInstance, limits};
 ghost use Rattle.engine.specs.StoredData.{Nothing, HasWalked, stored_of, held_in};
 ghost use Rattle.engine.specs.machine.Storing.{Begins, BeginsStore, Grows, finding_of};
 ghost use Rattle.engine.specs.machine.Verdicts.{Commits, Compared, WalkHasVerdict, of_fault};
 
-use dictionary::class_of;
+use dictionary::{Class, class_of};
 use dimse::{CLASS_MISMATCH, Command, Detail, INSTANCE_MISMATCH, status};
 use element::{AeTitle, Tag, Uid};
-use negotiate::Context;
+use negotiate::{Context, Service};
 use part10::{Filing, Meta, meta_bytes};
 use sequence::{Fault, Walker, Want, Wanted};
 
@@ -70,14 +71,40 @@ impl StoreStatus {
     }
 }
 
+/// Whether the service is this class of the dictionary.
+fn is_known(service: &Service, class: Class) -> bool
+    ensures yes { result ≡ true → service.now ≡ services.Known class }
+    ensures no { result ≡ false → service.now ≡ services.Known class → ⊥ }
+{
+    match service {
+        Service::Known(own) => *own == class,
+        Service::Further(_) => false,
+    }
+}
+
+/// Whether the service is this further class.
+fn is_further(service: &Service, uid: &Uid) -> bool
+    ensures yes { result ≡ true → service.now ≡ services.Further uid.now }
+    ensures no { result ≡ false → service.now ≡ services.Further uid.now → ⊥ }
+{
+    match service {
+        Service::Known(_) => false,
+        Service::Further(own) => own == uid,
+    }
+}
+
 /// Whether the class of a store is that of its presentation context, and one of storage.
 pub(crate) fn is_of_context(context: &Context, command: &Command) -> bool
     ensures yes { result ≡ true → IsOfContext context.now command.now }
     ensures no { result ≡ false → IsOfContext context.now command.now → ⊥ }
 {
-    match class_of(command.class().as_bytes()) {
-        Some(class) => class == context.class && class.is_storage(),
-        None => false,
+    let bytes = command.class().as_bytes();
+    match class_of(bytes) {
+        Some(class) => is_known(&context.class, class) && class.is_storage(),
+        None => match Uid::read(bytes) {
+            Some(uid) => is_further(&context.class, &uid),
+            None => false,
+        },
     }
 }
 

@@ -3,10 +3,10 @@
 use crate::filings::FailingFiling;
 use crate::runtimes::Diverted;
 use crate::two_stores::{Due, TwoStores};
-use fixtures::folders::{are_in, fresh, holds, is_filed};
+use fixtures::folders::{are_in, count, fresh, holds, is_filed, put};
 use fixtures::refusing::Refusing;
 use harness::{Step, drive};
-use part10::FolderFiling;
+use part10::{Filing, FolderFiling, FolderWriter};
 use pdu::MemoryWire;
 use std::alloc::Global;
 use std::cell::Cell;
@@ -231,5 +231,101 @@ fn each_call_to_a_folder_fails_in_turn(rt: HostRuntime) -> Result<(), Fail> {
         assert!(rt; each_call_fails(&rt, &stores, dir, cut, calls)?);
     }
     fs::remove_dir_all(&rt, dir)?;
+    Ok(())
+}
+
+/// Whether, of two drafts that stand at the same time, that of the filing whose disk is full is lost alone, and the other
+/// one is filed whole.
+fn is_other_filed(full: &mut FolderFiling<Diverted>, other: &mut FolderFiling<Diverted>) -> bool {
+    if full.begin().is_err() || other.begin().is_err() {
+        return false;
+    }
+    if other.append(b"oth").is_err() || full.append(b"full").is_ok() {
+        return false;
+    }
+    if other.append(b"er").is_err() || other.commit().is_err() {
+        return false;
+    }
+    (full.committed(), full.dropped()) == (0, 1) && (other.committed(), other.dropped()) == (1, 0)
+}
+
+/// Whether it is so where the disk is full for this draft, that of the first filing or of the second.
+fn is_full_for_one(rt: &HostRuntime, dir: &str, name: &str) -> io::Result<bool> {
+    fresh(rt, dir)?;
+    let times = Cell::new(1);
+    let full = Diverted {
+        rt,
+        name,
+        device: "/dev/full",
+        times: &times,
+    };
+    let mut writer = FolderWriter::open(full, dir)?;
+    let (mut first, mut second) = (writer.filing()?, writer.filing()?);
+    let is_so = if name == "DRAFT" {
+        is_other_filed(&mut first, &mut second)
+    } else {
+        is_other_filed(&mut second, &mut first)
+    };
+    Ok(is_so && holds(rt, dir, "I0000001", b"other")? && count(rt, dir)? == 1)
+}
+
+#[test]
+fn a_disk_that_is_full_for_one_of_two_drafts(rt: HostRuntime) -> Result<(), Fail> {
+    let dir = "a_disk_that_is_full_for_one";
+    assert!(rt; is_full_for_one(&rt, dir, "DRAFT")? && is_full_for_one(&rt, dir, "DRAFT2")?);
+    fs::remove_dir_all(&rt, dir)?;
+    Ok(())
+}
+
+/// Files in two filings of this folder at the same time; returns which of them did so, or neither if there is no memory
+/// for the folder or for a filing.
+fn filed_in_two(
+    rt: &HostRuntime,
+    dir: &str,
+    memory: &Refusing<Global>,
+) -> io::Result<(bool, bool)> {
+    let (mut first, mut second) = match two_filings(rt, dir, memory) {
+        Ok(filings) => filings,
+        Err(error) if error.kind() == ErrorKind::OutOfMemory => return Ok((false, false)),
+        Err(error) => return Err(error),
+    };
+    if first.begin().is_err() || first.append(b"first").is_err() {
+        return Ok((false, is_filed(&mut second, b"second")));
+    }
+    let has_second = is_filed(&mut second, b"second");
+    Ok((first.commit().is_ok(), has_second))
+}
+
+/// Two filings with memory that may be refused.
+type WithMemory<'a> = FolderFiling<(HostRuntime, &'a Refusing<Global>)>;
+
+fn two_filings<'a>(
+    rt: &HostRuntime,
+    dir: &str,
+    memory: &'a Refusing<Global>,
+) -> io::Result<(WithMemory<'a>, WithMemory<'a>)> {
+    let mut writer = FolderWriter::open((*rt, memory), dir)?;
+    Ok((writer.filing()?, writer.filing()?))
+}
+
+/// Each allocation is refused in turn: no file is left of the filing whose call fails, and the other one's is whole.
+#[test]
+fn each_allocation_of_two_filings_is_refused(rt: HostRuntime) -> Result<(), Fail> {
+    let dir = "each_allocation_of_two_filings";
+    for passed in 0..100u64 {
+        fresh(&rt, dir)?;
+        put(&rt, dir, "DRAFT2", b"left")?;
+        let memory = Refusing::new(rt.alloc(), passed);
+        let (has_first, has_second) = filed_in_two(&rt, dir, &memory)?;
+        let first = if has_second { "I0000002" } else { "I0000001" };
+        assert!(rt; holds(&rt, dir, first, b"first")? == has_first);
+        assert!(rt; holds(&rt, dir, "I0000001", b"second")? == has_second);
+        if !memory.has_refused() {
+            assert!(rt; has_first && has_second && 5 < passed && count(&rt, dir)? == 2);
+            fs::remove_dir_all(&rt, dir)?;
+            return Ok(());
+        }
+    }
+    assert!(rt; false);
     Ok(())
 }

@@ -19,8 +19,6 @@ mod memory_failures;
 #[cfg(test)]
 mod read_failures;
 #[cfg(test)]
-mod readers;
-#[cfg(test)]
 mod runtimes;
 #[cfg(test)]
 mod send_failures;

@@ -1,6 +1,6 @@
 //! Reads that fail in the middle of a file header, each in turn.
 
-use crate::readers::SlowReader;
+use fixtures::readers::{FailsWhen, SlowReader};
 use fixtures::stores::{CT_SET, EXPLICIT, INSTANCE, file};
 use part10::{MetaFault, read_meta};
 use std::alloc::AllocError;
@@ -11,10 +11,10 @@ fn is_told(reader: SlowReader) -> (bool, bool) {
     let is_right = match read_meta(&mut reader) {
         Ok(meta) => {
             meta.instance.as_bytes() == b"1.2.3".as_slice()
-                && reader.at == 288
+                && reader.given() == 288
                 && !reader.has_failed()
         }
-        Err(fault) => fault == MetaFault::ReadFailed && reader.has_failed() && reader.at < 288,
+        Err(fault) => fault == MetaFault::ReadFailed && reader.has_failed() && reader.given() < 288,
     };
     (is_right, reader.has_failed())
 }
@@ -22,7 +22,7 @@ fn is_told(reader: SlowReader) -> (bool, bool) {
 /// Returns how many reads failed in turn of those of so many bytes at most, if each was told.
 fn failed(file: &[u8], most: usize) -> Option<u32> {
     for passed in 0..400u32 {
-        match is_told(SlowReader::new(file, most, passed)) {
+        match is_told(SlowReader::new(file, most, FailsWhen::AfterReads(passed))) {
             (true, true) => {}
             (true, false) => return Some(passed),
             (false, _) => return None,

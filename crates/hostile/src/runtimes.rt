@@ -6,7 +6,8 @@ use std::fs::{File, Metadata, OpenOptions};
 use std::io;
 use std::rt::Files;
 
-/// A runtime that opens a device in place of files of one name, so many times.
+/// A runtime that opens a device in place of files of one name, so many times. A file that is to be created is
+/// there, and stays empty.
 #[derive(Drop)]
 pub(crate) struct Diverted<'a> {
     pub(crate) rt: &'a HostRuntime,
@@ -43,6 +44,9 @@ impl Files for Diverted<'_> {
         let times = self.times.get();
         if times > 0 && path.ends_with(self.name) {
             self.times.set(times - 1);
+            if how.asks_create_new() {
+                self.rt.open_file(how, path)?;
+            }
             return File::options()
                 .read(true)
                 .write(true)

@@ -1,18 +1,19 @@
-//! Sources: one that keeps which timers it was handed, one whose peer falls silent, and one that gives a piece many
+//! Sources: one that keeps which states it was shown, one whose peer falls silent, and one that gives a piece many
 //! times.
 ghost use Rattle.std.specs.Prelude.{◌≤◌, None, length};
 
+use acceptor::State;
 use arrayvec::ArrayVec;
 use engine::{Input, ListedInput, Source};
 
-/// A list of inputs that shows nothing of what is to come, and keeps which timer it was handed at
-/// each turn.
+/// A list of inputs that shows nothing of what is to come, and keeps which state it was shown at each
+/// turn.
 #[derive(Drop)]
 pub(crate) struct Witness<'a> {
     inputs: &'a [ListedInput<'a>],
     pub(crate) at: usize,
     piece: &'a [u8],
-    pub(crate) timers: ArrayVec<bool, 8>,
+    pub(crate) states: ArrayVec<Option<State>, 8>,
     ghost within: { at ≤ length inputs.now },
 }
 
@@ -22,7 +23,7 @@ impl<'a> Witness<'a> {
             inputs,
             at: 0,
             piece: &[],
-            timers: ArrayVec::new(),
+            states: ArrayVec::new(),
         }
     }
 }
@@ -32,8 +33,8 @@ impl Source for Witness<'_> {
 
     ghost last = { λ w. w.piece.now };
 
-    fn next(&mut self, timer: bool) -> Input {
-        let _full = self.timers.try_push(timer);
+    fn next(&mut self, state: State) -> Input {
+        let _full = self.states.try_push(Some(state));
         if self.at == self.inputs.len() {
             return Input::Closed;
         }
@@ -80,13 +81,13 @@ impl Source for Silent<'_> {
 
     ghost last = { λ s. s.piece.now };
 
-    fn next(&mut self, timer: bool) -> Input {
+    fn next(&mut self, state: State) -> Input {
         if self.at < self.pieces.len() {
             self.piece = self.pieces[self.at];
             self.at += 1;
             return Input::Piece;
         }
-        if timer {
+        if state.timer_runs() {
             Input::Expired
         } else {
             Input::LocalAbort
@@ -133,7 +134,7 @@ impl Source for Repeated<'_> {
 
     ghost last = { λ s. s.piece.now };
 
-    fn next(&mut self, _timer: bool) -> Input {
+    fn next(&mut self, _state: State) -> Input {
         let at = self.at;
         self.at = at.saturating_add(1);
         let count = self.first.len();

@@ -1,6 +1,7 @@
-//! The timer that a source is handed at each turn.
+//! The state that a source is shown at each turn.
 
 use crate::sources::{Silent, Witness};
+use acceptor::State;
 use engine::{ListedInput, Report, Standing, run};
 use fixtures::bytes::joined;
 use fixtures::echo::{ACCEPT, ECHO, RELEASE, RELEASED, REQUEST, USER_ABORT};
@@ -15,7 +16,7 @@ const ENDED: Report = Report {
 };
 
 #[test]
-fn the_source_is_handed_the_timer(rt: HostRuntime) {
+fn the_source_is_shown_the_state(rt: HostRuntime) {
     let inputs = [
         ListedInput::Piece(REQUEST),
         ListedInput::Piece(ECHO),
@@ -34,7 +35,13 @@ fn the_source_is_handed_the_timer(rt: HostRuntime) {
         9,
     );
     assert!(rt; report == ENDED && source.at == 4);
-    assert!(rt; source.timers.as_slice() == [true, false, false, true].as_slice());
+    let states = [
+        Some(State::Sta2),
+        Some(State::Sta6),
+        Some(State::Sta6),
+        Some(State::Sta13),
+    ];
+    assert!(rt; source.states.as_slice() == states.as_slice());
 }
 
 /// Whether a peer that falls silent after these pieces is answered by these, and the association ends.

@@ -12,7 +12,7 @@ use Rattle.pdu.specs.Refusal.{request_fault}
 use Rattle.pdu.proofs.Public.{request_text, request_kept, few_ids}
 use Rattle.dictionary.specs.Syntaxes.{application_context}
 use Rattle.negotiate.specs.Accept.{item_text, context_text, user_text, before_contexts, accept_text}
-use Rattle.negotiate.specs.Contexts.{carried}
+use Rattle.negotiate.specs.Contexts.{carried, offered, seen}
 use Rattle.negotiate.specs.Settings.{Settings}
 
 syntax_short : (x : Syntax) → length (syntax_uid x) ≤ 19
@@ -36,7 +36,8 @@ three_lengths a b c = omega (arith, length-append (a ++ b) c, length-append a b)
 
 accept_short : (s : Settings) (r : RequestRecord) → length r.called ≤ 16 → length r.calling ≤ 16 → length r.reserved ≤ 32 → length (accept_text s r) ≤ 140 + 31 * length r.contexts
 accept_short s r called calling reserved =
-    omega (arith, three_lengths (before_contexts r) (flat_map context_text r.contexts) (user_text s.max_pdu), front_short r called calling reserved, contexts_short r.contexts)
+    let offers = (offered s.further r).contexts in
+    omega (arith, three_lengths (before_contexts r) (flat_map context_text offers) (user_text s.max_pdu), front_short r called calling reserved, contexts_short offers, length-map r.contexts (seen s.further))
 
 few_contexts : (body : List ℕ) → IsBytes body → request_fault body ≡ None → length (request_record body).contexts ≤ 128
 few_contexts body bytes none =

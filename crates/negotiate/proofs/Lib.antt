@@ -2,5 +2,7 @@
 pub mod Public
 pub mod AnswerLemmas
 pub mod AcceptLemmas
+pub mod ServiceLemmas
+pub mod PlaceLemmas
 pub mod TableLemmas
 pub mod LengthLemmas

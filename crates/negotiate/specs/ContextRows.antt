@@ -1,35 +1,64 @@
 -- The table of the accepted presentation contexts, which is kept when the request is given up (this product's own profile).
-use Rattle.std.specs.Prelude.{ℕ, List, Option, nat_eq, option_map}
-use Rattle.std.specs.List.{count_by, filter_map, find}
+use Rattle.std.specs.Prelude.{ℕ, List, Option, Some, None, nat_eq, option_map, option_and_then, slice_get}
+use Rattle.std.specs.List.{count_by, filter_map, find, position_from}
 use Rattle.element.specs.declared.syntax.Syntax.TheVariants.{Implicit}
+use Rattle.element.specs.Uid.{uid_of}
 use Rattle.dictionary.specs.declared.class.Class.TheVariants.{Verification}
 use Rattle.pdu.specs.Record.{RequestRecord, Proposal}
 use Rattle.negotiate.specs.declared.proposals.Context.{Context}
+use Rattle.negotiate.specs.declared.proposals.Service.{Service}
+use Rattle.negotiate.specs.declared.proposals.Service.TheVariants as service
 use Rattle.negotiate.specs.declared.table.ContextRow.{ContextRow}
-use Rattle.negotiate.specs.Contexts.{acceptance, accepted, result_of}
+use Rattle.negotiate.specs.declared.table.RowClass.{RowClass}
+use Rattle.negotiate.specs.declared.table.RowClass.TheVariants as row
+use Rattle.negotiate.specs.Contexts.{acceptance, accepted, further_by, is_text, result_of}
 
-abbrev pub row_with : ℕ → Context → ContextRow
-row_with id context = record { id = id; class = context.class; syntax = context.syntax; spare = 0 }
+abbrev pub or_first : Option ℕ → ℕ
+or_first None = 0
+or_first (Some place) = place
+
+-- a further storage class stands in a row as its place among those that are taken
+abbrev pub place_of : List (List ℕ) → List ℕ → Option ℕ
+place_of further uid = position_from (is_text uid) 0 further
+
+abbrev pub class_in_row : List (List ℕ) → Service → RowClass
+class_in_row further (service.Known class) = row.Known class
+class_in_row further (service.Further uid) = row.Further (or_first (place_of further uid))
+
+abbrev pub row_with : List (List ℕ) → ℕ → Context → ContextRow
+row_with further id context = record { id = id; class = class_in_row further context.class; syntax = context.syntax }
 
 -- the row of a proposed context, where it is accepted
-abbrev pub row_of : Proposal → Option ContextRow
-row_of p = option_map (row_with p.id) (accepted p)
+abbrev pub row_of : List (List ℕ) → Proposal → Option ContextRow
+row_of further p = option_map (row_with further p.id) (accepted p)
 
 -- the table: a row for each accepted context, in the request's order
-abbrev pub context_rows : RequestRecord → List ContextRow
-context_rows r = filter_map row_of r.contexts
+abbrev pub context_rows : List (List ℕ) → RequestRecord → List ContextRow
+context_rows further r = filter_map (row_of further) r.contexts
 
 -- how many of the proposed contexts are accepted
 abbrev pub accepted_count : RequestRecord → ℕ
 accepted_count r = count_by (λ p. nat_eq (result_of p) acceptance) r.contexts
 
-abbrev pub context_by : ContextRow → Context
-context_by row = record { class = row.class; syntax = row.syntax }
+abbrev pub service_at : Option (List ℕ) → Option Service
+service_at None = None
+service_at (Some text) = further_by (uid_of text)
+
+abbrev pub service_in : List (List ℕ) → RowClass → Option Service
+service_in further (row.Known class) = Some (service.Known class)
+service_in further (row.Further place) = service_at (slice_get further place)
+
+abbrev pub context_with : ContextRow → Option Service → Option Context
+context_with row None = None
+context_with row (Some class) = Some (record { class = class; syntax = row.syntax })
+
+abbrev pub context_by : List (List ℕ) → ContextRow → Option Context
+context_by further row = context_with row (service_in further row.class)
 
 -- the context of this id in a table
-abbrev pub context_in : List ContextRow → ℕ → Option Context
-context_in rows id = option_map context_by (find (λ row. nat_eq row.id id) rows)
+abbrev pub context_in : List (List ℕ) → List ContextRow → ℕ → Option Context
+context_in further rows id = option_and_then (context_by further) (find (λ row. nat_eq row.id id) rows)
 
 -- what the room of a table has where no row is
 abbrev pub no_row : ContextRow
-no_row = record { id = 0; class = Verification; syntax = Implicit; spare = 0 }
+no_row = record { id = 0; class = row.Known Verification; syntax = Implicit }

@@ -1,6 +1,8 @@
 -- The result of each proposed presentation context (PS3.8 sections 7.1.1.14 and 9.3.3.2).
-use Rattle.std.specs.Prelude.{ℕ, Bool, true, false, List, Option, Some, None, nat_eq, if◌then◌else◌, option_and_then}
+use Rattle.std.specs.Prelude.{ℕ, Bool, true, false, List, [], map, Option, Some, None, nat_eq, if◌then◌else◌, option_and_then}
 use Rattle.std.specs.List.{list_any, find}
+use Rattle.std.specs.Cmp.Lexicographic.{pointwise}
+use Rattle.element.specs.Uid.{uid_of}
 use Rattle.element.specs.declared.syntax.Syntax.{Syntax}
 use Rattle.element.specs.declared.syntax.Syntax.TheVariants.{Implicit, Explicit}
 use Rattle.dictionary.specs.declared.class.Class.{Class}
@@ -8,6 +10,8 @@ use Rattle.dictionary.specs.Classes.{class_of}
 use Rattle.dictionary.specs.Syntaxes.{syntax_of}
 use Rattle.pdu.specs.Record.{RequestRecord, Proposal}
 use Rattle.negotiate.specs.declared.proposals.Context.{Context}
+use Rattle.negotiate.specs.declared.proposals.Service.{Service}
+use Rattle.negotiate.specs.declared.proposals.Service.TheVariants.{Known, Further}
 
 abbrev pub is_explicit : Option Syntax → Bool
 is_explicit (Some Explicit) = true
@@ -28,6 +32,52 @@ proposes_implicit uids = list_any (λ uid. is_implicit (syntax_of uid)) uids
 abbrev pub chosen : List (List ℕ) → Option Syntax
 chosen uids = if proposes_explicit uids then Some Explicit else (if proposes_implicit uids then Some Implicit else None)
 
+-- ---- services
+
+abbrev pub further_by : Option (List ℕ) → Option Service
+further_by None = None
+further_by (Some uid) = Some (Further uid)
+
+abbrev pub service_by : Option Class → List ℕ → Option Service
+service_by (Some class) bytes = Some (Known class)
+service_by None bytes = further_by (uid_of bytes)
+
+-- the service that an abstract syntax or an affected SOP class names: a class of the dictionary, or a further one by its
+-- identifier
+abbrev pub service_of : List ℕ → Option Service
+service_of bytes = service_by (class_of bytes) bytes
+
+abbrev pub is_text : List ℕ → List ℕ → Bool
+is_text uid text = pointwise nat_eq text uid
+
+abbrev pub is_among_further : List (List ℕ) → Option (List ℕ) → Bool
+is_among_further further None = false
+is_among_further further (Some uid) = list_any (is_text uid) further
+
+abbrev pub taken_by : Option Class → List (List ℕ) → List ℕ → List ℕ
+taken_by (Some class) further bytes = bytes
+taken_by None further bytes = if is_among_further further (uid_of bytes) then bytes else []
+
+-- an abstract syntax that is not taken counts as none: it is taken where the dictionary has its class, or where it is one
+-- of the further storage classes
+abbrev pub taken_syntax : List (List ℕ) → List ℕ → List ℕ
+taken_syntax further bytes = taken_by (class_of bytes) further bytes
+
+abbrev pub seen : List (List ℕ) → Proposal → Proposal
+seen further p = record { id = p.id; abstract_syntax = taken_syntax further p.abstract_syntax; transfer_syntaxes = p.transfer_syntaxes }
+
+-- what a request offers to a receiver that takes these further storage classes
+abbrev pub offered : List (List ℕ) → RequestRecord → RequestRecord
+offered further r = record {
+  version = r.version;
+  called = r.called;
+  calling = r.calling;
+  reserved = r.reserved;
+  application_context = r.application_context;
+  contexts = map (seen further) r.contexts;
+  maximum = r.maximum;
+}
+
 -- results (PS3.8 Table 9-18)
 
 abbrev pub acceptance : ℕ
@@ -39,28 +89,28 @@ abstract_syntax_not_supported = 3
 abbrev pub transfer_syntaxes_not_supported : ℕ
 transfer_syntaxes_not_supported = 4
 
-abbrev pub result_by : Option Class → Option Syntax → ℕ
+abbrev pub result_by : {A : Type 0} → Option A → Option Syntax → ℕ
 result_by None syntax = abstract_syntax_not_supported
 result_by (Some class) None = transfer_syntaxes_not_supported
 result_by (Some class) (Some syntax) = acceptance
 
 -- a rejected context carries Implicit VR Little Endian in its answer, which the peer ignores
-abbrev pub carried_by : Option Class → Option Syntax → Syntax
+abbrev pub carried_by : Option Service → Option Syntax → Syntax
 carried_by (Some class) (Some syntax) = syntax
 carried_by class syntax = Implicit
 
-abbrev pub accepted_by : Option Class → Option Syntax → Option Context
+abbrev pub accepted_by : Option Service → Option Syntax → Option Context
 accepted_by (Some class) (Some syntax) = Some (record { class = class; syntax = syntax })
 accepted_by class syntax = None
 
 abbrev pub result_of : Proposal → ℕ
-result_of p = result_by (class_of p.abstract_syntax) (chosen p.transfer_syntaxes)
+result_of p = result_by (service_of p.abstract_syntax) (chosen p.transfer_syntaxes)
 
 abbrev pub carried : Proposal → Syntax
-carried p = carried_by (class_of p.abstract_syntax) (chosen p.transfer_syntaxes)
+carried p = carried_by (service_of p.abstract_syntax) (chosen p.transfer_syntaxes)
 
 abbrev pub accepted : Proposal → Option Context
-accepted p = accepted_by (class_of p.abstract_syntax) (chosen p.transfer_syntaxes)
+accepted p = accepted_by (service_of p.abstract_syntax) (chosen p.transfer_syntaxes)
 
 -- the accepted context of this id
 abbrev pub context_of : RequestRecord → ℕ → Option Context

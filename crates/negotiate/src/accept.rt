@@ -4,6 +4,7 @@ ghost use Rattle.std.specs.List.{flat_map};
 ghost use Rattle.arrayvec.specs.ArrayVec.{array_vec_len};
 ghost use Rattle.element.specs.Numbers.{be};
 ghost use Rattle.negotiate.specs.Accept.{accept_text, before_contexts, context_text};
+ghost use Rattle.negotiate.specs.Contexts.{offered};
 ghost use Rattle.negotiate.specs.Settings.{settings_of};
 
 use crate::config::Config;
@@ -35,7 +36,7 @@ pub(crate) fn accept_size(config: &Config, request: &Request) -> usize
         + request.calling().0.len()
         + request.reserved().len();
     for proposal in request.contexts() {
-        size += CONTEXT + syntax_uid(carried(&proposal)).len();
+        size += CONTEXT + syntax_uid(carried(config, &proposal)).len();
     }
     size
 }
@@ -68,13 +69,17 @@ fn front(request: &Request, length: u32) -> ArrayVec<u8, LONGEST>
 }
 
 /// Returns the PDU with the answer to each proposed context after it, in their order.
-fn with_contexts(mut pdu: ArrayVec<u8, LONGEST>, request: &Request) -> ArrayVec<u8, LONGEST>
+fn with_contexts(
+    config: &Config,
+    mut pdu: ArrayVec<u8, LONGEST>,
+    request: &Request,
+) -> ArrayVec<u8, LONGEST>
     requires { array_vec_len pdu + 31 * length request.now.contexts ≤ 4067 }
-    ensures items { result.items ≡ pdu.items ++ flat_map context_text request.now.contexts }
+    ensures items { result.items ≡ pdu.items ++ flat_map context_text (offered (settings_of config.now).further request.now).contexts }
     ensures room { array_vec_len result ≤ 4067 }
 {
     for proposal in request.contexts() {
-        extend(&mut pdu, context_item(&proposal).as_slice());
+        extend(&mut pdu, context_item(config, &proposal).as_slice());
     }
     pdu
 }
@@ -85,7 +90,7 @@ pub(crate) fn accept_pdu(config: &Config, request: &Request) -> ArrayVec<u8, LON
 {
     request.keeps();
     let size = accept_size(config, request);
-    let mut pdu = with_contexts(front(request, (size - 6) as u32), request);
+    let mut pdu = with_contexts(config, front(request, (size - 6) as u32), request);
     extend(&mut pdu, user_item(config.max_pdu).as_slice());
     pdu
 }

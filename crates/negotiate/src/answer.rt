@@ -11,7 +11,7 @@ use dictionary::APPLICATION_CONTEXT;
 use element::AeTitle;
 use pdu::Request;
 
-/// The answer to a request.
+/// How an A-ASSOCIATE-RQ is answered.
 #[derive(Clone, Copy, Debug, PartialEq, Eq)]
 pub enum Answer {
     /// An A-ASSOCIATE-AC (PS3.8 section 9.3.3).

@@ -1,8 +1,13 @@
 //! The settings of the receiver.
-ghost use Rattle.std.specs.Prelude.{◌≡◌, ◌^◌, ◌≤◌, map};
+ghost use Rattle.std.specs.Prelude.{◌≡◌, ◌^◌, ◌≤◌, [], false, length, map, option_map, slice_get};
+ghost use Rattle.arrayvec.specs.ArrayVec.{array_vec_len};
 
 use arrayvec::ArrayVec;
-use element::AeTitle;
+use dictionary::storage_class;
+use element::{AeTitle, Uid};
+
+/// How many further storage classes can be taken: 16 that are named, and the 157 of the standard.
+const MOST_FURTHER: usize = 173;
 
 /// The settings of the receiver: who may associate with it, and how much it accepts.
 #[derive(Drop)]
@@ -16,13 +21,58 @@ pub struct Config {
     pub max_pdu: u32,
     /// The maximum length of a data set that it accepts, in bytes; from 1024 to 2^48.
     pub max_data: u64,
+    /// Whether every storage class of the standard is taken (PS3.4 Table B.5-1), and not the dictionary's
+    /// own alone.
+    pub all_storage: bool,
+    /// Further storage classes that are taken, by the text of their unique identifiers.
+    pub named: ArrayVec<ArrayVec<u8, 64>, 16>,
     pub ghost least_pdu: { 1024 ≤ max_pdu },
     pub ghost least_data: { 1024 ≤ max_data },
     pub ghost most_data: { max_data ≤ 2 ^ 48 },
+    pub ghost few_named: { array_vec_len named ≤ 16 },
+}
+
+/// A copy of a text.
+fn text_of(bytes: &[u8]) -> ArrayVec<u8, 64>
+    requires { length bytes.now ≤ 64 }
+    ensures { result.items ≡ bytes.now }
+{
+    let mut text = ArrayVec::new();
+    let _ = text.try_extend_from_slice(bytes);
+    text
+}
+
+/// The texts of identifiers.
+fn texts_of(uids: &[Uid]) -> ArrayVec<ArrayVec<u8, 64>, 16>
+    requires few { length uids.now ≤ 16 }
+    ensures texts { map (λ t. t.items) result.items ≡ uids.now }
+    ensures few { array_vec_len result ≤ 16 }
+{
+    let mut texts = ArrayVec::new();
+    for uid in uids {
+        let _ = uid.len();
+        texts.push(text_of(uid.as_bytes()));
+    }
+    texts
+}
+
+/// Copies of texts.
+fn copied_texts(texts: &[ArrayVec<u8, 64>]) -> ArrayVec<ArrayVec<u8, 64>, 16>
+    requires few { length texts.now ≤ 16 }
+    ensures texts { map (λ t. t.items) result.items ≡ map (λ t. t.items) texts.now }
+    ensures few { array_vec_len result ≤ 16 }
+{
+    let mut copies = ArrayVec::new();
+    for text in texts {
+        copies.push(text_of(text.as_slice()));
+    }
+    copies
 }
 
 impl Config {
-    ghost use Rattle.negotiate.specs.Settings.{settings_of};
+    ghost use Rattle.std.specs.Prelude.{◌++◌};
+    ghost use Rattle.negotiate.specs.ContextRows.{place_of};
+    ghost use Rattle.negotiate.specs.Settings.{registered, settings_of};
 
     /// The default of `max_pdu`.
     pub const DEFAULT_MAX_PDU: u32 = 16384;
@@ -39,13 +89,70 @@ impl Config {
         ensures callers { result.callers ≡ callers }
         ensures max_pdu { result.max_pdu ≡ max_pdu }
         ensures max_data { result.max_data ≡ max_data }
+        ensures further { (settings_of result).further ≡ [] }
     {
         Config {
             ae,
             callers,
             max_pdu,
             max_data,
+            all_storage: false,
+            named: ArrayVec::new(),
         }
+    }
+
+    /// Returns the settings with these storage classes taken beside the dictionary's own: every one of the
+    /// standard's table or none, and those that are named.
+    pub fn with_storage(self, all_storage: bool, named: &[Uid]) -> Config
+        requires few { length named.now ≤ 16 }
+        ensures ae { result.ae ≡ self.ae }
+        ensures callers { result.callers ≡ self.callers }
+        ensures max_pdu { result.max_pdu ≡ self.max_pdu }
+        ensures max_data { result.max_data ≡ self.max_data }
+        ensures further { (settings_of result).further ≡ named.now ++ registered all_storage }
+    {
+        Config {
+            ae: self.ae,
+            callers: self.callers,
+            max_pdu: self.max_pdu,
+            max_data: self.max_data,
+            all_storage,
+            named: texts_of(named),
+        }
+    }
+
+    /// Returns the text of the further storage class of this place, first those that are named.
+    pub(crate) fn further(&self, place: usize) -> Option<&[u8]>
+        ensures { option_map (λ u. u.now) result ≡ slice_get (settings_of self.now).further place }
+    {
+        let named = self.named.as_slice();
+        if place < named.len() {
+            return Some(named[place].as_slice());
+        }
+        if !self.all_storage {
+            return None;
+        }
+        match storage_class(place - named.len()) {
+            Some(class) => Some(class.uid),
+            None => None,
+        }
+    }
+
+    /// Returns the place of a further storage class that is taken.
+    pub(crate) fn place(&self, uid: &Uid) -> Option<u8>
+        ensures { result ≡ place_of (settings_of self.now).further uid.now }
+    {
+        for place in 0..MOST_FURTHER {
+            match self.further(place) {
+                Some(text) => {
+                    if text == uid.as_bytes() {
+                        return Some(place as u8);
+                    }
+                }
+                None => return None,
+            }
+        }
+        None
     }
 
     /// Returns a copy of the settings. Unlike `Clone` it allocates nothing and cannot fail.
@@ -56,6 +163,13 @@ impl Config {
         for caller in self.callers.as_slice() {
             callers.push(*caller);
         }
-        Config::new(self.ae, callers, self.max_pdu, self.max_data)
+        Config {
+            ae: self.ae,
+            callers,
+            max_pdu: self.max_pdu,
+            max_data: self.max_data,
+            all_storage: self.all_storage,
+            named: copied_texts(self.named.as_slice()),
+        }
     }
 }

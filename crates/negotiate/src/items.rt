@@ -2,7 +2,10 @@
 ghost use Rattle.std.specs.Prelude.{◌≡◌, ◌+◌, ◌<◌, ◌≤◌, ◌++◌, length};
 ghost use Rattle.arrayvec.specs.ArrayVec.{array_vec_len};
 ghost use Rattle.negotiate.specs.Accept.{item_text, context_text, user_text};
+ghost use Rattle.negotiate.specs.Contexts.{seen};
+ghost use Rattle.negotiate.specs.Settings.{settings_of};
 
+use crate::config::Config;
 use crate::proposals::{carried, result_of};
 use arrayvec::ArrayVec;
 use byteorder::{BigEndian, ByteOrder};
@@ -30,16 +33,19 @@ pub(crate) fn extend_by_item<const N: usize>(room: &mut ArrayVec<u8, N>, kind: u
 }
 
 /// The answer to a proposed presentation context (PS3.8 section 9.3.3.2).
-pub(crate) fn context_item(proposal: &Proposal) -> ArrayVec<u8, 64>
-    ensures items { result.items ≡ context_text proposal.now }
+pub(crate) fn context_item(config: &Config, proposal: &Proposal) -> ArrayVec<u8, 64>
+    ensures items { result.items ≡ context_text (seen (settings_of config.now).further proposal.now) }
     ensures short { array_vec_len result ≤ 31 }
 {
     let mut content = ArrayVec::<u8, 64>::new();
-    extend(&mut content, &[proposal.id(), 0, result_of(proposal), 0]);
+    extend(
+        &mut content,
+        &[proposal.id(), 0, result_of(config, proposal), 0],
+    );
     extend_by_item(
         &mut content,
         item_type::TRANSFER_SYNTAX,
-        syntax_uid(carried(proposal)),
+        syntax_uid(carried(config, proposal)),
     );
     let mut item = ArrayVec::<u8, 64>::new();
     extend_by_item(&mut item, item_type::ANSWERED_CONTEXT, content.as_slice());

@@ -1,17 +1,19 @@
 //! Laws of the definitions, each the contract of a function that does nothing.
-ghost use Rattle.std.specs.Prelude.{◌≡◌, ◌≤◌, ◌⊎◌, ℕ, List, None, eqb, length};
-ghost use Rattle.std.specs.List.{IsDistinct};
+ghost use Rattle.std.specs.Prelude.{◌≡◌, ◌≤◌, ◌⊎◌, ℕ, List, None, [], eqb, length, nat_eq, option_map, option_and_then};
+ghost use Rattle.std.specs.List.{IsDistinct, find};
+ghost use Rattle.dictionary.specs.Classes.{class_of};
 ghost use Rattle.element.specs.Numbers.{IsBytes};
 ghost use Rattle.pdu.specs.Items.{request_record};
-ghost use Rattle.pdu.specs.Record.{RequestRecord, ids};
+ghost use Rattle.pdu.specs.Record.{Proposal, RequestRecord, ids};
 ghost use Rattle.pdu.specs.Refusal.{request_fault};
 ghost use Rattle.negotiate.specs.Accept.{accept_text};
 ghost use Rattle.negotiate.specs.ContextRows.{accepted_count, context_in, context_rows};
-ghost use Rattle.negotiate.specs.Contexts.{context_of};
+ghost use Rattle.negotiate.specs.Contexts.{accepted_by, chosen, context_of, offered, result_by, result_of, seen};
 ghost use Rattle.negotiate.specs.Rejections as spelling;
 ghost use Rattle.negotiate.specs.Settings.{Settings, default_max_data, default_max_pdu};
 ghost use Rattle.negotiate.specs.Answer.{judged};
 ghost use Rattle.negotiate.specs.declared.answer.Answer.TheVariants.{Accept};
+ghost use Rattle.negotiate.specs.declared.proposals.Service.TheVariants.{Known};
 
 use crate::config::Config;
 use crate::rejection::{
@@ -24,8 +26,17 @@ use crate::rejection::{
 /// The table of a request has its accepted contexts, and nothing else: a row for each of them, and
 /// under each presentation context ID what the request has there.
 pub fn table_has_the_accepted_contexts()
-    ensures contexts { (r : RequestRecord) → IsDistinct eqb (ids r.contexts) → (id : ℕ) → context_in (context_rows r) id ≡ context_of r id }
-    ensures count { (r : RequestRecord) → length (context_rows r) ≡ accepted_count r }
+    ensures contexts { (further : List (List ℕ)) (r : RequestRecord) → IsDistinct eqb (ids r.contexts) → (id : ℕ) → context_in further (context_rows further (offered further r)) id ≡ context_of (offered further r) id }
+    ensures count { (further : List (List ℕ)) (r : RequestRecord) → length (context_rows further r) ≡ accepted_count r }
+{}
+
+/// Where no further storage class is taken, the dictionary's classes alone decide: on the result of each
+/// proposed context, and on the context that is accepted under an ID.
+pub fn by_default_the_dictionary_decides()
+    ensures result { (p : Proposal) → result_of (seen [] p) ≡ result_by (class_of p.abstract_syntax) (chosen p.transfer_syntaxes) }
+    ensures context { (r : RequestRecord) (id : ℕ) →
+        context_of (offered [] r) id
+        ≡ option_and_then (λ p. accepted_by (option_map Known (class_of p.abstract_syntax)) (chosen p.transfer_syntaxes)) (find (λ p. nat_eq p.id id) r.contexts) }
 {}
 
 /// A peer whose request is accepted takes fragments: its maximum length is 0, for none, or at least 8.

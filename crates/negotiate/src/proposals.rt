@@ -1,16 +1,27 @@
 //! Which proposed presentation contexts are accepted.
 ghost use Rattle.std.specs.Prelude.{◌≡◌};
 ghost use Rattle.negotiate.specs.Contexts as spelling;
+ghost use Rattle.negotiate.specs.Settings.{settings_of};
 
+use crate::config::Config;
 use dictionary::{Class, class_of, syntax_of};
-use element::Syntax;
+use element::{Syntax, Uid};
 use pdu::Proposal;
 
+/// The service that the abstract syntax of a presentation context names.
+#[derive(Debug, PartialEq, Eq, Drop)]
+pub enum Service {
+    /// A class of the dictionary: Verification, or one of eleven storage classes.
+    Known(Class),
+    /// A further storage class, which the settings take.
+    Further(Uid),
+}
+
 /// An accepted presentation context.
-#[derive(Clone, Copy, Debug, PartialEq, Eq)]
+#[derive(Debug, PartialEq, Eq, Drop)]
 pub struct Context {
     /// The service, by its abstract syntax.
-    pub class: Class,
+    pub class: Service,
     /// The transfer syntax of its data sets.
     pub syntax: Syntax,
 }
@@ -44,12 +55,28 @@ fn chosen_syntax(proposal: &Proposal) -> Option<Syntax>
     }
 }
 
+/// Returns the service that an abstract syntax names, if it is taken.
+fn taken_service(config: &Config, bytes: &[u8]) -> Option<Service>
+    ensures { result ≡ spelling.service_of (spelling.taken_syntax (settings_of config.now).further bytes.now) }
+{
+    match class_of(bytes) {
+        Some(class) => Some(Service::Known(class)),
+        None => match Uid::read(bytes) {
+            Some(uid) => match config.place(&uid) {
+                Some(_) => Some(Service::Further(uid)),
+                None => None,
+            },
+            None => None,
+        },
+    }
+}
+
 /// Returns the context if it is accepted.
-pub(crate) fn accepted(proposal: &Proposal) -> Option<Context>
-    ensures { result ≡ spelling.accepted proposal.now }
+pub(crate) fn accepted(config: &Config, proposal: &Proposal) -> Option<Context>
+    ensures { result ≡ spelling.accepted (spelling.seen (settings_of config.now).further proposal.now) }
 {
     match (
-        class_of(proposal.abstract_syntax()),
+        taken_service(config, proposal.abstract_syntax()),
         chosen_syntax(proposal),
     ) {
         (Some(class), Some(syntax)) => Some(Context { class, syntax }),
@@ -58,11 +85,11 @@ pub(crate) fn accepted(proposal: &Proposal) -> Option<Context>
 }
 
 /// Returns the result of a proposed context.
-pub(crate) fn result_of(proposal: &Proposal) -> u8
-    ensures { result ≡ spelling.result_of proposal.now }
+pub(crate) fn result_of(config: &Config, proposal: &Proposal) -> u8
+    ensures { result ≡ spelling.result_of (spelling.seen (settings_of config.now).further proposal.now) }
 {
     match (
-        class_of(proposal.abstract_syntax()),
+        taken_service(config, proposal.abstract_syntax()),
         chosen_syntax(proposal),
     ) {
         (None, _) => ABSTRACT_SYNTAX_NOT_SUPPORTED,
@@ -72,10 +99,10 @@ pub(crate) fn result_of(proposal: &Proposal) -> u8
 }
 
 /// Returns the transfer syntax that the answer to a proposed context carries.
-pub(crate) fn carried(proposal: &Proposal) -> Syntax
-    ensures { result ≡ spelling.carried proposal.now }
+pub(crate) fn carried(config: &Config, proposal: &Proposal) -> Syntax
+    ensures { result ≡ spelling.carried (spelling.seen (settings_of config.now).further proposal.now) }
 {
-    match accepted(proposal) {
+    match accepted(config, proposal) {
         Some(context) => context.syntax,
         None => Syntax::Implicit,
     }

@@ -2,14 +2,25 @@
 ghost use Rattle.std.specs.Prelude.{◌≡◌, [], ℕ};
 ghost use Rattle.arrayvec.specs.ArrayVec.{array_vec_len};
 ghost use Rattle.negotiate.specs.Contexts as spelling;
+ghost use Rattle.negotiate.specs.ContextRows as rows;
 ghost use Rattle.negotiate.specs.ContextRows.{accepted_count, context_in, context_rows};
+ghost use Rattle.negotiate.specs.Settings.{settings_of};
 
 use crate::config::Config;
-use crate::proposals::{Context, accepted};
+use crate::proposals::{Context, Service, accepted};
 use arrayvec::ArrayVec;
 use dictionary::Class;
-use element::Syntax;
+use element::{Syntax, Uid};
 use pdu::Request;
+
+/// The service of a row, in two bytes.
+#[derive(Clone, Copy, Debug, PartialEq, Eq)]
+pub enum RowClass {
+    /// A class of the dictionary.
+    Known(Class),
+    /// A further storage class, by its place among those that the settings take.
+    Further(u8),
+}
 
 /// An accepted presentation context, as a row of the table that outlives the request. It counts as
 /// 4 bytes.
@@ -18,11 +29,9 @@ pub struct ContextRow {
     /// The presentation context ID.
     pub id: u8,
     /// The service, by its abstract syntax.
-    pub class: Class,
+    pub class: RowClass,
     /// The transfer syntax of its data sets.
     pub syntax: Syntax,
-    /// Zero.
-    pub spare: u8,
 }
 
 impl Default for ContextRow {
@@ -34,46 +43,82 @@ impl Default for ContextRow {
     fn default() -> ContextRow {
         ContextRow {
             id: 0,
-            class: Class::Verification,
+            class: RowClass::Known(Class::Verification),
             syntax: Syntax::Implicit,
-            spare: 0,
         }
+    }
+}
+
+/// A place, where there is one.
+fn first(place: Option<u8>) -> u8
+    ensures { result ≡ rows.or_first place }
+{
+    match place {
+        Some(place) => place,
+        None => 0,
+    }
+}
+
+/// The service as it stands in a row.
+fn class_in_row(config: &Config, class: &Service) -> RowClass
+    ensures { result ≡ rows.class_in_row (settings_of config.now).further class.now }
+{
+    match class {
+        Service::Known(class) => RowClass::Known(*class),
+        Service::Further(uid) => RowClass::Further(first(config.place(uid))),
     }
 }
 
 /// Fills an empty table with a row for each accepted context of the request, in the request's order.
-/// A request proposes at most 128 contexts, so there is always room. No setting affects which
-/// contexts are accepted.
-pub fn compact(_config: &Config, request: &Request, table: &mut ArrayVec<ContextRow, 128>)
+/// A request proposes at most 128 contexts, so there is always room.
+pub fn compact(config: &Config, request: &Request, table: &mut ArrayVec<ContextRow, 128>)
     requires { table.old.items ≡ [] }
-    ensures rows { table.new.items ≡ context_rows request.now }
-    ensures count { array_vec_len table.new ≡ accepted_count request.now }
-    ensures contexts { (id : ℕ) → context_in table.new.items id ≡ spelling.context_of request.now id }
+    ensures rows { table.new.items ≡ context_rows (settings_of config.now).further (spelling.offered (settings_of config.now).further request.now) }
+    ensures count { array_vec_len table.new ≡ accepted_count (spelling.offered (settings_of config.now).further request.now) }
+    ensures contexts { (id : ℕ) → context_in (settings_of config.now).further table.new.items id ≡ spelling.context_of (spelling.offered (settings_of config.now).further request.now) id }
 {
     request.keeps();
     for proposal in request.contexts() {
-        if let Some(Context { class, syntax }) = accepted(&proposal) {
+        if let Some(Context { class, syntax }) = accepted(config, &proposal) {
             table.push(ContextRow {
                 id: proposal.id(),
-                class,
+                class: class_in_row(config, &class),
                 syntax,
-                spare: 0,
             });
         }
     }
 }
 
+/// The service of a row.
+fn service_in(config: &Config, class: RowClass) -> Option<Service>
+    ensures { result ≡ rows.service_in (settings_of config.now).further class }
+{
+    match class {
+        RowClass::Known(class) => Some(Service::Known(class)),
+        RowClass::Further(place) => match config.further(place as usize) {
+            Some(text) => match Uid::read(text) {
+                Some(uid) => Some(Service::Further(uid)),
+                None => None,
+            },
+            None => None,
+        },
+    }
+}
+
 /// Returns the context with this ID in a table, or `None` if the table has none. For a table that
-/// `compact` filled, this is what `context` returns for the request.
-pub fn context_of(table: &[ContextRow], id: u8) -> Option<Context>
-    ensures { result ≡ context_in table.now id }
+/// `compact` filled with the same settings, this is what `context` returns for the request.
+pub fn context_of(config: &Config, table: &[ContextRow], id: u8) -> Option<Context>
+    ensures { result ≡ context_in (settings_of config.now).further table.now id }
 {
     for row in table {
         if row.id == id {
-            return Some(Context {
-                class: row.class,
-                syntax: row.syntax,
-            });
+            return match service_in(config, row.class) {
+                Some(class) => Some(Context {
+                    class,
+                    syntax: row.syntax,
+                }),
+                None => None,
+            };
         }
     }
     None

@@ -1,5 +1,8 @@
--- The names of received files, and of the folders that they stand in. This product's own profile.
-use Rattle.std.specs.Prelude.{ℕ, ◌+◌, ◌-◌, ◌*◌, ◌&&◌, ◌||◌, List, [], ◌∷◌, length, Option, Some, None, nat_eq, nat_lt, if◌then◌else◌}
+-- The names of received files, of the folders that they stand in, and of drafts. This product's own profile.
+use Rattle.std.specs.Prelude.{ℕ, ◌+◌, ◌-◌, ◌*◌, ◌&&◌, ◌||◌, Bool, List, [], ◌∷◌, length, take, drop, codes, Option, Some, None, nat_eq, nat_lt, if◌then◌else◌}
+use Rattle.std.specs.List.{list_all}
+use Rattle.std.specs.Str.{bytes_eq}
+use Rattle.element.specs.Values.{is_digit}
 use Rattle.part10.specs.declared.names.EntryKind.{EntryKind}
 use Rattle.part10.specs.declared.names.EntryKind.TheVariants.{File, Folder}
 
@@ -17,3 +20,11 @@ number_after before (digit ∷ digits) = if nat_lt digit 48 || nat_lt 57 digit t
 abbrev pub entry_number : EntryKind → List ℕ → Option ℕ
 entry_number kind [] = None
 entry_number kind (first ∷ digits) = if nat_eq first (first_letter kind) && nat_eq (length digits) 7 then number_after 0 digits else None
+
+-- decimal digits alone
+abbrev pub are_digits : List ℕ → Bool
+are_digits = list_all is_digit
+
+-- the name of a draft after the first one, which is DRAFT: the same letters, and decimal digits
+abbrev pub is_further_draft : List ℕ → Bool
+is_further_draft name = nat_lt 5 (length name) && bytes_eq (take 5 name) (codes "DRAFT") && are_digits (drop 5 name)

@@ -54,3 +54,16 @@ or_nothing (Some bytes) = bytes
 
 abbrev pub store_of : MemoryState → Store
 store_of kept = record { told = Some (record { files = kept.files; draft = or_nothing kept.draft }); has_draft = is_some kept.draft; failures = kept.failures }
+
+-- no file, no draft, and no call that failed
+abbrev pub nothing_filed : MemoryState
+nothing_filed = record { files = []; draft = None; failures = 0 }
+
+-- what contracts see of a filing over a folder: the number of its draft, and what it has filed itself
+pub record FolderState : Type 0 where
+  pub number : ℕ
+  pub contents : MemoryState
+
+-- what contracts see of the writer of a folder: how many filings it has handed out
+pub record WriterState : Type 0 where
+  pub filings : ℕ

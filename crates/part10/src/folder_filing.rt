@@ -1,124 +1,109 @@
 //! A filing over a folder.
-ghost use Rattle.std.specs.Prelude.{◌≡◌, ◌≤◌, ◌+◌, [], ◌∷◌, ◌++◌, None, Some, OnOk, OnErr, is_some, option_map, true, false};
-ghost use Rattle.part10.specs.Store.{or_nothing, store_of};
+ghost use Rattle.std.specs.Prelude.{◌≡◌, ◌≤◌, ◌+◌, [], ◌∷◌, ◌++◌, None, Some, IfOk, OnOk, OnErr, is_some, true};
+ghost use Rattle.part10.specs.Store.{nothing_filed, or_nothing, store_of};
 
 use crate::filing::{Filing, FilingFailed};
-use crate::listing::{file_path, folder_path, last_place};
-use crate::naming::{Named, name_file};
+use crate::folder_writer::FolderWriter;
+use crate::locked_folder::LockedFolder;
 use crate::notes::DraftNotes;
-use crate::place::{Layout, Place};
 use crate::stored_file::StoredFile;
 use element::count::Count;
 use element::trace::Traces;
 use element::traced::Traced;
 use std::alloc::AllocError;
-use std::fs::{File, OpenFile, TryLockError};
+use std::fs::File;
+use std::io;
 use std::io::{Error, ErrorKind, Write};
+use std::marker::Model;
 use std::rc::Rc;
 use std::rt::Files;
-use std::{fs, io};
 
 /// Keeps each committed draft as a file of its own: `I` and seven digits.
 ///
-/// The draft is the file `DRAFT` of the folder; one that was left there, by a writer that was
-/// killed, is removed when the folder is opened. The folder has one writer: it stays locked until
-/// this value is dropped. No file is ever written over.
+/// The draft is a file of the folder that no other filing of it has: `DRAFT` of a filing that has the
+/// folder alone, or is the first one that its `FolderWriter` has handed out. The folder has one writer:
+/// it stays locked until this value is dropped, as its writer and its other filings. No file is ever
+/// written over.
 ///
 /// A commit writes the draft to the disk (`sync_all`) before it gives it its name, and the folder
 /// after that, so that a file that was committed survives a loss of power. The name is made by a hard
 /// link, which fails where the name is taken; on a file system without hard links the draft is renamed
 /// once the name was seen to be free.
 ///
-/// What contracts see of a folder is what was written into each file that was committed since it was
-/// opened, and into the draft; whether there is a draft; and how many calls failed. Under which names
-/// the files stand, and that they survive a loss of power, is tested.
+/// What contracts see of a filing is the number of its draft; what was written into each file that it
+/// has committed, and into the draft; whether there is a draft; and how many calls failed. Under which
+/// names the files stand, and that they survive a loss of power, is tested.
 #[derive(Drop)]
 pub struct FolderFiling<R: Files + Alloc + Clone + Drop>
 where
     R::File: StoredFile,
 {
-    rt: R,
-    dir: String<R::A>,
+    folder: Rc<LockedFolder<R>, R::A>,
+    number: u32,
     draft_path: String<R::A>,
-    /// The opened folder, which holds the lock.
-    folder: R::File,
-    layout: Layout,
-    /// Of the last file that was found or committed.
-    last: Place,
     draft: Option<Traced<R::File>>,
-    /// What contracts see of the files that were committed since the folder was opened, oldest
-    /// first: the bytes that were written into each.
+    /// What contracts see of the files that this filing has committed, oldest first: the bytes that
+    /// were written into each.
     kept: Traces,
-    has_sync: bool,
     committed: u32,
     dropped: u32,
     failures: Count,
     notes: Rc<DraftNotes, R::A>,
 }
 
-/// Opens the folder and locks it.
-fn lock<R: Files>(rt: &R, dir: &str) -> io::Result<R::File>
+impl<R: Files + Alloc + Clone + Drop> Model for FolderFiling<R>
 where
     R::File: StoredFile,
 {
-    let folder = fs::open(rt, dir)?;
-    match folder.try_lock() {
-        Ok(()) => Ok(folder),
-        Err(TryLockError::WouldBlock) => Err(Error::new(
-            ErrorKind::WouldBlock,
-            "the folder is in use by another writer",
-        )),
-        Err(TryLockError::Error(error)) => Err(error),
-    }
-}
+    ghost use Rattle.std.specs.Prelude.{option_map};
+    ghost use Rattle.part10.specs.Store.{FolderState};
 
-/// Removes a file, if it is there.
-fn remove_left<R: Files>(rt: &R, path: &str) -> io::Result<()> {
-    match fs::remove_file(rt, path) {
-        Err(error) if error.kind() == ErrorKind::NotFound => Ok(()),
-        result => result,
-    }
+    ghost Value = { FolderState };
+
+    ghost view = { λ f. record { number = f.number; contents = record { files = f.kept.all; draft = option_map (λ d. d.trace.bytes) f.draft; failures = f.failures.total } } };
 }
 
 impl<R: Files + Alloc + Clone + Drop> FolderFiling<R>
 where
     R::File: StoredFile,
 {
-    /// Opens a folder whose files all stand in it. The folder must be there.
+    /// Opens a folder whose files all stand in it, for one filing alone. The folder must be there.
     ///
-    /// Fails with `WouldBlock` if another filing has the folder open.
-    pub fn open(rt: R, dir: &str) -> io::Result<FolderFiling<R>> {
-        FolderFiling::with_layout(rt, dir, Layout::Flat)
+    /// Fails with `WouldBlock` if another writer has the folder open.
+    pub fn open(rt: R, dir: &str) -> io::Result<FolderFiling<R>>
+        ensures empty { IfOk result (λ filing. filing.contents ≡ nothing_filed) }
+    {
+        FolderWriter::open(rt, dir)?.filing()
     }
 
-    /// Opens a folder whose files stand in folders of `per` files: `S` and seven digits. The folder
-    /// must be there.
+    /// Opens a folder whose files stand in folders of `per` files: `S` and seven digits, for one
+    /// filing alone. The folder must be there.
     ///
-    /// Fails with `WouldBlock` if another filing has the folder open.
+    /// Fails with `WouldBlock` if another writer has the folder open.
     pub fn open_levels(rt: R, dir: &str, per: u32) -> io::Result<FolderFiling<R>>
         requires some { 1 ≤ per }
         requires most { per ≤ 9999 }
+        ensures empty { IfOk result (λ filing. filing.contents ≡ nothing_filed) }
     {
-        FolderFiling::with_layout(rt, dir, Layout::Levels { per })
+        FolderWriter::open_levels(rt, dir, per)?.filing()
     }
 
-    fn with_layout(rt: R, dir: &str, layout: Layout) -> io::Result<FolderFiling<R>> {
-        let folder = lock(&rt, dir)?;
-        let last = last_place(&rt, dir, layout)?;
-        let draft_path = format!(in rt.alloc(); "{dir}/DRAFT")?;
-        remove_left(&rt, draft_path.as_str())?;
-        let dir = String::from_str(rt.alloc(), dir)?;
-        let notes = Rc::new(rt.alloc(), DraftNotes::new())?;
+    /// Creates a filing over this folder, with the draft of this number.
+    pub(crate) fn over(
+        folder: Rc<LockedFolder<R>, R::A>,
+        number: u32,
+    ) -> io::Result<FolderFiling<R>>
+        ensures number { IfOk result (λ filing. filing.number ≡ number) }
+        ensures empty { IfOk result (λ filing. filing.contents ≡ nothing_filed) }
+    {
+        let draft_path = folder.draft_path(number)?;
+        let notes = Rc::new(folder.runtime().alloc(), DraftNotes::new())?;
         Ok(FolderFiling {
-            rt,
-            dir,
-            draft_path,
             folder,
-            layout,
-            last,
+            number,
+            draft_path,
             draft: None,
             kept: Traces::new(),
-            has_sync: true,
             committed: 0,
             dropped: 0,
             failures: Count::new(),
@@ -127,21 +112,21 @@ where
     }
 
     /// Commits without writing to the disk: faster, and a loss of power may lose files that were
-    /// committed.
-    pub fn without_sync(self) -> FolderFiling<R> {
-        FolderFiling {
-            has_sync: false,
-            ..self
-        }
+    /// committed. So does each other filing of the folder.
+    pub fn without_sync(self) -> FolderFiling<R>
+        ensures same { result ≡ self }
+    {
+        self.folder.stop_sync();
+        self
     }
 
-    /// Returns how many drafts were committed since the folder was opened.
+    /// Returns how many drafts this filing has committed.
     pub fn committed(&self) -> u32 {
         self.committed
     }
 
-    /// Returns how many drafts were not committed since the folder was opened: discarded, replaced
-    /// by another, or lost by a failed call. It stops at the greatest `u32`.
+    /// Returns how many drafts this filing has not committed: discarded, replaced by another, or
+    /// lost by a failed call. It stops at the greatest `u32`.
     pub fn dropped(&self) -> u32 {
         self.dropped
     }
@@ -154,15 +139,15 @@ where
         self.notes.clone()
     }
 
-    /// Removes the file of a draft, so that nothing is written into a file that may have a name.
+    /// Removes the file of the draft, so that nothing is written into a file that may have a name.
     fn remove_draft(&self) -> io::Result<()> {
-        remove_left(&self.rt, self.draft_path.as_str())
+        self.folder.remove_draft(self.draft_path.as_str())
     }
 
     fn drop_draft(&mut self)
-        ensures draft { self.new.draft ≡ None }
-        ensures same_files { self.new.kept.all ≡ self.old.kept.all }
-        ensures same_count { self.new.failures.total ≡ self.old.failures.total }
+        ensures draft { self.new.contents.draft ≡ None }
+        ensures same_files { self.new.contents.files ≡ self.old.contents.files }
+        ensures same_count { self.new.contents.failures ≡ self.old.contents.failures }
     {
         if self.draft.take().is_some() {
             self.dropped = self.dropped.saturating_add(1);
@@ -172,92 +157,37 @@ where
     }
 
     fn begin_draft(&mut self) -> io::Result<()>
-        ensures draft { OnOk result (option_map (λ d. d.trace.bytes) self.new.draft ≡ Some []) }
-        ensures same_files { self.new.kept.all ≡ self.old.kept.all }
-        ensures same_count { self.new.failures.total ≡ self.old.failures.total }
+        ensures draft { OnOk result (self.new.contents.draft ≡ Some []) }
+        ensures same_files { self.new.contents.files ≡ self.old.contents.files }
+        ensures same_count { self.new.contents.failures ≡ self.old.contents.failures }
     {
         self.drop_draft();
         self.remove_draft()?;
-        let file = File::create_new(&self.rt, self.draft_path.as_str())?;
+        let file = File::create_new(self.folder.runtime(), self.draft_path.as_str())?;
         self.draft = Some(Traced::new(file));
         Ok(())
     }
 
     fn sync_draft(&self) -> io::Result<()> {
         match &self.draft {
-            Some(draft) if self.has_sync => draft.sync_all(),
+            Some(draft) if self.folder.has_sync() => draft.sync_all(),
             _ => Ok(()),
         }
     }
 
-    /// Makes a folder for files.
-    fn make_folder(&mut self, folder: u32) -> io::Result<()>
-        ensures same_draft { self.new.draft ≡ self.old.draft }
-        ensures same_files { self.new.kept.all ≡ self.old.kept.all }
-        ensures same_count { self.new.failures.total ≡ self.old.failures.total }
-    {
-        let path = folder_path(self.rt.alloc(), self.dir.as_str(), folder)?;
-        fs::create_dir(&self.rt, path.as_str())?;
-        if self.has_sync {
-            if let Err(error) = self.folder.sync_all() {
-                let _ = fs::remove_dir(&self.rt, path.as_str());
-                return Err(error);
-            }
-        }
-        self.last = Place { folder, file: 0 };
-        Ok(())
-    }
-
-    /// Writes to the disk what names a file: its folder and, after a rename, the folder that had it.
-    fn sync_name(&self, place: Place, named: Named) -> io::Result<()> {
-        if !self.has_sync {
-            return Ok(());
-        }
-        if matches!(self.layout, Layout::Flat) {
-            return self.folder.sync_all();
-        }
-        let path = folder_path(self.rt.alloc(), self.dir.as_str(), place.folder)?;
-        fs::open(&self.rt, path)?.sync_all()?;
-        match named {
-            Named::Linked => Ok(()),
-            Named::Renamed => self.folder.sync_all(),
-        }
-    }
-
-    fn path_of(&self, place: Place) -> io::Result<String<R::A>> {
-        let dir = self.dir.as_str();
-        if matches!(self.layout, Layout::Flat) {
-            return Ok(file_path(self.rt.alloc(), dir, place.file)?);
-        }
-        let folder = folder_path(self.rt.alloc(), dir, place.folder)?;
-        Ok(file_path(self.rt.alloc(), folder.as_str(), place.file)?)
-    }
-
     /// Gives the draft its name. This is the one place where contracts see a file more.
-    fn name_draft(&mut self, place: Place) -> io::Result<()>
-        requires draft { is_some self.old.draft ≡ true }
-        ensures named { OnOk result (self.new.kept.all ≡ self.old.kept.all ++ or_nothing (option_map (λ d. d.trace.bytes) self.old.draft) ∷ []) }
-        ensures failed { OnErr result (self.new.kept.all ≡ self.old.kept.all) }
-        ensures same_count { self.new.failures.total ≡ self.old.failures.total }
+    fn name_draft(&mut self) -> io::Result<()>
+        requires draft { is_some self.old.contents.draft ≡ true }
+        ensures named { OnOk result (self.new.contents.files ≡ self.old.contents.files ++ or_nothing self.old.contents.draft ∷ []) }
+        ensures failed { OnErr result (self.new.contents.files ≡ self.old.contents.files) }
+        ensures same_count { self.new.contents.failures ≡ self.old.contents.failures }
     {
-        let path = self.path_of(place)?;
-        let named = match name_file(&self.rt, self.draft_path.as_str(), path.as_str()) {
-            Ok(named) => named,
-            Err(error) => {
-                if error.kind() == ErrorKind::AlreadyExists {
-                    self.last = place;
-                }
-                return Err(error);
-            }
+        let Some(committed) = self.committed.checked_add(1) else {
+            return Err(Error::new(ErrorKind::StorageFull, "all commits are counted"));
         };
-        if let Err(error) = self.sync_name(place, named) {
-            if fs::remove_file(&self.rt, path.as_str()).is_err() {
-                self.last = place;
-            }
-            return Err(error);
-        }
-        self.last = place;
+        let place = self.folder.name_draft(self.draft_path.as_str())?;
         self.notes.committed(place);
+        self.committed = committed;
         if let Some(draft) = &self.draft {
             self.kept.push(draft.trace());
         }
@@ -265,24 +195,14 @@ where
     }
 
     fn commit_draft(&mut self) -> io::Result<()>
-        requires draft { is_some self.old.draft ≡ true }
-        ensures committed { OnOk result (self.new.kept.all ≡ self.old.kept.all ++ or_nothing (option_map (λ d. d.trace.bytes) self.old.draft) ∷ []) }
-        ensures failed { OnErr result (self.new.kept.all ≡ self.old.kept.all) }
-        ensures draft { OnOk result (self.new.draft ≡ None) }
-        ensures same_count { self.new.failures.total ≡ self.old.failures.total }
+        requires draft { is_some self.old.contents.draft ≡ true }
+        ensures committed { OnOk result (self.new.contents.files ≡ self.old.contents.files ++ or_nothing self.old.contents.draft ∷ []) }
+        ensures failed { OnErr result (self.new.contents.files ≡ self.old.contents.files) }
+        ensures draft { OnOk result (self.new.contents.draft ≡ None) }
+        ensures same_count { self.new.contents.failures ≡ self.old.contents.failures }
     {
         self.sync_draft()?;
-        let Some(place) = self.last.next(self.layout) else {
-            return Err(Error::new(ErrorKind::StorageFull, "all numbers are in use"));
-        };
-        let Some(committed) = self.committed.checked_add(1) else {
-            return Err(Error::new(ErrorKind::StorageFull, "all commits are counted"));
-        };
-        if place.folder != self.last.folder {
-            self.make_folder(place.folder)?;
-        }
-        self.name_draft(place)?;
-        self.committed = committed;
+        self.name_draft()?;
         self.draft = None;
         let _ = self.remove_draft();
         Ok(())
@@ -290,9 +210,9 @@ where
 
     /// Notes the error, drops the draft and counts a failure.
     fn fail(&mut self, error: Error)
-        ensures draft { self.new.draft ≡ None }
-        ensures same_files { self.new.kept.all ≡ self.old.kept.all }
-        ensures counted { self.new.failures.total ≡ self.old.failures.total + 1 }
+        ensures draft { self.new.contents.draft ≡ None }
+        ensures same_files { self.new.contents.files ≡ self.old.contents.files }
+        ensures counted { self.new.contents.failures ≡ self.old.contents.failures + 1 }
     {
         self.notes.failed(error);
         self.drop_draft();
@@ -304,7 +224,7 @@ impl<R: Files + Alloc + Clone + Drop> Filing for FolderFiling<R>
 where
     R::File: StoredFile,
 {
-    ghost store = { λ f. store_of (record { files = f.kept.all; draft = option_map (λ d. d.trace.bytes) f.draft; failures = f.failures.total }) };
+    ghost store = { λ f. store_of f.contents };
 
     fn begin(&mut self) -> Result<(), FilingFailed> {
         if let Err(error) = self.begin_draft() {

@@ -1,10 +1,13 @@
 //! DICOM files (PS3.10 section 7.1): their headers, and where received files are kept.
 #![tactic(auto)]
 
+mod drafts;
 mod filing;
 mod folder_filing;
+mod folder_writer;
 pub mod laws;
 mod listing;
+mod locked_folder;
 mod memory_filing;
 mod meta;
 mod meta_fault;
@@ -18,6 +21,7 @@ mod writing;
 
 pub use filing::{Filing, FilingFailed};
 pub use folder_filing::FolderFiling;
+pub use folder_writer::FolderWriter;
 pub use memory_filing::MemoryFiling;
 pub use meta::Meta;
 pub use meta_fault::MetaFault;

@@ -1,5 +1,6 @@
 -- How a call moves a deframer, wherever it stands: by how many bytes it takes, which they are, and the event.
-use Rattle.std.specs.Prelude.{◌≡◌, ℕ, ◌+◌, ◌-◌, ◌≤◌, List, ◌++◌, length, Option, Some, None, nat_eq, if◌then◌else◌}
+use Rattle.std.specs.Prelude.{◌≡◌, ℕ, ◌+◌, ◌-◌, ◌≤◌, min, List, ◌++◌, length, Option, Some, None, nat_eq, if◌then◌else◌}
+use Rattle.arrayvec.specs.ArrayVec.{array_vec_len}
 use Rattle.pdu.specs.declared.head.PduHead.{PduHead}
 use Rattle.pdu.specs.declared.head.PdvHead.{PdvHead}
 use Rattle.pdu.specs.declared.position.Position.{Position}
@@ -37,6 +38,15 @@ fragment_due (position.PdvHead left bytes) = 0
 fragment_due (position.Fragment left more) = more
 fragment_due (position.Leftover left) = 0
 fragment_due (position.Skipped kind left) = 0
+
+-- how many bytes are to come of the part that has begun: a head, a body, a fragment, or a frame that is skipped
+abbrev pub bytes_due : Position → ℕ
+bytes_due (position.Head bytes) = 6 - array_vec_len bytes
+bytes_due (position.Body kind left) = left
+bytes_due (position.PdvHead left bytes) = min left (6 - array_vec_len bytes)
+bytes_due (position.Fragment left more) = more
+bytes_due (position.Leftover left) = 0
+bytes_due (position.Skipped kind left) = left
 
 -- how many events may come before the next byte is taken, at most
 abbrev pub events_due : Position → ℕ

@@ -20,7 +20,7 @@ pub struct ItemsSoFar {
 impl ItemsSoFar {
     ghost use Rattle.pdu.specs.machine.SoFar.{Knows};
 
-    /// Creates it before the first item.
+    /// Returns what is remembered before the first item: nothing.
     pub fn new() -> ItemsSoFar
         ensures { Knows result [] }
     {

@@ -25,9 +25,9 @@ impl Deframer {
     ghost use Rattle.pdu.specs.Frames.{IsRest};
     ghost use Rattle.pdu.specs.Deframing.{Took, Longest, Skipped, Skip, unfinished_heads};
     ghost use Rattle.pdu.specs.Deframed.{IsAt, Skips, position_of};
-    ghost use Rattle.pdu.specs.Steps.{Steps, body_kind, events_due, skip_of};
+    ghost use Rattle.pdu.specs.Steps.{Steps, body_kind, bytes_due, events_due, skip_of};
 
-    /// A stream of which nothing has come.
+    /// Creates the deframer of a stream of which nothing has come.
     pub fn new() -> Self
         ensures { IsAt result [] [] }
     {
@@ -73,7 +73,7 @@ impl Deframer {
         self.position = Position::Skipped { kind, left };
     }
 
-    /// The type of the PDU whose body is lent; 0 where none is.
+    /// Returns the type of the PDU whose body is lent, and 0 where none is.
     pub fn kind(&self) -> u8
         ensures { result ≡ body_kind (position_of self.now) }
     {
@@ -84,7 +84,22 @@ impl Deframer {
         }
     }
 
-    /// How many received bytes are held: those of an unfinished head.
+    /// Returns how many bytes are to come of the part that is unfinished: a head, a body, a
+    /// fragment, or a PDU that is skipped; and 0 where an event comes first.
+    pub fn due(&self) -> usize
+        ensures { result ≡ bytes_due (position_of self.now) }
+    {
+        match &self.position {
+            Position::Head(bytes) => 6 - bytes.len(),
+            Position::Body { left, .. } => *left as usize,
+            Position::PdvHead { left, bytes } => (*left as usize).min(6 - bytes.len()),
+            Position::Fragment { more, .. } => *more as usize,
+            Position::Leftover { .. } => 0,
+            Position::Skipped { left, .. } => *left as usize,
+        }
+    }
+
+    /// Returns how many received bytes are held: those of an unfinished head.
     pub fn held(&self) -> usize
         ensures held { (r : List ℕ) (due : List Mark) → IsAt self.now r due → result ≡ unfinished_heads r }
         ensures skipping { (r : List ℕ) → Skips self.now r → result ≡ 0 }

@@ -88,7 +88,7 @@ pub fn stream_has_frames()
     ensures { (s : List ℕ) → Splits s (frames_of s) (rest_of s) }
 {}
 
-/// No stream has two such lists.
+/// A stream has one list of frames at most, and one rest.
 pub fn stream_has_one_list_of_frames()
     ensures { (s : List ℕ) (fs gs : List (List ℕ)) (r t : List ℕ) → Splits s fs r → Splits s gs t → (fs ≡ gs) × (r ≡ t) }
 {}
@@ -121,8 +121,8 @@ pub fn marks_depend_on_the_rest()
     ensures rest { (s p : List ℕ) → rest_of (s ++ p) ≡ rest_of (rest_of s ++ p) }
 {}
 
-/// The bytes of a P-DATA-TF PDU after its head have just one list of marks, and leave it in one
-/// place: those that are computed (PS3.8 section 9.3.5 and annex E.2).
+/// The bytes of a P-DATA-TF PDU after its head have one list of marks, and end at one place in a
+/// value: those that `pdv_marks` and `data_spot` compute (PS3.8 section 9.3.5 and annex E.2).
 pub fn marks_of_data_are_one()
     ensures some { (room : ℕ) (bytes : List ℕ) → Marked room bytes (pdv_marks room bytes) (data_spot room bytes) }
     ensures marks { (room : ℕ) (bytes : List ℕ) (ms : List Mark) (s : DataSpot) → Marked room bytes ms s → pdv_marks room bytes ≡ ms }
@@ -163,7 +163,7 @@ pub fn a_value_past_its_frame()
     ensures { marks past_the_end ≡ Head 4 6 ∷ BadPdv ∷ End 4 (drop 6 past_the_end) ∷ [] }
 {}
 
-/// One PDU after another.
+/// Two PDUs, the second of which has no body yet: a head, its end, and a head.
 pub fn two_frames()
     ensures { marks release_twice ≡ Head 5 4 ∷ End 5 (0 ∷ 0 ∷ 0 ∷ 0 ∷ []) ∷ Head 5 4 ∷ [] }
 {}

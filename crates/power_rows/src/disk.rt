@@ -154,6 +154,16 @@ impl Disk {
         }
     }
 
+    /// Returns whether a draft stands in the disk's own folder.
+    pub(crate) fn has_draft(&self) -> io::Result<bool> {
+        for entry in self.folder(0)?.entries() {
+            if entry.name.is_draft() {
+                return Ok(true);
+            }
+        }
+        Ok(false)
+    }
+
     /// Returns what a path names.
     pub(crate) fn node(&self, path: &str) -> io::Result<Node> {
         match self.find(path)? {

@@ -111,7 +111,7 @@ fn add_due<'a>(due: &mut Vec<Due<'a>>, life: &'a Life, outcome: Outcome) -> io::
 
 /// Whether a disk has what is due; and after a loss of power has so still, where a file that failed may be there.
 fn has_due(alloc: Global, disk: &Disk, kept: Kept, due: &mut Vec<Due>) -> io::Result<bool> {
-    let is_left = disk.node("disk/DRAFT").is_ok();
+    let is_left = disk.has_draft()?;
     let may_be_left = matches!(disk.failed(), Some(failed) if failed.act == Act::Remove);
     let filed = Filed::of(alloc, disk, kept)?;
     if !filed.is_due(disk, due.as_slice())? || is_left && !may_be_left {

@@ -2,7 +2,6 @@
 
 use crate::disk::Disk;
 use crate::folder::{Entry, Node};
-use crate::name::DRAFT;
 use std::alloc::Global;
 use std::io;
 use std::io::{Error, ErrorKind};
@@ -56,7 +55,7 @@ fn add_files(to: &mut Vec<(Place, usize)>, folder: u32, entries: &[Entry]) -> io
 
 impl Filed {
     fn add(&mut self, disk: &Disk, kept: Kept, entry: Entry) -> io::Result<()> {
-        if entry.name == DRAFT {
+        if entry.name.is_draft() {
             return Ok(());
         }
         match (kept, entry.node) {

@@ -10,6 +10,8 @@ mod filed;
 #[cfg(test)]
 mod folder;
 #[cfg(test)]
+mod given_names;
+#[cfg(test)]
 mod handles;
 #[cfg(test)]
 mod lives;
@@ -29,3 +31,5 @@ mod stores;
 mod survivors;
 #[cfg(test)]
 mod trouble;
+#[cfg(test)]
+mod two_drafts;

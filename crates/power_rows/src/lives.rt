@@ -9,7 +9,7 @@ use crate::survivors::Tries;
 use fixtures::bytes::after_first;
 use fixtures::folders::is_filed;
 use harness::{Step, drive};
-use part10::FolderFiling;
+use part10::{FolderFiling, FolderWriter};
 use std::alloc::Global;
 use std::io;
 
@@ -17,13 +17,23 @@ use std::io;
 pub(crate) const NEXT: &[u8] = b"next";
 
 /// Opens the disk's folder.
-pub(crate) fn open(alloc: Global, disk: &Shared, kept: Kept) -> io::Result<FolderFiling<Mounted>> {
+pub(crate) fn open_writer(
+    alloc: Global,
+    disk: &Shared,
+    kept: Kept,
+) -> io::Result<FolderWriter<Mounted>> {
     let disk = disk.clone()?;
     let mounted = Mounted { alloc, disk };
     match kept {
-        Kept::Flat => FolderFiling::open(mounted, "disk"),
-        Kept::Levels => FolderFiling::open_levels(mounted, "disk", 2),
+        Kept::Flat => FolderWriter::open(mounted, "disk"),
+        Kept::Levels => FolderWriter::open_levels(mounted, "disk", 2),
     }
+}
+
+/// Opens the disk's folder for one filing.
+pub(crate) fn open(alloc: Global, disk: &Shared, kept: Kept) -> io::Result<FolderFiling<Mounted>> {
+    let mut writer = open_writer(alloc, disk, kept)?;
+    writer.filing()
 }
 
 /// Has the stores of an association come, which the peer closes after them; returns the replies.
@@ -71,14 +81,14 @@ fn goes_on(alloc: Global, left: Disk, kept: Kept, due: &[Due]) -> io::Result<boo
     }
     let disk = left.shared()?;
     let mut filing = open(alloc, &disk, kept)?;
-    let is_done = disk.try_borrow()?.node("disk/DRAFT").is_err() && is_filed(&mut filing, NEXT);
+    let is_done = !disk.try_borrow()?.has_draft()? && is_filed(&mut filing, NEXT);
     let disk = disk.try_borrow()?;
     let now = Filed::of(alloc, &disk, kept)?;
     Ok(
         is_done
             && now.is_due(&disk, due)?
             && before.is_next(kept, &disk, &now, NEXT)?
-            && disk.node("disk/DRAFT").is_err(),
+            && !disk.has_draft()?,
     )
 }
 

@@ -4,9 +4,6 @@
 #[derive(Clone, Copy, PartialEq, Eq)]
 pub(crate) struct Name([u8; 8]);
 
-/// The name of a draft.
-pub(crate) const DRAFT: Name = Name(*b"DRAFT\0\0\0");
-
 impl Name {
     /// Returns this name, or `None` if it has more than eight bytes.
     pub(crate) fn of(text: &str) -> Option<Name> {
@@ -23,6 +20,15 @@ impl Name {
     /// Returns the bytes of the name, with zeros after it.
     pub(crate) fn padded(self) -> [u8; 8] {
         self.0
+    }
+
+    /// Returns whether this is `DRAFT` and digits or none, as the name of each draft.
+    pub(crate) fn is_draft(self) -> bool {
+        let name = &self.0[..];
+        name.starts_with(b"DRAFT")
+            && name[5..]
+                .iter()
+                .all(|byte| *byte == 0 || byte.is_ascii_digit())
     }
 
     /// Returns the number in a name that is this letter and seven digits.

@@ -48,7 +48,12 @@ fn many_answer(alloc: Global) -> Result<Vec<u8>, Fail> {
 }
 
 /// Returns whether this answers a request with this body, in one send of `answer_size` bytes.
-fn answers(alloc: Global, config: &Config, body: &[u8], answer: &[u8]) -> Result<bool, PduFault> {
+pub(crate) fn answers(
+    alloc: Global,
+    config: &Config,
+    body: &[u8],
+    answer: &[u8],
+) -> Result<bool, PduFault> {
     let request = read_request(body)?;
     let mut wire = CountingWire::new(alloc);
     let is_sent = write_answer(config, &request, &mut wire).is_ok();

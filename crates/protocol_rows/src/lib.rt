@@ -7,6 +7,8 @@ mod accept_rows;
 #[cfg(test)]
 mod acceptor_rows;
 #[cfg(test)]
+mod class_rows;
+#[cfg(test)]
 mod counting_wire;
 #[cfg(test)]
 mod deframer_rows;

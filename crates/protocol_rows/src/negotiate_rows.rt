@@ -2,7 +2,9 @@
 use arrayvec::ArrayVec;
 use dictionary::Class;
 use element::{AeTitle, Syntax};
-use negotiate::{Answer, Config, Context, ContextRow, compact, context, context_of, judge};
+use negotiate::{
+    Answer, Config, Context, ContextRow, RowClass, Service, compact, context, context_of, judge,
+};
 use pdu::{PduFault, read_request};
 use std::alloc::Global;
 use std::test::Fail;
@@ -15,17 +17,17 @@ pub(crate) const APPLICATION: &[u8] = b"1.2.840.10008.3.1.1.1";
 
 const VERIFICATION: &[u8] = b"1.2.840.10008.1.1";
 
-const CT: &[u8] = b"1.2.840.10008.5.1.4.1.1.2";
+pub(crate) const CT: &[u8] = b"1.2.840.10008.5.1.4.1.1.2";
 
 const MAMMOGRAPHY: &[u8] = b"1.2.840.10008.5.1.4.1.1.1.2";
 
-const IMPLICIT: &[u8] = b"1.2.840.10008.1.2";
+pub(crate) const IMPLICIT: &[u8] = b"1.2.840.10008.1.2";
 
-const EXPLICIT: &[u8] = b"1.2.840.10008.1.2.1";
+pub(crate) const EXPLICIT: &[u8] = b"1.2.840.10008.1.2.1";
 
 const BIG_ENDIAN: &[u8] = b"1.2.840.10008.1.2.2";
 
-const JPEG: &[u8] = b"1.2.840.10008.1.2.4.50";
+pub(crate) const JPEG: &[u8] = b"1.2.840.10008.1.2.4.50";
 
 /// DCMBOX, that none but this one may call.
 pub(crate) fn config(calling: &str) -> Result<Config, Fail> {
@@ -48,7 +50,12 @@ fn push_item(body: &mut Vec<u8>, kind: u8, content: &[u8]) -> Result<(), Fail> {
 }
 
 /// The fixed part of a request to this title, and its application context.
-fn begun(alloc: Global, version: u8, called: &[u8], application: &[u8]) -> Result<Vec<u8>, Fail> {
+pub(crate) fn begun(
+    alloc: Global,
+    version: u8,
+    called: &[u8],
+    application: &[u8],
+) -> Result<Vec<u8>, Fail> {
     let mut body = Vec::new(alloc);
     body.extend_from_slice(&[0, version, 0, 0])?;
     body.extend_from_slice(called)?;
@@ -58,7 +65,7 @@ fn begun(alloc: Global, version: u8, called: &[u8], application: &[u8]) -> Resul
     Ok(body)
 }
 
-fn push_context(
+pub(crate) fn push_context(
     alloc: Global,
     body: &mut Vec<u8>,
     id: u8,
@@ -74,7 +81,7 @@ fn push_context(
     push_item(body, 0x20, content.as_slice())
 }
 
-fn push_user(body: &mut Vec<u8>, maximum: [u8; 4]) -> Result<(), Fail> {
+pub(crate) fn push_user(body: &mut Vec<u8>, maximum: [u8; 4]) -> Result<(), Fail> {
     let [a, b, c, d] = maximum;
     push_item(
         body,
@@ -100,7 +107,11 @@ pub(crate) fn echo(
 }
 
 /// Returns whether this is accepted of what a request with this body proposes, under each of these IDs.
-fn accepts(config: &Config, body: &[u8], rows: &[(u8, Option<Context>)]) -> Result<bool, PduFault> {
+pub(crate) fn accepts(
+    config: &Config,
+    body: &[u8],
+    rows: &[(u8, Option<Context>)],
+) -> Result<bool, PduFault> {
     let request = read_request(body)?;
     for (id, accepted) in rows {
         if context(config, &request, *id) != *accepted {
@@ -114,7 +125,7 @@ fn accepts(config: &Config, body: &[u8], rows: &[(u8, Option<Context>)]) -> Resu
 fn contexts_of_the_recorded_echo(rt: HostRuntime) -> Result<(), Fail> {
     let body = echo(rt.alloc(), 1, OURS, APPLICATION, [0, 0, 0x40, 0])?;
     let verification = Context {
-        class: Class::Verification,
+        class: Service::Known(Class::Verification),
         syntax: Syntax::Implicit,
     };
     let rows = [(1, Some(verification)), (3, None)];
@@ -122,11 +133,13 @@ fn contexts_of_the_recorded_echo(rt: HostRuntime) -> Result<(), Fail> {
     Ok(())
 }
 
-/// The context that is accepted of them.
-const EXPLICIT_CT: Context = Context {
-    class: Class::Ct,
-    syntax: Syntax::Explicit,
-};
+/// The context that is accepted of those below.
+pub(crate) fn explicit_ct() -> Context {
+    Context {
+        class: Service::Known(Class::Ct),
+        syntax: Syntax::Explicit,
+    }
+}
 
 /// Contexts of which the third alone is accepted.
 pub(crate) fn refused_contexts(alloc: Global) -> Result<Vec<u8>, Fail> {
@@ -142,7 +155,7 @@ pub(crate) fn refused_contexts(alloc: Global) -> Result<Vec<u8>, Fail> {
 #[test]
 fn contexts_that_cannot_be_had(rt: HostRuntime) -> Result<(), Fail> {
     let body = refused_contexts(rt.alloc())?;
-    let rows = [(3, None), (5, Some(EXPLICIT_CT)), (7, None)];
+    let rows = [(3, None), (5, Some(explicit_ct())), (7, None)];
     assert!(rt; accepts(&config("SCANNER1")?, body.as_slice(), &rows)?);
     Ok(())
 }
@@ -224,7 +237,7 @@ pub(crate) fn many(alloc: Global) -> Result<Vec<u8>, Fail> {
     Ok(body)
 }
 
-fn filled(body: &[u8], config: &Config) -> Result<ArrayVec<ContextRow, 128>, PduFault> {
+pub(crate) fn filled(body: &[u8], config: &Config) -> Result<ArrayVec<ContextRow, 128>, PduFault> {
     let request = read_request(body)?;
     let mut table = ArrayVec::new();
     compact(config, &request, &mut table);
@@ -232,10 +245,13 @@ fn filled(body: &[u8], config: &Config) -> Result<ArrayVec<ContextRow, 128>, Pdu
 }
 
 /// Returns whether of the IDs below 10, this one alone is accepted, for this context.
-fn accepts_only(table: &[ContextRow], id: u8, accepted: Context) -> bool {
+fn accepts_only(config: &Config, table: &[ContextRow], id: u8, accepted: &Context) -> bool {
     for other in 0..10u8 {
-        let expected = if other == id { Some(accepted) } else { None };
-        if context_of(table, other) != expected {
+        let is_expected = match context_of(config, table, other) {
+            Some(context) => other == id && context == *accepted,
+            None => other != id,
+        };
+        if !is_expected {
             return false;
         }
     }
@@ -245,24 +261,26 @@ fn accepts_only(table: &[ContextRow], id: u8, accepted: Context) -> bool {
 #[test]
 fn table_of_one_context(rt: HostRuntime) -> Result<(), Fail> {
     let body = refused_contexts(rt.alloc())?;
-    let table = filled(body.as_slice(), &config("SCANNER1")?)?;
+    let config = config("SCANNER1")?;
+    let table = filled(body.as_slice(), &config)?;
     let row = ContextRow {
         id: 5,
-        class: Class::Ct,
+        class: RowClass::Known(Class::Ct),
         syntax: Syntax::Explicit,
-        spare: 0,
     };
     assert!(rt; table.as_slice() == [row].as_slice());
-    assert!(rt; accepts_only(table.as_slice(), 5, EXPLICIT_CT));
+    assert!(rt; accepts_only(&config, table.as_slice(), 5, &explicit_ct()));
     Ok(())
 }
 
 #[test]
 fn table_of_many_contexts(rt: HostRuntime) -> Result<(), Fail> {
     let body = many(rt.alloc())?;
-    let table = filled(body.as_slice(), &config("SCANNER1")?)?;
+    let config = config("SCANNER1")?;
+    let table = filled(body.as_slice(), &config)?;
     let rows = table.as_slice();
     assert!(rt; rows.len() == 128);
-    assert!(rt; context_of(rows, 255).is_some() && context_of(rows, 254).is_none());
+    assert!(rt; context_of(&config, rows, 255).is_some());
+    assert!(rt; context_of(&config, rows, 254).is_none());
     Ok(())
 }

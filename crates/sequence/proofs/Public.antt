@@ -3,9 +3,10 @@
 use Rattle.std.proofs.Common.{[]}
 use Rattle.sequence.specs.Ending.{WholeBreaksNoRule}
 use Rattle.sequence.specs.Examples.{PastItsItem, TooDeep, UnknownContent, OneStore}
-use Rattle.sequence.specs.Laws.{FaultStays, RefusalStays, RefusedStands, OneTree, OnePath, OneFault, SomeTelling, NothingIsUnbroken, NoHeader, LeastHeader, BytesAreJoined}
+use Rattle.sequence.specs.Laws.{FaultStays, RefusalStays, RefusedStands, OneTree, OnePath, OneFault, SomeTelling, HeldHasABound, NothingIsUnbroken, NoHeader, LeastHeader, BytesAreJoined}
 use Rattle.sequence.specs.machine.Machine.{run}
 use Rattle.sequence.proofs.Arriving as arriving
+use Rattle.sequence.proofs.Bounds as bounds
 use Rattle.sequence.proofs.Examples as examples
 use Rattle.sequence.proofs.Once as once
 use Rattle.sequence.proofs.Quiet as quiet
@@ -52,6 +53,9 @@ whole_breaks_no_rule = whole.whole_breaks_no_rule
 
 pub some_telling : SomeTelling
 some_telling = tellings.some_telling
+
+pub held_has_a_bound : HeldHasABound
+held_has_a_bound = bounds.held_has_a_bound
 
 pub refusal_stays : RefusalStays
 refusal_stays = staying.refusal_stays

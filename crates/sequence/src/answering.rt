@@ -7,7 +7,8 @@ use crate::stage::Stage;
 use crate::step::Step;
 use element::{Header, Tag};
 
-/// Returns what a step reports that took bytes of a header.
+/// Returns what a step reports that took bytes of a header: `made` is the header that they made
+/// whole.
 pub fn header_step<'p>(stage: Stage, made: Option<Header>) -> Step<'p>
     ensures { result ≡ header_told stage made }
 {

@@ -14,12 +14,15 @@ use crate::spot::{Bounds, Spot};
 use crate::wanted::Wanted;
 use element::{Header, Need, Tag, need, read_header, read_tag};
 
+/// Returns whether two tags are the same.
 pub fn same_tag(a: Tag, b: Tag) -> bool
     ensures { result ≡ rules.same_tag a b }
 {
     a.0 == b.0 && a.1 == b.1
 }
 
+/// Returns whether so many bytes pass the nearest end, of which `near` bytes are left, if there is
+/// one.
 pub fn passes(near: Option<u64>, count: u64) -> bool
     ensures { result ≡ rules.passes near count }
 {
@@ -29,6 +32,7 @@ pub fn passes(near: Option<u64>, count: u64) -> bool
     }
 }
 
+/// Returns the rule that is broken where a header is due and none fits before the nearest end.
 pub fn broken_due(spot: &Spot) -> Option<(Rule, Tag)>
     ensures { numbered result ≡ rules.broken_due spot.now }
 {
@@ -39,6 +43,8 @@ pub fn broken_due(spot: &Spot) -> Option<(Rule, Tag)>
     }
 }
 
+/// Returns the rule that a tag breaks here: it is out of place, of group 0000 or 0002, or not above
+/// the one before it.
 #[tactic(auto, unfolding(crate::specs::Rules::broken_tag))]
 pub fn broken_tag(spot: &Spot, tag: Tag) -> Option<(Rule, Tag)>
     ensures { numbered result ≡ rules.broken_tag spot.now tag }
@@ -66,6 +72,7 @@ pub fn broken_tag(spot: &Spot, tag: Tag) -> Option<(Rule, Tag)>
     }
 }
 
+/// Returns the rule that a header breaks by its VR, or by a size that passes the nearest end.
 pub fn broken_need(spot: &Spot, need: Need, tag: Tag) -> Option<(Rule, Tag)>
     ensures { numbered result ≡ rules.broken_need spot.now need tag }
 {
@@ -177,7 +184,7 @@ fn is_too_deep(bounds: &Bounds, spot: &Spot, header: &Header, shape: Shape) -> b
     opens(spot, header, shape) && bounds.depth <= spot.depth
 }
 
-/// The first rule that the whole header breaks.
+/// Returns the first rule that the whole header breaks.
 #[tactic(auto, unfolding(crate::specs::Rules::broken_header))]
 pub fn broken_header(
     wanted: &Wanted,
@@ -249,7 +256,8 @@ fn at_end(wanted: &Wanted, bounds: &Bounds, spot: &Spot, bytes: &[u8]) -> Option
     }
 }
 
-/// The first rule that is broken where these bytes of a header have come.
+/// Returns the first rule that a header breaks of which these bytes came, all or its first ones,
+/// and the tag at fault.
 #[tactic(auto, unfolding(crate::specs::Rules::broken))]
 pub fn broken(wanted: &Wanted, bounds: &Bounds, spot: &Spot, bytes: &[u8]) -> Option<(Rule, Tag)>
     requires place { spot.now.place < 2 ^ 49 }

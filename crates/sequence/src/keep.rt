@@ -73,7 +73,7 @@ impl<const V: usize> Keep<V> {
     ghost use Rattle.sequence.specs.Stored.{values_of, wants_of};
     ghost use Rattle.sequence.specs.machine.Stored.{left_of_keep};
 
-    /// Room for the values of the wanted tags.
+    /// Creates a buffer for the values of the wanted tags.
     pub fn new(wanted: Wanted) -> Keep<V>
         requires greatest { V ≤ 2 ^ 24 }
         requires fit { rooms (wanted.list.items) + 12 ≤ V }
@@ -90,7 +90,7 @@ impl<const V: usize> Keep<V> {
         }
     }
 
-    /// Begins the value of a tag above those that came, if it is wanted; whether it is.
+    /// Begins the value of a tag above those that came, if it is wanted, and returns whether it is.
     pub fn begin(&mut self, tag: u32) -> bool
         requires { self.old.last < tag }
         ensures wanted { result ≡ is_wanted (wants_of self.old) tag }
@@ -137,7 +137,7 @@ impl<const V: usize> Keep<V> {
         }
     }
 
-    /// How many bytes are kept.
+    /// Returns how many bytes are kept.
     pub fn len(&self) -> usize
         ensures value { result ≡ size_of_values (values_of self.now) }
         ensures all { result ≡ array_vec_len self.now.bytes }
@@ -146,7 +146,7 @@ impl<const V: usize> Keep<V> {
         self.bytes.len()
     }
 
-    /// The value of this tag, if it came, leaving out the last one where it is begun.
+    /// Returns the value of this tag, if it came, leaving out the last one where it is unfinished.
     pub fn value(&self, tag: u32, begun: bool) -> Option<&[u8]>
         requires { begun ≡ true → 0 < left_of_keep self.now }
         ensures { option_map (λ bytes. bytes.now) result ≡ value_of (told_values begun (values_of self.now)) tag }
@@ -155,7 +155,7 @@ impl<const V: usize> Keep<V> {
         find_value(self.wanted.as_slice(), &lengths, self.bytes.as_slice(), tag)
     }
 
-    /// The wanted tags.
+    /// Returns the wanted tags.
     pub fn wanted(&self) -> &Wanted
         ensures { result.now ≡ self.now.wanted }
     {

@@ -4,12 +4,12 @@ ghost use Rattle.std.specs.Prelude.{◌≡◌, ◌∷◌, []};
 ghost use Rattle.sequence.specs.Rules.{bad_vr, odd_length, not_rising, bad_group, undefined_not_allowed, unexpected_tag, delimiter_length, overrun, too_deep, too_long, truncated, kept_too_long};
 ghost use Rattle.sequence.specs.Ending.{WholeBreaksNoRule, WholeHasNoFault, FaultIsFinal};
 ghost use Rattle.sequence.specs.Laws.{FaultStays, RefusalStays, RefusedStands, OneTree, OnePath, EndsAreNested, WholeHasOpenInside, OneFault};
-ghost use Rattle.sequence.specs.Laws.{OneTelling, OneHolding, SomeTelling, NothingIsUnbroken, NoHeader, LeastHeader, BytesAreJoined};
+ghost use Rattle.sequence.specs.Laws.{OneTelling, OneHolding, SomeTelling, HeldHasABound, NothingIsUnbroken, NoHeader, LeastHeader, BytesAreJoined};
 ghost use Rattle.sequence.specs.Examples.{TwoOpenLevels, FourLevels, PastItsItem, TooDeep, UnknownContent, OneStore, AlongOneStore, AlongFourLevels};
 
 use crate::fault::Fault;
 
-/// The numbers of the rules.
+/// The numbers of the rules are the definitions'.
 pub fn rule_numbers() -> [u8; 12]
     ensures { result ≡ bad_vr ∷ odd_length ∷ not_rising ∷ bad_group ∷ undefined_not_allowed ∷ unexpected_tag ∷ delimiter_length ∷ overrun ∷ too_deep ∷ too_long ∷ truncated ∷ kept_too_long ∷ [] }
 {
@@ -29,7 +29,8 @@ pub fn rule_numbers() -> [u8; 12]
     ]
 }
 
-/// A sequence and an item of undefined length, and three bytes of a header.
+/// Three bytes of a header inside a sequence and an item of undefined length: two levels are open,
+/// and 35 bytes are held.
 pub fn two_open_levels()
     ensures { TwoOpenLevels }
 {}
@@ -109,7 +110,7 @@ pub fn one_telling()
     ensures { OneTelling }
 {}
 
-/// There is at most one thing to hold after a text.
+/// What is to be held after a text is determined.
 pub fn one_holding()
     ensures { OneHolding }
 {}
@@ -117,6 +118,12 @@ pub fn one_holding()
 /// There is a report after every text of bytes.
 pub fn some_telling()
     ensures { SomeTelling }
+{}
+
+/// After a text of bytes a walk holds at most an unfinished header, the rooms of the wanted values, and 16 bytes for
+/// each level of the limit.
+pub fn held_has_a_bound()
+    ensures { HeldHasABound }
 {}
 
 /// A whole data set within its limits breaks no rule.
@@ -134,12 +141,12 @@ pub fn a_fault_is_final()
     ensures { FaultIsFinal }
 {}
 
-/// The empty text breaks no rule.
+/// The text of no byte breaks no rule.
 pub fn nothing_is_unbroken()
     ensures { NothingIsUnbroken }
 {}
 
-/// Where no byte of a header came, it is unfinished.
+/// No byte at all is an unfinished header.
 pub fn no_header()
     ensures { NoHeader }
 {}

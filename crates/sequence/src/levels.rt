@@ -13,7 +13,7 @@ use crate::spot::Spot;
 use arrayvec::ArrayVec;
 use element::{Syntax, Tag};
 
-/// Whether the innermost level ends here.
+/// Returns whether the innermost level ends here.
 pub fn ends_here<const D: usize>(levels: &ArrayVec<Level, D>, place: u64) -> bool
     requires { place < 2 ^ 64 - 1 }
     ensures some { IsTrue result → 0 < array_vec_len levels.now }
@@ -35,7 +35,7 @@ pub fn leave_ended<const D: usize>(levels: &mut ArrayVec<Level, D>, place: u64)
     }
 }
 
-/// The nearest end of a defined level, from the innermost one outwards.
+/// Returns the nearest end of a level of defined length, from the innermost one outwards.
 pub fn nearest(levels: &[Level]) -> Option<u64>
     ensures { result ≡ nearest_from None levels.now }
 {
@@ -49,7 +49,7 @@ pub fn nearest(levels: &[Level]) -> Option<u64>
     None
 }
 
-/// What is left of it after `place` bytes.
+/// Returns how many bytes are left before this end after `place` bytes.
 pub fn left_before(near: Option<u64>, place: u64) -> Option<u64>
     ensures { result ≡ less near place }
 {
@@ -59,7 +59,7 @@ pub fn left_before(near: Option<u64>, place: u64) -> Option<u64>
     }
 }
 
-/// The innermost scope.
+/// Returns the scope of the innermost open level, or of the data set itself where none is open.
 pub fn top_scope(root: Scope, levels: &[Level]) -> Scope
     ensures { result ≡ top_of root levels.now }
 {
@@ -69,13 +69,14 @@ pub fn top_scope(root: Scope, levels: &[Level]) -> Scope
     }
 }
 
+/// Returns whether the innermost level is one of undefined length: the data set itself is none.
 pub fn is_open_ended(top: Scope, levels: &[Level]) -> bool
     ensures { result ≡ (is_none top.stop && not (nat_eq (length levels.now) 0)) }
 {
     top.stop.is_none() && !levels.is_empty()
 }
 
-/// Where a header is due after `place` bytes.
+/// Returns where a header is due after `place` bytes.
 pub fn spot_at(root: Scope, levels: &[Level], place: u64) -> Spot
     requires { root.stop ≡ None }
     ensures { result ≡ spot_of (top_of root levels.now) (below_of root [] levels.now) place }
@@ -94,7 +95,7 @@ pub fn spot_at(root: Scope, levels: &[Level], place: u64) -> Spot
     }
 }
 
-/// The element with this tag is the last one of its data set.
+/// Makes this tag the last one of the innermost data set.
 pub fn set_last<const D: usize>(root: &mut Scope, levels: &mut ArrayVec<Level, D>, tag: Tag)
     ensures top { top_of root.new levels.new.items ≡ begun (top_of root.old levels.old.items) tag }
     ensures below { below_of root.new [] levels.new.items ≡ below_of root.old [] levels.old.items }
@@ -123,7 +124,7 @@ fn stop_at(place: u64, length: u32) -> Option<u64>
     }
 }
 
-/// The level that an item opens after its header.
+/// Returns the level that an item opens after its header.
 pub fn item_scope(syntax: Syntax, place: u64, length: u32) -> Scope
     requires { place < 2 ^ 49 }
     ensures scope { result ≡ set_scope syntax (stop_of place length) 0 }
@@ -137,7 +138,7 @@ pub fn item_scope(syntax: Syntax, place: u64, length: u32) -> Scope
     }
 }
 
-/// The level that a sequence opens after its header.
+/// Returns the level that a sequence opens after its header.
 pub fn sequence_scope(syntax: Syntax, place: u64, length: u32) -> Scope
     requires { place < 2 ^ 49 }
     ensures scope { result ≡ sequence_scope syntax (stop_of place length) }

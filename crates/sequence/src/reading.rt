@@ -8,7 +8,7 @@ use crate::shape::{Shape, named_shape, plain_shape};
 use byteorder::{ByteOrder, LittleEndian};
 use element::{Header, Need, Syntax, Tag, Vr, need, read_tag};
 
-/// Whether a header with this tag has no VR.
+/// Returns whether a header with this tag has no VR.
 pub fn is_plain(syntax: Syntax, tag: Tag) -> bool
     ensures { result ≡ spelling.is_plain syntax tag }
 {
@@ -18,7 +18,7 @@ pub fn is_plain(syntax: Syntax, tag: Tag) -> bool
     }
 }
 
-/// Whether a header is whole in the bytes.
+/// Returns whether a header is whole in the bytes.
 #[tactic(auto, unfolding(element::specs::Header::is_whole))]
 pub fn is_whole(syntax: Syntax, bytes: &[u8]) -> bool
     ensures { result ≡ spelling.is_whole syntax bytes.now }
@@ -30,7 +30,7 @@ pub fn is_whole(syntax: Syntax, bytes: &[u8]) -> bool
     }
 }
 
-/// A whole header.
+/// A whole header at the front of some bytes.
 #[derive(Clone, Copy)]
 pub struct Front {
     /// How many bytes it takes.

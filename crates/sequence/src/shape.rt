@@ -64,7 +64,7 @@ fn implicit_shape(known: Option<Vr>, undefined: bool) -> Shape
     }
 }
 
-/// The shape of the element with this header, in a data set of this syntax.
+/// Returns the shape of the element with this header, in a data set of this syntax.
 pub fn shape_of(syntax: Syntax, header: &Header) -> Shape
     ensures { result ≡ shapes.shape syntax header.now }
 {
@@ -78,7 +78,7 @@ pub fn shape_of(syntax: Syntax, header: &Header) -> Shape
     }
 }
 
-/// The shape of the element with this header without a VR.
+/// Returns the shape of the element with this header without a VR.
 pub fn plain_shape(syntax: Syntax, tag: Tag, length: u32) -> Shape
     ensures { result ≡ shapes.shape_by syntax None (known.vr_of tag) (shapes.is_undefined length) }
 {
@@ -88,7 +88,7 @@ pub fn plain_shape(syntax: Syntax, tag: Tag, length: u32) -> Shape
     }
 }
 
-/// The shape of the element with this VR in Explicit.
+/// Returns the shape of the element with this VR in Explicit.
 pub fn named_shape(vr: Vr, length: u32) -> Shape
     ensures { result ≡ shapes.explicit_shape vr (shapes.is_undefined length) }
 {

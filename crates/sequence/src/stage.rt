@@ -7,7 +7,7 @@ use crate::fault::Fault;
 use crate::rule::Rule;
 use element::Tag;
 
-/// What a walk is in the middle of.
+/// What a walk is in the middle of: a header, a value, or nothing after a refusal.
 #[derive(Clone, Copy)]
 pub enum Stage {
     /// A header, of which the kept bytes came.
@@ -18,7 +18,8 @@ pub enum Stage {
     Stopped(Fault),
 }
 
-/// What the walk is in, where a header is due, unless it broke a rule.
+/// Returns the stage where a header is due: a header without a byte, or the refusal of the rule
+/// that is broken.
 pub fn stage_at(broken: Option<(Rule, Tag)>, place: u64) -> Stage
     ensures { result ≡ stage_by (numbered broken) place }
 {

@@ -2,7 +2,7 @@
 use crate::fault::Fault;
 use element::Header;
 
-/// What a step of a walker makes known.
+/// What the bytes that a step of a walker took complete.
 #[derive(Clone, Copy, Debug)]
 pub enum Step<'p> {
     /// A header is not whole yet, or the piece is empty.

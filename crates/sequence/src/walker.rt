@@ -293,7 +293,8 @@ impl<const V: usize, const D: usize> Walker<V, D> {
         }
     }
 
-    /// A walker at the beginning of a data set of at most `limit` bytes, which keeps the wanted values.
+    /// Creates a walker at the beginning of a data set of at most `limit` bytes, which keeps the
+    /// wanted values.
     pub fn new(syntax: Syntax, wanted: Wanted, limit: u64) -> Self
         requires least_kept { 140 ≤ V }
         requires greatest_kept { V ≤ 2 ^ 24 }
@@ -321,7 +322,8 @@ impl<const V: usize, const D: usize> Walker<V, D> {
         }
     }
 
-    /// Takes the first bytes of the piece, at least one of a piece that is not empty, unless a refusal stands.
+    /// Takes the first bytes of the piece, at least one of a piece that is not empty, unless a
+    /// refusal stands. Returns how many, and what they complete.
     pub fn step<'p>(&mut self, piece: &'p [u8]) -> (usize, Step<'p>)
         ensures taken { result.0 ≤ length piece.now }
         ensures some { fault_of self.old ≡ None → 0 < length piece.now → 0 < result.0 }
@@ -357,7 +359,8 @@ impl<const V: usize, const D: usize> Walker<V, D> {
         self.header.is_empty() && self.levels.is_empty()
     }
 
-    /// Whether the bytes so far are a whole data set within the limits; the refusal, if there is one, and else 20.
+    /// Checks that the bytes so far are a whole data set within the limits. The error is the
+    /// refusal, if there is one, and else `Truncated`.
     pub fn finish(&self) -> Result<(), Fault>
         ensures whole { IsOk result → (b : List ℕ) → StandsAt self.now b → IsWholeDataSet (walker_syntax self.now) (limits_of self.now) b }
         ensures exactly { (b : List ℕ) → StandsAt self.now b → IsWholeDataSet (walker_syntax self.now) (limits_of self.now) b → IsOk result }

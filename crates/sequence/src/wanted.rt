@@ -40,7 +40,7 @@ fn are_rising(wants: &[Want]) -> bool
     true
 }
 
-/// At most 16 wanted tags, rising, with a room each.
+/// At most 16 wanted tags in rising order, each with the greatest size of its value.
 #[derive(Drop)]
 pub struct Wanted {
     list: ArrayVec<Want, 16>,
@@ -51,7 +51,7 @@ pub struct Wanted {
 impl Wanted {
     ghost use Rattle.sequence.specs.Stored.{wanted_tags};
 
-    /// No tag is wanted.
+    /// Returns the list of no wanted tag.
     pub fn none() -> Wanted
         ensures { wanted_tags result ≡ [] }
     {
@@ -60,7 +60,7 @@ impl Wanted {
         }
     }
 
-    /// These wanted tags; `None` where they are more than 16 or do not rise.
+    /// Returns the list of these wanted tags, or `None` where they are more than 16 or do not rise.
     pub fn of(wants: &[Want]) -> Option<Wanted>
         ensures some { IfSome result (λ wanted. wanted_tags wanted ≡ wants.now) }
         ensures none { IsNone result → (16 < length wants.now) ⊎ (spelling.are_rising 0 wants.now ≡ false) }

@@ -14,3 +14,5 @@ mod row;
 mod sets;
 #[cfg(test)]
 mod store_rows;
+#[cfg(test)]
+mod two_filings;

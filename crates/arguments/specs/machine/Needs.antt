@@ -16,11 +16,15 @@ abbrev pub replay_needs : List Text
 replay_needs = codes "FILE" ∷ codes "out" ∷ codes "ae" ∷ codes "cut" ∷ []
 
 abbrev pub index_needs : List Text
-index_needs = codes "DIR" ∷ codes "uid" ∷ []
+index_needs = codes "DIR" ∷ []
 
 abbrev pub serve_needs : List Text
-serve_needs = codes "port" ∷ codes "out" ∷ codes "bind" ∷ codes "ae" ∷ codes "timeout" ∷ codes "idle" ∷ codes "max-pdu" ∷ codes "max-data" ∷ []
+serve_needs = codes "port" ∷ codes "out" ∷ codes "bind" ∷ codes "ae" ∷ codes "timeout" ∷ codes "idle" ∷ codes "max-pdu" ∷ codes "max-data" ∷ codes "at-once" ∷ codes "grace" ∷ []
 
 -- at most 16 titles may call
 abbrev pub callers_fit : List Row → Bool
 callers_fit rows = nat_le (length (values_of rows (codes "caller"))) 16
+
+-- at most 16 storage classes are named
+abbrev pub classes_fit : List Row → Bool
+classes_fit rows = nat_le (length (values_of rows (codes "storage-class"))) 16

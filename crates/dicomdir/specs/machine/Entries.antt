@@ -1,15 +1,16 @@
 -- The records that were read of a directory, as its links are followed.
-use Rattle.std.specs.Prelude.{◌≡◌, ◌≢◌, ℕ, suc, ◌≤◌, true, List, [], ◌∷◌, ◌++◌, length, map, None, Some}
+use Rattle.std.specs.Prelude.{◌≡◌, ◌≢◌, ℕ, suc, ◌≤◌, true, List, [], ◌∷◌, ◌++◌, map, None, Some}
+use Rattle.std.specs.List.{flat_map}
 use Rattle.sequence.specs.Rules.{no_tag}
 use Rattle.sequence.specs.Tree.{Elements}
 use Rattle.dicomdir.specs.declared.fault.DirFault.{DirFault}
 use Rattle.dicomdir.specs.declared.links.Root.{Root}
 use Rattle.dicomdir.specs.declared.records.ReadRecord.{ReadRecord}
 use Rattle.dicomdir.specs.declared.tree.TreeRecord.{TreeRecord}
-use Rattle.dicomdir.specs.Directory.{found, Record, Node, carried_node, first_offset, last_offset, next_offset, lower_offset, has_record, has_file_id}
-use Rattle.dicomdir.specs.DirFault.{or_zero, place_in, links_fault}
-use Rattle.dicomdir.specs.Followed.{forest_from}
-use Rattle.dicomdir.specs.NodesInUse.{nodes_in_use}
+use Rattle.dicomdir.specs.Directory.{found, Record, Node, carried_node, first_offset, last_offset, next_offset, lower_offset, has_record, has_file_id, or_zero}
+use Rattle.dicomdir.specs.DirFault.{place_in, links_of, links_fault}
+use Rattle.dicomdir.specs.Paths.{paths_of}
+use Rattle.dicomdir.specs.machine.Trail.{node_on}
 use Rattle.dicomdir.specs.TreeNodes.{node_of}
 
 -- what the node of an entry carries
@@ -49,12 +50,12 @@ pub record AreRead (root : Root) (entries : List ReadRecord) (start : ℕ) (es :
 abbrev pub AreFollowed : Root → List ReadRecord → List TreeRecord → List TreeRecord → Type 0
 AreFollowed root entries old new =
     (start : ℕ) (es : Elements) (records : List Record) → AreRead root entries start es records
-    → (links_fault start es records ≡ None)
-    × (map node_of new ≡ map node_of old ++ nodes_in_use 1 (forest_from (suc (length records)) records (or_zero (first_offset start es))))
+    → (links_fault start es (links_of start es records) ≡ None)
+    × (map node_of new ≡ map node_of old ++ flat_map (node_on (links_of start es records)) (paths_of (links_of start es records)))
 
 -- memory ran out, or it is the first fault of their links
 pub record FailsToFollow (root : Root) (entries : List ReadRecord) (f : DirFault) : Type 0 where
   pub tag : f.tag ≡ no_tag
   pub memory : f.number ≡ 67 → f.place ≡ 0
   pub fault : (start : ℕ) (es : Elements) (records : List Record) → f.number ≢ 67 → AreRead root entries start es records
-      → links_fault start es records ≡ Some (record { number = f.number; place = f.place })
+      → links_fault start es (links_of start es records) ≡ Some (record { number = f.number; place = f.place })

@@ -1,16 +1,18 @@
 -- What reading the root and the records of a directory comes to.
-use Rattle.std.specs.Prelude.{◌≡◌, ◌≢◌, ℕ, suc, Bool, true, false, not, ◌&&◌, ◌||◌, List, Option, Some, None, is_some, length, nat_eq, if◌then◌else◌, codes}
+use Rattle.std.specs.Prelude.{◌≡◌, ◌≢◌, ℕ, Bool, true, false, not, ◌&&◌, ◌||◌, List, Option, Some, None, is_some, nat_eq, if◌then◌else◌, codes}
+use Rattle.std.specs.List.{flat_map}
 use Rattle.std.specs.Str.{bytes_eq}
 use Rattle.sequence.specs.Rules.{no_tag}
 use Rattle.sequence.specs.Tree.{Elements}
 use Rattle.dicomdir.specs.declared.fault.DirFault.{DirFault}
 use Rattle.dicomdir.specs.declared.found.Element.{Element}
 use Rattle.dicomdir.specs.declared.records.ReadRecord.{ReadRecord}
-use Rattle.dicomdir.specs.Directory.{Found, number_in, Record, first_offset, records_of, carried_node, next_offset, lower_offset, has_record}
-use Rattle.dicomdir.specs.DirFault.{Fault, or_zero, place_in, offset_fault, directory_fault}
-use Rattle.dicomdir.specs.Followed.{forest_from}
-use Rattle.dicomdir.specs.NodesInUse.{LevelNode, nodes_in_use}
+use Rattle.dicomdir.specs.Directory.{Found, number_in, Record, records_of, carried_node, next_offset, lower_offset, has_record, or_zero}
+use Rattle.dicomdir.specs.DirFault.{Fault, place_in, offset_fault, links_of, directory_fault}
+use Rattle.dicomdir.specs.Paths.{paths_of}
+use Rattle.dicomdir.specs.NodesInUse.{LevelNode}
 use Rattle.dicomdir.specs.machine.Entries.{carried_by}
+use Rattle.dicomdir.specs.machine.Trail.{node_on}
 use Rattle.dicomdir.specs.machine.Texts.{got_none}
 
 -- memory ran out, or it is this fault
@@ -46,4 +48,4 @@ pub record ChecksAs (start : ℕ) (es : Elements) (nodes : List LevelNode) : Typ
   pub no_fault : directory_fault start es ≡ None
   pub records : List Record
   pub are : records_of start es ≡ Some records
-  pub nodes_are : nodes ≡ nodes_in_use 1 (forest_from (suc (length records)) records (or_zero (first_offset start es)))
+  pub nodes_are : nodes ≡ flat_map (node_on (links_of start es records)) (paths_of (links_of start es records))

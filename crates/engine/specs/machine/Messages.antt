@@ -2,7 +2,7 @@
 use Rattle.std.specs.Prelude.{◌≡◌, ◌⊎◌, ℕ, ◌+◌, ◌<◌, Bool, true, false, ◌||◌, List, [], length, Option, Some, Result, Ok, OnErr}
 use Rattle.acceptor.specs.declared.state.State.TheVariants.{Sta6}
 use Rattle.pdu.specs.declared.wire.WireFailed.{WireFailed}
-use Rattle.pdu.specs.Items.{request_record}
+use Rattle.engine.specs.Requested.{Requested, request_record}
 use Rattle.pdu.specs.Sent.{Line, Sends}
 use Rattle.negotiate.specs.Settings.{Settings}
 use Rattle.dimse.specs.Command.{CommandRecord}
@@ -38,7 +38,7 @@ pub record Aside (kept : Kept) (p : Progress) : Type 0 where
 
 -- More of a message has come, in which a filing call had failed before or not: its data are walked and in the draft, no
 -- file was put, and the filing failed at most once.
-pub record Proceeds (depth most : ℕ) (request : List ℕ) (message : Begun) (failed_before : Bool) (stored : Stored) (old new : Store) : Type 0 where
+pub record Proceeds (depth most : ℕ) (request : Requested) (message : Begun) (failed_before : Bool) (stored : Stored) (old new : Store) : Type 0 where
   pub failed : Bool
   pub may : failed ≡ true → (failed_before ≡ false) × InStore request message
   pub walks : Walks depth most request message stored

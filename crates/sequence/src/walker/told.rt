@@ -23,21 +23,22 @@ impl<const V: usize, const D: usize> Walker<V, D> {
     ghost use Rattle.sequence.specs.Wanted.{value_of};
     ghost use Rattle.sequence.specs.Taken.{told_by};
 
-    /// How many levels are open: a sequence and an item count one each.
+    /// Returns how many levels are open: a sequence and an item count one each.
     pub fn levels(&self) -> usize
         ensures { result ≡ (told_by self.now).levels }
     {
         self.levels.as_slice().len()
     }
 
-    /// How many bytes came; after a refusal, how many came up to it.
+    /// Returns how many bytes came; after a refusal, how many came up to it.
     pub fn place(&self) -> u64
         ensures { result ≡ (told_by self.now).place }
     {
         self.place
     }
 
-    /// How many bytes are held: of an unfinished header, of kept values, and 16 for each open level.
+    /// Returns how many bytes are held: of an unfinished header, of kept values, and 16 for each
+    /// open level.
     pub fn held(&self) -> usize
         ensures value { result ≡ (told_by self.now).held }
         ensures bound { result ≤ V + 16 * D }
@@ -45,7 +46,7 @@ impl<const V: usize, const D: usize> Walker<V, D> {
         self.header.len() + self.kept.len() + 16 * self.levels.len()
     }
 
-    /// The value of this wanted tag of the data set itself, if it came whole.
+    /// Returns the value of this wanted tag of the data set itself, if it came whole.
     pub fn kept(&self, tag: Tag) -> Option<&[u8]>
         ensures { option_map (λ bytes. bytes.now) result ≡ value_of (told_by self.now).kept (number tag) }
     {

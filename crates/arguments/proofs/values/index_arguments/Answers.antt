@@ -11,20 +11,25 @@ returns-in_err-get_str-clause-none c =
     let found = found_of c.args.matches.now in
     if_none c.from_residual.result _ (missing (rows_of found) index_needs 0 (omega arith) (c.in_err-get_str.ensures ∙ first_value-rows found (codes "DIR")))
 
-pub returns-in_err-get_str-2-clause-none : goal.returns-in_err-get_str-2-clause-none
-returns-in_err-get_str-2-clause-none c =
-    let found = found_of c.args.matches.now in
-    if_none c.from_residual-in_err-get_str-2.result _ (missing (rows_of found) index_needs 1 (omega arith) (c.in_err-get_str-2.ensures ∙ first_value-rows found (codes "uid")))
-
 pub returns-clause-some : goal.returns-clause-some
 returns-clause-some c =
     let found = found_of c.args.matches.now in
     record {
       dir = sym (c.in_ok-get_str.ensures ∙ first_value-rows found (codes "DIR"));
-      uid = sym (c.in_ok-get_str-2.ensures ∙ first_value-rows found (codes "uid"));
+      uid = sym (c.get_str-2.ensures ∙ first_value-rows found (codes "uid"));
+      new_uid = record {
+        none = λ e. c.get_flag.ensures.none (one_text-rows found (codes "new-uid") ∙ e);
+        on = λ e. c.get_flag.ensures.value (one_text-rows found (codes "new-uid") ∙ e);
+        off = λ e. c.get_flag.ensures.other (one_text-rows found (codes "new-uid") ∙ e);
+      };
       keep = record {
-        none = λ e. c.get_flag.ensures.none (one_text-rows found (codes "keep") ∙ e);
-        on = λ e. c.get_flag.ensures.value (one_text-rows found (codes "keep") ∙ e);
-        off = λ e. c.get_flag.ensures.other (one_text-rows found (codes "keep") ∙ e);
+        none = λ e. c.get_flag-2.ensures.none (one_text-rows found (codes "keep") ∙ e);
+        on = λ e. c.get_flag-2.ensures.value (one_text-rows found (codes "keep") ∙ e);
+        off = λ e. c.get_flag-2.ensures.other (one_text-rows found (codes "keep") ∙ e);
+      };
+      replace = record {
+        none = λ e. c.get_flag-3.ensures.none (one_text-rows found (codes "replace") ∙ e);
+        on = λ e. c.get_flag-3.ensures.value (one_text-rows found (codes "replace") ∙ e);
+        off = λ e. c.get_flag-3.ensures.other (one_text-rows found (codes "replace") ∙ e);
       };
     }

@@ -10,15 +10,26 @@ returns-clause-some c =
     let is = c.in_ok-port.ensures.some in
     let vs = c.in_ok-port.field-0.0 in
     record {
-      port = text_at _ vs 8 0 _ is (omega arith) (omega arith);
-      out = text_at _ vs 8 1 _ is (omega arith) (omega arith);
-      bind = text_at _ vs 8 2 _ is (omega arith) (omega arith);
-      ae = text_at _ vs 8 3 _ is (omega arith) (omega arith);
-      callers = c.in_ok-values.ensures.some;
-      timeout = text_at _ vs 8 4 _ is (omega arith) (omega arith);
-      idle = text_at _ vs 8 5 _ is (omega arith) (omega arith);
-      max_pdu = text_at _ vs 8 6 _ is (omega arith) (omega arith);
-      max_data = text_at _ vs 8 7 _ is (omega arith) (omega arith);
+      port = text_at _ vs 10 0 _ is (omega arith) (omega arith);
+      out = text_at _ vs 10 1 _ is (omega arith) (omega arith);
+      bind = text_at _ vs 10 2 _ is (omega arith) (omega arith);
+      ae = text_at _ vs 10 3 _ is (omega arith) (omega arith);
+      callers = c.in_ok-callers.ensures.some;
+      timeout = text_at _ vs 10 4 _ is (omega arith) (omega arith);
+      idle = text_at _ vs 10 5 _ is (omega arith) (omega arith);
+      max_pdu = text_at _ vs 10 6 _ is (omega arith) (omega arith);
+      max_data = text_at _ vs 10 7 _ is (omega arith) (omega arith);
+      verbose = record {
+        none = λ e. c.get_flag-verbose.ensures.none (one_text-rows found (codes "verbose") ∙ e);
+        on = λ e. c.get_flag-verbose.ensures.value (one_text-rows found (codes "verbose") ∙ e);
+        off = λ e. c.get_flag-verbose.ensures.other (one_text-rows found (codes "verbose") ∙ e);
+      };
+      quiet = record {
+        none = λ e. c.get_flag-quiet.ensures.none (one_text-rows found (codes "quiet") ∙ e);
+        on = λ e. c.get_flag-quiet.ensures.value (one_text-rows found (codes "quiet") ∙ e);
+        off = λ e. c.get_flag-quiet.ensures.other (one_text-rows found (codes "quiet") ∙ e);
+      };
+      log = sym (c.get_str-log.ensures ∙ first_value-rows found (codes "log"));
       per = sym (c.get_str.ensures ∙ first_value-rows found (codes "per"));
       no_sync = record {
         none = λ e. c.get_flag.ensures.none (one_text-rows found (codes "no-sync") ∙ e);
@@ -30,4 +41,15 @@ returns-clause-some c =
         on = λ e. c.get_flag-2.ensures.value (one_text-rows found (codes "once") ∙ e);
         off = λ e. c.get_flag-2.ensures.other (one_text-rows found (codes "once") ∙ e);
       };
+      at_once = text_at _ vs 10 8 _ is (omega arith) (omega arith);
+      per_peer = sym (c.get_str-per_peer.ensures ∙ first_value-rows found (codes "per-peer"));
+      longest = sym (c.get_str-longest.ensures ∙ first_value-rows found (codes "longest"));
+      stop_file = sym (c.get_str-stop_file.ensures ∙ first_value-rows found (codes "stop-file"));
+      grace = text_at _ vs 10 9 _ is (omega arith) (omega arith);
+      all_storage = record {
+        none = λ e. c.get_flag-3.ensures.none (one_text-rows found (codes "all-storage") ∙ e);
+        on = λ e. c.get_flag-3.ensures.value (one_text-rows found (codes "all-storage") ∙ e);
+        off = λ e. c.get_flag-3.ensures.other (one_text-rows found (codes "all-storage") ∙ e);
+      };
+      storage_classes = c.in_ok-storage_classes.ensures.some;
     }

@@ -1,15 +1,12 @@
-use Rattle.std.proofs.Common.{◌≡◌, ℕ, true, List, length, reverse}
-use Rattle.dicomdir.specs.Directory.{Record}
-use Rattle.dicomdir.specs.machine.Survey.{Seen, Surveyed, finish, surveyed}
-use Rattle.dicomdir.specs.machine.Trail.{AreLevels}
+use Rattle.std.proofs.Common.{length, reverse}
+use Rattle.dicomdir.specs.Paths.{Links}
+use Rattle.dicomdir.specs.machine.Trail.{AreMarks}
+use Rattle.dicomdir.proofs.Trails.{Climbed}
 use Rattle.dicomdir.proofs.links.climb.Given as goal
 
-abbrev pub invariant-loop-last : goal.invariant-loop-last
-invariant-loop-last g l =
-    (root : ℕ) (records : List Record) (seen : Seen) (all : Surveyed)
-    → AreLevels (reverse l.initial.trail.items)
-    → finish root records (reverse l.initial.trail.items) true (surveyed seen l.initial.last) ≡ all
-    → AreLevels (reverse l.trail.items) × (finish root records (reverse l.trail.items) true (surveyed seen l.last) ≡ all)
+abbrev pub invariant-loop-mark : goal.invariant-loop-mark
+invariant-loop-mark g l =
+    (links : Links) → AreMarks links (reverse l.initial.trail.items) → Climbed links (reverse l.initial.trail.items) (reverse l.trail.items)
 
-abbrev pub decreases-loop-last : goal.decreases-loop-last
-decreases-loop-last g l = length l.trail.items
+abbrev pub decreases-loop-mark : goal.decreases-loop-mark
+decreases-loop-mark g l = length l.trail.items

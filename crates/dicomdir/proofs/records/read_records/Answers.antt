@@ -1,8 +1,9 @@
 use Rattle.element.specs.Header.{item_tag}
 use Rattle.std.proofs.Common.{◌∙◌, [], ◌∷◌, ◌++◌, length, not, is_ok, sym, ap, subst, arith}
+use Rattle.std.proofs.lemmas.Bool.{cond-true}
 use Rattle.std.proofs.lemmas.List.{length-drop}
 use Rattle.dicomdir.specs.machine.Texts.{HasElements, content_at}
-use Rattle.dicomdir.proofs.TextLemmas.{same_tags, other_tag, if_yes}
+use Rattle.dicomdir.proofs.TextLemmas.{same_tags, other_tag}
 use Rattle.dicomdir.proofs.RecordsLemmas.{read_none, read_next, read_fails, read_to_mark, read_to_end}
 use Rattle.dicomdir.proofs.records.read_records.Goals as goal
 
@@ -40,5 +41,5 @@ loop-head-preserved g c =
           (λ es there. c.in-Ok.ensures.read es
           (subst (λ z. HasElements c.args.syntax es z) (sym (c.content_of.ensures.value ∙ ap (λ z. content_at c.in-Some.head.header z) c.after-next.ensures)) there))
           (λ es content more i w. c.after_item-rest.ensures.after es content more i (c.after-next.ensures ∙ w))
-          (c.push.ensures.items ∙ if_yes (is_ok c.push.result) (c.loop-head.records.items ++ c.in-Ok.record ∷ []) c.loop-head.records.items (c.is_err.ensures.negation ∙ ap not c.if-is_err.false));
+          (c.push.ensures.items ∙ cond-true (is_ok c.push.result) (c.loop-head.records.items ++ c.in-Ok.record ∷ []) c.loop-head.records.items (c.is_err.ensures.negation ∙ ap not c.if-is_err.false));
     }

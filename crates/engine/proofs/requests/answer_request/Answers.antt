@@ -52,4 +52,4 @@ returns-in-Reject-clause-due g c =
     (rejection_sent s c.args.body.now c.args.state c.requires.due none c.in-Reject.field-0 c.in-Reject.source c.in-Reject.field-2 c.in-Ok.request c.in-Ok.ensures.record rejected) c.reject.ensures.due
 
 pub returns-in-Accept-clause-rows : goal.returns-in-Accept-clause-rows
-returns-in-Accept-clause-rows g c = λ n old fits. omega (arith, c.compact.ensures.count, few_rows c.in-Ok.request c.args.body.now c.in-Ok.ensures.text, fits)
+returns-in-Accept-clause-rows g c = λ n old fits. omega (arith, c.compact.ensures.count, few_rows (settings_of c.args.config.now).further c.in-Ok.request c.args.body.now c.in-Ok.ensures.text, fits)

@@ -9,7 +9,7 @@ use Rattle.negotiate.specs.Contexts.{context_of}
 use Rattle.negotiate.specs.ContextRows.{context_in}
 use Rattle.dimse.specs.Messages.{head_refusal}
 use Rattle.dimse.specs.Joining.{Joining, ShowsMessage}
-use Rattle.pdu.specs.Items.{request_record}
+use Rattle.engine.specs.Requested.{Requested, request_record}
 use Rattle.engine.specs.Timeline.{At}
 use Rattle.engine.specs.Progress.{done}
 use Rattle.engine.specs.Replies.{invalid, user_aborts}
@@ -50,7 +50,7 @@ returns-in_default g c = record {
       let taken = sym (takes_shown k _ p [] [] h) ∙ sym c.takes_pdvs.ensures ∙ c.if-not-takes_pdvs.false in
       let id : c.args.head.context ≡ get_or begun 4 0 = ap (λ (x : PdvHead). x.context) head in
       let none : context_of (request_record p.request) (get_or begun 4 0) ≡ None =
-      sym (context_shown k _ p [] [] (get_or begun 4 0) h taken) ∙ ap (context_in k.table) (sym id) ∙ ap (λ (rows : List ContextRow). context_in rows c.args.head.context) (sym c.as_slice.ensures.value)
+      sym (context_shown k _ p [] [] (get_or begun 4 0) h taken) ∙ ap (context_in k.further k.table) (sym id) ∙ ap (λ (rows : List ContextRow). context_in k.further rows c.args.head.context) (sym c.as_slice.ensures.value)
       ∙ sym c.context_of.ensures ∙ c.in_default.is in
       does_by rooms s p (At (head_mark begun)) (invalid p) (kept_of c.refuse.new.self) [] begun _ _
       (head_taken rooms s p _ _ _ taken ∙ head_unaccepted g.row.C p _ (get_or begun 4 0) _ none) refl tt
@@ -69,7 +69,7 @@ returns-in-Err g c = record {
       let taken = sym (takes_shown k _ p [] [] h) ∙ sym c.takes_pdvs.ensures ∙ c.if-not-takes_pdvs.false in
       let id : c.args.head.context ≡ get_or begun 4 0 = ap (λ (x : PdvHead). x.context) head in
       let some : context_of (request_record p.request) (get_or begun 4 0) ≡ Some c.in-Some.field-0 =
-      sym (context_shown k _ p [] [] (get_or begun 4 0) h taken) ∙ ap (context_in k.table) (sym id) ∙ ap (λ (rows : List ContextRow). context_in rows c.args.head.context) (sym c.as_slice.ensures.value)
+      sym (context_shown k _ p [] [] (get_or begun 4 0) h taken) ∙ ap (context_in k.further k.table) (sym id) ∙ ap (λ (rows : List ContextRow). context_in k.further rows c.args.head.context) (sym c.as_slice.ensures.value)
       ∙ sym c.context_of.ensures ∙ c.in-Some.is in
       let message = join_between k _ p [] h in
       let wrong : head_refusal g.row.C p.message (pdv_head_of begun) ≡ Some c.in-Err.field-0 =
@@ -93,7 +93,7 @@ returns-in-Ok g c = record {
       let taken = sym (takes_shown k _ p [] [] h) ∙ sym c.takes_pdvs.ensures ∙ c.if-not-takes_pdvs.false in
       let id : c.args.head.context ≡ get_or begun 4 0 = ap (λ (x : PdvHead). x.context) head in
       let some : context_of (request_record p.request) (get_or begun 4 0) ≡ Some c.in-Some.field-0 =
-      sym (context_shown k _ p [] [] (get_or begun 4 0) h taken) ∙ ap (context_in k.table) (sym id) ∙ ap (λ (rows : List ContextRow). context_in rows c.args.head.context) (sym c.as_slice.ensures.value)
+      sym (context_shown k _ p [] [] (get_or begun 4 0) h taken) ∙ ap (context_in k.further k.table) (sym id) ∙ ap (λ (rows : List ContextRow). context_in k.further rows c.args.head.context) (sym c.as_slice.ensures.value)
       ∙ sym c.context_of.ensures ∙ c.in-Some.is in
       let message = join_between k _ p [] h in
       let fine : head_refusal g.row.C p.message (pdv_head_of begun) ≡ None =

@@ -2,12 +2,12 @@
 use Rattle.std.proofs.Common.{◌<◌, ◌∙◌, ap, subst, List, ℕ, length, OnErr, arith}
 use Rattle.acceptor.specs.declared.state.State.TheVariants.{Sta6}
 use Rattle.pdu.specs.Sent.{Sends}
-use Rattle.pdu.specs.Items.{request_record}
+use Rattle.engine.specs.Requested.{request_record}
 use Rattle.engine.specs.Progress.{at_start}
 use Rattle.engine.specs.Requests.{at_request}
 use Rattle.engine.specs.Kept.{Agreed, kept_of, settings_in}
 use Rattle.engine.specs.machine.DoesDue.{ComesTo}
-use Rattle.engine.proofs.RequestLemmas.{request_tries, given_up}
+use Rattle.engine.proofs.RequestLemmas.{asked, request_tries, given_up}
 use Rattle.engine.proofs.provider.Provider.on_request.Goals as goal
 
 pub returns : goal.returns
@@ -27,7 +27,7 @@ returns g c = record {
       request_tries s p body a.result.0 a.result.1 old new caller maximum rows _ _ _ _ h c.requires.due unrefused
       (a.ensures.state ∙ ap (λ (b : List ℕ). (at_request s at_start b).next.state) bytes)
       (subst (λ (b : List ℕ). ComesTo a.result.0 a.result.1 (record given { body = b }) new (g.F.Filing.store c.args.filing.now) (g.F.Filing.store c.settle.new.filing)) c.clear.ensures c.settle.ensures.settles)
-      (λ six. subst (λ (b : List ℕ). Agreed (record given { state = Sta6 }) (request_record b)) bytes
+      (λ six. subst (λ (b : List ℕ). Agreed (record given { state = Sta6 }) (request_record (asked s.further b))) bytes
       (record { caller = a.ensures.caller six; maximum = a.ensures.maximum six; rows = a.ensures.kept_rows six; contexts = a.ensures.contexts six; count = a.ensures.count six }))
       (subst (λ (b : List ℕ). Sends (at_request s at_start b).sent a.result.1 (g.W.Wire.line c.args.wire.now) (g.W.Wire.line a.new.wire)) bytes a.ensures.sends)
       (subst (λ (b : List ℕ). OnErr a.result.1 (0 < length (at_request s at_start b).sent)) bytes a.ensures.due);

@@ -1,6 +1,6 @@
 -- The data are walked where the command's class is that of its context.
 use Rattle.std.proofs.Common.{◌≡◌, ◌∙◌, ap, sym, List, ℕ, [], Ok, Some, None, true, false, refl}
-use Rattle.pdu.specs.Items.{request_record}
+use Rattle.engine.specs.Requested.{Requested, request_record}
 use Rattle.negotiate.specs.declared.table.ContextRow.{ContextRow}
 use Rattle.negotiate.specs.Contexts.{context_of}
 use Rattle.negotiate.specs.ContextRows.{context_in}
@@ -45,7 +45,7 @@ returns-in_default-context_of g c = record {
   proceeds = λ request agreed none announced.
       let command = c.args.self.now.join.command in
       let absent : context_of (request_record request) c.args.context ≡ None =
-      sym (agreed.contexts c.args.context) ∙ ap (λ (rows : List ContextRow). context_in rows c.args.context) (sym c.as_slice.ensures.value) ∙ sym c.context_of.ensures ∙ c.in_default-context_of.is in
+      sym (agreed.contexts c.args.context) ∙ ap (λ (rows : List ContextRow). context_in (kept_of c.args.self.now).further rows c.args.context) (sym c.as_slice.ensures.value) ∙ sym c.context_of.ensures ∙ c.in_default-context_of.is in
       idle_proceeds g.row.D c.args.self.now.config.max_data request (InSet c.args.context command []) (kept_of c.args.self.now).storing _ none (unaccepted_store request c.args.context command absent);
 }
 
@@ -58,7 +58,7 @@ returns-else-is_of_context g c = record {
       let command = c.args.self.now.join.command in
       let e : command_in command ≡ Ok c.in-Ok.command = ap command_in (sym c.command.ensures.value) ∙ sym c.read_command.ensures.exact ∙ c.in-Ok.is in
       let accepted : context_of (request_record request) c.args.context ≡ Some c.in-Some.accepted =
-      sym (agreed.contexts c.args.context) ∙ ap (λ (rows : List ContextRow). context_in rows c.args.context) (sym c.as_slice.ensures.value) ∙ sym c.context_of.ensures ∙ c.in-Some.is in
+      sym (agreed.contexts c.args.context) ∙ ap (λ (rows : List ContextRow). context_in (kept_of c.args.self.now).further rows c.args.context) (sym c.as_slice.ensures.value) ∙ sym c.context_of.ensures ∙ c.in-Some.is in
       idle_proceeds g.row.D c.args.self.now.config.max_data request (InSet c.args.context command []) (kept_of c.args.self.now).storing _ none
       (other_store request c.args.context command c.in-Ok.command c.in-Some.accepted e accepted (c.is_of_context.ensures.no c.if-is_of_context.false));
 }
@@ -72,7 +72,7 @@ returns-then-is_of_context g c = record {
       let command = c.args.self.now.join.command in
       let e : command_in command ≡ Ok c.in-Ok.command = ap command_in (sym c.command.ensures.value) ∙ sym c.read_command.ensures.exact ∙ c.in-Ok.is in
       let accepted : context_of (request_record request) c.args.context ≡ Some c.in-Some.accepted =
-      sym (agreed.contexts c.args.context) ∙ ap (λ (rows : List ContextRow). context_in rows c.args.context) (sym c.as_slice.ensures.value) ∙ sym c.context_of.ensures ∙ c.in-Some.is in
+      sym (agreed.contexts c.args.context) ∙ ap (λ (rows : List ContextRow). context_in (kept_of c.args.self.now).further rows c.args.context) (sym c.as_slice.ensures.value) ∙ sym c.context_of.ensures ∙ c.in-Some.is in
       let store : InStore request (InSet c.args.context command []) = record {
         id = c.args.context;
         command = command;
@@ -91,6 +91,70 @@ returns-then-is_of_context g c = record {
 
 pub invariant_of-self : goal.invariant_of-self
 invariant_of-self g c = record {
+  least = c.args.self.now.least;
+  greatest = c.args.self.now.greatest;
+  command_greatest = c.args.self.now.command_greatest;
+  least_kept = c.args.self.now.least_kept;
+  greatest_kept = c.args.self.now.greatest_kept;
+  least_levels = c.args.self.now.least_levels;
+  greatest_levels = c.args.self.now.greatest_levels;
+  answerable = c.args.self.now.answerable;
+  room = c.args.self.now.room;
+  rows_room = c.args.self.now.rows_room;
+  given_up = c.args.self.now.given_up;
+  left = λ one. absurd (cc (c.requires.due, one));
+}
+
+pub invariant_of-self-then-not-with_data : goal.invariant_of-self-then-not-with_data
+invariant_of-self-then-not-with_data g c = record {
+  least = c.args.self.now.least;
+  greatest = c.args.self.now.greatest;
+  command_greatest = c.args.self.now.command_greatest;
+  least_kept = c.args.self.now.least_kept;
+  greatest_kept = c.args.self.now.greatest_kept;
+  least_levels = c.args.self.now.least_levels;
+  greatest_levels = c.args.self.now.greatest_levels;
+  answerable = c.args.self.now.answerable;
+  room = c.args.self.now.room;
+  rows_room = c.args.self.now.rows_room;
+  given_up = c.args.self.now.given_up;
+  left = λ one. absurd (cc (c.requires.due, one));
+}
+
+pub invariant_of-self-in_default-context_of : goal.invariant_of-self-in_default-context_of
+invariant_of-self-in_default-context_of g c = record {
+  least = c.args.self.now.least;
+  greatest = c.args.self.now.greatest;
+  command_greatest = c.args.self.now.command_greatest;
+  least_kept = c.args.self.now.least_kept;
+  greatest_kept = c.args.self.now.greatest_kept;
+  least_levels = c.args.self.now.least_levels;
+  greatest_levels = c.args.self.now.greatest_levels;
+  answerable = c.args.self.now.answerable;
+  room = c.args.self.now.room;
+  rows_room = c.args.self.now.rows_room;
+  given_up = c.args.self.now.given_up;
+  left = λ one. absurd (cc (c.requires.due, one));
+}
+
+pub invariant_of-self-then-is_of_context : goal.invariant_of-self-then-is_of_context
+invariant_of-self-then-is_of_context g c = record {
+  least = c.args.self.now.least;
+  greatest = c.args.self.now.greatest;
+  command_greatest = c.args.self.now.command_greatest;
+  least_kept = c.args.self.now.least_kept;
+  greatest_kept = c.args.self.now.greatest_kept;
+  least_levels = c.args.self.now.least_levels;
+  greatest_levels = c.args.self.now.greatest_levels;
+  answerable = c.args.self.now.answerable;
+  room = c.args.self.now.room;
+  rows_room = c.args.self.now.rows_room;
+  given_up = c.args.self.now.given_up;
+  left = λ one. absurd (cc (c.requires.due, one));
+}
+
+pub invariant_of-self-else-is_of_context : goal.invariant_of-self-else-is_of_context
+invariant_of-self-else-is_of_context g c = record {
   least = c.args.self.now.least;
   greatest = c.args.self.now.greatest;
   command_greatest = c.args.self.now.command_greatest;

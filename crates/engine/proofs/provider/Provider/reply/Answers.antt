@@ -1,6 +1,6 @@
 -- The reply is that of the definition, and the finding is the verdict.
 use Rattle.std.proofs.Common.{◌≡◌, ◌∙◌, ap, sym, List, Ok}
-use Rattle.pdu.specs.Items.{request_record}
+use Rattle.engine.specs.Requested.{Requested, request_record}
 use Rattle.negotiate.specs.declared.table.ContextRow.{ContextRow}
 use Rattle.negotiate.specs.Contexts.{context_of}
 use Rattle.negotiate.specs.ContextRows.{context_in}
@@ -21,9 +21,12 @@ pub returns-then-field-eq-C_ECHO-clause-ended : goal.returns-then-field-eq-C_ECH
 returns-then-field-eq-C_ECHO-clause-ended g c = λ p m come agreed has same id walks draft.
     let e : command_in m.command ≡ Ok c.in-Ok.command = ap command_in (sym (c.command.ensures.value ∙ same)) ∙ sym c.read_command.ensures.exact ∙ c.in-Ok.is in
     let accepted : c.context_of.result ≡ context_of (request_record p.request) m.context =
-    c.context_of.ensures ∙ ap (λ (rows : List ContextRow). context_in rows c.args.context) c.as_slice.ensures.value ∙ agreed.contexts c.args.context ∙ ap (context_of (request_record p.request)) id in
+    c.context_of.ensures ∙ ap (λ (rows : List ContextRow). context_in (settings_in c.args.self.now).further rows c.args.context) c.as_slice.ensures.value ∙ agreed.contexts c.args.context ∙ ap (context_of (request_record p.request)) id in
     echo_ended (rooms_of g.row.A g.row.C g.row.V g.row.D) (settings_in c.args.self.now) p m come _ _ _ _ c.in-Ok.command c.echo_status-status.result c.args.context c.args.self.now.peer_max c.context_of.result
     e (sym c.field.ensures.value ∙ c.if-field-eq-C_ECHO.true) c.echo_status-status.ensures accepted id agreed.maximum c.write_response.ensures.sends
+
+pub write_response-requires : goal.write_response-requires
+write_response-requires g c = is_maximum c.args.self.now.peer_max c.args.self.now.answerable
 
 pub write_response-requires-2 : goal.write_response-requires-2
 write_response-requires-2 g c = is_maximum c.args.self.now.peer_max c.args.self.now.answerable
@@ -42,6 +45,38 @@ returns-clause-ended g c = λ p m come agreed has same id walks draft.
 
 pub invariant_of-self : goal.invariant_of-self
 invariant_of-self g c = record {
+  least = c.args.self.now.least;
+  greatest = c.args.self.now.greatest;
+  command_greatest = c.args.self.now.command_greatest;
+  least_kept = c.args.self.now.least_kept;
+  greatest_kept = c.args.self.now.greatest_kept;
+  least_levels = c.args.self.now.least_levels;
+  greatest_levels = c.args.self.now.greatest_levels;
+  answerable = c.args.self.now.answerable;
+  room = c.args.self.now.room;
+  rows_room = c.args.self.now.rows_room;
+  given_up = c.args.self.now.given_up;
+  left = c.args.self.now.left;
+}
+
+pub invariant_of-self-then-field-eq-C_ECHO : goal.invariant_of-self-then-field-eq-C_ECHO
+invariant_of-self-then-field-eq-C_ECHO g c = record {
+  least = c.args.self.now.least;
+  greatest = c.args.self.now.greatest;
+  command_greatest = c.args.self.now.command_greatest;
+  least_kept = c.args.self.now.least_kept;
+  greatest_kept = c.args.self.now.greatest_kept;
+  least_levels = c.args.self.now.least_levels;
+  greatest_levels = c.args.self.now.greatest_levels;
+  answerable = c.args.self.now.answerable;
+  room = c.args.self.now.room;
+  rows_room = c.args.self.now.rows_room;
+  given_up = c.args.self.now.given_up;
+  left = c.args.self.now.left;
+}
+
+pub invariant_of-self-2 : goal.invariant_of-self-2
+invariant_of-self-2 g c = record {
   least = c.args.self.now.least;
   greatest = c.args.self.now.greatest;
   command_greatest = c.args.self.now.command_greatest;

@@ -5,8 +5,9 @@ pub returns : goal.returns
 returns g c = record {
   draft = c.take.ensures.draft;
   settings = c.take.ensures.settings;
-  took = record { bytes = _; kind = _; gives = c.next-input.ensures; moved = rw c.piece.ensures at c.take.ensures.moved };
+  shown = rw c.state.ensures at c.next-input.ensures.shown;
+  took = record { bytes = _; kind = _; gives = c.next-input.ensures.gives; moved = rw c.piece.ensures at c.take.ensures.moved };
 }
 
-pub artim-requires : goal.artim-requires
-artim-requires g c = running_small c.args.self.now.association.provider
+pub state-requires : goal.state-requires
+state-requires g c = running_small c.args.self.now.association.provider

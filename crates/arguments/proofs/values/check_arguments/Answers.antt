@@ -1,0 +1,26 @@
+use Rattle.std.proofs.Common.{◌∙◌, codes}
+use Rattle.clap.specs.Matches.{found_of}
+use Rattle.clap.proofs.WalkLemmas.{one_text-rows}
+use Rattle.arguments.proofs.values.check_arguments.Goals as goal
+
+pub returns : goal.returns
+returns c =
+    let found = found_of c.args.matches.now in
+    record {
+      files = c.in_ok-files.ensures;
+      recursive = record {
+        none = λ e. c.get_flag-recursive.ensures.none (one_text-rows found (codes "recursive") ∙ e);
+        on = λ e. c.get_flag-recursive.ensures.value (one_text-rows found (codes "recursive") ∙ e);
+        off = λ e. c.get_flag-recursive.ensures.other (one_text-rows found (codes "recursive") ∙ e);
+      };
+      strict = record {
+        none = λ e. c.get_flag-strict.ensures.none (one_text-rows found (codes "strict") ∙ e);
+        on = λ e. c.get_flag-strict.ensures.value (one_text-rows found (codes "strict") ∙ e);
+        off = λ e. c.get_flag-strict.ensures.other (one_text-rows found (codes "strict") ∙ e);
+      };
+      json = record {
+        none = λ e. c.get_flag-json.ensures.none (one_text-rows found (codes "json") ∙ e);
+        on = λ e. c.get_flag-json.ensures.value (one_text-rows found (codes "json") ∙ e);
+        off = λ e. c.get_flag-json.ensures.other (one_text-rows found (codes "json") ∙ e);
+      };
+    }

@@ -1,0 +1,92 @@
+-- What the settings of `serve`, `replay` and `index` are for their arguments (this product's own profile).
+use Rattle.std.specs.Prelude.{◌≡◌, ℕ, ◌*◌, ◌^◌, ◌≤◌, ⊤, Bool, not, true, false, List, [], ◌++◌, map, Option, Some, None, codes, option_map, unwrap_or}
+use Rattle.std.specs.Duration.{as_nanos}
+use Rattle.std.specs.Str.Parse.{IsNumeral, digits_value, without_leading_plus}
+use Rattle.std.specs.declared.time.Duration.{Duration}
+use Rattle.log.specs.declared.level.Level.{Level}
+use Rattle.log.specs.declared.level.Level.TheVariants.{Warn, Info, Debug}
+use Rattle.element.specs.Title.{title_of_text}
+use Rattle.element.specs.Uid.{uid_of}
+use Rattle.negotiate.specs.Settings.{registered, settings_of, default_max_pdu, default_max_data}
+use Rattle.arguments.specs.declared.values.IndexArguments.{IndexArguments}
+use Rattle.arguments.specs.declared.values.ReplayArguments.{ReplayArguments}
+use Rattle.arguments.specs.declared.values.ServeArguments.{ServeArguments}
+use Rattle.journal.specs.declared.form.Form.{Form}
+use Rattle.journal.specs.declared.form.Form.TheVariants.{Text, Json}
+use Rattle.commands.specs.declared.options.Layout.{Layout}
+use Rattle.commands.specs.declared.options.Layout.TheVariants.{Flat, Levels}
+use Rattle.commands.specs.declared.options.Index.{Index}
+use Rattle.commands.specs.declared.options.Replay.{Replay}
+use Rattle.commands.specs.declared.options.Serve.{Serve}
+
+-- the number that a text of decimal digits spells, which a `+` may lead; it stands between two bounds
+pub record Spells (least most : ℕ) (text : List ℕ) (number : ℕ) : Type 0 where
+  pub digits : IsNumeral 10 (without_leading_plus text)
+  pub value : number ≡ digits_value 10 (without_leading_plus text)
+  pub from : least ≤ number
+  pub to : number ≤ most
+
+-- a time that a text spells in seconds, of one second to a day
+abbrev pub SpellsTime : List ℕ → Duration → Type 0
+SpellsTime text time = (seconds : ℕ) × Spells 1 86400 text seconds × (as_nanos time ≡ seconds * 1_000_000_000)
+
+-- how much is logged: with -v more, with -q less, and never with both
+abbrev pub IsLevel : Bool → Bool → Level → Type 0
+IsLevel false false level = level ≡ Info
+IsLevel true false level = level ≡ Debug
+IsLevel false true level = level ≡ Warn
+IsLevel true true level = ⊥
+
+-- how lines are written, by the name of the form
+abbrev pub IsForm : Form → List ℕ → Type 0
+IsForm Text name = name ≡ codes "text"
+IsForm (Json _) name = name ≡ codes "json"
+
+-- how files are laid out: flat, or in folders of 1 to 9999 files where that is asked for
+abbrev pub IsLayout : Layout → Option (List ℕ) → Type 0
+IsLayout Flat per = per ≡ None
+IsLayout (Levels per) None = ⊥
+IsLayout (Levels per) (Some text) = Spells 1 9999 text per.files
+
+-- the instance of a directory: the one that is given, or none, where a new one is asked for, and never both
+abbrev pub IsDirectoryUid : Option (List ℕ) → Option (List ℕ) → Bool → Type 0
+IsDirectoryUid (Some uid) (Some text) false = uid_of text ≡ Some uid
+IsDirectoryUid None None true = ⊤
+IsDirectoryUid uid text is_new = ⊥
+
+-- what `serve` does is what its arguments say
+pub record IsServed (serve : Serve) (a : ServeArguments) : Type 0 where
+  pub bind : serve.bind.now ≡ a.bind.now
+  pub port : Spells 0 65535 a.port.now serve.port
+  pub out : serve.out.now ≡ a.out.now
+  pub ae : title_of_text a.ae.now ≡ Some (settings_of serve.config).ae
+  pub callers : map (λ t. title_of_text t.now) a.callers.items ≡ map Some (settings_of serve.config).callers
+  pub max_pdu : Spells 1024 131_072 a.max_pdu.now (settings_of serve.config).max_pdu
+  pub max_data : Spells 1024 (2 ^ 48) a.max_data.now (settings_of serve.config).max_data
+  pub classes : map Some (settings_of serve.config).further ≡ map (λ t. uid_of t.now) a.storage_classes.items ++ map Some (registered a.all_storage)
+  pub artim : SpellsTime a.timeout.now serve.timeouts.artim
+  pub idle : SpellsTime a.idle.now serve.timeouts.idle
+  pub level : IsLevel a.verbose a.quiet serve.level
+  pub form : IsForm serve.form (unwrap_or (option_map (λ t. t.now) a.log) (codes "text"))
+  pub layout : IsLayout serve.layout (option_map (λ t. t.now) a.per)
+  pub sync : serve.sync ≡ not a.no_sync
+  pub once : serve.once ≡ a.once
+
+-- what `replay` does is what its arguments say; any title may call, and the limits are the defaults
+pub record IsReplayed (replay : Replay) (a : ReplayArguments) : Type 0 where
+  pub file : replay.file.now ≡ a.file.now
+  pub out : replay.out.now ≡ a.out.now
+  pub ae : title_of_text a.ae.now ≡ Some (settings_of replay.config).ae
+  pub callers : (settings_of replay.config).callers ≡ []
+  pub max_pdu : (settings_of replay.config).max_pdu ≡ default_max_pdu
+  pub max_data : (settings_of replay.config).max_data ≡ default_max_data
+  pub classes : map Some (settings_of replay.config).further ≡ map (λ t. uid_of t.now) a.storage_classes.items ++ map Some (registered a.all_storage)
+  pub cut : Spells 1 65536 a.cut.now replay.cut
+  pub layout : IsLayout replay.layout (option_map (λ t. t.now) a.per)
+
+-- what `index` does is what its arguments say
+pub record IsIndexed (index : Index) (a : IndexArguments) : Type 0 where
+  pub dir : index.dir.now ≡ a.dir.now
+  pub uid : IsDirectoryUid index.uid (option_map (λ t. t.now) a.uid) a.new_uid
+  pub keep : index.keep ≡ a.keep
+  pub replace : index.replace ≡ a.replace

@@ -1,0 +1,32 @@
+//! New unique identifiers.
+use crate::error::ProgramError;
+use element::Uid;
+use std::io::{ErrorKind, Read};
+use std::rt::Files;
+use std::{fs, io};
+use uuid::Builder;
+
+/// Where the system gives random bytes.
+const RANDOM: &str = "/dev/urandom";
+
+/// Reads 128 random bits.
+fn random_bits<R: Files>(rt: &R) -> io::Result<[u8; 16]> {
+    let mut bits = [0; 16];
+    let mut file = fs::open(rt, RANDOM)?;
+    file.read_exact(&mut bits)?;
+    Ok(bits)
+}
+
+/// Returns a UID that no one else has: the decimal form of a random UUID under the root 2.25 (PS3.5
+/// section B.2).
+///
+/// Fails if the system gives no random bytes.
+pub fn new_uid<R: Files + Alloc>(rt: &R) -> Result<Uid, ProgramError> {
+    let bits = random_bits(rt).map_err(ProgramError::Random)?;
+    let number = Builder::from_random_bytes(bits).into_uuid().as_u128();
+    let text = format!(in rt.alloc(); "2.25.{number}")?;
+    match Uid::read(text.as_bytes()) {
+        Some(uid) => Ok(uid),
+        None => Err(ProgramError::Random(io::Error::from(ErrorKind::InvalidData))),
+    }
+}

@@ -1,0 +1,165 @@
+//! Several files that are inspected, one after the other, and the folders that they are in.
+use crate::counter::Counter;
+use crate::error::ProgramError;
+use crate::inspect::{Inspection, inspect, inspect_file};
+use crate::outcome::flushed;
+use crate::tally::Tally;
+use crate::tree::Visits;
+use inspection::{Outcome, OutputForm, Printable};
+use std::fs;
+use std::io::{self, BufWriter, Write};
+
+/// Which files are inspected.
+#[derive(Clone, Copy)]
+pub struct Files<'a> {
+    /// Their paths; `-` is standard input.
+    pub paths: &'a [&'a str],
+    /// Whether the files in folders are inspected, too.
+    pub recursive: bool,
+}
+
+/// Inspects files, and counts them.
+#[derive(Drop)]
+struct Inspector<'a, O: Write + Drop> {
+    rt: &'a HostRuntime,
+    inspection: Inspection<'a>,
+    counter: Counter,
+    tally: Tally,
+    out: O,
+}
+
+impl<O: Write + Drop> Inspector<'_, O> {
+    /// Counts what can't be read, and tells of it on standard error; any other error is returned.
+    fn tell_unread(&mut self, path: &str, error: ProgramError) -> Result<(), ProgramError> {
+        if !error.is_of_input() {
+            return Err(error);
+        }
+        self.tally.add_unread();
+        let path = Printable(path.as_bytes());
+        let _ = eprintln!(self.rt; "dcmbox: {path}: {error}");
+        Ok(())
+    }
+
+    /// Writes the line with the name of a file; its JSON has it.
+    fn tell_name(&mut self, file: &str) -> Result<(), ProgramError> {
+        if self.inspection.form() == OutputForm::Json {
+            return Ok(());
+        }
+        let name = Printable(file.as_bytes());
+        writeln!(self.out, "file {name}").map_err(ProgramError::Write)
+    }
+
+    /// Writes the name of a file and what is asked for of it.
+    fn inspect(&mut self, file: &str) -> Result<(), ProgramError> {
+        self.counter.show(self.rt);
+        self.tell_name(file)?;
+        match inspect_file(self.rt, self.inspection, file, &mut self.out) {
+            Ok(inspected) => {
+                self.tally.add(&inspected);
+                Ok(())
+            }
+            Err(error) => self.tell_unread(file, error),
+        }
+    }
+
+    /// Adds what is in a folder to what is still to be visited.
+    fn open_folder(
+        &mut self,
+        dir: &str,
+        visits: &mut Visits<HostRuntime>,
+    ) -> Result<(), ProgramError> {
+        match visits.add_folder(self.rt, dir) {
+            Ok(()) => Ok(()),
+            Err(error) => self.tell_unread(dir, error),
+        }
+    }
+
+    /// Visits a path that was found in a folder: a file, or a folder. Symbolic links are not followed.
+    fn visit(&mut self, path: &str, visits: &mut Visits<HostRuntime>) -> Result<(), ProgramError> {
+        match fs::symlink_metadata(self.rt, path) {
+            Ok(found) if found.is_dir() => self.open_folder(path, visits),
+            Ok(found) if found.is_file() => self.inspect(path),
+            Ok(_) => Ok(()),
+            Err(error) => self.tell_unread(path, ProgramError::Open(error)),
+        }
+    }
+
+    /// Inspects the files below a folder, by name.
+    fn inspect_folder(&mut self, dir: &str) -> Result<(), ProgramError> {
+        let mut visits = Visits::new(self.rt);
+        self.open_folder(dir, &mut visits)?;
+        for _ in 0..u64::MAX {
+            match visits.next() {
+                Some(path) => self.visit(path.as_str(), &mut visits)?,
+                None => break,
+            }
+        }
+        Ok(())
+    }
+
+    /// Inspects each file; and those below each folder, where that is asked for.
+    fn inspect_all(&mut self, files: Files<'_>) -> Result<(), ProgramError> {
+        for path in files.paths {
+            let is_folder = files.recursive
+                && fs::metadata(self.rt, *path).is_ok_and(|found| found.is_dir());
+            if is_folder {
+                self.inspect_folder(*path)?;
+            } else {
+                self.inspect(*path)?;
+            }
+        }
+        Ok(())
+    }
+
+    /// Inspects the files, and writes how many there were where values are checked.
+    fn run(&mut self, files: Files<'_>) -> Result<(), ProgramError> {
+        let ran = self.inspect_all(files);
+        self.counter.clear(self.rt);
+        ran?;
+        if !self.inspection.is_counted() {
+            return Ok(());
+        }
+        let tally = self.tally;
+        writeln!(self.out, "{tally}").map_err(ProgramError::Write)
+    }
+}
+
+/// Prints what is asked for of each file, after a line with its name.
+fn inspect_several<'a>(
+    rt: &'a HostRuntime,
+    files: Files<'_>,
+    inspection: Inspection<'a>,
+) -> Result<Tally, ProgramError> {
+    let out = BufWriter::new(rt.alloc(), io::writer(rt)).map_err(ProgramError::Write)?;
+    let mut inspector = Inspector {
+        rt,
+        inspection,
+        counter: Counter::new(rt),
+        tally: Tally::new(),
+        out,
+    };
+    let ran = inspector.run(files);
+    let tally = inspector.tally;
+    match flushed(ran, &mut inspector.out) {
+        Ok(()) => Ok(tally),
+        Err(error) => Err(error),
+    }
+}
+
+/// Prints what is asked for of these files: of one as it is, of several each after a line with its name.
+///
+/// Of several, those that can't be read are told of on standard error, and the others inspected.
+pub fn inspect_files(
+    rt: &HostRuntime,
+    files: Files<'_>,
+    inspection: Inspection<'_>,
+) -> Result<Outcome, ProgramError> {
+    if let ([file], false) = (files.paths, files.recursive) {
+        return inspect(rt, *file, inspection);
+    }
+    let tally = inspect_several(rt, files, inspection)?;
+    if tally.has_unread() {
+        return Err(ProgramError::Unread);
+    }
+    Ok(tally.outcome(inspection.is_strict()))
+}

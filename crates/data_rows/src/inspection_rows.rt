@@ -1,0 +1,230 @@
+//! What a strict check finds, what values are shown, and both as JSON.
+use element::{AeTitle, Syntax, Tag, Uid};
+use inspection::{
+    CheckOptions, FileFront, OutputForm, ShowOptions, check_with, other_syntax_of, show_with,
+    tag_named,
+};
+use part10::{Meta, meta_bytes};
+use std::alloc::Global;
+use std::io::Read;
+use std::test::Fail;
+
+/// A date that does not exist and a name of four groups, in UTF-8, in Explicit VR Little Endian.
+const BROKEN: &[u8] = b"\x08\0\x05\0CS\x0a\0ISO_IR 192\x08\0\x20\0DA\x08\x0020230229\
+\x10\0\x10\0PN\x06\0A=B=C=";
+
+const NOTES: &str = "note 0000000306 0008,0020 DA 7 NoSuchDate
+note 0000000322 0010,0010 PN 12 BadName
+note 0000000336 0010,0020 LO 5 LongText
+good 474
+";
+
+const NOTES_JSON: &str = "\"notes\":[\
+{\"place\":306,\"tag\":\"0008,0020\",\"vr\":\"DA\",\"number\":7,\"name\":\"NoSuchDate\"},\
+{\"place\":322,\"tag\":\"0010,0010\",\"vr\":\"PN\",\"number\":12,\"name\":\"BadName\"},\
+{\"place\":336,\"tag\":\"0010,0020\",\"vr\":\"LO\",\"number\":5,\"name\":\"LongText\"}],\
+\"result\":\"good\",\"length\":474}\n";
+
+/// A code with ESC, a tag, two numbers, two numbers with a fraction, and two words.
+const SHOWN: &[u8] = b"\x08\0\x60\0CS\x04\0M\x1bR \x28\0\x09\0AT\x04\0\x18\0\x63\x10\
+\x28\0\x10\0US\x04\0\x02\x01\x03\0\x70\0\x10\0FL\x08\0\0\0\xc0\x3f\0\0\0\xc0\
+\xe0\x7f\x10\0OW\0\0\x04\0\0\0\x01\x02\x03\x04";
+
+const LINES: &str = "class 1.2.840.10008.5.1.4.1.1.2
+instance 1.2.3
+syntax 1.2.840.10008.1.2.1
+0000000288 0008,0060 CS 4 Modality
+           = M%1bR
+0000000300 0028,0009 AT 4 FrameIncrementPointer
+           = 0018,1063
+0000000312 0028,0010 US 4 Rows
+           = 258\\3
+0000000324 0070,0010 FL 8 BoundingBoxTopLeftHandCorner
+           = 1.5\\-2
+0000000340 7fe0,0010 OW 4 PixelData
+           = 0201\\0403
+end 356
+";
+
+const ROWS: &str = "0000000312 0028,0010 US 4 Rows\n           = 258\\3\n";
+
+const ROWS_JSON: &str = "\"class\":\"1.2.840.10008.5.1.4.1.1.2\",\"instance\":\"1.2.3\",\
+\"syntax\":\"1.2.840.10008.1.2.1\",\"elements\":[{\"place\":312,\"level\":0,\"tag\":\"0028,0010\",\
+\"vr\":\"US\",\"length\":4,\"keyword\":\"Rows\",\"value\":\"258\\\\3\"}],\
+\"result\":\"good\",\"length\":356}\n";
+
+/// Returns a file of a CT image `1.2.3` with this data set in Explicit VR Little Endian.
+fn file(alloc: Global, data: &[u8]) -> Result<Vec<u8>, Fail> {
+    let meta = Meta {
+        class: Uid::read(b"1.2.840.10008.5.1.4.1.1.2").ok_or("no class")?,
+        instance: Uid::read(b"1.2.3").ok_or("no instance")?,
+        syntax: Syntax::Explicit,
+        calling: AeTitle(*b"SCANNER1        "),
+    };
+    let mut file = Vec::from_slice(alloc, meta_bytes(&meta).as_slice())?;
+    file.extend_from_slice(data)?;
+    Ok(file)
+}
+
+/// Adds an element of VR LO with so many characters of two bytes.
+fn add_text(data: &mut Vec<u8>, tag: [u8; 4], count: u8) -> Result<(), Fail> {
+    data.extend_from_slice(&tag)?;
+    data.extend_from_slice(b"LO")?;
+    data.extend_from_slice(&[count.wrapping_mul(2), 0])?;
+    for _ in 0..count {
+        data.extend_from_slice(b"\xc3\xa9")?;
+    }
+    Ok(())
+}
+
+/// Returns what a check writes of a file of this data set, and how many notes.
+fn checked(alloc: Global, options: CheckOptions, data: &[u8]) -> Result<(Vec<u8>, u64), Fail> {
+    let file = file(alloc, data)?;
+    let mut out = Vec::new(alloc);
+    let mut input = file.as_slice();
+    match check_with(&mut input, options, &mut out) {
+        Ok(inspected) => Ok((out, inspected.notes)),
+        Err(_) => Err(Fail::from("not read")),
+    }
+}
+
+/// Returns whether a check writes these lines and has so many notes.
+fn notes(alloc: Global, options: CheckOptions, data: &[u8], lines: &str) -> Result<u64, Fail> {
+    let (out, count) = checked(alloc, options, data)?;
+    if out.as_slice() == lines.as_bytes() {
+        Ok(count)
+    } else {
+        Ok(99)
+    }
+}
+
+#[test]
+fn strict_notes(rt: HostRuntime) -> Result<(), Fail> {
+    let alloc = rt.alloc();
+    let mut data = Vec::from_slice(alloc, BROKEN)?;
+    add_text(&mut data, *b"\x10\0\x20\0", 65)?;
+    let (lines, json) = (OutputForm::Lines, OutputForm::Json);
+    for (strict, form, wanted, count) in [
+        (true, lines, NOTES, 3),
+        (true, json, NOTES_JSON, 3),
+        (false, lines, "good 474\n", 0),
+        (
+            false,
+            json,
+            "\"notes\":[],\"result\":\"good\",\"length\":474}\n",
+            0,
+        ),
+    ] {
+        let options = CheckOptions { strict, form };
+        assert!(rt; notes(alloc, options, data.as_slice(), wanted)? == count);
+    }
+    Ok(())
+}
+
+/// A set that an item names holds in the item; 64 characters of two bytes are too many for ASCII.
+#[test]
+fn sets_of_items(rt: HostRuntime) -> Result<(), Fail> {
+    let alloc = rt.alloc();
+    let mut data = Vec::from_slice(
+        alloc,
+        b"\x40\0\x75\x02SQ\0\0\xff\xff\xff\xff\xfe\xff\0\xe0\xff\xff\xff\xff\x08\0\x05\0CS\x0a\0ISO_IR 192",
+    )?;
+    add_text(&mut data, *b"\x10\0\x20\0", 64)?;
+    data.extend_from_slice(b"\xfe\xff\x0d\xe0\0\0\0\0\xfe\xff\xdd\xe0\0\0\0\0")?;
+    add_text(&mut data, *b"\x40\0\x01\x30", 64)?;
+    let (strict, form) = (true, OutputForm::Lines);
+    let lines = "note 0000000478 0040,3001 LO 5 LongText\ngood 614\n";
+    let options = CheckOptions { strict, form };
+    assert!(rt; notes(alloc, options, data.as_slice(), lines)? == 1);
+    Ok(())
+}
+
+/// Of a value that is too long to be held to the table, the size of its numbers is.
+#[test]
+fn sizes_of_long_values(rt: HostRuntime) -> Result<(), Fail> {
+    let alloc = rt.alloc();
+    let mut data = Vec::from_slice(alloc, b"\xe0\x7f\x08\0OF\0\0\x02\0\x01\0")?;
+    for _ in 0..65538 {
+        data.push(0)?;
+    }
+    let (strict, form) = (true, OutputForm::Lines);
+    let lines = "note 0000000288 7fe0,0008 OF 2 WrongSize\ngood 65838\n";
+    let options = CheckOptions { strict, form };
+    assert!(rt; notes(alloc, options, data.as_slice(), lines)? == 1);
+    Ok(())
+}
+
+/// Returns whether these lines are shown of a file.
+fn shows(alloc: Global, options: ShowOptions<'_>, lines: &str) -> Result<bool, Fail> {
+    let file = file(alloc, SHOWN)?;
+    let mut out = Vec::new(alloc);
+    let mut input = file.as_slice();
+    match show_with(&mut input, options, &mut out) {
+        Ok(_) => Ok(out.as_slice() == lines.as_bytes()),
+        Err(_) => Ok(false),
+    }
+}
+
+#[test]
+fn shown_values(rt: HostRuntime) -> Result<(), Fail> {
+    let (lines, json) = (OutputForm::Lines, OutputForm::Json);
+    let rows = [Tag(0x0028, 0x0010)];
+    for (tags, form, wanted) in [
+        ([].as_slice(), lines, LINES),
+        (rows.as_slice(), lines, ROWS),
+        (rows.as_slice(), json, ROWS_JSON),
+    ] {
+        let options = ShowOptions {
+            values: true,
+            tags,
+            form,
+        };
+        assert!(rt; shows(rt.alloc(), options, wanted)?);
+    }
+    Ok(())
+}
+
+#[test]
+fn named_tags(rt: HostRuntime) {
+    assert!(rt; tag_named("0010,0020") == Some(Tag(0x0010, 0x0020)));
+    assert!(rt; tag_named("7FE0,00fF") == Some(Tag(0x7fe0, 0x00ff)));
+    for text in [
+        "",
+        "0010",
+        "0010,002",
+        "0010,00200",
+        "+010,0020",
+        "00100020",
+        "001g,0020",
+    ] {
+        assert!(rt; tag_named(text).is_none());
+    }
+}
+
+/// A transfer syntax that is not taken is named.
+#[test]
+fn named_syntaxes(rt: HostRuntime) -> Result<(), Fail> {
+    let mut bytes = file(rt.alloc(), b"")?;
+    assert!(rt; other_syntax_of(bytes.as_slice()).is_none());
+    let at = 144 + 14 + 34 + 14 + 8 + 18;
+    if let Some(last) = bytes.get_mut(at) {
+        *last = b'2';
+    }
+    let syntax = other_syntax_of(bytes.as_slice()).ok_or("no syntax")?;
+    assert!(rt; syntax.as_bytes() == b"1.2.840.10008.1.2.2".as_slice());
+    Ok(())
+}
+
+/// The first bytes of a file are kept, and no others.
+#[test]
+fn kept_fronts(rt: HostRuntime) -> Result<(), Fail> {
+    let bytes = [7; 5000];
+    let mut input = bytes.as_slice();
+    let mut front = FileFront::new(&mut input);
+    let mut room = [0; 3000];
+    for _ in 0..3 {
+        let _ = front.read(&mut room)?;
+    }
+    assert!(rt; front.kept().len() == 4096);
+    Ok(())
+}

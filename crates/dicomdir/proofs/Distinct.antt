@@ -1,0 +1,64 @@
+-- Lists of distinct places.
+use Rattle.std.proofs.Common.{◌≡◌, ℕ, Bool, true, false, not, ◌||◌, List, [], ◌∷◌, ◌++◌, refl, sym, ◌∙◌, arith, eqb-true, nat_eq}
+use Rattle.std.proofs.lemmas.Bool.{and_parts, and_from, or_parts}
+use Rattle.std.proofs.lemmas.Bool.Decides.{nat_tests}
+use Rattle.std.proofs.lemmas.List.Folds.{list_any-append}
+use Rattle.dicomdir.specs.Linked.{is_distinct, is_one_of}
+
+pub not_true : (b : Bool) → not b ≡ true → b ≡ false
+not_true true e = absurd cc
+not_true false e = refl
+
+pub second_true : (a b c : Bool) → b ≡ true → (a || (b || c)) ≡ true
+second_true true b c e = refl
+second_true false b c e = rw e refl
+
+pub third_true : (a b c : Bool) → c ≡ true → (a || (b || c)) ≡ true
+third_true true b c e = refl
+third_true false true c e = refl
+third_true false false c e = e
+
+one_of_cons : (p x : ℕ) (xs ys : List ℕ) → is_one_of x ys ≡ false → (is_one_of p xs ≡ true → is_one_of p ys ≡ false) → is_one_of p (x ∷ xs) ≡ true → is_one_of p ys ≡ false
+one_of_cons p x xs ys none rest h = by (nat_eq p x) refl h
+  where
+    by : (b : Bool) → nat_eq p x ≡ b → (b || is_one_of p xs) ≡ true → is_one_of p ys ≡ false
+    by true eq h = rw (eqb-true p x eq) none
+    by false eq h = rest h
+
+pub split_distinct : (xs ys : List ℕ) → is_distinct (xs ++ ys) ≡ true → (is_distinct xs ≡ true) × (is_distinct ys ≡ true) × ((p : ℕ) → is_one_of p xs ≡ true → is_one_of p ys ≡ false)
+split_distinct [] ys e = (refl, e, λ p h. absurd cc)
+split_distinct (x ∷ xs) ys e =
+    let parts = and_parts (not (is_one_of x (xs ++ ys))) (is_distinct (xs ++ ys)) e in
+    let none : (is_one_of x xs || is_one_of x ys) ≡ false = sym (list_any-append (nat_eq x) xs ys) ∙ not_true (is_one_of x (xs ++ ys)) parts.0 in
+    let each = or_parts (is_one_of x xs) (is_one_of x ys) none in
+    let rest = split_distinct xs ys parts.1 in
+    let first : not (is_one_of x xs) ≡ true = rw each.0 refl in
+    (and_from (not (is_one_of x xs)) (is_distinct xs) first rest.0, rest.1, λ p h. one_of_cons p x xs ys each.1 (rest.2 p) h)
+
+pub same_place : (x : ℕ) → nat_eq x x ≡ true
+same_place x = grind (arith, nat_tests)
+
+pub not_place : (p x : ℕ) (xs : List ℕ) → is_one_of x xs ≡ false → is_one_of p xs ≡ true → nat_eq p x ≡ false
+not_place p x xs none h = by (nat_eq p x) refl
+  where
+    by : (b : Bool) → nat_eq p x ≡ b → b ≡ false
+    by true eq = let other : is_one_of p xs ≡ false = rw (eqb-true p x eq) none in absurd cc
+    by false eq = refl
+
+pub clash : (b : Bool) → b ≡ true → b ≡ false → ⊥
+clash true e f = absurd cc
+clash false e f = absurd cc
+
+pub backwards : (a b : Bool) → (a ≡ true → b ≡ true) → b ≡ false → a ≡ false
+backwards true b f e = let g : b ≡ true = f refl in absurd cc
+backwards false b f e = refl
+
+pub same_one : (x y : ℕ) (ps : List ℕ) → nat_eq x y ≡ true → is_one_of y ps ≡ true → is_one_of x ps ≡ true
+same_one x y ps e h = let same : x ≡ y = eqb-true x y e in rw same h
+
+pub same_out : (x y : ℕ) (ps : List ℕ) → nat_eq x y ≡ true → is_one_of y ps ≡ false → is_one_of x ps ≡ false
+same_out x y ps e h = let same : x ≡ y = eqb-true x y e in rw same h
+
+pub either_out : (a b c : Bool) → (a ≡ true → c ≡ false) → (b ≡ true → c ≡ false) → (a || b) ≡ true → c ≡ false
+either_out true b c f g e = f refl
+either_out false b c f g e = g e

@@ -1,0 +1,18 @@
+-- The request of an association, and the further storage classes that the receiver takes (PS3.8 section 7.1.1; which classes
+-- are taken is this product's own profile).
+use Rattle.std.specs.Prelude.{ℕ, List, []}
+use Rattle.pdu.specs.Record.{RequestRecord}
+use Rattle.pdu.specs.Items as items
+use Rattle.negotiate.specs.Contexts.{offered}
+
+-- the identifiers of the further storage classes, and the body of the A-ASSOCIATE-RQ
+pub record Requested : Type 0 where
+  pub further : List (List ℕ)
+  pub body : List ℕ
+
+abbrev pub no_request : Requested
+no_request = record { further = []; body = [] }
+
+-- what the request says to this receiver: an abstract syntax that is not taken counts as none
+abbrev pub request_record : Requested → RequestRecord
+request_record q = offered q.further (items.request_record q.body)

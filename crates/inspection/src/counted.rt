@@ -1,0 +1,72 @@
+//! A reader that counts.
+ghost use Rattle.std.specs.Prelude.{◌≡◌, ◌≤◌, length, IfOk};
+
+use crate::error::InspectionError;
+use std::io;
+use std::io::{Error, ErrorKind, Read};
+
+/// Counts the bytes that are read, and keeps the error of a read that failed.
+#[derive(Drop)]
+pub struct Counted<'a, R: Read> {
+    input: &'a mut R,
+    count: u64,
+    failure: Option<Error>,
+}
+
+impl<'a, R: Read> Counted<'a, R> {
+    pub fn new(input: &'a mut R) -> Counted<'a, R> {
+        Counted {
+            input,
+            count: 0,
+            failure: None,
+        }
+    }
+
+    /// Returns how many bytes were read.
+    pub fn count(&self) -> u64 {
+        self.count
+    }
+
+    /// Returns why the last read failed.
+    pub fn into_error(self) -> InspectionError {
+        match self.failure {
+            Some(error) => InspectionError::Read(error),
+            None => InspectionError::Read(Error::from(ErrorKind::Other)),
+        }
+    }
+
+    /// Reads once, and again where a signal interrupted the call. Returns how many bytes came: none
+    /// at the end.
+    pub fn read_some(&mut self, room: &mut [u8]) -> Result<usize, InspectionError>
+        ensures size { length room.new ≡ length room.old }
+        ensures within { IfOk result (λ n. n ≤ length room.new) }
+    {
+        for _ in 0..u64::MAX {
+            match self.input.read(room) {
+                Ok(len) => {
+                    self.count = self.count.saturating_add(len as u64);
+                    return Ok(len);
+                }
+                Err(error) if error.kind() == ErrorKind::Interrupted => {}
+                Err(error) => return Err(InspectionError::Read(error)),
+            }
+        }
+        Err(InspectionError::Read(Error::from(ErrorKind::Interrupted)))
+    }
+}
+
+impl<R: Read> Read for Counted<'_, R> {
+    fn read(&mut self, room: &mut [u8]) -> io::Result<usize> {
+        match self.input.read(room) {
+            Ok(len) => {
+                self.count = self.count.saturating_add(len as u64);
+                Ok(len)
+            }
+            Err(error) => {
+                let kind = error.kind();
+                self.failure = Some(error);
+                Err(Error::from(kind))
+            }
+        }
+    }
+}

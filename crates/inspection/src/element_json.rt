@@ -1,0 +1,184 @@
+//! The elements of a file, as members of a JSON object.
+use crate::json::JudgementJson;
+use crate::judgement::Judgement;
+use crate::keyword::{UNDEFINED, known_keyword};
+use crate::options::ShowOptions;
+use crate::shown_value::{ShownText, ShownValue};
+use crate::texts::{Printable, TagText, VrText};
+use crate::walk::Listing;
+use dictionary::{syntax_uid, vr_of};
+use element::{Header, Vr};
+use part10::Meta;
+use std::io::Write;
+use std::{fmt, io};
+
+/// The length of a value: none where it is undefined.
+#[derive(Clone, Copy)]
+struct LengthJson(u32);
+
+impl fmt::Display for LengthJson {
+    fn fmt<W: fmt::Write>(&self, f: &mut fmt::Formatter<W>) -> fmt::Result {
+        let LengthJson(length) = *self;
+        match length {
+            UNDEFINED => f.write_str("null"),
+            _ => write!(f, "{length}"),
+        }
+    }
+}
+
+/// The letters of a VR, or none.
+#[derive(Clone, Copy)]
+struct VrJson(Option<Vr>);
+
+impl fmt::Display for VrJson {
+    fn fmt<W: fmt::Write>(&self, f: &mut fmt::Formatter<W>) -> fmt::Result {
+        match self.0 {
+            Some(vr) => {
+                let vr = VrText(Some(vr));
+                write!(f, "\"{vr}\"")
+            }
+            None => f.write_str("null"),
+        }
+    }
+}
+
+/// A keyword, or none.
+#[derive(Clone, Copy)]
+struct KeywordJson(Option<&'static str>);
+
+impl fmt::Display for KeywordJson {
+    fn fmt<W: fmt::Write>(&self, f: &mut fmt::Formatter<W>) -> fmt::Result {
+        match self.0 {
+            Some(keyword) => write!(f, "\"{keyword}\""),
+            None => f.write_str("null"),
+        }
+    }
+}
+
+/// Where the output stands.
+#[derive(Clone, Copy)]
+enum Written {
+    /// Before the elements.
+    Nothing,
+    /// Before the first element.
+    Begun,
+    /// After an element, which is closed.
+    Closed,
+    /// In an element, whose value is to come.
+    Open,
+}
+
+/// Lists each header, or those of some tags, and the values where they are asked for.
+#[derive(Drop)]
+pub(crate) struct ElementsJson<'a> {
+    options: ShowOptions<'a>,
+    value: ShownValue,
+    written: Written,
+}
+
+/// Writes the members of an element but its value.
+fn write_element<O: Write>(
+    (place, levels): (u64, usize),
+    header: &Header,
+    before: &str,
+    out: &mut O,
+) -> io::Result<()> {
+    let Header { tag, length, vr } = *header;
+    let (vr, keyword) = (VrJson(vr.or(vr_of(tag))), KeywordJson(known_keyword(tag)));
+    let (tag, length) = (TagText(tag), LengthJson(length));
+    write!(
+        out,
+        "{before}{{\"place\":{place},\"level\":{levels},\"tag\":\"{tag}\","
+    )?;
+    write!(out, "\"vr\":{vr},\"length\":{length},\"keyword\":{keyword}")
+}
+
+impl<'a> ElementsJson<'a> {
+    pub(crate) fn new(options: ShowOptions<'a>) -> ElementsJson<'a> {
+        ElementsJson {
+            options,
+            value: ShownValue::new(options.form),
+            written: Written::Nothing,
+        }
+    }
+
+    /// Closes the element that is open, and returns what stands before the next one.
+    fn close<O: Write>(&mut self, out: &mut O) -> io::Result<&'static str> {
+        match self.written {
+            Written::Nothing | Written::Begun => Ok(""),
+            Written::Closed => Ok(","),
+            Written::Open => {
+                write!(out, "}}")?;
+                self.written = Written::Closed;
+                Ok(",")
+            }
+        }
+    }
+
+    /// Closes the element that is open, and the list of elements.
+    fn close_all<O: Write>(&mut self, out: &mut O) -> io::Result<()> {
+        self.close(out)?;
+        match self.written {
+            Written::Nothing => Ok(()),
+            _ => write!(out, "],"),
+        }
+    }
+
+    /// Ends the object of a file that can't be read to its end.
+    pub(crate) fn give_up<O: Write>(&mut self, out: &mut O) -> io::Result<()> {
+        self.close_all(out)?;
+        writeln!(out, "\"result\":\"unread\"}}")
+    }
+}
+
+impl<O: Write> Listing<O> for ElementsJson<'_> {
+    fn on_meta(&mut self, meta: &Meta, out: &mut O) -> io::Result<()> {
+        self.written = Written::Begun;
+        let class = Printable(meta.class.as_bytes());
+        let instance = Printable(meta.instance.as_bytes());
+        let syntax = Printable(syntax_uid(meta.syntax));
+        write!(
+            out,
+            "\"class\":\"{class}\",\"instance\":\"{instance}\",\"syntax\":\"{syntax}\",\"elements\":["
+        )
+    }
+
+    fn on_header(
+        &mut self,
+        place: u64,
+        levels: usize,
+        header: &Header,
+        out: &mut O,
+    ) -> io::Result<()> {
+        self.value.forget();
+        let tag = header.tag;
+        if !self.options.names(tag) {
+            return Ok(());
+        }
+        let before = self.close(out)?;
+        write_element((place, levels), header, before, out)?;
+        self.written = Written::Open;
+        if self.options.values {
+            self.value.expect(levels, header);
+        }
+        Ok(())
+    }
+
+    fn on_bytes(&mut self, bytes: &[u8], out: &mut O) -> io::Result<()> {
+        self.value.take(bytes);
+        if !self.value.is_whole() {
+            return Ok(());
+        }
+        if let ShownText::Value(value) = self.value.text() {
+            write!(out, ",\"value\":\"{value}\"")?;
+        }
+        self.value.forget();
+        Ok(())
+    }
+
+    fn on_end(&mut self, judgement: &Judgement, out: &mut O) -> io::Result<()> {
+        self.close_all(out)?;
+        let judgement = JudgementJson(judgement);
+        writeln!(out, "{judgement}}}")
+    }
+}

@@ -1,0 +1,11 @@
+//! What ends an inspection early.
+use std::io;
+
+/// Why a file was not inspected to its end, or to its first fault.
+#[derive(Debug, Drop)]
+pub enum InspectionError {
+    /// The file can't be read.
+    Read(io::Error),
+    /// The output can't be written.
+    Write(io::Error),
+}

@@ -1,0 +1,68 @@
+//! What is found in a file, as a line tells it.
+use crate::texts::{TagText, VrText};
+use element::{Tag, ValueFault, Vr};
+use part10::MetaFault;
+use sequence::Fault;
+use std::fmt;
+use values::FormFault;
+
+/// What is found in a file. It prints as a line of `dcmbox check`.
+#[derive(Clone, Copy, Debug)]
+pub enum Judgement {
+    /// A value breaks a rule of its VR: where its header stands, and which rule.
+    Note(u64, Tag, Vr, ValueFault),
+    /// A value breaks the form of its VR: where its header stands, and how.
+    FormNote(u64, Tag, Vr, FormFault),
+    /// The file has a fault in its header, after which nothing is read.
+    BadHeader(MetaFault),
+    /// The data set that begins at this place of its file has a fault, after which nothing is read.
+    BadData(u64, Fault),
+    /// The file has no fault, and so many bytes.
+    Good(u64),
+}
+
+/// Returns where a file's header breaks a rule: at the letters `DICM`, or after them.
+pub(crate) fn place_of(fault: MetaFault) -> u64 {
+    match fault {
+        MetaFault::NotPart10 => 128,
+        _ => 132,
+    }
+}
+
+/// Prints a note.
+fn write_note<W: fmt::Write>(
+    f: &mut fmt::Formatter<W>,
+    place: u64,
+    (tag, vr): (TagText, VrText),
+    (number, name): (u8, &str),
+) -> fmt::Result {
+    write!(f, "note {place:010} {tag} {vr} {number} {name}")
+}
+
+/// Prints the fault of a data set that begins at this place of its file.
+fn write_fault<W: fmt::Write>(f: &mut fmt::Formatter<W>, start: u64, fault: Fault) -> fmt::Result {
+    let (number, name, tag) = (fault.number, fault.name(), TagText(fault.tag));
+    let place = start.saturating_add(fault.place);
+    write!(f, "fault {number} {name} at {place} tag {tag}")
+}
+
+impl fmt::Display for Judgement {
+    fn fmt<W: fmt::Write>(&self, f: &mut fmt::Formatter<W>) -> fmt::Result {
+        match *self {
+            Judgement::Note(place, tag, vr, fault) => {
+                let rule = (fault.number(), fault.name());
+                write_note(f, place, (TagText(tag), VrText(Some(vr))), rule)
+            }
+            Judgement::FormNote(place, tag, vr, fault) => {
+                let rule = (fault.number(), fault.name());
+                write_note(f, place, (TagText(tag), VrText(Some(vr))), rule)
+            }
+            Judgement::BadHeader(fault) => {
+                let place = place_of(fault);
+                write!(f, "fault {fault} at {place}")
+            }
+            Judgement::BadData(start, fault) => write_fault(f, start, fault),
+            Judgement::Good(length) => write!(f, "good {length}"),
+        }
+    }
+}

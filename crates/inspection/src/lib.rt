@@ -1,0 +1,36 @@
+//! What is in a DICOM file: its elements, its first fault, and the values that break the rules of their VR.
+#![tactic(auto)]
+
+mod check;
+mod counted;
+mod element_json;
+mod error;
+mod front;
+mod json;
+mod judgement;
+mod keyword;
+mod limits;
+mod named_tag;
+mod notes;
+mod options;
+mod origin;
+mod outcome;
+mod sets;
+mod show;
+mod shown_value;
+mod strict;
+mod texts;
+mod value_text;
+mod walk;
+
+pub use check::{check_over, check_with};
+pub use error::InspectionError;
+pub use front::FileFront;
+pub use judgement::Judgement;
+pub use limits::MOST_DATA;
+pub use named_tag::tag_named;
+pub use options::{CheckOptions, OutputForm, ShowOptions};
+pub use origin::{implementation_of, other_syntax_of};
+pub use outcome::{Inspected, Outcome};
+pub use show::{show_over, show_with};
+pub use texts::{Indent, Printable, TagText, VrText};

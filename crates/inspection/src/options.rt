@@ -1,0 +1,41 @@
+//! How the findings of an inspection are written, and which.
+use element::Tag;
+
+/// How findings are written.
+#[derive(Clone, Copy, Debug, PartialEq, Eq)]
+pub enum OutputForm {
+    /// A line each.
+    Lines,
+    /// Members of one JSON object, whose first members stand before them; a brace and a line feed end it.
+    Json,
+}
+
+/// What a check holds a file to.
+#[derive(Clone, Copy, Debug)]
+pub struct CheckOptions {
+    /// Whether values are held to the whole table of VRs.
+    pub strict: bool,
+    pub form: OutputForm,
+}
+
+/// What is shown of a file.
+#[derive(Clone, Copy, Debug)]
+pub struct ShowOptions<'a> {
+    /// Whether values are shown.
+    pub values: bool,
+    /// The elements that are shown; all of them where none is named.
+    pub tags: &'a [Tag],
+    pub form: OutputForm,
+}
+
+impl ShowOptions<'_> {
+    /// Returns whether nothing but the elements is asked for.
+    pub(crate) fn is_plain(&self) -> bool {
+        !self.values && self.tags.is_empty()
+    }
+
+    /// Returns whether elements of this tag are shown.
+    pub(crate) fn names(&self, tag: Tag) -> bool {
+        self.tags.is_empty() || self.tags.iter().any(|named| *named == tag)
+    }
+}

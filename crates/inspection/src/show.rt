@@ -1,0 +1,171 @@
+//! `dcmbox show`: the elements of a file, without their values or with them.
+use crate::element_json::ElementsJson;
+use crate::error::InspectionError;
+use crate::judgement::Judgement;
+use crate::keyword::{UNDEFINED, keyword, known_keyword};
+use crate::options::{OutputForm, ShowOptions};
+use crate::outcome::{Inspected, Outcome};
+use crate::shown_value::ShownValue;
+use crate::texts::{Indent, Printable, TagText, VrText};
+use crate::walk::{Listing, list};
+use dictionary::{syntax_uid, vr_of};
+use element::Header;
+use part10::Meta;
+use std::io::{Read, Write};
+use std::{fmt, io};
+
+/// Lists each header, or those of some tags, and the values where they are asked for.
+#[derive(Drop)]
+struct Elements<'a> {
+    options: ShowOptions<'a>,
+    value: ShownValue,
+}
+
+/// The length of a value, which may be undefined.
+#[derive(Clone, Copy)]
+struct LengthText(u32);
+
+impl fmt::Display for LengthText {
+    fn fmt<W: fmt::Write>(&self, f: &mut fmt::Formatter<W>) -> fmt::Result {
+        let LengthText(length) = *self;
+        match length {
+            UNDEFINED => f.write_str("undefined"),
+            _ => write!(f, "{length}"),
+        }
+    }
+}
+
+impl Elements<'_> {
+    /// Returns the keyword of a header's element, from the dictionary alone where nothing is chosen.
+    fn keyword(&self, header: &Header) -> &'static str {
+        if self.options.is_plain() {
+            keyword(header.tag).unwrap_or("?")
+        } else {
+            known_keyword(header.tag).unwrap_or("?")
+        }
+    }
+
+    /// Writes the line of a header.
+    fn write_line<O: Write>(
+        &self,
+        place: u64,
+        levels: usize,
+        header: &Header,
+        out: &mut O,
+    ) -> io::Result<()> {
+        let keyword = self.keyword(header);
+        let Header { tag, length, vr } = *header;
+        // The dictionary's VR, where the header has none.
+        let vr = VrText(vr.or(vr_of(tag)));
+        let (indent, length) = (Indent(levels), LengthText(length));
+        let tag = TagText(tag);
+        writeln!(out, "{place:010} {indent}{tag} {vr} {length} {keyword}")
+    }
+}
+
+impl<O: Write> Listing<O> for Elements<'_> {
+    fn on_meta(&mut self, meta: &Meta, out: &mut O) -> io::Result<()> {
+        if !self.options.tags.is_empty() {
+            return Ok(());
+        }
+        let class = Printable(meta.class.as_bytes());
+        let instance = Printable(meta.instance.as_bytes());
+        let syntax = Printable(syntax_uid(meta.syntax));
+        writeln!(out, "class {class}\ninstance {instance}\nsyntax {syntax}")
+    }
+
+    fn on_header(
+        &mut self,
+        place: u64,
+        levels: usize,
+        header: &Header,
+        out: &mut O,
+    ) -> io::Result<()> {
+        self.value.forget();
+        let tag = header.tag;
+        if !self.options.names(tag) {
+            return Ok(());
+        }
+        if self.options.values {
+            self.value.expect(levels, header);
+        }
+        self.write_line(place, levels, header, out)
+    }
+
+    fn on_bytes(&mut self, bytes: &[u8], out: &mut O) -> io::Result<()> {
+        self.value.take(bytes);
+        if !self.value.is_whole() {
+            return Ok(());
+        }
+        let (indent, value) = (Indent(self.value.levels()), self.value.text());
+        writeln!(out, "           {indent}= {value}")?;
+        self.value.forget();
+        Ok(())
+    }
+
+    fn on_end(&mut self, judgement: &Judgement, out: &mut O) -> io::Result<()> {
+        match judgement {
+            Judgement::Good(_) if !self.options.tags.is_empty() => Ok(()),
+            Judgement::Good(length) => writeln!(out, "end {length}"),
+            _ => writeln!(out, "{judgement}"),
+        }
+    }
+}
+
+/// Lists a file as lines.
+fn show_lines<R: Read, O: Write>(
+    input: &mut R,
+    options: ShowOptions<'_>,
+    out: &mut O,
+) -> Result<Outcome, InspectionError> {
+    let value = ShownValue::new(options.form);
+    list(input, &mut Elements { options, value }, out)
+}
+
+/// Lists a file as members of a JSON object.
+fn show_json<R: Read, O: Write>(
+    input: &mut R,
+    options: ShowOptions<'_>,
+    out: &mut O,
+) -> Result<Outcome, InspectionError> {
+    let mut elements = ElementsJson::new(options);
+    match list(input, &mut elements, out) {
+        Err(InspectionError::Read(error)) => match elements.give_up(out) {
+            Ok(()) => Err(InspectionError::Read(error)),
+            Err(error) => Err(InspectionError::Write(error)),
+        },
+        ended => ended,
+    }
+}
+
+/// Lists the file that the reader gives, as `show_over` does, with these options: the elements that are named
+/// alone, after each its value, a value of more than 64 bytes as its length.
+///
+/// Fails if the file can't be read or the output can't be written.
+pub fn show_with<R: Read, O: Write>(
+    input: &mut R,
+    options: ShowOptions<'_>,
+    out: &mut O,
+) -> Result<Inspected, InspectionError> {
+    let outcome = match options.form {
+        OutputForm::Lines => show_lines(input, options, out)?,
+        OutputForm::Json => show_json(input, options, out)?,
+    };
+    Ok(Inspected { outcome, notes: 0 })
+}
+
+/// Lists the file that the reader gives: its class, instance and transfer syntax, a line for each
+/// header, and its length; or, after the lines before it, its first fault.
+///
+/// No byte of a value is written. Fails if the file can't be read or the output can't be written.
+pub fn show_over<R: Read, O: Write>(
+    input: &mut R,
+    out: &mut O,
+) -> Result<Inspected, InspectionError> {
+    let options = ShowOptions {
+        values: false,
+        tags: &[],
+        form: OutputForm::Lines,
+    };
+    show_with(input, options, out)
+}

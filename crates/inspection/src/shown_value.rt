@@ -1,0 +1,104 @@
+//! The value that is shown next.
+use crate::keyword::UNDEFINED;
+use crate::options::OutputForm;
+use crate::value_text::ValueText;
+use arrayvec::ArrayVec;
+use dictionary::vr_of;
+use element::{Header, Tag, Vr};
+use std::fmt;
+
+/// The longest value that is shown.
+const LONGEST_SHOWN: usize = 64;
+
+/// A value of which bytes come.
+#[derive(Drop)]
+pub(crate) struct ShownValue {
+    vr: Option<Vr>,
+    levels: usize,
+    /// Of a value that is to be shown.
+    length: Option<u32>,
+    bytes: ArrayVec<u8, LONGEST_SHOWN>,
+    has_begun: bool,
+    form: OutputForm,
+}
+
+/// A value, or its length where it is longer than what is shown.
+#[derive(Clone, Copy)]
+pub(crate) enum ShownText<'a> {
+    Value(ValueText<'a>),
+    Long(u32),
+}
+
+impl fmt::Display for ShownText<'_> {
+    fn fmt<W: fmt::Write>(&self, f: &mut fmt::Formatter<W>) -> fmt::Result {
+        match self {
+            ShownText::Value(text) => write!(f, "{text}"),
+            ShownText::Long(length) => write!(f, "({length} bytes)"),
+        }
+    }
+}
+
+impl ShownValue {
+    pub(crate) fn new(form: OutputForm) -> ShownValue {
+        ShownValue {
+            vr: None,
+            levels: 0,
+            length: None,
+            bytes: ArrayVec::new(),
+            has_begun: false,
+            form,
+        }
+    }
+
+    /// Waits for no value.
+    pub(crate) fn forget(&mut self) {
+        self.length = None;
+    }
+
+    /// Waits for the value of a header, if it has one.
+    pub(crate) fn expect(&mut self, levels: usize, header: &Header) {
+        let Header { tag, length, vr } = *header;
+        let vr = vr.or(vr_of(tag));
+        let is_container = tag == Tag::ITEM || vr == Some(Vr::SQ) || length == UNDEFINED;
+        if length == 0 || is_container {
+            return;
+        }
+        self.vr = vr;
+        self.levels = levels;
+        self.length = Some(length);
+        self.bytes.clear();
+        self.has_begun = false;
+    }
+
+    /// Takes bytes of the value.
+    pub(crate) fn take(&mut self, bytes: &[u8]) {
+        self.has_begun = true;
+        let _ = self.bytes.try_extend_from_slice(bytes);
+    }
+
+    /// Returns whether the value can be shown: it is whole, or its length is shown.
+    pub(crate) fn is_whole(&self) -> bool {
+        match self.length {
+            None => false,
+            Some(length) if length as usize > LONGEST_SHOWN => self.has_begun,
+            Some(length) => self.bytes.len() >= length as usize,
+        }
+    }
+
+    /// Returns how many levels are open round the value.
+    pub(crate) fn levels(&self) -> usize {
+        self.levels
+    }
+
+    /// Returns what is shown.
+    pub(crate) fn text(&self) -> ShownText<'_> {
+        match self.length {
+            Some(length) if length as usize > LONGEST_SHOWN => ShownText::Long(length),
+            _ => ShownText::Value(ValueText {
+                vr: self.vr,
+                value: self.bytes.as_slice(),
+                form: self.form,
+            }),
+        }
+    }
+}

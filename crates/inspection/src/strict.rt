@@ -1,0 +1,142 @@
+//! `dcmbox check --strict`: also the values that break the table of VRs.
+use crate::judgement::Judgement;
+use crate::limits::LONGEST;
+use crate::notes::Notes;
+use crate::sets::Sets;
+use crate::walk::Listing;
+use arrayvec::ArrayVec;
+use dictionary::vr_of;
+use element::{Header, Tag, ValueFault, Vr, check_value};
+use part10::Meta;
+use std::io;
+use std::io::Write;
+use values::{CharacterSet, Reading, check_form, number_size};
+
+/// The tag of Specific Character Set.
+const SPECIFIC_CHARACTER_SET: Tag = Tag(0x0008, 0x0005);
+
+/// The length that stands for an undefined one.
+const UNDEFINED: u32 = 0xffff_ffff;
+
+/// A value that is to be checked once it is whole.
+#[derive(Clone, Copy)]
+struct DueText {
+    /// Of its header.
+    place: u64,
+    level: usize,
+    tag: Tag,
+    vr: Vr,
+    length: usize,
+}
+
+/// Checks each value that is short enough, and of the longer ones the size of their numbers.
+#[derive(Drop)]
+pub(crate) struct StrictValues {
+    due: Option<DueText>,
+    value: ArrayVec<u8, LONGEST>,
+    text: ArrayVec<u8, LONGEST>,
+    sets: Sets,
+    notes: Notes,
+}
+
+impl StrictValues {
+    pub(crate) fn new(notes: Notes) -> StrictValues {
+        StrictValues {
+            due: None,
+            value: ArrayVec::new(),
+            text: ArrayVec::new(),
+            sets: Sets::new(),
+            notes,
+        }
+    }
+
+    pub(crate) fn notes(&self) -> Notes {
+        self.notes
+    }
+
+    /// Returns the note of a value, if it breaks a rule of its VR.
+    fn note_of(&mut self, due: DueText) -> Option<Judgement> {
+        let value = self.value.as_slice();
+        if let Err(fault) = check_value(due.vr, value) {
+            return Some(Judgement::Note(due.place, due.tag, due.vr, fault));
+        }
+        self.text.clear();
+        Reading::new(self.sets.of(due.level, due.vr)).read(value, &mut self.text);
+        match check_form(due.vr, self.text.as_slice()) {
+            Ok(()) => None,
+            Err(fault) => Some(Judgement::FormNote(due.place, due.tag, due.vr, fault)),
+        }
+    }
+
+    /// Checks a value that is whole.
+    fn check<O: Write>(&mut self, due: DueText, out: &mut O) -> io::Result<()> {
+        if due.tag == SPECIFIC_CHARACTER_SET {
+            let set = CharacterSet::of_value(self.value.as_slice());
+            self.sets.name(due.level, set);
+        }
+        match self.note_of(due) {
+            Some(note) => self.notes.add(&note, out),
+            None => Ok(()),
+        }
+    }
+
+    /// Checks the length of a value that is too long to be kept.
+    fn check_length<O: Write>(&mut self, due: DueText, out: &mut O) -> io::Result<()> {
+        if due.length % number_size(due.vr) == 0 {
+            return Ok(());
+        }
+        let fault = ValueFault::WrongSize;
+        let note = Judgement::Note(due.place, due.tag, due.vr, fault);
+        self.notes.add(&note, out)
+    }
+}
+
+impl<O: Write> Listing<O> for StrictValues {
+    fn on_meta(&mut self, _meta: &Meta, _out: &mut O) -> io::Result<()> {
+        Ok(())
+    }
+
+    fn on_header(
+        &mut self,
+        place: u64,
+        levels: usize,
+        header: &Header,
+        out: &mut O,
+    ) -> io::Result<()> {
+        let Header { tag, length, vr } = *header;
+        self.value.clear();
+        self.due = None;
+        self.sets.hand_down(levels);
+        let Some(vr) = vr.or(vr_of(tag)) else {
+            return Ok(());
+        };
+        let due = DueText {
+            place,
+            level: levels,
+            tag,
+            vr,
+            length: length as usize,
+        };
+        if due.length <= LONGEST {
+            self.due = Some(due);
+        } else if length != UNDEFINED {
+            return self.check_length(due, out);
+        }
+        Ok(())
+    }
+
+    fn on_bytes(&mut self, bytes: &[u8], out: &mut O) -> io::Result<()> {
+        let Some(due) = self.due else {
+            return Ok(());
+        };
+        if self.value.try_extend_from_slice(bytes).is_err() || self.value.len() < due.length {
+            return Ok(());
+        }
+        self.due = None;
+        self.check(due, out)
+    }
+
+    fn on_end(&mut self, judgement: &Judgement, out: &mut O) -> io::Result<()> {
+        self.notes.end(judgement, out)
+    }
+}

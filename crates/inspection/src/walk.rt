@@ -1,0 +1,157 @@
+//! A file, walked from its first byte to its last in fixed memory.
+use crate::counted::Counted;
+use crate::error::InspectionError;
+use crate::judgement::Judgement;
+use crate::limits::{DEPTH, MOST_DATA, PIECE, VALUES};
+use crate::outcome::Outcome;
+use element::{Header, Syntax};
+use part10::{Meta, MetaFault, read_meta};
+use sequence::{Fault, Step, Walker, Wanted};
+use std::io;
+use std::io::{Read, Write};
+
+/// What is printed of a file while it is walked.
+pub trait Listing<O: Write> {
+    /// After the file's header.
+    fn on_meta(&mut self, meta: &Meta, out: &mut O) -> io::Result<()>;
+
+    /// At each header of an element, an item or a delimitation: its place in the file, and how many
+    /// levels are open before it.
+    fn on_header(
+        &mut self,
+        place: u64,
+        levels: usize,
+        header: &Header,
+        out: &mut O,
+    ) -> io::Result<()>;
+
+    /// At bytes of the value of the last header.
+    fn on_bytes(&mut self, bytes: &[u8], out: &mut O) -> io::Result<()>;
+
+    /// At the fault of a file, or at the end of one without a fault.
+    fn on_end(&mut self, judgement: &Judgement, out: &mut O) -> io::Result<()>;
+}
+
+/// Returns how many bytes a header has (PS3.5 section 7.1).
+fn size_of_header(header: &Header) -> u64 {
+    let vr = header.vr;
+    match vr {
+        Some(vr) if vr.is_long() => 12,
+        _ => 8,
+    }
+}
+
+/// Tells of a header that ends at `end`.
+fn tell_header<L: Listing<O>, O: Write>(
+    end: u64,
+    levels: usize,
+    header: &Header,
+    listing: &mut L,
+    out: &mut O,
+) -> io::Result<()> {
+    let place = end.saturating_sub(size_of_header(header));
+    listing.on_header(place, levels, header, out)
+}
+
+/// Walks a piece of a data set that begins at `start` of its file; stops at a fault.
+fn walk_piece<L: Listing<O>, O: Write>(
+    walker: &mut Walker<VALUES, DEPTH>,
+    piece: &[u8],
+    start: u64,
+    listing: &mut L,
+    out: &mut O,
+) -> io::Result<Option<Fault>> {
+    let mut rest = piece;
+    // Each step takes at least one byte, or refuses.
+    for _ in 0..piece.len() {
+        if rest.is_empty() {
+            break;
+        }
+        let levels = walker.levels();
+        let (count, step) = walker.step(rest);
+        rest = &rest[count..];
+        let end = start.saturating_add(walker.place());
+        match step {
+            Step::More => {}
+            Step::Element(header) | Step::Opened(header) | Step::Closed(header) => {
+                tell_header(end, levels, &header, listing, out)?;
+            }
+            Step::Run(bytes) => listing.on_bytes(bytes, out)?,
+            Step::Refused(fault) => return Ok(Some(fault)),
+        }
+    }
+    Ok(None)
+}
+
+/// Walks the data set that the reader goes on with; returns its first fault.
+fn walk_data_set<R: Read, L: Listing<O>, O: Write>(
+    input: &mut Counted<'_, R>,
+    syntax: Syntax,
+    listing: &mut L,
+    out: &mut O,
+) -> Result<Option<Fault>, InspectionError> {
+    let start = input.count();
+    let mut walker = Walker::<VALUES, DEPTH>::new(syntax, Wanted::none(), MOST_DATA);
+    let mut room = [0; PIECE];
+    for _ in 0..u64::MAX {
+        let len = input.read_some(&mut room)?;
+        if len == 0 {
+            break;
+        }
+        match walk_piece(&mut walker, &room[..len], start, listing, out) {
+            Ok(None) => {}
+            Ok(found) => return Ok(found),
+            Err(error) => return Err(InspectionError::Write(error)),
+        }
+    }
+    Ok(walker.finish().err())
+}
+
+/// Returns how the walk of a file ended: with its first fault, or at its end.
+fn ending(found: Option<Fault>, start: u64, end: u64) -> (Judgement, Outcome) {
+    match found {
+        Some(fault) => (Judgement::BadData(start, fault), Outcome::Faulty),
+        None => (Judgement::Good(end), Outcome::Good),
+    }
+}
+
+/// Tells how a file ended.
+fn tell_end<L: Listing<O>, O: Write>(
+    (judgement, outcome): (Judgement, Outcome),
+    listing: &mut L,
+    out: &mut O,
+) -> Result<Outcome, InspectionError> {
+    match listing.on_end(&judgement, out) {
+        Ok(()) => Ok(outcome),
+        Err(error) => Err(InspectionError::Write(error)),
+    }
+}
+
+/// Lists the rest of a file after its header, up to its first fault.
+fn list_data_set<R: Read, L: Listing<O>, O: Write>(
+    input: &mut Counted<'_, R>,
+    meta: &Meta,
+    listing: &mut L,
+    out: &mut O,
+) -> Result<Outcome, InspectionError> {
+    listing.on_meta(meta, out).map_err(InspectionError::Write)?;
+    let start = input.count();
+    let found = walk_data_set(input, meta.syntax, listing, out)?;
+    tell_end(ending(found, start, input.count()), listing, out)
+}
+
+/// Lists a file that the reader gives, up to its first fault.
+///
+/// Fails if the file can't be read or the output can't be written.
+pub fn list<R: Read, L: Listing<O>, O: Write>(
+    input: &mut R,
+    listing: &mut L,
+    out: &mut O,
+) -> Result<Outcome, InspectionError> {
+    let mut input = Counted::new(input);
+    match read_meta(&mut input) {
+        Ok(meta) => list_data_set(&mut input, &meta, listing, out),
+        Err(MetaFault::ReadFailed) => Err(input.into_error()),
+        Err(fault) => tell_end((Judgement::BadHeader(fault), Outcome::Faulty), listing, out),
+    }
+}

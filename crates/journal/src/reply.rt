@@ -1,0 +1,58 @@
+//! What the reply to a command says.
+use crate::text::Text;
+use dimse::CommandSet;
+use dimse::element_numbers::{CLASS, COMMENT, FIELD, INSTANCE, OFFENDING, STATUS};
+use element::{Tag, read_tag, unpadded};
+
+/// The command field of the reply to a C-STORE (PS3.7 section 9.3.5.2).
+const C_STORE_RSP: u16 = 0x8001;
+
+/// A unique identifier or an error comment, as it is shown.
+pub(crate) type Value = Text<64>;
+
+/// The reply to a C-STORE.
+#[derive(Drop)]
+pub(crate) struct Reply {
+    pub class: Value,
+    pub instance: Value,
+    pub status: u16,
+    /// The error comment: the number and the name of the fault.
+    pub comment: Value,
+    /// The offending element.
+    pub tag: Option<Tag>,
+}
+
+/// Returns the value of an element as it is shown, without its padding; empty where there is none.
+fn value_of(set: &CommandSet, number: u16) -> Value {
+    let mut value = Value::new();
+    if let Some(bytes) = set.value(number) {
+        value.add(unpadded(bytes));
+    }
+    value
+}
+
+/// Returns the first offending element, or `None` if the reply names none.
+fn tag_of(set: &CommandSet) -> Option<Tag> {
+    let bytes = set.value(OFFENDING)?;
+    if bytes.len() < 4 {
+        return None;
+    }
+    Some(read_tag(bytes))
+}
+
+impl Reply {
+    /// Reads the command set of a reply. Returns `None` if it is not that of a reply to a C-STORE.
+    pub(crate) fn read(bytes: &[u8]) -> Option<Reply> {
+        let set = CommandSet::read(bytes)?;
+        if set.number(FIELD).ok()? != C_STORE_RSP {
+            return None;
+        }
+        Some(Reply {
+            class: value_of(&set, CLASS),
+            instance: value_of(&set, INSTANCE),
+            status: set.number(STATUS).ok()?,
+            comment: value_of(&set, COMMENT),
+            tag: tag_of(&set),
+        })
+    }
+}

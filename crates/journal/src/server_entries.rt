@@ -1,0 +1,178 @@
+//! What the lines of the log tell of the box itself, and not of one association.
+use crate::entries::{Words, give_error};
+use crate::entry::{Entry, Event, Fields, Name};
+use log::Level;
+use std::fmt::Write;
+use std::io;
+use std::net::SocketAddr;
+
+const PLACES: Name = Name {
+    key: "places",
+    before: " places ",
+    after: "",
+};
+
+/// The box listens: `listening on ADDRESS:PORT`.
+#[derive(Clone, Copy)]
+pub struct Listening(pub SocketAddr);
+
+impl Entry for Listening {
+    fn level(&self) -> Level {
+        Level::Info
+    }
+
+    fn event(&self) -> Event {
+        Event {
+            key: "listening",
+            words: "listening",
+        }
+    }
+
+    fn fields<F: Fields>(&self, out: &mut F) {
+        let mut address = Words::new();
+        let _ = write!(address, "{}", self.0);
+        out.text(Name::new("address", " on "), address.as_str());
+    }
+}
+
+/// The box ends.
+#[derive(Clone, Copy)]
+pub struct Stopped;
+
+impl Entry for Stopped {
+    fn level(&self) -> Level {
+        Level::Info
+    }
+
+    fn event(&self) -> Event {
+        Event {
+            key: "stopped",
+            words: "stopped",
+        }
+    }
+
+    fn fields<F: Fields>(&self, _out: &mut F) {}
+}
+
+/// The box was asked to end.
+#[derive(Clone, Copy)]
+pub struct Stopping;
+
+impl Entry for Stopping {
+    fn level(&self) -> Level {
+        Level::Info
+    }
+
+    fn event(&self) -> Event {
+        Event {
+            key: "stopping",
+            words: "stopping",
+        }
+    }
+
+    fn fields<F: Fields>(&self, _out: &mut F) {}
+}
+
+/// Every place of the box has an association, so connections wait: how many places there are.
+#[derive(Clone, Copy)]
+pub struct PlacesFull(pub u64);
+
+impl Entry for PlacesFull {
+    fn level(&self) -> Level {
+        Level::Warn
+    }
+
+    fn event(&self) -> Event {
+        Event {
+            key: "places full",
+            words: "all places are taken, and connections wait",
+        }
+    }
+
+    fn fields<F: Fields>(&self, out: &mut F) {
+        out.number(PLACES, self.0);
+    }
+}
+
+/// The peer has as many associations as one address may have, so its further connections wait: how
+/// many those are.
+#[derive(Clone, Copy)]
+pub struct PeerFull(pub u64);
+
+impl Entry for PeerFull {
+    fn level(&self) -> Level {
+        Level::Warn
+    }
+
+    fn event(&self) -> Event {
+        Event {
+            key: "peer full",
+            words: "the peer has as many places as it may have, and its connections wait",
+        }
+    }
+
+    fn fields<F: Fields>(&self, out: &mut F) {
+        out.number(PLACES, self.0);
+    }
+}
+
+/// A connection was closed at once, since as many as may wait for a place do already.
+#[derive(Clone, Copy)]
+pub struct TurnedAway;
+
+impl Entry for TurnedAway {
+    fn level(&self) -> Level {
+        Level::Warn
+    }
+
+    fn event(&self) -> Event {
+        Event {
+            key: "turned away",
+            words: "the connection was closed, since too many wait for a place",
+        }
+    }
+
+    fn fields<F: Fields>(&self, _out: &mut F) {}
+}
+
+/// A connection could not be accepted.
+#[derive(Clone, Copy)]
+pub struct NotAccepted<'a>(pub &'a io::Error);
+
+impl Entry for NotAccepted<'_> {
+    fn level(&self) -> Level {
+        Level::Error
+    }
+
+    fn event(&self) -> Event {
+        Event {
+            key: "not accepted",
+            words: "a connection could not be accepted",
+        }
+    }
+
+    fn fields<F: Fields>(&self, out: &mut F) {
+        give_error(self.0, out);
+    }
+}
+
+/// A connection failed.
+#[derive(Clone, Copy)]
+pub struct ConnectionFailed<'a>(pub &'a io::Error);
+
+impl Entry for ConnectionFailed<'_> {
+    fn level(&self) -> Level {
+        Level::Error
+    }
+
+    fn event(&self) -> Event {
+        Event {
+            key: "connection failed",
+            words: "the connection failed",
+        }
+    }
+
+    fn fields<F: Fields>(&self, out: &mut F) {
+        give_error(self.0, out);
+    }
+}

@@ -1,0 +1,51 @@
+//! Writes lines to the log.
+use crate::entry::Entry;
+use crate::form::Form;
+use crate::line::{Head, line_of};
+use jiff::Timestamp;
+use log::{Log, log, log_enabled};
+use std::net::SocketAddr;
+use std::time::Clock;
+
+/// The target of each line of the log, by which a reader of logs finds the lines of this command.
+pub const TARGET: &str = "cli::serve";
+
+/// Writes lines about a connection, or about none.
+#[derive_where(Clone, Copy)]
+pub struct Teller<'a, R> {
+    rt: &'a R,
+    form: Form,
+    peer: Option<SocketAddr>,
+}
+
+impl<'a, R: Log + Clock> Teller<'a, R> {
+    /// Returns what writes lines in this form, about no connection.
+    pub fn new(rt: &'a R, form: Form) -> Teller<'a, R> {
+        Teller {
+            rt,
+            form,
+            peer: None,
+        }
+    }
+
+    /// Returns what writes lines about the connection of this peer.
+    pub fn about(self, peer: SocketAddr) -> Teller<'a, R> {
+        Teller {
+            peer: Some(peer),
+            ..self
+        }
+    }
+
+    /// Writes a line, if lines of its level are written, with the time, if the clock can be read.
+    pub fn tell<E: Entry>(&self, entry: &E) {
+        let level = entry.level();
+        if log_enabled!(self.rt; target: TARGET, level) {
+            let head = Head {
+                time: Timestamp::now(self.rt).ok(),
+                peer: self.peer,
+            };
+            let line = line_of(self.form, head, entry);
+            log!(self.rt; target: TARGET, level, "{line}");
+        }
+    }
+}

@@ -1,0 +1,194 @@
+//! A folder that is locked for its writer, in which drafts get their names.
+
+use crate::drafts::DraftName;
+use crate::listing::{contents_of, file_path, folder_path};
+use crate::naming::{Named, name_file};
+use crate::place::{Layout, Place};
+use crate::stored_file::StoredFile;
+use std::alloc::{AllocError, Allocator};
+use std::cell::Cell;
+use std::fs::{OpenFile, TryLockError};
+use std::io::{Error, ErrorKind};
+use std::rt::Files;
+use std::{fs, io};
+
+/// A folder that stays locked until this value is dropped. What it has of its files is shared by all
+/// filings over it: each number is given once, in the order of the commits.
+#[derive(Drop)]
+pub(crate) struct LockedFolder<R: Files + Alloc + Clone + Drop>
+where
+    R::File: StoredFile,
+{
+    rt: R,
+    dir: String<R::A>,
+    /// The opened folder, which holds the lock.
+    folder: R::File,
+    layout: Layout,
+    /// Of the last file that was found or committed.
+    last: Cell<Place>,
+    has_sync: Cell<bool>,
+}
+
+/// Opens the folder and locks it.
+fn lock<R: Files>(rt: &R, dir: &str) -> io::Result<R::File>
+where
+    R::File: StoredFile,
+{
+    let folder = fs::open(rt, dir)?;
+    match folder.try_lock() {
+        Ok(()) => Ok(folder),
+        Err(TryLockError::WouldBlock) => Err(Error::new(
+            ErrorKind::WouldBlock,
+            "the folder is in use by another writer",
+        )),
+        Err(TryLockError::Error(error)) => Err(error),
+    }
+}
+
+/// Returns the path of the draft with this number.
+fn draft_path<A: Allocator>(alloc: A, dir: &str, number: u32) -> Result<String<A>, AllocError> {
+    let name = DraftName { number };
+    format!(in alloc; "{dir}/{name}")
+}
+
+/// Removes a file, if it is there.
+fn remove_left<R: Files>(rt: &R, path: &str) -> io::Result<()> {
+    match fs::remove_file(rt, path) {
+        Err(error) if error.kind() == ErrorKind::NotFound => Ok(()),
+        result => result,
+    }
+}
+
+/// Removes the drafts that a writer left which was killed: that of its first filing, and these.
+fn remove_drafts<R: Files + Alloc>(rt: &R, dir: &str, further: &[String<R::A>]) -> io::Result<()> {
+    remove_left(rt, draft_path(rt.alloc(), dir, 1)?.as_str())?;
+    for name in further {
+        let path = format!(in rt.alloc(); "{dir}/{name}")?;
+        remove_left(rt, path.as_str())?;
+    }
+    Ok(())
+}
+
+impl<R: Files + Alloc + Clone + Drop> LockedFolder<R>
+where
+    R::File: StoredFile,
+{
+    /// Opens a folder, which must be there, and removes the drafts that were left in it.
+    ///
+    /// Fails with `WouldBlock` if another writer has the folder open.
+    pub(crate) fn open(rt: R, dir: &str, layout: Layout) -> io::Result<LockedFolder<R>> {
+        let folder = lock(&rt, dir)?;
+        let contents = contents_of(&rt, dir, layout)?;
+        remove_drafts(&rt, dir, contents.drafts.as_slice())?;
+        let dir = String::from_str(rt.alloc(), dir)?;
+        Ok(LockedFolder {
+            rt,
+            dir,
+            folder,
+            layout,
+            last: Cell::new(contents.last),
+            has_sync: Cell::new(true),
+        })
+    }
+
+    /// Returns the runtime whose files stand in the folder.
+    pub(crate) fn runtime(&self) -> &R {
+        &self.rt
+    }
+
+    /// Returns whether a commit is written to the disk.
+    pub(crate) fn has_sync(&self) -> bool {
+        self.has_sync.get()
+    }
+
+    /// Writes no commit to the disk from now on.
+    pub(crate) fn stop_sync(&self) {
+        self.has_sync.set(false);
+    }
+
+    /// Returns the path of the draft with this number.
+    pub(crate) fn draft_path(&self, number: u32) -> Result<String<R::A>, AllocError> {
+        draft_path(self.rt.alloc(), self.dir.as_str(), number)
+    }
+
+    /// Removes the file of a draft, so that nothing is written into a file that may have a name.
+    pub(crate) fn remove_draft(&self, draft: &str) -> io::Result<()> {
+        remove_left(&self.rt, draft)
+    }
+
+    /// Makes a folder for files.
+    fn make_folder(&self, folder: u32) -> io::Result<()> {
+        let path = folder_path(self.rt.alloc(), self.dir.as_str(), folder)?;
+        fs::create_dir(&self.rt, path.as_str())?;
+        if self.has_sync() {
+            if let Err(error) = self.folder.sync_all() {
+                let _ = fs::remove_dir(&self.rt, path.as_str());
+                return Err(error);
+            }
+        }
+        self.last.set(Place { folder, file: 0 });
+        Ok(())
+    }
+
+    /// Writes to the disk what names a file: its folder and, after a rename, the folder that had it.
+    fn sync_name(&self, place: Place, named: Named) -> io::Result<()> {
+        if !self.has_sync() {
+            return Ok(());
+        }
+        if matches!(self.layout, Layout::Flat) {
+            return self.folder.sync_all();
+        }
+        let path = folder_path(self.rt.alloc(), self.dir.as_str(), place.folder)?;
+        fs::open(&self.rt, path)?.sync_all()?;
+        match named {
+            Named::Linked => Ok(()),
+            Named::Renamed => self.folder.sync_all(),
+        }
+    }
+
+    fn path_of(&self, place: Place) -> io::Result<String<R::A>> {
+        let dir = self.dir.as_str();
+        if matches!(self.layout, Layout::Flat) {
+            return Ok(file_path(self.rt.alloc(), dir, place.file)?);
+        }
+        let folder = folder_path(self.rt.alloc(), dir, place.folder)?;
+        Ok(file_path(self.rt.alloc(), folder.as_str(), place.file)?)
+    }
+
+    /// Gives a draft the name of this place. After an error it has its old name alone.
+    fn name_at(&self, draft: &str, place: Place) -> io::Result<()> {
+        let path = self.path_of(place)?;
+        let named = match name_file(&self.rt, draft, path.as_str()) {
+            Ok(named) => named,
+            Err(error) => {
+                if error.kind() == ErrorKind::AlreadyExists {
+                    self.last.set(place);
+                }
+                return Err(error);
+            }
+        };
+        if let Err(error) = self.sync_name(place, named) {
+            if fs::remove_file(&self.rt, path.as_str()).is_err() {
+                self.last.set(place);
+            }
+            return Err(error);
+        }
+        self.last.set(place);
+        Ok(())
+    }
+
+    /// Gives a draft the next name, and returns where its file stands.
+    ///
+    /// Fails with `StorageFull` if all numbers are in use.
+    pub(crate) fn name_draft(&self, draft: &str) -> io::Result<Place> {
+        let last = self.last.get();
+        let Some(place) = last.next(self.layout) else {
+            return Err(Error::new(ErrorKind::StorageFull, "all numbers are in use"));
+        };
+        if place.folder != last.folder {
+            self.make_folder(place.folder)?;
+        }
+        self.name_at(draft, place)?;
+        Ok(place)
+    }
+}

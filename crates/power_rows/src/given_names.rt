@@ -1,0 +1,140 @@
+//! How a file gets its name: by a link where the disk has links, and else by a rename once the name was seen to be free.
+//! No file that stands there is written over.
+
+use crate::disk::{Disk, Shared};
+use crate::filed::{Due, Kept};
+use crate::lives::{NEXT, open, tried_states};
+use crate::trouble::{Act, Trouble};
+use fixtures::folders::is_filed;
+use std::alloc::Global;
+use std::io;
+use std::io::ErrorKind;
+use std::test::Fail;
+
+/// Opens the disk's folder and files two texts, as far as no call fails.
+fn file_two(alloc: Global, disk: &Shared, kept: Kept) {
+    if let Ok(mut filing) = open(alloc, disk, kept) {
+        if is_filed(&mut filing, b"first") {
+            let _ = is_filed(&mut filing, b"second");
+        }
+    }
+}
+
+/// Returns what the call of this number does where two texts are filed, or `None` if there are fewer calls.
+fn act_at(alloc: Global, kept: Kept, has_links: bool, at: usize) -> io::Result<Option<Act>> {
+    let trouble = Trouble {
+        failure: Some((at, ErrorKind::StorageFull)),
+        has_links,
+        ..Trouble::NONE
+    };
+    let disk = Disk::new(alloc, trouble)?.shared()?;
+    file_two(alloc, &disk, kept);
+    Ok(disk.try_borrow()?.failed().map(|failed| failed.act))
+}
+
+/// Returns what the calls do where two texts are filed, in order.
+fn acts(alloc: Global, kept: Kept, has_links: bool) -> io::Result<Vec<Act>> {
+    let mut acts = Vec::new(alloc);
+    for at in 0..200usize {
+        match act_at(alloc, kept, has_links, at)? {
+            Some(act) => acts.push(act)?,
+            None => return Ok(acts),
+        }
+    }
+    Err(io::Error::from(ErrorKind::InvalidData))
+}
+
+/// Returns how often these calls come one after the other.
+fn times(acts: &[Act], calls: &[Act]) -> usize {
+    let mut times = 0usize;
+    for from in 0..acts.len() {
+        if acts[from..].starts_with(calls) {
+            times = times.saturating_add(1);
+        }
+    }
+    times
+}
+
+#[test]
+fn a_file_is_linked_where_the_disk_has_links(rt: HostRuntime) -> Result<(), Fail> {
+    for kept in [Kept::Flat, Kept::Levels] {
+        let acts = acts(rt.alloc(), kept, true)?;
+        let acts = acts.as_slice();
+        assert!(rt; times(acts, &[Act::Link]) == 2 && times(acts, &[Act::Rename]) == 0);
+    }
+    Ok(())
+}
+
+#[test]
+fn a_file_is_renamed_once_its_name_was_looked_at(rt: HostRuntime) -> Result<(), Fail> {
+    for kept in [Kept::Flat, Kept::Levels] {
+        let acts = acts(rt.alloc(), kept, false)?;
+        let acts = acts.as_slice();
+        assert!(rt; times(acts, &[Act::Rename]) == 2);
+        assert!(rt; times(acts, &[Act::Link, Act::Look, Act::Rename]) == 2);
+    }
+    Ok(())
+}
+
+/// The file that another program puts into the folder under the next name.
+const OTHER: &[u8] = b"of another";
+
+/// Puts that file into the folder, durably.
+fn put_other(disk: &mut Disk, kept: Kept) -> io::Result<()> {
+    let (folder, path) = match kept {
+        Kept::Flat => ("disk", "disk/I0000002"),
+        Kept::Levels => ("disk/S0000001", "disk/S0000001/I0000002"),
+    };
+    let node = disk.create(path)?;
+    disk.write(node, OTHER)?;
+    disk.sync(node)?;
+    let folder = disk.node(folder)?;
+    disk.sync(folder)
+}
+
+/// Returns the files that are due: those that must be there, and the one that the next start files.
+fn due_files<'a>(alloc: Global, files: &[&'a [u8]]) -> io::Result<Vec<Due<'a>>> {
+    let mut due = Vec::new(alloc);
+    for file in files {
+        due.push(Due {
+            file: *file,
+            must: true,
+            may: true,
+        })?;
+    }
+    due.push(Due {
+        file: NEXT,
+        must: false,
+        may: true,
+    })?;
+    Ok(due)
+}
+
+/// Whether a text is not filed where the next name is taken, and is filed under the one after it; and after a loss of
+/// power, in each state that may be left, all files are there.
+fn spares_others(alloc: Global, kept: Kept, has_links: bool) -> io::Result<bool> {
+    let trouble = Trouble {
+        has_links,
+        ..Trouble::NONE
+    };
+    let disk = Disk::new(alloc, trouble)?.shared()?;
+    let mut filing = open(alloc, &disk, kept)?;
+    let is_first = is_filed(&mut filing, b"first");
+    put_other(&mut *disk.try_borrow_mut()?, kept)?;
+    let is_refused = !is_filed(&mut filing, b"mine");
+    let is_next = is_filed(&mut filing, b"mine");
+    let due = due_files(alloc, &[b"first", OTHER, b"mine"])?;
+    let disk = disk.try_borrow()?;
+    let tried = tried_states(alloc, &disk, kept, due.as_slice())?;
+    Ok(is_first && is_refused && is_next && tried.is_some())
+}
+
+#[test]
+fn a_file_of_another_program_stays(rt: HostRuntime) -> Result<(), Fail> {
+    for has_links in [true, false] {
+        for kept in [Kept::Flat, Kept::Levels] {
+            assert!(rt; spares_others(rt.alloc(), kept, has_links)?);
+        }
+    }
+    Ok(())
+}

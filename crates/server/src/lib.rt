@@ -1,0 +1,14 @@
+//! The server of several associations in one thread: it accepts connections, gives their peers
+//! places, and each association its turns, as its socket has something to read or takes something.
+#![tactic(auto)]
+
+mod notices;
+mod queue;
+mod seat;
+mod server;
+mod socket;
+mod stopping;
+mod terms;
+
+pub use server::serve_many;
+pub use terms::{MOST_AT_ONCE, Terms};

@@ -1,0 +1,158 @@
+//! One connection of a server: its association, and the journal that is shown what goes over it.
+use crate::socket::Socket;
+use crate::terms::Terms;
+use acceptor::State;
+use connection::ReadEnd;
+use journal::{Journal, Served};
+use log::Log;
+use part10::{Filing, FolderFiling};
+use serving::{Connection, Turn, Wait};
+use std::alloc::Global;
+use std::fs::File;
+use std::rt::Files;
+use std::time::{Clock, Duration, Instant};
+
+/// How long an association that was aborted is waited for until its peer closes the connection,
+/// once the server ends, in seconds.
+const CLOSING_SECONDS: u64 = 2;
+
+/// One connection of a server.
+#[derive(Drop)]
+pub(crate) struct Seat<'a, R: Log + Clock, S: Files<File = File> + Alloc<A = Global> + Clone + Drop>
+where
+    FolderFiling<S>: Filing,
+{
+    connection: Connection<Socket, FolderFiling<S>>,
+    journal: Journal<'a, R, Global>,
+    begun: Instant,
+    /// How many files its filing had committed before.
+    committed: u32,
+    /// When the server itself aborted the association.
+    aborted: Option<Instant>,
+    /// Whether its socket may have something to read, or take something.
+    is_ready: bool,
+    is_over: bool,
+}
+
+impl<'a, R: Log + Clock, S: Files<File = File> + Alloc<A = Global> + Clone + Drop> Seat<'a, R, S> {
+    /// Opens an association over a connection that was accepted at this instant, which the journal is
+    /// shown.
+    pub(crate) fn open(
+        socket: Socket,
+        filing: FolderFiling<S>,
+        journal: Journal<'a, R, Global>,
+        terms: Terms<'_>,
+        now: Instant,
+    ) -> Seat<'a, R, S> {
+        let committed = filing.committed();
+        Seat {
+            connection: Connection::open(terms.config, socket, filing, terms.timeouts, now),
+            journal,
+            begun: now,
+            committed,
+            aborted: None,
+            is_ready: true,
+            is_over: false,
+        }
+    }
+
+    /// Its socket may have something to read, or take something.
+    pub(crate) fn wake(&mut self) {
+        self.is_ready = true;
+    }
+
+    /// Returns whether the association has ended, or was left.
+    pub(crate) fn is_over(&self) -> bool {
+        self.is_over
+    }
+
+    /// Gives the association its turn, if its socket may have anything, and ends what has taken too
+    /// long.
+    pub(crate) fn turn(&mut self, room: &mut [u8], terms: Terms<'_>, now: Instant) {
+        if self.is_ready {
+            match self.connection.turn(now, room, &self.journal) {
+                Turn::Next => {}
+                Turn::Socket => self.is_ready = false,
+                Turn::Over => self.is_over = true,
+            }
+        }
+        self.end_silence(now);
+        if let Some(longest) = terms.longest {
+            if now.duration_since(self.begun) >= longest {
+                self.abort(ReadEnd::Longest, now);
+            }
+        }
+    }
+
+    /// Ends an association whose peer was waited for too long.
+    fn end_silence(&mut self, now: Instant) {
+        if !self.is_over && !matches!(self.connection.wait(now), Wait::Left(_)) {
+            self.connection.expire(now, &self.journal);
+            self.is_ready = true;
+            self.is_over = self.connection.is_over();
+        }
+    }
+
+    /// Aborts the association, once.
+    fn abort(&mut self, why: ReadEnd, now: Instant) {
+        if self.is_over || self.aborted.is_some() {
+            return;
+        }
+        self.aborted = Some(now);
+        self.is_ready = true;
+        self.connection.abort(now, why, &self.journal);
+    }
+
+    /// Ends the association of a server that was asked to end at an instant: a store that has begun
+    /// may go on for the grace, any other association is aborted. It is left where there is none
+    /// yet, or where the peer does not close the connection after the abort.
+    pub(crate) fn stop(&mut self, asked: Instant, grace: Duration, now: Instant) {
+        if self.connection.drafting() && now.duration_since(asked) < grace {
+            return;
+        }
+        self.abort(ReadEnd::Stopped, now);
+        let is_left = match self.aborted {
+            Some(aborted) => now.duration_since(aborted) >= Duration::from_secs(CLOSING_SECONDS),
+            None => false,
+        };
+        if is_left || matches!(self.connection.state(), State::Sta1 | State::Sta2) {
+            self.is_over = true;
+        }
+    }
+
+    /// Returns how long the connection may be left alone, at most so long.
+    pub(crate) fn patience(&self, terms: Terms<'_>, now: Instant, most: Duration) -> Duration {
+        if self.is_ready || self.is_over {
+            return Duration::ZERO;
+        }
+        let left = match self.connection.wait(now) {
+            Wait::Left(left) => most.min(left),
+            _ => Duration::ZERO,
+        };
+        match terms.longest {
+            Some(longest) if self.aborted.is_none() => {
+                left.min(longest.saturating_sub(now.duration_since(self.begun)))
+            }
+            _ => left,
+        }
+    }
+
+    /// Lets the connection go, and writes the line of its association. Returns its filing.
+    pub(crate) fn end(self, now: Instant) -> FolderFiling<S> {
+        let Seat {
+            connection,
+            journal,
+            begun,
+            committed,
+            ..
+        } = self;
+        let ended = connection.end();
+        journal.end(Served {
+            report: ended.exchange.report,
+            files: ended.filing.committed().saturating_sub(committed),
+            received: ended.exchange.received,
+            seconds: now.duration_since(begun).as_secs(),
+        });
+        ended.filing
+    }
+}

@@ -1,0 +1,427 @@
+//! The loop: it waits for any socket, and gives each connection its turn.
+use crate::notices::Notice;
+use crate::queue::{Queue, Waiter};
+use crate::seat::Seat;
+use crate::socket::Socket;
+use crate::stopping::{clear, is_asked};
+use crate::terms::{MOST_AT_ONCE, Terms};
+use connection::PIECE;
+use journal::{
+    ConnectionFailed, Journal, Listening, NotAccepted, PeerFull, PlacesFull, Stopped, Stopping,
+    Teller, TurnedAway,
+};
+use log::Log;
+use mio::net::TcpListener;
+use mio::{Events, Interest, Poll, Token};
+use part10::{Filing, FolderFiling, FolderWriter};
+use serving::{Admission, Places, peer_number};
+use std::alloc::{AllocError, Global};
+use std::fs::File;
+use std::io::ErrorKind;
+use std::net::Net;
+use std::rt::Files;
+use std::time::{Clock, Duration, Instant};
+use std::{io, net};
+
+/// The token of the listener. Those of connections are their places.
+const LISTENER: usize = usize::MAX;
+
+/// The longest wait of one poll, in seconds.
+const MOST_SECONDS: u64 = 60;
+
+/// How often it is looked whether the server is to end, in milliseconds.
+const LOOK_MILLISECONDS: u64 = 200;
+
+/// How long the server waits after a connection that could not be accepted, in milliseconds, so
+/// that a lasting failure does not keep it busy.
+const PAUSE_MILLISECONDS: u64 = 100;
+
+/// A server, with its connections. It is given up by `close` alone.
+struct Server<'a, R: Log + Clock, S: Files<File = File> + Alloc<A = Global> + Clone + Drop>
+where
+    FolderFiling<S>: Filing,
+{
+    rt: &'a R,
+    poll: Poll,
+    listener: TcpListener,
+    terms: Terms<'a>,
+    folder: FolderWriter<S>,
+    /// The filings of places that have had a connection and are free.
+    filings: Vec<Option<FolderFiling<S>>>,
+    places: Places<Global>,
+    seats: Vec<Option<Box<Seat<'a, R, S>>>>,
+    queue: Queue,
+    room: Vec<u8>,
+    /// Whether connections are accepted yet.
+    is_open: bool,
+    /// When its last round began.
+    now: Instant,
+    /// Whether a connection may be there to be accepted.
+    may_accept: bool,
+    /// Until when none is accepted, after one could not be.
+    paused: Option<Instant>,
+    /// When it was last looked whether the server is to end.
+    looked: Option<Instant>,
+    /// When the server was asked to end.
+    asked: Option<Instant>,
+    places_told: Notice,
+    peer_told: Notice,
+}
+
+impl<'a, R: Log + Clock, S: Files<File = File> + Alloc<A = Global> + Clone + Drop> Server<
+    'a,
+    R,
+    S,
+> {
+    /// Adds a seat for each place, without a connection.
+    fn add_seats(&mut self) -> Result<(), AllocError> {
+        for _ in 0..self.terms.at_once {
+            if self.seats.push(None).is_err() {
+                return Err(AllocError);
+            }
+        }
+        Ok(())
+    }
+
+    /// Returns what writes lines about no connection.
+    fn teller(&self) -> Teller<'a, R> {
+        Teller::new(self.rt, self.terms.form)
+    }
+
+    /// Takes note of what the poll reported.
+    fn wake(&mut self, events: &Events) {
+        for event in events.iter() {
+            let Token(place) = event.token();
+            if place == LISTENER {
+                self.may_accept = true;
+            } else if let Some(Some(seat)) = self.seats.get_mut(place) {
+                seat.wake();
+            }
+        }
+    }
+
+    /// Returns the filing of a place: that of its last connection, or a new one.
+    fn filing(&mut self, place: usize) -> io::Result<FolderFiling<S>> {
+        if let Some(filing) = self.filings.get_mut(place) {
+            if let Some(filing) = filing.take() {
+                return Ok(filing);
+            }
+        }
+        self.folder.filing()
+    }
+
+    /// Opens an association over a connection, in a place that its peer got.
+    fn seat(&mut self, waiter: Waiter, place: usize, now: Instant) -> io::Result<()> {
+        let Waiter { stream, peer } = waiter;
+        stream.set_nodelay(true)?;
+        let mut socket = Socket(stream);
+        let both = Interest::READABLE | Interest::WRITABLE;
+        self.poll
+            .registry()
+            .register(&mut socket.0, Token(place), both)?;
+        let filing = self.filing(place)?;
+        let alloc = *self.seats.allocator();
+        let journal = Journal::new(alloc, self.teller().about(peer), filing.notes()?);
+        let seat = Seat::open(socket, filing, journal, self.terms, now);
+        let seat = Box::new(alloc, seat)?;
+        if let Some(empty) = self.seats.get_mut(place) {
+            *empty = Some(seat);
+        }
+        Ok(())
+    }
+
+    /// Opens an association, or logs why there is none, and frees the place.
+    fn seat_or_tell(&mut self, waiter: Waiter, place: usize, now: Instant) {
+        let peer = waiter.peer;
+        if let Err(failure) = self.seat(waiter, place, now) {
+            self.teller().about(peer).tell(&ConnectionFailed(&failure));
+            self.leave(place);
+        }
+    }
+
+    /// Frees a place.
+    fn leave(&mut self, place: usize) {
+        if place < self.places.len() {
+            self.places.leave(place);
+        }
+    }
+
+    /// Returns whether a place is free.
+    fn has_vacancy(&self) -> bool {
+        self.seats.iter().any(|seat| seat.is_none())
+    }
+
+    /// Gives a connection that was accepted its place, or lets it wait.
+    fn admit(&mut self, waiter: Waiter, now: Instant) {
+        let teller = self.teller().about(waiter.peer);
+        match self.places.admit(peer_number(waiter.peer.ip())) {
+            Admission::Place(place) => self.seat_or_tell(waiter, place, now),
+            Admission::Full | Admission::PeerFull => {
+                if self.peer_told.is_due(now) {
+                    teller.tell(&PeerFull(self.terms.per_peer as u64));
+                }
+                if !self.queue.push(waiter) {
+                    teller.tell(&TurnedAway);
+                }
+            }
+        }
+    }
+
+    /// Gives free places to those that wait for one, and then to those that are to be accepted.
+    fn admit_all(&mut self, now: Instant) {
+        for _ in 0..MOST_AT_ONCE {
+            match self.queue.admit(&mut self.places) {
+                Some((waiter, place)) => self.seat_or_tell(waiter, place, now),
+                None => break,
+            }
+        }
+        for _ in 0..MOST_AT_ONCE {
+            if !self.is_open || !self.may_accept || self.is_paused(now) {
+                return;
+            }
+            if !self.has_vacancy() {
+                if self.places_told.is_due(now) {
+                    self.teller().tell(&PlacesFull(self.terms.at_once as u64));
+                }
+                return;
+            }
+            self.accept(now);
+        }
+    }
+
+    fn is_paused(&self, now: Instant) -> bool {
+        match self.paused {
+            Some(until) => now.duration_since(until).is_zero(),
+            None => false,
+        }
+    }
+
+    /// Accepts a connection, if one is there.
+    fn accept(&mut self, now: Instant) {
+        match self.listener.accept() {
+            Ok((stream, peer)) => {
+                self.admit(Waiter { stream, peer }, now);
+                self.is_open = !self.terms.once;
+            }
+            Err(failure) if failure.kind() == ErrorKind::WouldBlock => self.may_accept = false,
+            Err(failure) => {
+                self.teller().tell(&NotAccepted(&failure));
+                self.paused = now.checked_add(Duration::from_millis(PAUSE_MILLISECONDS));
+            }
+        }
+    }
+
+    /// Gives each connection its turn, and lets those go whose association has ended.
+    fn turn_each(&mut self, now: Instant) {
+        for place in 0..self.seats.len() {
+            let mut is_over = false;
+            if let Some(Some(seat)) = self.seats.get_mut(place) {
+                seat.turn(self.room.as_mut_slice(), self.terms, now);
+                if let Some(asked) = self.asked {
+                    seat.stop(asked, self.terms.grace, now);
+                }
+                is_over = seat.is_over();
+            }
+            if is_over {
+                self.end(place, now);
+            }
+        }
+    }
+
+    /// Lets the connection of a place go.
+    fn end(&mut self, place: usize, now: Instant) {
+        if let Some(seat) = self.seats.get_mut(place) {
+            if let Some(seat) = seat.take() {
+                let filing = Box::into_inner(seat).end(now);
+                if let Some(empty) = self.filings.get_mut(place) {
+                    *empty = Some(filing);
+                }
+            }
+        }
+        self.leave(place);
+    }
+
+    /// Returns how long the next poll may wait.
+    fn patience(&self, now: Instant) -> Duration {
+        let mut most = Duration::from_secs(MOST_SECONDS);
+        if self.terms.stop_file.is_some() {
+            most = Duration::from_millis(LOOK_MILLISECONDS);
+        }
+        if self.is_open && self.may_accept && self.has_vacancy() {
+            most = most.min(Duration::from_millis(PAUSE_MILLISECONDS));
+            if !self.is_paused(now) {
+                return Duration::ZERO;
+            }
+        }
+        for seat in &self.seats {
+            if let Some(seat) = seat {
+                most = seat.patience(self.terms, now, most);
+            }
+        }
+        most
+    }
+
+    /// Looks from time to time whether the server is to end. Then nothing more is accepted.
+    fn look(&mut self, files: &S, now: Instant) {
+        let is_due = match self.looked {
+            Some(looked) => {
+                now.duration_since(looked) >= Duration::from_millis(LOOK_MILLISECONDS)
+            }
+            None => true,
+        };
+        if self.asked.is_some() || !is_due {
+            return;
+        }
+        self.looked = Some(now);
+        if is_asked(files, self.terms.stop_file) {
+            self.teller().tell(&Stopping);
+            self.asked = Some(now);
+            self.is_open = false;
+            self.queue.clear();
+        }
+    }
+
+    /// Returns whether nothing is accepted and no association is left.
+    fn is_done(&self) -> bool {
+        !self.is_open && self.queue.is_empty() && self.seats.iter().all(|seat| seat.is_none())
+    }
+
+    /// Serves associations until the server is to end.
+    ///
+    /// Fails if the clock or the poll does, or if memory runs out at the start.
+    fn serve(&mut self, files: &S, events: &mut Events) -> io::Result<()> {
+        self.add_seats()?;
+        for _ in 0..u64::MAX {
+            let now = Instant::now(self.rt)?;
+            self.now = now;
+            self.look(files, now);
+            self.turn_each(now);
+            // A place that was freed is given on before the poll, which may wait long.
+            self.admit_all(now);
+            if self.is_done() {
+                return Ok(());
+            }
+            let time = self.patience(now);
+            self.poll.poll(events, Some(time))?;
+            self.wake(events);
+        }
+        Ok(())
+    }
+
+    /// Lets each connection go.
+    fn close(self) {
+        let Server {
+            rt: _rt,
+            poll: _poll,
+            listener: _listener,
+            terms: _terms,
+            folder: _folder,
+            filings: _filings,
+            places: _places,
+            seats,
+            queue: _queue,
+            room: _room,
+            is_open: _is_open,
+            now,
+            may_accept: _may_accept,
+            paused: _paused,
+            looked: _looked,
+            asked: _asked,
+            places_told: _places_told,
+            peer_told: _peer_told,
+        } = self;
+        let mut seats = seats;
+        let count = seats.len();
+        for done in 0..count {
+            if let Some(Some(seat)) = seats.pop() {
+                let _filing = Box::into_inner(seat).end(now);
+            }
+        }
+        seats.destroy_empty();
+    }
+}
+
+/// Returns no filing for so many places.
+fn no_filings<S: Files<File = File> + Alloc<A = Global> + Clone + Drop>(
+    alloc: Global,
+    count: usize,
+) -> Result<Vec<Option<FolderFiling<S>>>, AllocError> {
+    let mut filings = Vec::with_capacity(alloc, count)?;
+    for _ in 0..count {
+        filings.push(None)?;
+    }
+    Ok(filings)
+}
+
+/// Returns a server that accepts the connections of this listener.
+fn server_of<
+    'a,
+    R: Log + Clock + Net + Alloc<A = Global>,
+    S: Files<File = File> + Alloc<A = Global> + Clone + Drop,
+>(
+    rt: &'a R,
+    listener: net::TcpListener,
+    terms: Terms<'a>,
+    folder: FolderWriter<S>,
+) -> io::Result<Server<'a, R, S>>
+where
+    FolderFiling<S>: Filing,
+{
+    let now = Instant::now(rt)?;
+    listener.set_nonblocking(true)?;
+    let mut listener = TcpListener::from_std(listener);
+    let poll = Poll::new(rt)?;
+    poll.registry()
+        .register(&mut listener, Token(LISTENER), Interest::READABLE)?;
+    let alloc = rt.alloc();
+    let places = Places::new(alloc, terms.at_once, terms.per_peer)?;
+    let filings = no_filings(alloc, terms.at_once)?;
+    let queue = Queue::new(alloc, terms.at_once)?;
+    let room = Vec::from_elem(alloc, 0, PIECE)?;
+    Ok(Server {
+        rt,
+        poll,
+        listener,
+        terms,
+        folder,
+        filings,
+        places,
+        seats: Vec::new(alloc),
+        queue,
+        room,
+        is_open: true,
+        now,
+        may_accept: true,
+        paused: None,
+        looked: None,
+        asked: None,
+        places_told: Notice::default(),
+        peer_told: Notice::default(),
+    })
+}
+
+/// Serves the associations of the connections that this listener accepts, many at once, until the
+/// file appears that ends the server, or only one where that was asked for. Logs what happens.
+///
+/// Fails if the clock or the poll does, or if memory runs out at the start.
+pub fn serve_many<
+    R: Log + Clock + Net + Alloc<A = Global>,
+    S: Files<File = File> + Alloc<A = Global> + Clone + Drop,
+>(
+    rt: &R,
+    listener: net::TcpListener,
+    terms: Terms<'_>,
+    files: &S,
+    folder: FolderWriter<S>,
+) -> io::Result<()> {
+    clear(files, terms.stop_file)?;
+    let teller = Teller::new(rt, terms.form);
+    teller.tell(&Listening(listener.local_addr()?));
+    let mut events = Events::with_capacity(rt.alloc(), terms.at_once.saturating_add(1))?;
+    let mut server = server_of(rt, listener, terms, folder)?;
+    let served = server.serve(files, &mut events);
+    server.close();
+    served?;
+    teller.tell(&Stopped);
+    Ok(())
+}

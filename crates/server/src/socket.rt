@@ -1,0 +1,35 @@
+//! The socket of a connection, which doesn't block.
+use acknowledge::acknowledge_at_once;
+use mio::net::TcpStream;
+use std::io;
+use std::io::{ErrorKind, Read, Write};
+
+/// The socket of a connection, which doesn't block.
+#[derive(Drop)]
+pub struct Socket(pub(crate) TcpStream);
+
+impl Read for Socket {
+    /// Reads what has come. Once nothing more has, the system acknowledges it all at once, and does
+    /// not wait for what is sent.
+    fn read(&mut self, room: &mut [u8]) -> io::Result<usize> {
+        let mut stream = &self.0;
+        match stream.read(room) {
+            Err(error) if error.kind() == ErrorKind::WouldBlock => {
+                acknowledge_at_once(&self.0);
+                Err(error)
+            }
+            result => result,
+        }
+    }
+}
+
+impl Write for Socket {
+    fn write(&mut self, bytes: &[u8]) -> io::Result<usize> {
+        let mut stream = &self.0;
+        stream.write(bytes)
+    }
+
+    fn flush(&mut self) -> io::Result<()> {
+        Ok(())
+    }
+}

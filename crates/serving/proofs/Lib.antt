@@ -1,0 +1,4 @@
+pub mod SeatLemmas
+pub mod WireLemmas
+pub mod TakenLemmas
+pub mod InboxLemmas

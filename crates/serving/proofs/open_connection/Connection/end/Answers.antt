@@ -1,0 +1,10 @@
+-- What was taken is a run.
+use Rattle.std.proofs.Math.Logic.{∥∥₁_map}
+use Rattle.serving.proofs.TakenLemmas.{ends}
+use Rattle.serving.proofs.open_connection.Connection.end.Goals as goal
+
+pub returns : goal.returns
+returns g c =
+    let was = c.args.self in
+    let traces = c.end-traces.ensures in
+    record { left = ∥∥₁_map was.taken (λ h. rw (traces.read, traces.sent, traces.inbox, traces.outbox) (ends _ _ _ _ _ _ _ _ _ _ _ was.whole (c.report-report.ensures.reports _) c.discard.ensures.leaves h)) }

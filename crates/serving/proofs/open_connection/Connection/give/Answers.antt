@@ -1,0 +1,20 @@
+-- One input more, which has no bytes.
+use Rattle.std.proofs.Common.{◌∙◌, refl, subst, sym}
+use Rattle.element.specs.Numbers.{IsBytes}
+use Rattle.serving.proofs.TakenLemmas.{keeps_other}
+use Rattle.serving.proofs.open_connection.Connection.give.Goals as goal
+
+pub invariant_of-self : goal.invariant_of-self
+invariant_of-self g c =
+    let was = c.args.self.now in
+    let k = keeps_other _ _ _ _ _ _ _ _ _ _ _ _ _ _ _ _ _ c.take.ensures.settings c.push.ensures c.requires.open c.take.new.wire.full c.take.ensures.moved
+    (record { never = was.never; fits = was.fits; whole = refl; taken = was.taken }) c.requires.no_piece c.requires.room in
+    record {
+      there = c.take.ensures.draft;
+      never = k.never;
+      fits = k.fits;
+      bytes = subst IsBytes (sym k.whole) was.bytes;
+      followed = c.follow.ensures.state ∙ c.state.ensures;
+      whole = rw k.whole was.whole;
+      taken = k.taken;
+    }

@@ -1,0 +1,20 @@
+-- Nothing was taken yet.
+use Rattle.std.proofs.Common.{◌≡◌, refl, true, false, subst, sym, ap, ◌∙◌, lit<}
+use Rattle.element.specs.Numbers.{IsBytes}
+use Rattle.serving.specs.Waits.{Waits}
+use Rattle.serving.proofs.InboxLemmas.{nothing_read}
+use Rattle.serving.proofs.TakenLemmas.{begins_due, opens}
+use Rattle.serving.proofs.open_connection.Connection.open.Goals as goal
+
+pub invariant_of-result : goal.invariant_of-result
+invariant_of-result g c =
+    let k = opens _ _ _ _ _ _ _ _ _ _ c.new-3.ensures refl c.new.ensures.nothing_sent c.new.ensures.nothing_waits c.new.ensures.never (ap g.F.Filing.store c.of-opened.ensures) c.open.ensures.settings c.open.ensures.stands in
+    record {
+      there = λ e. absurd (let wrong : false ≡ true = sym c.open.ensures.no_draft ∙ e in cc);
+      never = k.never;
+      fits = k.fits;
+      bytes = subst IsBytes (sym k.whole) (λ i. lit< tt);
+      followed = ap (λ (w : Waits). w.state) c.new-2.ensures ∙ begins_due _ _ _ (c.open.ensures.stands (g.F.Filing.store c.args.filing));
+      whole = nothing_read _ _ _ k.whole c.new.ensures.nothing_untaken c.new.ensures.nothing_read;
+      taken = k.taken;
+    }

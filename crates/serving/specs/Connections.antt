@@ -1,0 +1,37 @@
+-- What contracts see of a connection.
+use Rattle.std.specs.Prelude.{ℕ, Bool, List}
+use Rattle.acceptor.specs.declared.state.State.{State}
+use Rattle.negotiate.specs.Settings.{Settings}
+use Rattle.part10.specs.declared.filing.Filing.{Ghosts}
+use Rattle.engine.specs.Fields.{association_in, drafting_of, settings_in, state_of}
+use Rattle.serving.specs.declared.open_connection.Connection.{Connection}
+use Rattle.serving.specs.Waits.{Waits}
+use Rattle.serving.specs.Wires.{pending_in, untaken_in}
+
+-- the settings of its association
+abbrev pub settings_at : {S F : Type 0} {G : Ghosts F} → Connection S F G → Settings
+settings_at c = settings_in (association_in c.running)
+
+-- the state of its association
+abbrev pub state_at : {S F : Type 0} {G : Ghosts F} → Connection S F G → State
+state_at c = state_of (association_in c.running)
+
+-- whether a store of its association has its draft in the filing
+abbrev pub drafting_at : {S F : Type 0} {G : Ghosts F} → Connection S F G → Bool
+drafting_at c = drafting_of (association_in c.running)
+
+-- its filing as it was when the connection was opened
+abbrev pub opening_of : {S F : Type 0} {G : Ghosts F} → Connection S F G → F
+opening_of c = c.opened.value
+
+-- the bytes that wait until its socket takes them
+abbrev pub waiting_at : {S F : Type 0} {G : Ghosts F} → Connection S F G → List ℕ
+waiting_at c = pending_in c.link.outbox
+
+-- the bytes that were read and wait until its association takes them
+abbrev pub untaken_at : {S F : Type 0} {G : Ghosts F} → Connection S F G → List ℕ
+untaken_at c = untaken_in c.link.inbox
+
+-- the times by which its peer is waited for
+abbrev pub times_at : {S F : Type 0} {G : Ghosts F} → Connection S F G → Waits
+times_at c = c.waiting

@@ -1,0 +1,6 @@
+pub mod Seats
+pub mod Waits
+pub mod Wires
+pub mod Taken
+pub mod Connections
+pub mod Served

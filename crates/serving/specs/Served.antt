@@ -1,0 +1,39 @@
+-- What went over a connection of several so far, and what came of it.
+use Rattle.std.specs.Prelude.{◌≡◌, ℕ, ◌+◌, Bool, false, List, ◌++◌}
+use Rattle.acceptor.specs.declared.state.State.{State}
+use Rattle.negotiate.specs.Settings.{Settings}
+use Rattle.part10.specs.Store.{Store, told_after}
+use Rattle.engine.specs.declared.report.Report.{Report}
+use Rattle.engine.specs.Devices.{filed}
+use Rattle.engine.specs.Held.{Held}
+use Rattle.engine.specs.Inputs.{Received, stream_of}
+use Rattle.engine.specs.Ran.{Run, EndsLast, standing_of}
+use Rattle.engine.specs.Reached.{reached}
+use Rattle.engine.specs.Run.{wire_failures, filing_failures}
+use Rattle.engine.specs.Timeline.{Happened}
+use Rattle.connection.specs.Served.{served_rooms}
+use Rattle.serving.specs.declared.open_connection.ConnectionEnd.{ConnectionEnd}
+use Rattle.serving.specs.Wires.{pending_in, untaken_in}
+
+-- Inputs whose pieces, put together and followed by the bytes that were not taken any more, are the bytes that were read gave the bytes that the socket took followed by those that
+-- it did not take, the files, and how the association stands and what it holds; none before the last ended it. No send
+-- failed.
+pub record ExchangedSoFar (s : Settings) (report : Report) (read untaken sent unsent : List ℕ) (old new : Store) : Type 0 where
+  pub inputs : List Received
+  pub story : List Happened
+  pub failed : Bool
+  pub files : List (List ℕ)
+  pub state : State
+  pub pieces : stream_of inputs ++ untaken ≡ read
+  pub run : Run served_rooms s inputs story failed (sent ++ unsent) files state
+  pub last : EndsLast served_rooms s inputs story
+  pub unfailed : wire_failures story ≡ 0
+  pub standing : report.standing ≡ standing_of state
+  pub held : Held served_rooms s (reached served_rooms s inputs story failed) report.held
+  pub told : new.told ≡ told_after (filed files) old.told
+  pub count : new.failures ≡ old.failures + filing_failures story failed
+  pub no_draft : new.has_draft ≡ false
+
+-- a connection leaves this
+abbrev pub Leaves : {S F : Type 0} → Settings → ConnectionEnd S F → Store → Store → Type 0
+Leaves s end old new = ExchangedSoFar s end.exchange.report end.exchange.read.trace.bytes (untaken_in end.untaken) end.exchange.sent.trace.bytes (pending_in end.unsent) old new

@@ -1,0 +1,45 @@
+-- What contracts see of the bytes of one connection.
+use Rattle.std.specs.Prelude.{◌≡◌, ℕ, ◌≤◌, List, [], ◌++◌, drop, length, take, Some}
+use Rattle.pdu.specs.Sent.{Line}
+use Rattle.serving.specs.declared.inbox.Inbox.{Inbox}
+use Rattle.serving.specs.declared.link.Arrival.{Arrival}
+use Rattle.serving.specs.declared.link.Arrival.TheVariants as arrival
+use Rattle.serving.specs.declared.link.Link.{Link}
+use Rattle.serving.specs.declared.outbox.Outbox.{Outbox}
+
+-- the bytes that wait until the socket takes them
+abbrev pub pending_in : Outbox → List ℕ
+pending_in outbox = outbox.bytes.items
+
+-- an outbox as a wire
+abbrev pub line_of : Outbox → Line
+line_of outbox = record { sent = Some (pending_in outbox); failures = outbox.failures.total }
+
+-- what an association has sent: what its socket took, and what waits
+abbrev pub sent_over : {S : Type 0} → Link S → List ℕ
+sent_over link = link.stream.written.bytes ++ pending_in link.outbox
+
+-- the bytes that were read and wait until the association takes them
+abbrev pub untaken_in : Inbox → List ℕ
+untaken_in inbox = drop inbox.taken inbox.bytes.items
+
+-- what was read is these bytes, which were taken, followed by what waits
+abbrev pub IsTakenOf : {S : Type 0} → List ℕ → Link S → Type 0
+IsTakenOf taken link = taken ++ untaken_in link.inbox ≡ link.stream.read.bytes
+
+-- so the bytes that were read grow, by what stands at the front of a room
+abbrev pub ReadsMore : Arrival → List ℕ → List ℕ → List ℕ → Type 0
+ReadsMore (arrival.Bytes n) old new room = (n ≤ length room) × (new ≡ old ++ take n room)
+ReadsMore arrival.Nothing old new room = new ≡ old
+ReadsMore (arrival.End end) old new room = new ≡ old
+
+-- nothing more was read, and all that was read was taken
+abbrev pub NothingMore : {S : Type 0} → Link S → Link S → Type 0
+NothingMore old new = (new.stream.read.bytes ≡ old.stream.read.bytes) × (new.inbox ≡ old.inbox) × (untaken_in new.inbox ≡ [])
+
+-- so the bytes that are to be taken are lent at the front of a room, at most so many; the socket has nothing, or nothing more,
+-- where all that was read was taken
+abbrev pub Arrives : {S : Type 0} → ℕ → Arrival → Link S → Link S → List ℕ → Type 0
+Arrives most (arrival.Bytes n) old new room = (n ≤ length room) × (n ≤ most) × ((taken : List ℕ) → IsTakenOf taken old → IsTakenOf (taken ++ take n room) new)
+Arrives most arrival.Nothing old new room = NothingMore old new
+Arrives most (arrival.End end) old new room = NothingMore old new

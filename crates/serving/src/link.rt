@@ -1,0 +1,145 @@
+//! The socket of one of several connections. It does not block: it is read and written as far as it goes.
+ghost use Rattle.std.specs.Prelude.{◌≡◌, ◌≢◌, ◌≤◌, ◌<◌, [], ◌++◌, take, length, IfOk, OnErr, true, false};
+
+use crate::inbox::{INBOX, Inbox};
+use crate::outbox::Outbox;
+use connection::{Observer, ReadEnd, SocketTraces};
+use element::traced_stream::TracedStream;
+use std::io::{Error, ErrorKind, Read, Write};
+
+/// What a socket that does not block gave.
+#[derive(Clone, Copy, Debug, PartialEq, Eq)]
+pub(crate) enum Arrival {
+    /// So many bytes, at least one.
+    Bytes(usize),
+    /// Nothing yet.
+    Nothing,
+    /// Nothing more.
+    End(ReadEnd),
+}
+
+/// A socket, what was read from it, and what it is to send. What it took, followed by what waits in the
+/// outbox, is what the association has sent; what the association has taken, followed by what waits in
+/// the inbox, is what was read.
+#[derive(Drop)]
+pub struct Link<S> {
+    pub(crate) stream: TracedStream<S>,
+    pub(crate) inbox: Inbox,
+    pub(crate) outbox: Outbox,
+}
+
+impl<S> Link<S> {
+    ghost use Rattle.serving.specs.Wires.{pending_in, untaken_in};
+
+    /// Traces this socket from now on.
+    pub(crate) fn new(socket: S) -> Link<S>
+        ensures nothing_read { result.stream.read.bytes ≡ [] }
+        ensures nothing_sent { result.stream.written.bytes ≡ [] }
+        ensures nothing_untaken { untaken_in result.inbox ≡ [] }
+        ensures nothing_waits { pending_in result.outbox ≡ [] }
+        ensures never { result.outbox.failures.total ≡ 0 }
+    {
+        Link {
+            stream: TracedStream::new(socket),
+            inbox: Inbox::new(),
+            outbox: Outbox::new(),
+        }
+    }
+}
+
+impl<S: Read> Link<S> {
+    ghost use Rattle.serving.specs.Wires.{Arrives, ReadsMore, untaken_in};
+
+    /// Reads what has come, at most as many bytes as there is room for.
+    fn read(&mut self, room: &mut [u8]) -> Arrival
+        ensures reads { ReadsMore result self.old.stream.read.bytes self.new.stream.read.bytes room.new }
+        ensures same_room { length room.new ≡ length room.old }
+        ensures same_written { self.new.stream.written ≡ self.old.stream.written }
+        ensures same_inbox { self.new.inbox ≡ self.old.inbox }
+        ensures same_outbox { self.new.outbox ≡ self.old.outbox }
+    {
+        for _ in 0..u64::MAX {
+            match self.stream.read(room) {
+                Ok(0) => return Arrival::End(ReadEnd::Closed),
+                Ok(len) => return Arrival::Bytes(len),
+                Err(error) if error.kind() == ErrorKind::Interrupted => {}
+                Err(error) if error.kind() == ErrorKind::WouldBlock => return Arrival::Nothing,
+                Err(_) => return Arrival::End(ReadEnd::Failed),
+            }
+        }
+        Arrival::End(ReadEnd::Failed)
+    }
+
+    /// Lends the next bytes that the association is to take, at most a portion, at the front of the room:
+    /// of those that wait, else of what has come. What was read beyond the portion waits.
+    pub(crate) fn receive(&mut self, room: &mut [u8], portion: usize) -> Arrival
+        requires some_room { 0 < length room.old }
+        requires some { 0 < portion }
+        ensures arrives { Arrives portion result self.old self.new room.new }
+        ensures same_written { self.new.stream.written ≡ self.old.stream.written }
+        ensures same_outbox { self.new.outbox ≡ self.old.outbox }
+    {
+        if !self.inbox.pending().is_empty() {
+            let most = room.len().min(portion);
+            return Arrival::Bytes(self.inbox.take_front(&mut room[..most]));
+        }
+        let most = room.len().min(portion.saturating_add(INBOX));
+        match self.read(&mut room[..most]) {
+            Arrival::Bytes(len) if len > portion => {
+                self.inbox.keep(&room[portion..len]);
+                Arrival::Bytes(portion)
+            }
+            arrival => arrival,
+        }
+    }
+}
+
+impl<S: Write> Link<S> {
+    ghost use Rattle.serving.specs.Wires.{pending_in, sent_over};
+
+    /// Writes what waits, as much as the socket takes, which the observer is shown. Returns whether it
+    /// took all.
+    ///
+    /// Fails if the socket does.
+    #[tactic(auto, using(crate::proofs::WireLemmas::took_front, crate::proofs::WireLemmas::fewer_wait))]
+    pub(crate) fn flush<B: Observer>(&mut self, observer: &B) -> Result<bool, Error>
+        requires never { self.old.outbox.failures.total ≡ 0 }
+        ensures same_sent { sent_over self.new ≡ sent_over self.old }
+        ensures all { result ≡ Ok true → pending_in self.new.outbox ≡ [] }
+        ensures fewer { length (pending_in self.new.outbox) ≤ length (pending_in self.old.outbox) }
+        ensures same_failures { self.new.outbox.failures ≡ self.old.outbox.failures }
+        ensures some { result ≡ Ok false → pending_in self.new.outbox ≢ [] }
+        ensures same_read { self.new.stream.read ≡ self.old.stream.read }
+        ensures same_inbox { self.new.inbox ≡ self.old.inbox }
+    {
+        for _ in 0..u64::MAX {
+            let pending = self.outbox.pending();
+            if pending.is_empty() {
+                return Ok(true);
+            }
+            match self.stream.write(pending) {
+                Ok(0) => return Err(Error::from(ErrorKind::WriteZero)),
+                Ok(len) => {
+                    observer.sent(&pending[..len]);
+                    self.outbox.drop_front(len);
+                }
+                Err(error) if error.kind() == ErrorKind::Interrupted => {}
+                Err(error) if error.kind() == ErrorKind::WouldBlock => return Ok(false),
+                Err(error) => return Err(error),
+            }
+        }
+        Ok(self.outbox.pending().is_empty())
+    }
+}
+
+impl<S: Drop> Link<S> {
+    /// Gives up the socket. Returns what contracts see of the bytes that went over it, and what waited.
+    pub(crate) fn end(self) -> (SocketTraces<S>, Inbox, Outbox)
+        ensures read { result.0.read.trace ≡ self.stream.read }
+        ensures sent { result.0.sent.trace ≡ self.stream.written }
+        ensures inbox { result.1 ≡ self.inbox }
+        ensures outbox { result.2 ≡ self.outbox }
+    {
+        (SocketTraces::of(self.stream), self.inbox, self.outbox)
+    }
+}

@@ -1,0 +1,163 @@
+//! One of several connections: its association, which takes its turns.
+ghost use Rattle.std.specs.Prelude.{◌≡◌, ◌≢◌, ◌<◌, ◌+◌, ◌++◌, [], length, true, false};
+ghost use Rattle.element.specs.Numbers.{IsBytes};
+ghost use Rattle.engine.specs.Drafts.{IsThere};
+ghost use Rattle.engine.specs.Fields.{association_in, drafting_of, fields_of, settings_in, state_of};
+ghost use Rattle.engine.specs.Inputs.{inputs_of, stream_of};
+ghost use Rattle.serving.specs.Taken.{HasTaken};
+ghost use Rattle.serving.specs.Wires.{IsTakenOf};
+
+mod turns;
+
+use crate::inbox::Inbox;
+use crate::link::Link;
+use crate::outbox::Outbox;
+use crate::waiting::{Wait, Waiting};
+use acceptor::State;
+use connection::{COMMAND, DEPTH, Exchange, REQUEST, Timeouts, VALUES};
+use engine::{Given, Running};
+use negotiate::Config;
+use part10::Filing;
+use std::snapshot::Snapshot;
+use std::time::Instant;
+pub use turns::Turn;
+
+/// A connection of several: a socket that does not block, and its association with what belongs to it
+/// alone, its filing and its times.
+///
+/// It never waits: a turn reads and writes as far as the socket goes, and one piece at most. What was read
+/// is taken in portions. Nothing is taken while anything waits that the peer is to take, so what waits is
+/// bounded by what one portion has the association send, and no send ever fails for want of room; and
+/// nothing is read while anything waits that the association is to take.
+#[derive(Drop)]
+pub struct Connection<S, F: Filing> {
+    link: Link<S>,
+    running: Running<REQUEST, COMMAND, VALUES, DEPTH>,
+    filing: F,
+    waiting: Waiting,
+    received: u64,
+    /// What contracts see of the filing when the connection was opened.
+    opened: Snapshot<F>,
+    /// What contracts see of the inputs that were taken.
+    given: Given,
+    ghost there: { IsThere (drafting_of (association_in running)) (F.store filing) },
+    /// No send has failed.
+    ghost never: { link.outbox.failures.total ≡ 0 },
+    ghost fits: { length link.outbox.bytes.items < 16583 },
+    ghost bytes: { IsBytes (stream_of (inputs_of given.named)) },
+    /// The ARTIM timer follows the state of the association.
+    ghost followed: { waiting.state ≡ state_of (association_in running) },
+    /// The pieces that were taken, followed by what waits to be taken, are what was read: no byte is dropped
+    /// and none taken twice.
+    ghost whole: { IsTakenOf (stream_of (inputs_of given.named)) link },
+    /// What the socket took and what waits, and the files, are what came of the inputs.
+    ghost taken: { ∥ HasTaken (settings_in (association_in running)) given.named (fields_of (association_in running)) (link.stream.written.bytes ++ link.outbox.bytes.items) (F.store opened.value) (F.store filing) ∥₁ },
+}
+
+/// What a connection leaves whose socket is of type `S`.
+#[derive(Drop)]
+pub struct ConnectionEnd<S, F> {
+    /// How its association stands, and what went over its socket.
+    pub exchange: Exchange<S>,
+    /// What was read and the association did not take.
+    pub untaken: Inbox,
+    /// What the association sent and the socket did not take.
+    pub unsent: Outbox,
+    /// Its filing, without a draft.
+    pub filing: F,
+}
+
+impl<S, F: Filing> Connection<S, F> {
+    ghost use Rattle.negotiate.specs.Settings.{settings_of};
+    ghost use Rattle.engine.specs.Held.{is_ended};
+    ghost use Rattle.std.specs.Time.{instant_nanos};
+    ghost use Rattle.serving.specs.Connections.{drafting_at, settings_at, opening_of, state_at, times_at};
+    ghost use Rattle.serving.specs.Waits.{WaitsUntil};
+
+    /// Opens an association over a socket from which nothing was read, with the ARTIM timer started.
+    pub fn open(
+        config: &Config,
+        socket: S,
+        filing: F,
+        timeouts: Timeouts,
+        now: Instant,
+    ) -> Connection<S, F>
+        ensures settings { settings_at result ≡ settings_of config.now }
+        ensures opening { opening_of result ≡ filing }
+    {
+        let opened = Snapshot::of(&filing);
+        Connection {
+            link: Link::new(socket),
+            running: Running::open(config),
+            filing,
+            waiting: Waiting::new(timeouts.artim, timeouts.idle, now),
+            received: 0,
+            opened,
+            given: Given::new(),
+        }
+    }
+
+    /// Returns whether the association has ended. Its draft, if it had one, is dropped then.
+    pub fn is_over(&self) -> bool
+        ensures over { result ≡ is_ended (state_at self.now) }
+    {
+        self.running.is_ended()
+    }
+
+    /// Returns the state of the acceptor.
+    pub fn state(&self) -> State
+        ensures { result ≡ state_at self.now }
+    {
+        self.running.state()
+    }
+
+    /// Returns whether a store of the association has its draft in the filing.
+    pub fn drafting(&self) -> bool
+        ensures { result ≡ drafting_at self.now }
+    {
+        self.running.drafting()
+    }
+
+    /// Returns how many bytes the association has taken.
+    pub fn received(&self) -> u64 {
+        self.received
+    }
+
+    /// Returns how long the peer may be waited for yet: until its ARTIM timer expires while that runs, else
+    /// until it has sent and taken nothing for the idle time.
+    pub fn wait(&self, now: Instant) -> Wait
+        ensures { WaitsUntil (times_at self.now) (instant_nanos now) (times_at self.now).started result }
+    {
+        self.waiting.wait(now)
+    }
+}
+
+impl<S: Drop, F: Filing> Connection<S, F> {
+    ghost use Rattle.serving.specs.Connections.{settings_at, opening_of};
+    ghost use Rattle.serving.specs.Served.{Leaves};
+
+    /// Closes the connection, wherever its association stands, and drops the draft that may be there.
+    ///
+    /// `left`: of the bytes that were read, without those that the association did not take any more, the
+    /// definitions give the bytes that the socket took with those that it did not take any more, the files,
+    /// and how the association stands.
+    pub fn end(self) -> ConnectionEnd<S, F>
+        ensures left { ∥ Leaves (settings_at self) result (F.store (opening_of self)) (F.store result.filing) ∥₁ }
+    {
+        let mut filing = self.filing;
+        filing.discard();
+        let report = self.running.report();
+        let (traces, untaken, unsent) = self.link.end();
+        ConnectionEnd {
+            exchange: Exchange {
+                report,
+                received: self.received,
+                read: traces.read,
+                sent: traces.sent,
+            },
+            untaken,
+            unsent,
+            filing,
+        }
+    }
+}

@@ -1,0 +1,225 @@
+//! What a connection does when it has its turn, and when its time is up.
+ghost use Rattle.std.specs.Prelude.{◌≡◌, ◌≢◌, ◌<◌, ◌+◌, [], length, true, false};
+ghost use Rattle.element.specs.Numbers.{IsBytes};
+ghost use Rattle.engine.specs.declared.source.Input.TheVariants as kind;
+
+use super::Connection;
+use crate::link::Arrival;
+use crate::waiting::Wait;
+use connection::{Observer, ReadEnd};
+use engine::Input;
+use part10::Filing;
+use std::io::{Error, ErrorKind, Read, Write};
+use std::time::Instant;
+
+/// The bytes that an A-ABORT may take.
+const ABORT: usize = 30;
+
+/// A piece is of bytes.
+fn is_of_bytes(piece: &[u8])
+    ensures { IsBytes piece.now }
+{
+    let _piece = piece;
+}
+
+/// How much of what waited was written.
+#[derive(Clone, Copy, Debug, PartialEq, Eq)]
+enum Flush {
+    /// All of it.
+    All,
+    /// Not all of it: the socket takes nothing more now.
+    Blocked,
+    /// Not all of it: the socket fails.
+    Failed,
+}
+
+/// What a connection that has had its turn waits for.
+#[derive(Clone, Copy, Debug, PartialEq, Eq)]
+pub enum Turn {
+    /// For its next turn: its socket may have more.
+    Next,
+    /// For its socket, which has nothing to be read or takes nothing.
+    Socket,
+    /// For nothing: its association has ended.
+    Over,
+}
+
+impl<S, F: Filing> Connection<S, F> {
+    ghost use Rattle.engine.specs.Held.{is_ended};
+    ghost use Rattle.serving.specs.Connections.{settings_at, opening_of, state_at, waiting_at};
+
+    /// Has the association take an input that has no bytes.
+    fn give(&mut self, input: Input, now: Instant)
+        requires open { is_ended (state_at self.old) ≡ false }
+        requires no_piece { input ≢ kind.Piece }
+        requires room { input ≡ kind.LocalAbort → length (waiting_at self.old) + 30 < 16583 }
+        ensures settings { settings_at self.new ≡ settings_at self.old }
+        ensures opening { opening_of self.new ≡ opening_of self.old }
+    {
+        self.given.push(&input, &[]);
+        self.running
+            .take(input, &[], &mut self.link.outbox, &mut self.filing);
+        self.waiting.follow(now, self.running.state());
+    }
+
+    /// Has the association take the transport's close, unless it has ended.
+    fn close(&mut self, now: Instant)
+        ensures settings { settings_at self.new ≡ settings_at self.old }
+        ensures opening { opening_of self.new ≡ opening_of self.old }
+    {
+        if !self.is_over() {
+            self.give(Input::Closed, now);
+        }
+    }
+}
+
+impl<S: Write, F: Filing> Connection<S, F> {
+    ghost use Rattle.serving.specs.Connections.{settings_at, opening_of, waiting_at};
+
+    /// Writes what waits, as much as the socket takes. Where it fails, that is the transport's close.
+    fn flush<B: Observer>(&mut self, now: Instant, observer: &B) -> Flush
+        ensures settings { settings_at self.new ≡ settings_at self.old }
+        ensures opening { opening_of self.new ≡ opening_of self.old }
+        ensures all { result ≡ Flush.All → waiting_at self.new ≡ [] }
+        ensures blocked { result ≡ Flush.Blocked → waiting_at self.new ≢ [] }
+    {
+        let before = self.link.outbox.pending().len();
+        match self.link.flush(observer) {
+            Ok(all) => {
+                if self.link.outbox.pending().len() < before {
+                    self.waiting.hear(now);
+                }
+                if all { Flush::All } else { Flush::Blocked }
+            }
+            Err(error) => {
+                observer.send_failed(&error);
+                self.close(now);
+                Flush::Failed
+            }
+        }
+    }
+
+    /// Has the local user abort the association, unless it has ended: an A-ABORT goes out, where one is due
+    /// and the peer takes it, and the ARTIM timer starts. The observer is shown `why`.
+    pub fn abort<B: Observer>(&mut self, now: Instant, why: ReadEnd, observer: &B)
+        ensures settings { settings_at self.new ≡ settings_at self.old }
+        ensures opening { opening_of self.new ≡ opening_of self.old }
+    {
+        if self.is_over() {
+            return;
+        }
+        if self.link.outbox.room() <= ABORT {
+            self.give_up(now, observer);
+            return;
+        }
+        observer.read_ended(why);
+        self.give(Input::LocalAbort, now);
+        self.flush(now, observer);
+    }
+
+    /// Closes a connection whose peer takes nothing: nor would it take an A-ABORT.
+    fn give_up<B: Observer>(&mut self, now: Instant, observer: &B)
+        ensures settings { settings_at self.new ≡ settings_at self.old }
+        ensures opening { opening_of self.new ≡ opening_of self.old }
+    {
+        observer.send_failed(&Error::from(ErrorKind::TimedOut));
+        self.close(now);
+    }
+
+    /// Ends what the peer took too long for: once the ARTIM timer has expired, the association; where an
+    /// established association was silent for the idle time, it is aborted, or the connection closed if the
+    /// peer did not take what waits.
+    pub fn expire<B: Observer>(&mut self, now: Instant, observer: &B)
+        ensures settings { settings_at self.new ≡ settings_at self.old }
+        ensures opening { opening_of self.new ≡ opening_of self.old }
+    {
+        if self.is_over() {
+            return;
+        }
+        match self.waiting.wait(now) {
+            Wait::Left(_) => {}
+            Wait::Expired => {
+                observer.read_ended(ReadEnd::Timer);
+                self.give(Input::Expired, now);
+            }
+            Wait::Silent => {
+                if self.link.outbox.pending().is_empty() {
+                    self.abort(now, ReadEnd::Idle, observer);
+                } else {
+                    self.give_up(now, observer);
+                }
+            }
+        }
+    }
+}
+
+impl<S: Read + Write, F: Filing> Connection<S, F> {
+    ghost use Rattle.engine.specs.Held.{is_ended};
+    ghost use Rattle.serving.specs.Connections.{settings_at, opening_of, state_at, untaken_at, waiting_at};
+
+    /// Has the association take a portion of what was read, or else of what has come.
+    fn receive<B: Observer>(&mut self, now: Instant, room: &mut [u8], observer: &B) -> Arrival
+        requires open { is_ended (state_at self.old) ≡ false }
+        requires flushed { waiting_at self.old ≡ [] }
+        requires some_room { 0 < length room.old }
+        ensures settings { settings_at self.new ≡ settings_at self.old }
+        ensures opening { opening_of self.new ≡ opening_of self.old }
+        ensures nothing { result ≡ Arrival.Nothing → untaken_at self.new ≡ [] }
+    {
+        let arrival = self.link.receive(room, self.running.portion());
+        match arrival {
+            Arrival::Nothing => {}
+            Arrival::Bytes(len) => {
+                let piece = &room[..len];
+                is_of_bytes(piece);
+                observer.received(piece);
+                self.received = self.received.saturating_add(len as u64);
+                self.given.push(&Input::Piece, piece);
+                self.running.take(Input::Piece, piece, &mut self.link.outbox, &mut self.filing);
+                self.waiting.hear(now);
+                self.waiting.follow(now, self.running.state());
+            }
+            Arrival::End(end) => {
+                observer.read_ended(end);
+                self.give(Input::Closed, now);
+            }
+        }
+        arrival
+    }
+
+    /// Takes a turn at this time: writes what waits, has the association take what was read and what has
+    /// come, as many bytes as there is room for at most, and writes what it sends for them. The room is lent
+    /// for the turn.
+    ///
+    /// `rests`: it waits for its socket only where the peer is to take something, or the association has
+    /// taken all that was read.
+    pub fn turn<B: Observer>(&mut self, now: Instant, room: &mut [u8], observer: &B) -> Turn
+        ensures settings { settings_at self.new ≡ settings_at self.old }
+        ensures opening { opening_of self.new ≡ opening_of self.old }
+        ensures rests { result ≡ Turn.Socket → waiting_at self.new ≡ [] → untaken_at self.new ≡ [] }
+    {
+        if self.is_over() {
+            return Turn::Over;
+        }
+        let mut left = room.len();
+        for _ in 0..=room.len() {
+            match self.flush(now, observer) {
+                Flush::All => {}
+                Flush::Blocked if !self.is_over() => return Turn::Socket,
+                Flush::Blocked | Flush::Failed => return Turn::Over,
+            }
+            if self.is_over() {
+                return Turn::Over;
+            }
+            if left == 0 {
+                return Turn::Next;
+            }
+            match self.receive(now, &mut room[..left], observer) {
+                Arrival::Bytes(len) => left = left.saturating_sub(len),
+                Arrival::Nothing => return Turn::Socket,
+                Arrival::End(_) => return Turn::Over,
+            }
+        }
+        Turn::Next
+    }
+}

@@ -1,0 +1,81 @@
+//! What an association has sent and its socket has not taken yet.
+ghost use Rattle.std.specs.Prelude.{◌≡◌, ◌≤◌, ◌<◌, ◌-◌, ◌+◌, [], drop, length};
+ghost use Rattle.arrayvec.specs.ArrayVec.{array_vec_len};
+
+use arrayvec::ArrayVec;
+use element::count::Count;
+use pdu::{Wire, WireFailed};
+
+/// How many bytes may wait for a peer to take them: the 16,552 that an association sends at most for a
+/// portion of what it receives (`engine::Running::portion`), then an A-ABORT, and one more, so that an
+/// outbox that is full is known to have refused a send.
+pub const OUTBOX: usize = 16_583;
+
+/// Keeps what an association sends until its socket takes it.
+///
+/// A send for which there is no room fills it with a front of the bytes, and fails.
+#[derive(Drop)]
+pub struct Outbox {
+    bytes: ArrayVec<u8, OUTBOX>,
+    failures: Count,
+    ghost full: { 0 < failures.total → array_vec_len bytes ≡ 16583 },
+}
+
+impl Outbox {
+    ghost use Rattle.serving.specs.Wires.{pending_in};
+
+    /// Creates an outbox of no bytes.
+    pub fn new() -> Outbox
+        ensures nothing { pending_in result ≡ [] }
+        ensures never { result.failures.total ≡ 0 }
+    {
+        Outbox {
+            bytes: ArrayVec::new(),
+            failures: Count::new(),
+        }
+    }
+
+    /// Returns the bytes that wait.
+    pub fn pending(&self) -> &[u8]
+        ensures { result.now ≡ pending_in self.now }
+    {
+        self.bytes.as_slice()
+    }
+
+    /// Returns how many more bytes may wait.
+    pub fn room(&self) -> usize
+        ensures { result + length (pending_in self.now) ≡ 16583 }
+    {
+        self.bytes.remaining_capacity()
+    }
+
+    /// Removes the first of the bytes that wait, which the socket took.
+    pub(crate) fn drop_front(&mut self, count: usize)
+        requires within { count ≤ length (pending_in self.old) }
+        requires never { self.old.failures.total ≡ 0 }
+        ensures rest { pending_in self.new ≡ drop count (pending_in self.old) }
+        ensures same { self.new.failures ≡ self.old.failures }
+    {
+        let rest = self.bytes.len() - count;
+        if rest > 0 {
+            self.bytes.as_mut_slice().copy_within(count.., 0);
+        }
+        self.bytes.truncate(rest);
+    }
+}
+
+impl Wire for Outbox {
+    ghost use Rattle.serving.specs.Wires.{line_of};
+
+    ghost line = { line_of };
+
+    fn send(&mut self, bytes: &[u8]) -> Result<(), WireFailed> {
+        if self.bytes.try_extend_from_slice(bytes).is_ok() {
+            return Ok(());
+        }
+        let count = self.bytes.remaining_capacity();
+        self.bytes.try_extend_from_slice(&bytes[..count]).unwrap();
+        self.failures.add_one();
+        Err(WireFailed)
+    }
+}

@@ -1,0 +1,93 @@
+//! Peers that come and go, and times that run out.
+
+use crate::{Admission, Places, Wait, Waiting, peer_number};
+use acceptor::State;
+use std::net::{IpAddr, Ipv4Addr, Ipv6Addr};
+use std::test::Fail;
+use std::time::{Duration, Instant};
+
+/// Whether these peers, one after the other, get this.
+fn get(places: &mut Places<std::alloc::Global>, rows: &[(u128, Admission)]) -> bool {
+    for (peer, admission) in rows {
+        if places.admit(*peer) != *admission {
+            return false;
+        }
+    }
+    true
+}
+
+#[test]
+fn peers_come_and_go(rt: HostRuntime) -> Result<(), Fail> {
+    let mut places = Places::new(rt.alloc(), 4, 2)?;
+    assert!(rt; places.len() == 4);
+    let rows = [
+        (7, Admission::Place(0)),
+        (7, Admission::Place(1)),
+        (7, Admission::PeerFull),
+        (8, Admission::Place(2)),
+        (9, Admission::Place(3)),
+        (8, Admission::Full),
+        (7, Admission::PeerFull),
+    ];
+    assert!(rt; get(&mut places, &rows));
+    if places.len() == 4 {
+        places.leave(1);
+        assert!(rt; places.peer(1).is_none() && places.peer(0) == Some(7));
+    }
+    let rows = [
+        (7, Admission::Place(1)),
+        (7, Admission::PeerFull),
+        (9, Admission::Full),
+    ];
+    assert!(rt; get(&mut places, &rows));
+    Ok(())
+}
+
+#[test]
+fn addresses_of_one_peer(rt: HostRuntime) {
+    let four = peer_number(IpAddr::V4(Ipv4Addr::new(10, 0, 0, 7)));
+    let mapped = peer_number(IpAddr::V6(Ipv6Addr::new(0, 0, 0, 0, 0, 0xffff, 0x0a00, 7)));
+    let six = peer_number(IpAddr::V6(Ipv6Addr::new(0, 0, 0, 0, 0, 0, 0x0a00, 7)));
+    assert!(rt; four == mapped && four != six);
+}
+
+/// Returns the time so many seconds after another one.
+fn after(time: Instant, seconds: u64) -> Instant {
+    match time.checked_add(Duration::from_secs(seconds)) {
+        Some(time) => time,
+        None => time,
+    }
+}
+
+fn left(seconds: u64) -> Wait {
+    Wait::Left(Duration::from_secs(seconds))
+}
+
+#[test]
+fn times_run_out(rt: HostRuntime) -> Result<(), Fail> {
+    let begin = Instant::now(&rt)?;
+    let mut waiting = Waiting::new(Duration::from_secs(30), Duration::from_secs(600), begin);
+    // Bytes of a request don't stretch the timer.
+    waiting.hear(after(begin, 29));
+    waiting.follow(after(begin, 29), State::Sta2);
+    assert!(rt; waiting.wait(after(begin, 29)) == left(1));
+    assert!(rt; waiting.wait(after(begin, 30)) == Wait::Expired);
+    // An answer that rejects starts it anew, and nothing after that does.
+    waiting.follow(after(begin, 29), State::Sta13);
+    waiting.follow(after(begin, 40), State::Sta13);
+    assert!(rt; waiting.wait(after(begin, 58)) == left(1));
+    assert!(rt; waiting.wait(after(begin, 59)) == Wait::Expired);
+    // An established association is waited for from when its peer was heard last.
+    let mut waiting = Waiting::new(Duration::from_secs(30), Duration::from_secs(600), begin);
+    waiting.hear(after(begin, 29));
+    waiting.follow(after(begin, 50), State::Sta6);
+    assert!(rt; waiting.wait(after(begin, 59)) == left(570));
+    waiting.hear(after(begin, 100));
+    assert!(rt; waiting.wait(after(begin, 699)) == left(1));
+    assert!(rt; waiting.wait(after(begin, 700)) == Wait::Silent);
+    // After its release the timer runs again.
+    waiting.follow(after(begin, 200), State::Sta13);
+    assert!(rt; waiting.wait(after(begin, 229)) == left(1));
+    assert!(rt; waiting.wait(after(begin, 230)) == Wait::Expired);
+    Ok(())
+}

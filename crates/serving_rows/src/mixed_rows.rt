@@ -1,0 +1,137 @@
+//! Associations mixed by generated turns: each sends, files and ends as it does alone.
+
+use crate::chance::Chance;
+use crate::peer::{Audience, FickleSocket};
+use crate::streams::{Traffic, stream_of};
+use connection::Timeouts;
+use engine::Standing;
+use harness::{Step, config, over_memory};
+use part10::MemoryFiling;
+use serving::{Connection, Turn};
+use std::alloc::Global;
+use std::cell::RefCell;
+use std::test::Fail;
+use std::time::{Clock, Duration, Instant};
+
+/// One connection of a test.
+type Mixed<'a> = Connection<FickleSocket<'a>, MemoryFiling<Global>>;
+
+/// What one peer sends, and what it took.
+#[derive(Drop)]
+struct Side {
+    stream: Vec<u8>,
+    taken: RefCell<Vec<u8>>,
+    shown: Audience,
+}
+
+fn timeouts() -> Timeouts {
+    Timeouts {
+        artim: Duration::from_secs(30),
+        idle: Duration::from_secs(600),
+    }
+}
+
+fn sides(alloc: Global, count: usize, from: usize) -> Result<Vec<Side>, Fail> {
+    let mut sides = Vec::new(alloc);
+    for number in 0..count {
+        sides.push(Side {
+            stream: stream_of(alloc, Traffic::of(from.saturating_add(number)))?,
+            taken: RefCell::new(Vec::new(alloc)),
+            shown: Audience::new(alloc),
+        })?;
+    }
+    Ok(sides)
+}
+
+fn connections<'a>(
+    alloc: Global,
+    sides: &'a [Side],
+    chance: &mut Chance,
+    now: Instant,
+) -> Result<Vec<Box<Mixed<'a>>>, Fail> {
+    let mut all = Vec::new(alloc);
+    for side in sides {
+        let most = chance.below(40).saturating_add(1);
+        let seed = chance.below(1_000_000) as u64;
+        let peer = FickleSocket::new(side.stream.as_slice(), most, seed, &side.taken);
+        let filing = MemoryFiling::new(alloc);
+        let one = Connection::open(&config(), peer, filing, timeouts(), now);
+        all.push(Box::new(alloc, one)?)?;
+    }
+    Ok(all)
+}
+
+/// Gives the connections generated turns until all are over. Returns whether they are.
+fn mix(all: &mut [Box<Mixed<'_>>], sides: &[Side], chance: &mut Chance, now: Instant) -> bool {
+    let mut room = [0u8; 512];
+    let mut over = 0usize;
+    for _ in 0..1_000_000 {
+        let place = chance.below(all.len());
+        let most = chance.below(512).min(room.len());
+        let (Some(one), Some(side)) = (all.get_mut(place), sides.get(place)) else {
+            return false;
+        };
+        if one.is_over() {
+            continue;
+        }
+        if one.turn(now, &mut room[..most], &side.shown) == Turn::Over {
+            over = over.saturating_add(1);
+        }
+        if over >= sides.len() {
+            return true;
+        }
+    }
+    false
+}
+
+/// Returns whether a connection did what its association does alone.
+fn is_as_alone(alloc: Global, one: Mixed<'_>, side: &Side) -> bool {
+    let alone = over_memory(alloc, &[Step::Piece(side.stream.as_slice()), Step::Closed]);
+    let end = one.end();
+    let (Ok(taken), Ok(shown)) = (side.taken.try_borrow(), side.shown.sent.try_borrow()) else {
+        return false;
+    };
+    taken.as_slice() == alone.wire.sent()
+        && shown.as_slice() == alone.wire.sent()
+        && end.unsent.pending().is_empty()
+        && end.filing.files() == alone.filing.files()
+        && end.exchange.report.standing == Standing::Ended
+        && end.exchange.report.held == alone.shown.held
+}
+
+/// Mixes so many connections, of the kinds from this one on. Returns whether each did what its association
+/// does alone.
+fn each_is_as_alone<R: Clock>(
+    rt: &R,
+    alloc: Global,
+    (count, from): (usize, usize),
+    seed: u64,
+) -> Result<bool, Fail> {
+    let now = Instant::now(rt)?;
+    let mut chance = Chance::new(seed);
+    let sides = sides(alloc, count, from)?;
+    let mut all = connections(alloc, sides.as_slice(), &mut chance, now)?;
+    if !mix(all.as_mut_slice(), sides.as_slice(), &mut chance, now) {
+        return Ok(false);
+    }
+    for (one, side) in all.into_iter().zip(sides.as_slice()) {
+        if !is_as_alone(alloc, Box::into_inner(one), side) {
+            return Ok(false);
+        }
+    }
+    Ok(true)
+}
+
+#[test]
+fn eight_connections(rt: HostRuntime) -> Result<(), Fail> {
+    assert!(rt; each_is_as_alone(&rt, rt.alloc(), (8, 0), 1)?);
+    Ok(())
+}
+
+#[test]
+fn three_connections_in_many_orders(rt: HostRuntime) -> Result<(), Fail> {
+    for seed in 0..6u64 {
+        assert!(rt; each_is_as_alone(&rt, rt.alloc(), (3, seed as usize), seed)?);
+    }
+    Ok(())
+}

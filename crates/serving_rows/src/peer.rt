@@ -1,0 +1,120 @@
+//! A socket of a test, which blocks and is interrupted as it likes.
+ghost use Rattle.std.specs.Prelude.{◌≤◌, length};
+
+use crate::chance::Chance;
+use connection::{Observer, ReadEnd};
+use std::alloc::Global;
+use std::cell::{Cell, RefCell};
+use std::io;
+use std::io::{ErrorKind, Read, Write};
+
+/// A peer that sends a stream and closes, and takes what it is sent: each call moves some bytes, or would
+/// block, or is interrupted.
+#[derive(Drop)]
+pub struct FickleSocket<'a> {
+    stream: &'a [u8],
+    at: usize,
+    chance: Chance,
+    /// The most bytes that a call moves.
+    most: usize,
+    taken: &'a RefCell<Vec<u8>>,
+    ghost within: { at ≤ length stream.now },
+}
+
+impl<'a> FickleSocket<'a> {
+    /// Returns a peer that sends this stream, at most so many bytes a call.
+    pub fn new(
+        stream: &'a [u8],
+        most: usize,
+        seed: u64,
+        taken: &'a RefCell<Vec<u8>>,
+    ) -> FickleSocket<'a> {
+        FickleSocket {
+            stream,
+            at: 0,
+            chance: Chance::new(seed),
+            most,
+            taken,
+        }
+    }
+
+    /// Returns how many bytes the call moves, or why it moves none.
+    fn count(&mut self) -> io::Result<usize> {
+        match self.chance.below(4) {
+            0 => Err(io::Error::from(ErrorKind::WouldBlock)),
+            1 => Err(io::Error::from(ErrorKind::Interrupted)),
+            _ => Ok(self.chance.below(self.most).saturating_add(1)),
+        }
+    }
+}
+
+impl Read for FickleSocket<'_> {
+    fn read(&mut self, room: &mut [u8]) -> io::Result<usize> {
+        let most = self.count()?;
+        let count = (self.stream.len() - self.at).min(room.len()).min(most);
+        room[..count].copy_from_slice(&self.stream[self.at..self.at + count]);
+        self.at += count;
+        Ok(count)
+    }
+}
+
+impl Write for FickleSocket<'_> {
+    fn write(&mut self, bytes: &[u8]) -> io::Result<usize> {
+        let count = self.count()?.min(bytes.len());
+        let Ok(mut taken) = self.taken.try_borrow_mut() else {
+            return Err(io::Error::from(ErrorKind::Other));
+        };
+        taken.extend_from_slice(&bytes[..count])?;
+        Ok(count)
+    }
+
+    fn flush(&mut self) -> io::Result<()> {
+        Ok(())
+    }
+}
+
+/// Is shown what goes over a connection, and keeps it.
+#[derive(Drop)]
+pub struct Audience {
+    pub received: RefCell<Vec<u8>>,
+    pub sent: RefCell<Vec<u8>>,
+    pub end: Cell<Option<ReadEnd>>,
+    /// How many writes failed.
+    pub failures: Cell<u32>,
+}
+
+impl Audience {
+    /// Returns an observer that was shown nothing.
+    pub fn new(alloc: Global) -> Audience {
+        Audience {
+            received: RefCell::new(Vec::new(alloc)),
+            sent: RefCell::new(Vec::new(alloc)),
+            end: Cell::new(None),
+            failures: Cell::new(0),
+        }
+    }
+}
+
+fn keep(kept: &RefCell<Vec<u8>>, bytes: &[u8]) {
+    if let Ok(mut kept) = kept.try_borrow_mut() {
+        let _ = kept.extend_from_slice(bytes);
+    }
+}
+
+impl Observer for Audience {
+    fn received(&self, bytes: &[u8]) {
+        keep(&self.received, bytes);
+    }
+
+    fn sent(&self, bytes: &[u8]) {
+        keep(&self.sent, bytes);
+    }
+
+    fn read_ended(&self, end: ReadEnd) {
+        self.end.set(Some(end));
+    }
+
+    fn send_failed(&self, _error: &io::Error) {
+        self.failures.set(self.failures.get().saturating_add(1));
+    }
+}

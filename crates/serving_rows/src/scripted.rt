@@ -1,0 +1,125 @@
+//! A socket of a test that gives and takes as much as it is told.
+
+use connection::Timeouts;
+use harness::config;
+use part10::MemoryFiling;
+use serving::Connection;
+use std::alloc::Global;
+use std::cell::{Cell, RefCell};
+use std::io;
+use std::io::{ErrorKind, Read, Write};
+use std::time::{Duration, Instant};
+
+/// What a test tells its socket, and what the socket took.
+#[derive(Drop)]
+pub struct Script {
+    /// What was sent and not read yet.
+    arriving: RefCell<Vec<u8>>,
+    /// Whether the peer has closed the connection after that.
+    pub is_closed: Cell<bool>,
+    /// How many bytes more the peer takes.
+    pub takes: Cell<usize>,
+    /// Whether each write fails.
+    pub fails: Cell<bool>,
+    /// How often the socket was read.
+    pub reads: Cell<u32>,
+    /// What the peer took.
+    pub taken: RefCell<Vec<u8>>,
+}
+
+impl Script {
+    /// Returns the script of a peer that has sent nothing and takes whatever comes.
+    pub fn new(alloc: Global) -> Script {
+        Script {
+            arriving: RefCell::new(Vec::new(alloc)),
+            is_closed: Cell::new(false),
+            takes: Cell::new(usize::MAX),
+            fails: Cell::new(false),
+            reads: Cell::new(0),
+            taken: RefCell::new(Vec::new(alloc)),
+        }
+    }
+
+    /// Has the peer send these bytes.
+    pub fn send(&self, bytes: &[u8]) -> io::Result<()> {
+        let Ok(mut arriving) = self.arriving.try_borrow_mut() else {
+            return Err(io::Error::from(ErrorKind::Other));
+        };
+        arriving.extend_from_slice(bytes)?;
+        Ok(())
+    }
+
+    /// Returns whether the peer took just these bytes.
+    pub fn took(&self, bytes: &[u8]) -> bool {
+        match self.taken.try_borrow() {
+            Ok(taken) => taken.as_slice() == bytes,
+            Err(_) => false,
+        }
+    }
+}
+
+/// A socket that follows a script.
+#[derive(Drop)]
+pub struct ScriptedSocket<'a>(pub &'a Script);
+
+impl Read for ScriptedSocket<'_> {
+    fn read(&mut self, room: &mut [u8]) -> io::Result<usize> {
+        let script = self.0;
+        script.reads.set(script.reads.get().saturating_add(1));
+        let Ok(mut arriving) = script.arriving.try_borrow_mut() else {
+            return Err(io::Error::from(ErrorKind::Other));
+        };
+        if arriving.is_empty() && !script.is_closed.get() {
+            return Err(io::Error::from(ErrorKind::WouldBlock));
+        }
+        let count = arriving.len().min(room.len());
+        room[..count].copy_from_slice(&arriving.as_slice()[..count]);
+        let _ = arriving.drain(..count);
+        Ok(count)
+    }
+}
+
+impl Write for ScriptedSocket<'_> {
+    fn write(&mut self, bytes: &[u8]) -> io::Result<usize> {
+        let script = self.0;
+        if script.fails.get() {
+            return Err(io::Error::from(ErrorKind::BrokenPipe));
+        }
+        let takes = script.takes.get();
+        let count = bytes.len().min(takes);
+        if count == 0 {
+            return Err(io::Error::from(ErrorKind::WouldBlock));
+        }
+        script.takes.set(takes.saturating_sub(count));
+        let Ok(mut taken) = script.taken.try_borrow_mut() else {
+            return Err(io::Error::from(ErrorKind::Other));
+        };
+        taken.extend_from_slice(&bytes[..count])?;
+        Ok(count)
+    }
+
+    fn flush(&mut self) -> io::Result<()> {
+        Ok(())
+    }
+}
+
+/// A connection over such a socket.
+pub type Scripted<'a> = Connection<ScriptedSocket<'a>, MemoryFiling<Global>>;
+
+/// Opens one at this instant, with 30 seconds of the ARTIM timer and 600 of silence.
+pub fn scripted(alloc: Global, script: &Script, now: Instant) -> Scripted<'_> {
+    let timeouts = Timeouts {
+        artim: Duration::from_secs(30),
+        idle: Duration::from_secs(600),
+    };
+    let filing = MemoryFiling::new(alloc);
+    Connection::open(&config(), ScriptedSocket(script), filing, timeouts, now)
+}
+
+/// Returns the time so many seconds after another one.
+pub fn after(time: Instant, seconds: u64) -> Instant {
+    match time.checked_add(Duration::from_secs(seconds)) {
+        Some(time) => time,
+        None => time,
+    }
+}

@@ -1,0 +1,198 @@
+//! What a connection of several does when it has its turn, and when its time is up.
+
+use crate::peer::Audience;
+use crate::scripted::{Script, after, scripted};
+use connection::ReadEnd;
+use fixtures::bytes::{front, joined};
+use fixtures::echo;
+use fixtures::stores::{ACCEPT, CT_SET, EXPLICIT, INSTANCE, request, whole_store};
+use serving::{Turn, Wait};
+use std::test::Fail;
+use std::time::{Duration, Instant};
+
+#[test]
+fn an_echo_is_answered_in_a_turn(rt: HostRuntime) -> Result<(), Fail> {
+    let (now, script) = (Instant::now(&rt)?, Script::new(rt.alloc()));
+    let shown = Audience::new(rt.alloc());
+    let mut one = scripted(rt.alloc(), &script, now);
+    let mut room = [0u8; 1024];
+    assert!(rt; one.turn(now, &mut room, &shown) == Turn::Socket);
+    script.send(echo::REQUEST)?;
+    script.send(echo::ECHO)?;
+    assert!(rt; one.turn(now, &mut room, &shown) == Turn::Socket);
+    let answers = joined(rt.alloc(), &[echo::ACCEPT, echo::REPLY])?;
+    assert!(rt; script.took(answers.as_slice()));
+    assert!(rt; one.received() == 250 && !one.is_over());
+    script.is_closed.set(true);
+    assert!(rt; one.turn(now, &mut room, &shown) == Turn::Over);
+    assert!(rt; one.is_over() && shown.end.get() == Some(ReadEnd::Closed));
+    assert!(rt; one.turn(now, &mut room, &shown) == Turn::Over);
+    Ok(())
+}
+
+#[test]
+fn a_turn_takes_what_its_room_has(rt: HostRuntime) -> Result<(), Fail> {
+    let (now, script) = (Instant::now(&rt)?, Script::new(rt.alloc()));
+    let shown = Audience::new(rt.alloc());
+    let mut one = scripted(rt.alloc(), &script, now);
+    script.send(echo::REQUEST)?;
+    script.send(echo::ECHO)?;
+    let mut room = [0u8; 100];
+    assert!(rt; one.turn(now, &mut [], &shown) == Turn::Next && one.received() == 0);
+    assert!(rt; one.turn(now, &mut room, &shown) == Turn::Next && one.received() == 100);
+    assert!(rt; script.took(&[]));
+    assert!(rt; one.turn(now, &mut room, &shown) == Turn::Next && one.received() == 200);
+    assert!(rt; script.took(echo::ACCEPT));
+    assert!(rt; one.turn(now, &mut room, &shown) == Turn::Socket && one.received() == 250);
+    Ok(())
+}
+
+#[test]
+fn nothing_is_read_while_an_answer_waits(rt: HostRuntime) -> Result<(), Fail> {
+    let (now, script) = (Instant::now(&rt)?, Script::new(rt.alloc()));
+    let shown = Audience::new(rt.alloc());
+    let mut one = scripted(rt.alloc(), &script, now);
+    let mut room = [0u8; 4096];
+    script.takes.set(3);
+    script.send(echo::REQUEST)?;
+    for _ in 0..50 {
+        script.send(echo::ECHO)?;
+    }
+    assert!(rt; one.turn(now, &mut room, &shown) == Turn::Socket);
+    let reads = script.reads.get();
+    assert!(rt; one.turn(now, &mut room, &shown) == Turn::Socket);
+    assert!(rt; script.reads.get() == reads && one.received() == 170);
+    assert!(rt; script.took(front(echo::ACCEPT, 3)));
+    script.takes.set(usize::MAX);
+    assert!(rt; one.turn(now, &mut room, &shown) == Turn::Socket);
+    assert!(rt; one.received() == 170 + 50 * 80);
+    Ok(())
+}
+
+#[test]
+fn small_messages_are_read_together(rt: HostRuntime) -> Result<(), Fail> {
+    let (now, script) = (Instant::now(&rt)?, Script::new(rt.alloc()));
+    let shown = Audience::new(rt.alloc());
+    let mut one = scripted(rt.alloc(), &script, now);
+    let mut room = [0u8; 8192];
+    script.send(echo::REQUEST)?;
+    for _ in 0..20 {
+        script.send(echo::ECHO)?;
+    }
+    assert!(rt; one.turn(now, &mut room, &shown) == Turn::Socket);
+    assert!(rt; script.reads.get() == 2 && one.received() == 170 + 20 * 80);
+    assert!(rt; one.end().untaken.pending().is_empty());
+    Ok(())
+}
+
+#[test]
+fn what_comes_after_the_end_is_not_taken(rt: HostRuntime) -> Result<(), Fail> {
+    let (now, script) = (Instant::now(&rt)?, Script::new(rt.alloc()));
+    let shown = Audience::new(rt.alloc());
+    let mut one = scripted(rt.alloc(), &script, now);
+    let mut room = [0u8; 4096];
+    script.send(echo::REQUEST)?;
+    script.send(echo::USER_ABORT)?;
+    script.send(echo::ECHO)?;
+    assert!(rt; one.turn(now, &mut room, &shown) == Turn::Over);
+    assert!(rt; one.is_over() && one.received() == 180);
+    assert!(rt; one.end().untaken.pending() == echo::ECHO);
+    Ok(())
+}
+
+#[test]
+fn half_a_request_expires(rt: HostRuntime) -> Result<(), Fail> {
+    let (now, script) = (Instant::now(&rt)?, Script::new(rt.alloc()));
+    let shown = Audience::new(rt.alloc());
+    let mut one = scripted(rt.alloc(), &script, now);
+    let mut room = [0u8; 4096];
+    script.send(front(echo::REQUEST, 60))?;
+    assert!(rt; one.turn(after(now, 20), &mut room, &shown) == Turn::Socket);
+    assert!(rt; one.wait(after(now, 29)) == Wait::Left(Duration::from_secs(1)));
+    one.expire(after(now, 29), &shown);
+    assert!(rt; !one.is_over() && shown.end.get().is_none());
+    assert!(rt; one.wait(after(now, 30)) == Wait::Expired);
+    one.expire(after(now, 30), &shown);
+    assert!(rt; one.is_over() && shown.end.get() == Some(ReadEnd::Timer));
+    assert!(rt; script.took(&[]));
+    Ok(())
+}
+
+#[test]
+fn a_stalled_store_is_aborted(rt: HostRuntime) -> Result<(), Fail> {
+    let (now, script) = (Instant::now(&rt)?, Script::new(rt.alloc()));
+    let shown = Audience::new(rt.alloc());
+    let mut one = scripted(rt.alloc(), &script, now);
+    let mut room = [0u8; 4096];
+    script.send(request(rt.alloc(), EXPLICIT)?.as_slice())?;
+    let store = whole_store(rt.alloc(), INSTANCE, &CT_SET)?;
+    script.send(front(store.as_slice(), 130))?;
+    assert!(rt; one.turn(after(now, 10), &mut room, &shown) == Turn::Socket);
+    one.expire(after(now, 609), &shown);
+    assert!(rt; script.took(ACCEPT));
+    assert!(rt; one.wait(after(now, 610)) == Wait::Silent);
+    one.expire(after(now, 610), &shown);
+    assert!(rt; !one.is_over() && shown.end.get() == Some(ReadEnd::Idle));
+    let answers = joined(rt.alloc(), &[ACCEPT, echo::USER_ABORT])?;
+    assert!(rt; script.took(answers.as_slice()));
+    one.expire(after(now, 639), &shown);
+    assert!(rt; !one.is_over());
+    one.expire(after(now, 640), &shown);
+    assert!(rt; one.is_over());
+    assert!(rt; one.end().filing.files().is_empty());
+    Ok(())
+}
+
+#[test]
+fn a_peer_that_takes_nothing_is_closed(rt: HostRuntime) -> Result<(), Fail> {
+    let (now, script) = (Instant::now(&rt)?, Script::new(rt.alloc()));
+    let shown = Audience::new(rt.alloc());
+    let mut one = scripted(rt.alloc(), &script, now);
+    let mut room = [0u8; 4096];
+    script.takes.set(100);
+    script.send(echo::REQUEST)?;
+    assert!(rt; one.turn(now, &mut room, &shown) == Turn::Socket);
+    one.expire(after(now, 600), &shown);
+    assert!(rt; one.is_over() && shown.failures.get() == 1);
+    let end = one.end();
+    assert!(rt; script.took(front(echo::ACCEPT, 100)));
+    assert!(rt; end.unsent.pending().len() == 69);
+    Ok(())
+}
+
+#[test]
+fn a_write_that_fails_closes(rt: HostRuntime) -> Result<(), Fail> {
+    let (now, script) = (Instant::now(&rt)?, Script::new(rt.alloc()));
+    let shown = Audience::new(rt.alloc());
+    let mut one = scripted(rt.alloc(), &script, now);
+    let mut room = [0u8; 4096];
+    script.fails.set(true);
+    script.send(echo::REQUEST)?;
+    assert!(rt; one.turn(now, &mut room, &shown) == Turn::Over);
+    assert!(rt; one.is_over() && shown.failures.get() == 1);
+    one.expire(after(now, 900), &shown);
+    one.abort(after(now, 900), ReadEnd::Idle, &shown);
+    assert!(rt; shown.failures.get() == 1 && shown.end.get().is_none());
+    assert!(rt; one.end().unsent.pending() == echo::ACCEPT);
+    Ok(())
+}
+
+#[test]
+fn the_local_user_aborts_while_an_answer_waits(rt: HostRuntime) -> Result<(), Fail> {
+    let (now, script) = (Instant::now(&rt)?, Script::new(rt.alloc()));
+    let shown = Audience::new(rt.alloc());
+    let mut one = scripted(rt.alloc(), &script, now);
+    let mut room = [0u8; 4096];
+    script.takes.set(0);
+    script.send(echo::REQUEST)?;
+    assert!(rt; one.turn(now, &mut room, &shown) == Turn::Socket);
+    one.abort(now, ReadEnd::Idle, &shown);
+    one.abort(now, ReadEnd::Idle, &shown);
+    assert!(rt; !one.is_over());
+    script.takes.set(usize::MAX);
+    script.is_closed.set(true);
+    assert!(rt; one.turn(now, &mut room, &shown) == Turn::Over);
+    let answers = joined(rt.alloc(), &[echo::ACCEPT, echo::USER_ABORT])?;
+    assert!(rt; script.took(answers.as_slice()));
+    Ok(())
+}

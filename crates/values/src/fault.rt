@@ -1,0 +1,75 @@
+//! How a value breaks the table of VRs.
+ghost use Rattle.std.specs.Prelude.{◌≡◌};
+ghost use Rattle.values.specs.Forms as forms;
+
+use std::fmt;
+
+/// How a value that has the characters and the size of its VR breaks its form (PS3.5 table 6.2-1). The
+/// numbers go on from those of `element::ValueFault`.
+#[derive(Clone, Copy, Debug, PartialEq, Eq)]
+pub enum FormFault {
+    /// 5: a value, with the spaces that pad it, has more characters than its VR allows.
+    LongText,
+    /// 6: a text has a control character that its VR does not allow.
+    BadControl,
+    /// 7: the calendar has no such date.
+    NoSuchDate,
+    /// 8: there is no such time.
+    NoSuchTime,
+    /// 9: an offset from UTC is not from -1200 to +1400, or is -0000.
+    NoSuchOffset,
+    /// 10: the characters spell no number.
+    BadNumber,
+    /// 11: a whole number is not from -2^31 to 2^31 - 1.
+    OutOfRange,
+    /// 12: a name has more than three component groups, or one of more than five components.
+    BadName,
+    /// 13: a title is spaces alone.
+    BlankTitle,
+    /// 14: a URI has a character that no URI has, or leading spaces.
+    BadLocator,
+}
+
+impl FormFault {
+    /// Returns its number, from 5 to 14.
+    pub fn number(self) -> u8
+        ensures { result ≡ forms.form_number self }
+    {
+        match self {
+            FormFault::LongText => 5,
+            FormFault::BadControl => 6,
+            FormFault::NoSuchDate => 7,
+            FormFault::NoSuchTime => 8,
+            FormFault::NoSuchOffset => 9,
+            FormFault::BadNumber => 10,
+            FormFault::OutOfRange => 11,
+            FormFault::BadName => 12,
+            FormFault::BlankTitle => 13,
+            FormFault::BadLocator => 14,
+        }
+    }
+
+    /// Returns its name, as it is printed.
+    pub fn name(self) -> &'static str
+        ensures { result.now ≡ forms.form_name self }
+    {
+        match self {
+            FormFault::LongText => "LongText",
+            FormFault::BadControl => "BadControl",
+            FormFault::NoSuchDate => "NoSuchDate",
+            FormFault::NoSuchTime => "NoSuchTime",
+            FormFault::NoSuchOffset => "NoSuchOffset",
+            FormFault::BadNumber => "BadNumber",
+            FormFault::OutOfRange => "OutOfRange",
+            FormFault::BadName => "BadName",
+            FormFault::BlankTitle => "BlankTitle",
+            FormFault::BadLocator => "BadLocator",
+        }
+    }
+}
+
+impl fmt::Display for FormFault {
+    fn fmt<W: fmt::Write>(&self, f: &mut fmt::Formatter<W>) -> fmt::Result {
+        f.write_str(self.name())
+    }
+}

@@ -1,0 +1,25 @@
+//! The values of data elements against the table of VRs (PS3.5 table 6.2-1): lengths in characters, dates and
+//! times that exist, numbers and names by their form.
+#![tactic(auto)]
+
+mod calendar;
+mod character_set;
+mod clock;
+mod fault;
+mod moment;
+mod name;
+mod numbers;
+mod reading;
+mod rule;
+mod table;
+mod texts;
+
+pub use calendar::is_date;
+pub use character_set::CharacterSet;
+pub use clock::is_time;
+pub use fault::FormFault;
+pub use moment::{has_date, has_time, is_offset};
+pub use name::is_name;
+pub use numbers::{fits_32_bits, is_decimal, is_integer};
+pub use reading::{ExtendedPlace, GbPlace, Reading, WideSets};
+pub use table::{check_form, number_size};

@@ -1,0 +1,258 @@
+//! Reads a text byte by byte, and shows each character of it as one byte.
+ghost use Rattle.std.specs.Prelude.{◌≡◌, ◌+◌, ◌≤◌, ◌++◌, [], length};
+ghost use Rattle.values.specs.Characters as characters;
+
+use crate::character_set::CharacterSet;
+use arrayvec::ArrayVec;
+
+/// The byte that stands for a character of several bytes.
+const WIDE: u8 = 128;
+
+/// Where in a character of GB 18030 the next byte stands.
+#[derive(Clone, Copy, Debug)]
+pub enum GbPlace {
+    First,
+    Second,
+    Third,
+    Fourth,
+}
+
+/// Where in a character or an escape sequence of code extensions the next byte stands.
+#[derive(Clone, Copy, Debug)]
+pub enum ExtendedPlace {
+    First,
+    /// After the first byte of a character of two.
+    Last,
+    /// After ESC.
+    Escape,
+    /// After ESC and `$`, which announces a set of two bytes a character.
+    WideEscape,
+    /// Where the set of the bytes below 80H is named, of two bytes a character or of one.
+    Low(bool),
+    /// Where the set of the bytes from 80H on is.
+    High(bool),
+}
+
+/// Which sets of code extensions have two bytes a character.
+#[derive(Clone, Copy, Debug)]
+pub struct WideSets {
+    /// That of the bytes below 80H.
+    pub low: bool,
+    /// That of the bytes from 80H on.
+    pub high: bool,
+}
+
+/// What has come of a text that is read byte by byte.
+#[derive(Clone, Copy, Debug)]
+pub enum Reading {
+    SingleByte,
+    Utf8,
+    Gb18030(GbPlace),
+    CodeExtensions(WideSets, ExtendedPlace),
+}
+
+fn gb_place(place: GbPlace, byte: u8) -> GbPlace
+    ensures { result ≡ characters.gb_place place byte }
+{
+    match place {
+        GbPlace::First => {
+            if byte >= 129 {
+                GbPlace::Second
+            } else {
+                GbPlace::First
+            }
+        }
+        GbPlace::Second => {
+            if byte.is_ascii_digit() {
+                GbPlace::Third
+            } else {
+                GbPlace::First
+            }
+        }
+        GbPlace::Third => GbPlace::Fourth,
+        GbPlace::Fourth => GbPlace::First,
+    }
+}
+
+fn gb_character(place: GbPlace, byte: u8) -> Option<u8>
+    ensures { result ≡ characters.gb_character place byte }
+{
+    match place {
+        GbPlace::First => Some(if byte >= 129 { WIDE } else { byte }),
+        _ => None,
+    }
+}
+
+/// Returns whether a byte begins a character of two bytes.
+fn begins_pair(sets: WideSets, byte: u8) -> bool
+    ensures { result ≡ characters.begins_pair sets byte }
+{
+    sets.low && 33 <= byte && byte <= 126 || sets.high && byte >= 161
+}
+
+/// Returns whether a byte of an escape sequence is one before its last.
+fn is_intermediate(byte: u8) -> bool
+    ensures { result ≡ characters.is_intermediate byte }
+{
+    32 <= byte && byte <= 47
+}
+
+/// Returns whether a byte of an escape sequence says that it names the set of the bytes from 80H on.
+fn names_high(byte: u8) -> bool
+    ensures { result ≡ characters.names_high byte }
+{
+    byte == b')' || byte == b'-'
+}
+
+/// Returns where the next byte stands after ESC, or after ESC and `$`.
+fn after_escape(is_wide: bool, byte: u8) -> ExtendedPlace
+    ensures { result ≡ characters.after_escape is_wide byte }
+{
+    if names_high(byte) {
+        ExtendedPlace::High(is_wide)
+    } else if is_intermediate(byte) {
+        ExtendedPlace::Low(is_wide)
+    } else {
+        ExtendedPlace::First
+    }
+}
+
+fn first_place(sets: WideSets, byte: u8) -> ExtendedPlace
+    ensures { result ≡ characters.first_place sets byte }
+{
+    if byte == 27 {
+        ExtendedPlace::Escape
+    } else if begins_pair(sets, byte) {
+        ExtendedPlace::Last
+    } else {
+        ExtendedPlace::First
+    }
+}
+
+fn extended_place(sets: WideSets, place: ExtendedPlace, byte: u8) -> ExtendedPlace
+    ensures { result ≡ characters.extended_place sets place byte }
+{
+    match place {
+        ExtendedPlace::First => first_place(sets, byte),
+        ExtendedPlace::Last => ExtendedPlace::First,
+        ExtendedPlace::Escape => {
+            if byte == b'$' {
+                ExtendedPlace::WideEscape
+            } else {
+                after_escape(false, byte)
+            }
+        }
+        ExtendedPlace::WideEscape => after_escape(true, byte),
+        ExtendedPlace::Low(_) | ExtendedPlace::High(_) => {
+            if is_intermediate(byte) {
+                place
+            } else {
+                ExtendedPlace::First
+            }
+        }
+    }
+}
+
+/// Returns the sets after a byte, the last of an escape sequence or another.
+fn extended_sets(sets: WideSets, place: ExtendedPlace, byte: u8) -> WideSets
+    ensures { result ≡ characters.extended_sets sets place byte }
+{
+    let WideSets { low, high } = sets;
+    if is_intermediate(byte) {
+        return sets;
+    }
+    match place {
+        ExtendedPlace::Low(is_wide) => WideSets { low: is_wide, high },
+        ExtendedPlace::High(is_wide) => WideSets { low, high: is_wide },
+        ExtendedPlace::WideEscape => WideSets { low: true, high },
+        _ => sets,
+    }
+}
+
+fn extended_character(sets: WideSets, place: ExtendedPlace, byte: u8) -> Option<u8>
+    ensures { result ≡ characters.extended_character sets place byte }
+{
+    match place {
+        ExtendedPlace::First => {
+            if byte == 27 {
+                None
+            } else if begins_pair(sets, byte) {
+                Some(WIDE)
+            } else {
+                Some(byte)
+            }
+        }
+        _ => None,
+    }
+}
+
+/// Adds a character to a text, as long as there is room.
+fn push<const N: usize>(text: &mut ArrayVec<u8, N>, character: Option<u8>)
+    ensures text { length text.old.items + 1 ≤ N → text.new.items ≡ text.old.items ++ characters.with_character character [] }
+    ensures bound { length text.new.items ≤ length text.old.items + 1 }
+{
+    if let Some(character) = character {
+        let _ = text.try_push(character);
+    }
+}
+
+impl Reading {
+    /// Returns the reading of a text of this set before its first byte.
+    pub fn new(set: CharacterSet) -> Reading
+        ensures { result ≡ characters.reading_of set }
+    {
+        match set {
+            CharacterSet::SingleByte => Reading::SingleByte,
+            CharacterSet::Utf8 => Reading::Utf8,
+            CharacterSet::Gb18030 => Reading::Gb18030(GbPlace::First),
+            CharacterSet::CodeExtensions => {
+                let (low, high) = (false, false);
+                Reading::CodeExtensions(WideSets { low, high }, ExtendedPlace::First)
+            }
+        }
+    }
+
+    /// Returns the reading after one byte more.
+    fn after(self, byte: u8) -> Reading
+        ensures { result ≡ characters.after self byte }
+    {
+        match self {
+            Reading::SingleByte | Reading::Utf8 => self,
+            Reading::Gb18030(place) => Reading::Gb18030(gb_place(place, byte)),
+            Reading::CodeExtensions(sets, place) => Reading::CodeExtensions(
+                extended_sets(sets, place, byte),
+                extended_place(sets, place, byte),
+            ),
+        }
+    }
+
+    /// Returns the byte that is shown for the character that begins with this one, if one does.
+    fn character(self, byte: u8) -> Option<u8>
+        ensures { result ≡ characters.character self byte }
+    {
+        match self {
+            Reading::SingleByte => Some(byte),
+            Reading::Utf8 => {
+                if 128 <= byte && byte <= 191 {
+                    None
+                } else {
+                    Some(byte)
+                }
+            }
+            Reading::Gb18030(place) => gb_character(place, byte),
+            Reading::CodeExtensions(sets, place) => extended_character(sets, place, byte),
+        }
+    }
+
+    /// Goes on with these bytes of a text, and shows each character that begins in them as one byte, as long
+    /// as there is room.
+    pub fn read<const N: usize>(&mut self, bytes: &[u8], text: &mut ArrayVec<u8, N>)
+        ensures reading { self.new ≡ characters.after_all self.old bytes.now }
+        ensures text { length text.old.items + length bytes.now ≤ N → text.new.items ≡ text.old.items ++ characters.shown self.old bytes.now }
+    {
+        for byte in bytes {
+            push(text, self.character(*byte));
+            *self = self.after(*byte);
+        }
+    }
+}

@@ -1,0 +1,127 @@
+# Tries from outside that `serve` does what its options say, for one association after the other and for several at once:
+# what it asks of the system, the address on which it listens, and what its answers tell a peer. tests/program.sh reads
+# it after tests/system_calls.sh.
+
+# stored NAME OPTIONS.. : serves two stores into a new folder of this name, with these options; the calls that file
+# them and send are in calls.txt, in the order of the calls.
+stored() {
+  local name=$1
+  shift
+  rm -rf "$name"
+  mkdir "$name"
+  traced -y -e trace=fsync,fdatasync,link,linkat,rename,sendto "$program" serve --once --timeout 2 \
+    --port $port --out "$name" "$@" >out.txt 2>err.txt &
+  listening=$!
+  answers stores.bin "$here/expected/two_stores.txt"
+  local answered=$?
+  ended
+  [ "$answered" -eq 0 ] && [ "$(ls "$name")" = $'I0000001\nI0000002' ]
+}
+
+# order : the calls of calls.txt by name, each sync with what is synced; a draft's name is told without its number.
+order() {
+  sed -E 's/^(fsync|fdatasync)\([0-9]+<(.*)>\).*/\1 \2/; t; s/\(.*//' calls.txt | sed -E "s#$work/##; s#/DRAFT[0-9]+#/DRAFT#" | tr '\n' ';'
+}
+
+# listens ADDRESS OPTIONS.. : succeeds where the box, with these options, listens on this address alone; the address
+# is the hexadecimal number that the system shows.
+listens() {
+  local address=$1 attempt
+  shift
+  listen --timeout 2 "$@"
+  for attempt in $(seq 100); do
+    [ -n "$(listeners)" ] && break
+    sleep 0.1
+  done
+  local found
+  found=$(listeners)
+  kill "$listening"
+  wait "$listening" 2>/dev/null
+  [ "$found" = "$address" ]
+}
+
+# listeners : the addresses on which the port is listened on.
+listeners() {
+  awk -v port="$(printf ':%04X' "$port")" 'substr($2, length($2) - 4) == port && $4 == "0A" {
+    print substr($2, 1, length($2) - 5)
+  }' /proc/net/tcp /proc/net/tcp6
+}
+
+# rejects ANSWER OPTIONS.. : succeeds where the recorded request, of SCANNER1 to DCMBOX, gets this answer from the box
+# with these options, and then the connection ends.
+rejects() {
+  local want=$1
+  shift
+  listen --once --timeout 2 "$@"
+  connect
+  head -c 170 "$recordings/echo.bin" >&3
+  answer=$(timeout 20 od -An -v -tx1 <&3 | tr -d ' \n')
+  exec 3>&-
+  ended
+  [ "$answer" = "$want" ]
+}
+
+# told OPTIONS.. : the maximum length that the A-ASSOCIATE-AC of the box with these options tells, in hexadecimal.
+told() {
+  listen --once --timeout 2 "$@"
+  connect
+  cat "$recordings/echo.bin" >&3
+  timeout 20 od -An -v -tx1 <&3 | tr -d ' \n' | sed -n 's/.*51000004\(........\)52000.*/\1/p'
+  exec 3>&-
+  ended
+}
+
+# A P-DATA-TF PDU may be as long as was told, and no longer: the box aborts at the length, by the service provider,
+# for an invalid parameter, and closes when the timer expires. longest SECONDS LENGTH OPTIONS.. : what the box with these
+# options answers to the head of a PDU with this length and a byte of it, in so many seconds.
+longest() {
+  local seconds=$1 length=$2
+  shift 2
+  listen --once --timeout 2 --max-pdu 1024 "$@"
+  connect
+  { head -c 170 "$recordings/echo.bin"; printf "$length"; head -c 1 /dev/zero; } >&3
+  timeout "$seconds" tail -c +170 <&3 | od -An -v -tx1 | tr -d ' \n'
+  exec 3>&-
+  ended
+}
+
+# does_what_it_is_told OPTIONS.. : tries all of this with these options; `form` is what the tests' names begin with.
+does_what_it_is_told() {
+  # Each success is sent once the draft is on the disk, has its name, and the folder is on the disk with it.
+  stored synced_stores "$@" && file='fsync synced_stores/DRAFT;link;fsync synced_stores;' &&
+    [ "$(order)" = "sendto;${file}sendto;${file}sendto;sendto;" ]
+  report "${form}each success is sent after the syncs of its file and the folder"
+  stored unsynced_stores --no-sync "$@" && [ "$(order)" = 'sendto;link;sendto;link;sendto;sendto;' ]
+  report "${form}nothing is synced where that was asked for"
+
+  listens 0100007F "$@"
+  report "${form}the loopback address alone is listened on where none is given"
+  listens 00000000 --bind 0.0.0.0 "$@"
+  report "${form}every address is listened on where that was asked for"
+  listens 0200007F --bind 127.0.0.2 "$@"
+  report "${form}the address that is given is listened on"
+
+  # The result, source and reason are 1, 1 and 3: rejected for good, by the service user, calling AE title not recognized.
+  rejects 03000000000400010103 --caller SCANNER2 "$@"
+  report "${form}a caller that is not named is rejected"
+  rejects 03000000000400010103 --caller SCANNER2 --caller SCANNER "$@"
+  report "${form}a caller whose title goes on is rejected"
+  listen --once --timeout 2 --caller SCANNER2 --caller SCANNER1 "$@"
+  echoes
+  report "${form}a caller that is named is served"
+  ended
+  rejects 03000000000400010107 --ae ARCHIVE "$@"
+  report "${form}another called title is rejected"
+
+  [ "$(told "$@")" = 00004000 ]
+  report "${form}the maximum length that is told"
+  [ "$(told --max-pdu 1024 "$@")" = 00000400 ] && [ "$(told --max-pdu 131072 "$@")" = 00020000 ]
+  report "${form}the maximum length that is told is the one that was given"
+  [ -z "$(longest 3 '\4\0\0\0\4\0' "$@")" ] && [ "$(longest 20 '\4\0\0\0\4\1' "$@")" = 07000000000400000206 ]
+  report "${form}a PDU that is longer than what was told"
+}
+
+form=
+does_what_it_is_told
+form='of several at once: '
+does_what_it_is_told --at-once 4
