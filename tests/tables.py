@@ -122,8 +122,8 @@ def bounds(limit):
 
 def limits():
     return table(
-        ["Limit", "Default", "Can be set", "Stops"],
-        [[row["name"], row["default"], bounds(row), row["stops"]] for row in TABLES["limits"]],
+        ["Limit", "Default", "Can be set"],
+        [[row["name"], row["default"], bounds(row)] for row in TABLES["limits"]],
     )
 
 
