@@ -21,7 +21,7 @@ dcmbox: FORCE
 FORCE:
 
 # Looks at what the crates cite of each other, whether the documents that scripts make are fresh and whether what claims
-# name is there, tries the scripts that look, proves every crate and its tests from nothing, tries the must-fail edits,
+# and links name is there, tries the scripts that look, proves every crate and its tests from nothing, tries the must-fail edits,
 # runs the tests and the program, and then tries the program from outside: with invalid arguments and missing files,
 # along docs/TOUR.md, under strace, with the tools of DCMTK, by what its log tells, with several peers at once, as a
 # Debian package, and as docs/DEPLOY.md has it. What of pydicom, dicom3tools, DCMTK and its headers, strace, curl,
@@ -35,6 +35,7 @@ test:
 	tools/keywords --check
 	tests/names.py
 	tests/claims.py
+	tests/links.py
 	tests/scripts.py
 	rt ci
 	tests/tables.py --program $(PROGRAM)

@@ -127,6 +127,8 @@ pub fn great() -> u8
 | Claim | Clause | A refused body |
 |---|---|---|
 | A great number isn't small | `great` of `high`, and `few` of `low` | `returns_a_few` |
+
+What is [only tested](docs/PROVED.md#tested).
 """,
     "tests/numbers.sh": "few\n",
     "crates/high/must-fail/great.returns_a_few.edit": "file: src/lib.rt\nold: 200\nnew: 3\n",
@@ -172,6 +174,8 @@ FAULTS = [
     ("a claim of no crate", "claims.py", [("README.md", "`great` of", "`greater` of")], "README.md:5: no crate of the claim has greater"),
     ("a test that is gone", "claims.py", [("docs/PROVED.md", "`tests/numbers.sh", "`tests/number.sh")], "docs/PROVED.md:13: there is no test tests/number.sh --all"),
     ("a refused body that is gone", "claims.py", [("README.md", "`returns_a_few`", "`returns_few`")], "README.md:5: no edit is named returns_few"),
+    ("a link to a document that is gone", "links.py", [("README.md", "docs/PROVED.md", "docs/CLAIMS.md")], "README.md:7: docs/CLAIMS.md is not there"),
+    ("a link to a heading that is gone", "links.py", [("docs/PROVED.md", "## Tested", "## Tried")], "README.md:7: docs/PROVED.md has no heading tested"),
     ("a public lemma of no law", "layers.sh", [("crates/low/proofs/laws/small/Answers.antt", "{small}", "{large}")], "small is the contract of no law"),
 ]
 
@@ -238,7 +242,7 @@ def refusal(script, edits, start):
 
 def main():
     passed = failed = 0
-    tries = [(f"{script} takes the small tree", script, [], None, make) for script in ("definitions.py", "layers.sh", "claims.py")]
+    tries = [(f"{script} takes the small tree", script, [], None, make) for script in ("definitions.py", "layers.sh", "claims.py", "links.py")]
     tries += [(f"{fault[1]} refuses {fault[0]}", *fault[1:], make) for fault in FAULTS]
     tries += [(f"{fault[1]} refuses {fault[0]}", *fault[1:], copy) for fault in COPY_FAULTS]
     for what, script, edits, expected, start in tries:
