@@ -21,11 +21,11 @@ dcmbox: FORCE
 FORCE:
 
 # Looks at what the crates cite of each other, whether the documents that scripts make are fresh and whether what claims
-# and links name is there, tries the scripts that look, proves every crate and its tests from nothing, tries the must-fail edits,
-# runs the tests and the program, and then tries the program from outside: with invalid arguments and missing files,
-# along docs/TOUR.md, under strace, with the tools of DCMTK, by what its log tells, with several peers at once, as a
-# Debian package, and as docs/DEPLOY.md has it. What of pydicom, dicom3tools, DCMTK and its headers, strace, curl,
-# openssl, exFAT's tools, lintian, HAProxy, stunnel and systemd is missing it installs.
+# and links name is there, tries the scripts that look, proves every crate and its tests from nothing, tries the
+# must-fail edits, runs the tests and the program, and then tries the program from outside: with invalid arguments and
+# missing files, along docs/TOUR.md, under strace, with the tools of DCMTK, by what its log tells, with several peers at
+# once, as a Debian package, and as docs/DEPLOY.md has it. What of pydicom, dicom3tools, DCMTK and its headers, strace,
+# curl, openssl, exFAT's tools, lintian, HAProxy, stunnel and systemd is missing it installs.
 test:
 	tests/layers.sh
 	tests/definitions.py
