@@ -3,7 +3,8 @@
 
 tour.py PROGRAM
 
-Of the log's lines, times and ports are left out. It installs Debian's package dcmtk where it is missing.
+Of the log's lines, times and ports are left out. The example of a library has to stand in the test that the tour names.
+It installs Debian's package dcmtk where it is missing.
 """
 import os
 import pathlib
@@ -50,6 +51,13 @@ def steps():
     return [(lines[0], lines[1:]) if command == "make run" else (command, lines) for command, lines in found]
 
 
+def example_is_tested():
+    """Whether the example of a library stands in the test of the repository that it names."""
+    text = (ROOT / "docs/TOUR.md").read_text().split("## Use as a library")[1]
+    test = (ROOT / re.search(r"`(crates/[^`]+)`", text)[1]).read_text()
+    return "\n".join(re.findall(r"^    .*$", text, re.M)) in test
+
+
 def without_times(lines):
     replaced = [re.sub(r"\d{4}-\d\d-\d\dT[\d:.]+Z", "TIME", line) for line in lines]
     replaced = [re.sub(r"127\.0\.0\.1:\d+", "127.0.0.1:PORT", line) for line in replaced]
@@ -79,6 +87,9 @@ def main():
     program = pathlib.Path(sys.argv[1]).resolve()
     install()
     passed = failed = 0
+    if not example_is_tested():
+        print("FAILED docs/TOUR.md: the example of a library isn't what the test has")
+        failed += 1
     with tempfile.TemporaryDirectory() as folder:
         work = pathlib.Path(folder)
         os.symlink(program, work / "dcmbox")
