@@ -4,8 +4,8 @@ ghost use Rattle.arrayvec.specs.ArrayVec.{array_vec_len};
 
 use arrayvec::ArrayVec;
 
-/// How many bytes may wait for an association to take them: so many are read beyond the portion that it
-/// takes next, so that a small message is read at once.
+/// How many bytes may wait for an association to take them: so many are read beyond a portion that is no
+/// larger, so that a small message is read at once.
 pub const INBOX: usize = 4096;
 
 /// Keeps what was read until its association takes it.

@@ -7,6 +7,19 @@ use connection::{Observer, ReadEnd, SocketTraces};
 use element::traced_stream::TracedStream;
 use std::io::{Error, ErrorKind, Read, Write};
 
+/// How many bytes are read beyond a portion that is larger than an inbox: the heads of a P-DATA-TF and of
+/// its presentation data value (PS3.8 section 9.3.5), and nothing of the fragment after them, which is then
+/// one read and one write.
+const HEADS: usize = 12;
+
+/// Returns how many bytes are read beyond a portion.
+fn beyond(portion: usize) -> usize
+    ensures large { 4096 < portion → result ≡ 12 }
+    ensures small { portion ≤ 4096 → result ≡ 4096 }
+{
+    if portion > INBOX { HEADS } else { INBOX }
+}
+
 /// What a socket that does not block gave.
 #[derive(Clone, Copy, Debug, PartialEq, Eq)]
 pub(crate) enum Arrival {
@@ -83,7 +96,7 @@ impl<S: Read> Link<S> {
             let most = room.len().min(portion);
             return Arrival::Bytes(self.inbox.take_front(&mut room[..most]));
         }
-        let most = room.len().min(portion.saturating_add(INBOX));
+        let most = room.len().min(portion.saturating_add(beyond(portion)));
         match self.read(&mut room[..most]) {
             Arrival::Bytes(len) if len > portion => {
                 self.inbox.keep(&room[portion..len]);

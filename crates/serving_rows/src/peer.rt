@@ -77,6 +77,8 @@ impl Write for FickleSocket<'_> {
 #[derive(Drop)]
 pub struct Audience {
     pub received: RefCell<Vec<u8>>,
+    /// In how many pieces they were taken.
+    pub pieces: Cell<u32>,
     pub sent: RefCell<Vec<u8>>,
     pub end: Cell<Option<ReadEnd>>,
     /// How many writes failed.
@@ -88,6 +90,7 @@ impl Audience {
     pub fn new(alloc: Global) -> Audience {
         Audience {
             received: RefCell::new(Vec::new(alloc)),
+            pieces: Cell::new(0),
             sent: RefCell::new(Vec::new(alloc)),
             end: Cell::new(None),
             failures: Cell::new(0),
@@ -104,6 +107,7 @@ fn keep(kept: &RefCell<Vec<u8>>, bytes: &[u8]) {
 impl Observer for Audience {
     fn received(&self, bytes: &[u8]) {
         keep(&self.received, bytes);
+        self.pieces.set(self.pieces.get().saturating_add(1));
     }
 
     fn sent(&self, bytes: &[u8]) {

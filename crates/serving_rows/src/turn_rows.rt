@@ -5,7 +5,7 @@ use crate::scripted::{Script, after, scripted};
 use connection::ReadEnd;
 use fixtures::bytes::{front, joined};
 use fixtures::echo;
-use fixtures::stores::{ACCEPT, CT_SET, EXPLICIT, INSTANCE, request, whole_store};
+use fixtures::stores::{ACCEPT, CT_SET, EXPLICIT, INSTANCE, data, request, store, whole_store};
 use serving::{Turn, Wait};
 use std::test::Fail;
 use std::time::{Duration, Instant};
@@ -39,11 +39,39 @@ fn a_turn_takes_what_its_room_has(rt: HostRuntime) -> Result<(), Fail> {
     script.send(echo::ECHO)?;
     let mut room = [0u8; 100];
     assert!(rt; one.turn(now, &mut [], &shown) == Turn::Next && one.received() == 0);
+    // The body of the request does not fit beside its head.
+    assert!(rt; one.turn(now, &mut room, &shown) == Turn::Next && one.received() == 6);
     assert!(rt; one.turn(now, &mut room, &shown) == Turn::Next && one.received() == 100);
     assert!(rt; script.took(&[]));
-    assert!(rt; one.turn(now, &mut room, &shown) == Turn::Next && one.received() == 200);
+    // The command does not fit beside the end of the body.
+    assert!(rt; one.turn(now, &mut room, &shown) == Turn::Next && one.received() == 182);
     assert!(rt; script.took(echo::ACCEPT));
     assert!(rt; one.turn(now, &mut room, &shown) == Turn::Socket && one.received() == 250);
+    Ok(())
+}
+
+#[test]
+fn a_large_fragment_is_one_piece(rt: HostRuntime) -> Result<(), Fail> {
+    let (now, script) = (Instant::now(&rt)?, Script::new(rt.alloc()));
+    let shown = Audience::new(rt.alloc());
+    let mut one = scripted(rt.alloc(), &script, now);
+    let mut room = [0u8; 65536];
+    script.send(request(rt.alloc(), EXPLICIT)?.as_slice())?;
+    assert!(rt; one.turn(now, &mut room, &shown) == Turn::Socket);
+    assert!(rt; shown.pieces.get() == 2 && script.reads.get() == 2);
+    // A data set of 60 bytes and of pixels, three fragments of 16,378 bytes.
+    let head = b"\xe0\x7f\x10\0OW\0\0\xb2\xbf\0\0";
+    let pixels = [0u8; 16378];
+    let first = joined(rt.alloc(), &[&CT_SET, head, front(&pixels, 16318)])?;
+    let command = store(rt.alloc(), INSTANCE)?;
+    script.send(data(rt.alloc(), 3, command.as_slice())?.as_slice())?;
+    script.send(data(rt.alloc(), 0, first.as_slice())?.as_slice())?;
+    script.send(data(rt.alloc(), 0, &pixels)?.as_slice())?;
+    script.send(data(rt.alloc(), 2, &pixels)?.as_slice())?;
+    assert!(rt; one.turn(now, &mut room, &shown) == Turn::Socket);
+    // Of the first fragment, what came with the command is a piece of its own.
+    assert!(rt; shown.pieces.get() == 2 + 3 + 4 + 3 + 3 && script.reads.get() == 7);
+    assert!(rt; one.end().filing.files().len() == 1);
     Ok(())
 }
 

@@ -189,7 +189,8 @@ impl<S: Read + Write, F: Filing> Connection<S, F> {
 
     /// Takes a turn at this time: writes what waits, has the association take what was read and what has
     /// come, as many bytes as there is room for at most, and writes what it sends for them. The room is lent
-    /// for the turn.
+    /// for the turn. A portion for which too little of it is left waits for the next turn, so that no fragment
+    /// is cut where a turn ends.
     ///
     /// `rests`: it waits for its socket only where the peer is to take something, or the association has
     /// taken all that was read.
@@ -211,10 +212,10 @@ impl<S: Read + Write, F: Filing> Connection<S, F> {
             if self.is_over() {
                 return Turn::Over;
             }
-            if left == 0 {
+            if left == 0 || left < self.running.portion().min(room.len()) {
                 return Turn::Next;
             }
-            match self.receive(now, &mut room[..left], observer) {
+            match self.receive(now, room, observer) {
                 Arrival::Bytes(len) => left = left.saturating_sub(len),
                 Arrival::Nothing => return Turn::Socket,
                 Arrival::End(_) => return Turn::Over,
