@@ -2,8 +2,6 @@
 //! places, and each association its turns, as its socket has something to read or takes something.
 #![tactic(auto)]
 
-mod notices;
-mod queue;
 mod seat;
 mod server;
 mod socket;

@@ -1,27 +1,26 @@
 //! The loop: it waits for any socket, and gives each connection its turn.
-use crate::notices::Notice;
-use crate::queue::{Queue, Waiter};
+
+mod opening;
+
 use crate::seat::Seat;
-use crate::socket::Socket;
-use crate::stopping::{clear, is_asked};
+use crate::socket::{AcceptedStream, Socket};
+use crate::stopping::is_asked;
 use crate::terms::{MOST_AT_ONCE, Terms};
-use connection::PIECE;
 use journal::{
-    ConnectionFailed, Journal, Listening, NotAccepted, PeerFull, PlacesFull, Stopped, Stopping,
-    Teller, TurnedAway,
+    ConnectionFailed, Journal, NotAccepted, PeerFull, PlacesFull, Stopping, Teller, TurnedAway,
 };
 use log::Log;
 use mio::net::TcpListener;
 use mio::{Events, Interest, Poll, Token};
+pub use opening::serve_many;
 use part10::{Filing, FolderFiling, FolderWriter};
-use serving::{Admission, Places, peer_number};
+use serving::{Admission, Notice, Places, Queue, Waiter, peer_number};
 use std::alloc::{AllocError, Global};
 use std::fs::File;
+use std::io;
 use std::io::ErrorKind;
-use std::net::Net;
 use std::rt::Files;
 use std::time::{Clock, Duration, Instant};
-use std::{io, net};
 
 /// The token of the listener. Those of connections are their places.
 const LISTENER: usize = usize::MAX;
@@ -50,7 +49,8 @@ where
     filings: Vec<Option<FolderFiling<S>>>,
     places: Places<Global>,
     seats: Vec<Option<Box<Seat<'a, R, S>>>>,
-    queue: Queue,
+    /// Those whose peers have as many places as one may have.
+    queue: Queue<AcceptedStream, Global>,
     room: Vec<u8>,
     /// Whether connections are accepted yet.
     is_open: bool,
@@ -111,8 +111,8 @@ impl<'a, R: Log + Clock, S: Files<File = File> + Alloc<A = Global> + Clone + Dro
     }
 
     /// Opens an association over a connection, in a place that its peer got.
-    fn seat(&mut self, waiter: Waiter, place: usize, now: Instant) -> io::Result<()> {
-        let Waiter { stream, peer } = waiter;
+    fn seat(&mut self, accepted: AcceptedStream, place: usize, now: Instant) -> io::Result<()> {
+        let AcceptedStream { stream, peer } = accepted;
         stream.set_nodelay(true)?;
         let mut socket = Socket(stream);
         let both = Interest::READABLE | Interest::WRITABLE;
@@ -131,9 +131,9 @@ impl<'a, R: Log + Clock, S: Files<File = File> + Alloc<A = Global> + Clone + Dro
     }
 
     /// Opens an association, or logs why there is none, and frees the place.
-    fn seat_or_tell(&mut self, waiter: Waiter, place: usize, now: Instant) {
-        let peer = waiter.peer;
-        if let Err(failure) = self.seat(waiter, place, now) {
+    fn seat_or_tell(&mut self, accepted: AcceptedStream, place: usize, now: Instant) {
+        let peer = accepted.peer;
+        if let Err(failure) = self.seat(accepted, place, now) {
             self.teller().about(peer).tell(&ConnectionFailed(&failure));
             self.leave(place);
         }
@@ -152,14 +152,19 @@ impl<'a, R: Log + Clock, S: Files<File = File> + Alloc<A = Global> + Clone + Dro
     }
 
     /// Gives a connection that was accepted its place, or lets it wait.
-    fn admit(&mut self, waiter: Waiter, now: Instant) {
-        let teller = self.teller().about(waiter.peer);
-        match self.places.admit(peer_number(waiter.peer.ip())) {
-            Admission::Place(place) => self.seat_or_tell(waiter, place, now),
+    fn admit(&mut self, accepted: AcceptedStream, now: Instant) {
+        let teller = self.teller().about(accepted.peer);
+        let peer = peer_number(accepted.peer.ip());
+        match self.places.admit(peer) {
+            Admission::Place(place) => self.seat_or_tell(accepted, place, now),
             Admission::Full | Admission::PeerFull => {
                 if self.peer_told.is_due(now) {
                     teller.tell(&PeerFull(self.terms.per_peer as u64));
                 }
+                let waiter = Waiter {
+                    peer,
+                    waiting: accepted,
+                };
                 if !self.queue.push(waiter) {
                     teller.tell(&TurnedAway);
                 }
@@ -171,7 +176,7 @@ impl<'a, R: Log + Clock, S: Files<File = File> + Alloc<A = Global> + Clone + Dro
     fn admit_all(&mut self, now: Instant) {
         for _ in 0..MOST_AT_ONCE {
             match self.queue.admit(&mut self.places) {
-                Some((waiter, place)) => self.seat_or_tell(waiter, place, now),
+                Some((waiter, place)) => self.seat_or_tell(waiter.waiting, place, now),
                 None => break,
             }
         }
@@ -200,7 +205,7 @@ impl<'a, R: Log + Clock, S: Files<File = File> + Alloc<A = Global> + Clone + Dro
     fn accept(&mut self, now: Instant) {
         match self.listener.accept() {
             Ok((stream, peer)) => {
-                self.admit(Waiter { stream, peer }, now);
+                self.admit(AcceptedStream { stream, peer }, now);
                 self.is_open = !self.terms.once;
             }
             Err(failure) if failure.kind() == ErrorKind::WouldBlock => self.may_accept = false,
@@ -339,89 +344,4 @@ impl<'a, R: Log + Clock, S: Files<File = File> + Alloc<A = Global> + Clone + Dro
         }
         seats.destroy_empty();
     }
-}
-
-/// Returns no filing for so many places.
-fn no_filings<S: Files<File = File> + Alloc<A = Global> + Clone + Drop>(
-    alloc: Global,
-    count: usize,
-) -> Result<Vec<Option<FolderFiling<S>>>, AllocError> {
-    let mut filings = Vec::with_capacity(alloc, count)?;
-    for _ in 0..count {
-        filings.push(None)?;
-    }
-    Ok(filings)
-}
-
-/// Returns a server that accepts the connections of this listener.
-fn server_of<
-    'a,
-    R: Log + Clock + Net + Alloc<A = Global>,
-    S: Files<File = File> + Alloc<A = Global> + Clone + Drop,
->(
-    rt: &'a R,
-    listener: net::TcpListener,
-    terms: Terms<'a>,
-    folder: FolderWriter<S>,
-) -> io::Result<Server<'a, R, S>>
-where
-    FolderFiling<S>: Filing,
-{
-    let now = Instant::now(rt)?;
-    listener.set_nonblocking(true)?;
-    let mut listener = TcpListener::from_std(listener);
-    let poll = Poll::new(rt)?;
-    poll.registry()
-        .register(&mut listener, Token(LISTENER), Interest::READABLE)?;
-    let alloc = rt.alloc();
-    let places = Places::new(alloc, terms.at_once, terms.per_peer)?;
-    let filings = no_filings(alloc, terms.at_once)?;
-    let queue = Queue::new(alloc, terms.at_once)?;
-    let room = Vec::from_elem(alloc, 0, PIECE)?;
-    Ok(Server {
-        rt,
-        poll,
-        listener,
-        terms,
-        folder,
-        filings,
-        places,
-        seats: Vec::new(alloc),
-        queue,
-        room,
-        is_open: true,
-        now,
-        may_accept: true,
-        paused: None,
-        looked: None,
-        asked: None,
-        places_told: Notice::default(),
-        peer_told: Notice::default(),
-    })
-}
-
-/// Serves the associations of the connections that this listener accepts, many at once, until the
-/// file appears that ends the server, or only one where that was asked for. Logs what happens.
-///
-/// Fails if the clock or the poll does, or if memory runs out at the start.
-pub fn serve_many<
-    R: Log + Clock + Net + Alloc<A = Global>,
-    S: Files<File = File> + Alloc<A = Global> + Clone + Drop,
->(
-    rt: &R,
-    listener: net::TcpListener,
-    terms: Terms<'_>,
-    files: &S,
-    folder: FolderWriter<S>,
-) -> io::Result<()> {
-    clear(files, terms.stop_file)?;
-    let teller = Teller::new(rt, terms.form);
-    teller.tell(&Listening(listener.local_addr()?));
-    let mut events = Events::with_capacity(rt.alloc(), terms.at_once.saturating_add(1))?;
-    let mut server = server_of(rt, listener, terms, folder)?;
-    let served = server.serve(files, &mut events);
-    server.close();
-    served?;
-    teller.tell(&Stopped);
-    Ok(())
 }

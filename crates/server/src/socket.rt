@@ -3,6 +3,14 @@ use acknowledge::acknowledge_at_once;
 use mio::net::TcpStream;
 use std::io;
 use std::io::{ErrorKind, Read, Write};
+use std::net::SocketAddr;
+
+/// A connection that was accepted.
+#[derive(Drop)]
+pub(crate) struct AcceptedStream {
+    pub(crate) stream: TcpStream,
+    pub(crate) peer: SocketAddr,
+}
 
 /// The socket of a connection, which doesn't block.
 #[derive(Drop)]

@@ -1,4 +1,5 @@
 pub mod SeatLemmas
+pub mod QueueLemmas
 pub mod WireLemmas
 pub mod TakenLemmas
 pub mod InboxLemmas

@@ -1,4 +1,6 @@
 pub mod Seats
+pub mod Queues
+pub mod Notices
 pub mod Waits
 pub mod Wires
 pub mod Taken

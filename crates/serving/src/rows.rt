@@ -1,6 +1,6 @@
-//! Peers that come and go, and times that run out.
+//! Peers that come, wait and go, and times that run out.
 
-use crate::{Admission, Places, Wait, Waiting, peer_number};
+use crate::{Admission, Notice, Places, Queue, Wait, Waiter, Waiting, peer_number};
 use acceptor::State;
 use std::net::{IpAddr, Ipv4Addr, Ipv6Addr};
 use std::test::Fail;
@@ -40,6 +40,53 @@ fn peers_come_and_go(rt: HostRuntime) -> Result<(), Fail> {
         (9, Admission::Full),
     ];
     assert!(rt; get(&mut places, &rows));
+    Ok(())
+}
+
+/// The next that leaves the queue: what waited, and its place.
+fn next(
+    queue: &mut Queue<char, std::alloc::Global>,
+    places: &mut Places<std::alloc::Global>,
+) -> Option<(char, usize)> {
+    let (waiter, place) = queue.admit(places)?;
+    Some((waiter.waiting, place))
+}
+
+#[test]
+fn peers_wait_in_their_order(rt: HostRuntime) -> Result<(), Fail> {
+    let mut places = Places::new(rt.alloc(), 3, 1)?;
+    let mut queue = Queue::new(rt.alloc(), 4)?;
+    assert!(rt; places.len() == 3 && places.admit(7) == Admission::Place(0));
+    let rows = [(7, 'a'), (8, 'b'), (7, 'c'), (9, 'd')];
+    for (peer, waiting) in rows {
+        assert!(rt; queue.push(Waiter { peer, waiting }));
+    }
+    assert!(rt;
+        !queue.push(Waiter {
+            peer: 10,
+            waiting: 'e'
+        })
+    );
+    assert!(rt; next(&mut queue, &mut places) == Some(('b', 1)));
+    assert!(rt; next(&mut queue, &mut places) == Some(('d', 2)));
+    assert!(rt; next(&mut queue, &mut places) == None);
+    if places.len() == 3 {
+        places.leave(0);
+    }
+    assert!(rt; next(&mut queue, &mut places) == Some(('a', 0)));
+    assert!(rt; next(&mut queue, &mut places) == None && !queue.is_empty());
+    queue.clear();
+    assert!(rt; queue.is_empty());
+    Ok(())
+}
+
+#[test]
+fn told_once_a_minute(rt: HostRuntime) -> Result<(), Fail> {
+    let begin = Instant::now(&rt)?;
+    let mut notice = Notice::new();
+    assert!(rt; notice.is_due(begin) && !notice.is_due(after(begin, 59)));
+    assert!(rt; notice.is_due(after(begin, 60)) && !notice.is_due(after(begin, 119)));
+    assert!(rt; notice.is_due(after(begin, 500)) && !notice.is_due(after(begin, 500)));
     Ok(())
 }
 

@@ -1,0 +1,102 @@
+//! A server from its start to its end.
+use super::{LISTENER, Server};
+use crate::stopping::clear;
+use crate::terms::Terms;
+use connection::PIECE;
+use journal::{Listening, Stopped, Teller};
+use log::Log;
+use mio::net::TcpListener;
+use mio::{Events, Interest, Poll, Token};
+use part10::{Filing, FolderFiling, FolderWriter};
+use serving::{Notice, Places, Queue};
+use std::alloc::{AllocError, Global};
+use std::fs::File;
+use std::net::Net;
+use std::rt::Files;
+use std::time::{Clock, Instant};
+use std::{io, net};
+
+/// Returns no filing for so many places.
+fn no_filings<S: Files<File = File> + Alloc<A = Global> + Clone + Drop>(
+    alloc: Global,
+    count: usize,
+) -> Result<Vec<Option<FolderFiling<S>>>, AllocError> {
+    let mut filings = Vec::with_capacity(alloc, count)?;
+    for _ in 0..count {
+        filings.push(None)?;
+    }
+    Ok(filings)
+}
+
+/// Returns a server that accepts the connections of this listener.
+fn server_of<
+    'a,
+    R: Log + Clock + Net + Alloc<A = Global>,
+    S: Files<File = File> + Alloc<A = Global> + Clone + Drop,
+>(
+    rt: &'a R,
+    listener: net::TcpListener,
+    terms: Terms<'a>,
+    folder: FolderWriter<S>,
+) -> io::Result<Server<'a, R, S>>
+where
+    FolderFiling<S>: Filing,
+{
+    let now = Instant::now(rt)?;
+    listener.set_nonblocking(true)?;
+    let mut listener = TcpListener::from_std(listener);
+    let poll = Poll::new(rt)?;
+    poll.registry()
+        .register(&mut listener, Token(LISTENER), Interest::READABLE)?;
+    let alloc = rt.alloc();
+    let places = Places::new(alloc, terms.at_once, terms.per_peer)?;
+    let filings = no_filings(alloc, terms.at_once)?;
+    let queue = Queue::new(alloc, terms.at_once)?;
+    let room = Vec::from_elem(alloc, 0, PIECE)?;
+    Ok(Server {
+        rt,
+        poll,
+        listener,
+        terms,
+        folder,
+        filings,
+        places,
+        seats: Vec::new(alloc),
+        queue,
+        room,
+        is_open: true,
+        now,
+        may_accept: true,
+        paused: None,
+        looked: None,
+        asked: None,
+        places_told: Notice::new(),
+        peer_told: Notice::new(),
+    })
+}
+
+/// Serves the associations of the connections that this listener accepts, many at once, until the
+/// file appears that ends the server, or only one where that was asked for. Logs what happens.
+///
+/// Fails if the clock or the poll does, or if memory runs out at the start.
+pub fn serve_many<
+    R: Log + Clock + Net + Alloc<A = Global>,
+    S: Files<File = File> + Alloc<A = Global> + Clone + Drop,
+>(
+    rt: &R,
+    listener: net::TcpListener,
+    terms: Terms<'_>,
+    files: &S,
+    folder: FolderWriter<S>,
+) -> io::Result<()> {
+    clear(files, terms.stop_file)?;
+    let teller = Teller::new(rt, terms.form);
+    teller.tell(&Listening(listener.local_addr()?));
+    let mut events = Events::with_capacity(rt.alloc(), terms.at_once.saturating_add(1))?;
+    let mut server = server_of(rt, listener, terms, folder)?;
+    let served = server.serve(files, &mut events);
+    server.close();
+    served?;
+    teller.tell(&Stopped);
+    Ok(())
+}
