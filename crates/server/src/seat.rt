@@ -1,4 +1,8 @@
 //! One connection of a server: its association, and the journal that is shown what goes over it.
+ghost use Rattle.std.specs.Prelude.{◌≡◌, ◌≤◌, ◌<◌, ◌-◌, ◌↔◌, IsSome, IsTrue, true, false};
+ghost use Rattle.std.specs.Duration.{as_nanos};
+ghost use Rattle.std.specs.Time.{instant_nanos};
+
 use crate::socket::Socket;
 use crate::terms::Terms;
 use acceptor::State;
@@ -35,6 +39,8 @@ where
 }
 
 impl<'a, R: Log + Clock, S: Files<File = File> + Alloc<A = Global> + Clone + Drop> Seat<'a, R, S> {
+    ghost use Rattle.serving.specs.Connections.{drafting_at};
+
     /// Opens an association over a connection that was accepted at this instant, which the journal is
     /// shown.
     pub(crate) fn open(
@@ -94,7 +100,10 @@ impl<'a, R: Log + Clock, S: Files<File = File> + Alloc<A = Global> + Clone + Dro
     }
 
     /// Aborts the association, once.
-    fn abort(&mut self, why: ReadEnd, now: Instant) {
+    fn abort(&mut self, why: ReadEnd, now: Instant)
+        ensures once { IsSome self.old.aborted → self.new ≡ self.old }
+        ensures aborted { self.old.is_over ≡ false → IsSome self.new.aborted }
+    {
         if self.is_over || self.aborted.is_some() {
             return;
         }
@@ -103,11 +112,22 @@ impl<'a, R: Log + Clock, S: Files<File = File> + Alloc<A = Global> + Clone + Dro
         self.connection.abort(now, why, &self.journal);
     }
 
+    /// Returns whether a store has begun, which may go on for the grace after the server was asked to end.
+    fn may_go_on(&self, asked: Instant, grace: Duration, now: Instant) -> bool
+        ensures { IsTrue result ↔ ((drafting_at self.now.connection ≡ true) × (instant_nanos now - instant_nanos asked < as_nanos grace)) }
+    {
+        self.connection.drafting() && now.duration_since(asked).as_nanos() < grace.as_nanos()
+    }
+
     /// Ends the association of a server that was asked to end at an instant: a store that has begun
     /// may go on for the grace, any other association is aborted. It is left where there is none
     /// yet, or where the peer does not close the connection after the abort.
-    pub(crate) fn stop(&mut self, asked: Instant, grace: Duration, now: Instant) {
-        if self.connection.drafting() && now.duration_since(asked) < grace {
+    pub(crate) fn stop(&mut self, asked: Instant, grace: Duration, now: Instant)
+        ensures goes_on { drafting_at self.old.connection ≡ true → instant_nanos now - instant_nanos asked < as_nanos grace → self.new ≡ self.old }
+        ensures aborted { as_nanos grace ≤ instant_nanos now - instant_nanos asked → self.old.is_over ≡ false → IsSome self.new.aborted }
+        ensures without_store { drafting_at self.old.connection ≡ false → self.old.is_over ≡ false → IsSome self.new.aborted }
+    {
+        if self.may_go_on(asked, grace, now) {
             return;
         }
         self.abort(ReadEnd::Stopped, now);
@@ -121,7 +141,9 @@ impl<'a, R: Log + Clock, S: Files<File = File> + Alloc<A = Global> + Clone + Dro
     }
 
     /// Returns how long the connection may be left alone, at most so long.
-    pub(crate) fn patience(&self, terms: Terms<'_>, now: Instant, most: Duration) -> Duration {
+    pub(crate) fn patience(&self, terms: Terms<'_>, now: Instant, most: Duration) -> Duration
+        ensures { as_nanos result ≤ as_nanos most }
+    {
         if self.is_ready || self.is_over {
             return Duration::ZERO;
         }
