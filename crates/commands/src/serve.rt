@@ -9,7 +9,7 @@ use connection::{Connected, Exchange, Terms, exchange_over};
 use journal::{ConnectionFailed, Journal, Listening, NotAccepted, Served, Stopped, Teller};
 use log::Log;
 use part10::{Filing, FolderFiling, FolderWriter};
-use server::serve_many;
+use server::{ServerTerms, serve_many};
 use std::alloc::Global;
 use std::fs::File;
 use std::io;
@@ -139,7 +139,7 @@ pub fn serve_several<
 >(rt: &R, settings: &Serve, files: &S, folder: FolderWriter<S>) -> Result<(), ProgramError> {
     let address = (settings.bind, settings.port);
     let listener = TcpListener::bind(rt, address).map_err(ProgramError::of_listening)?;
-    let terms = server::Terms {
+    let terms = ServerTerms {
         config: &settings.config,
         timeouts: settings.timeouts,
         at_once: settings.at_once.associations,

@@ -9,4 +9,4 @@ mod stopping;
 mod terms;
 
 pub use server::serve_many;
-pub use terms::{MOST_AT_ONCE, Terms};
+pub use terms::{MOST_AT_ONCE, ServerTerms};

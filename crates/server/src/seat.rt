@@ -4,7 +4,7 @@ ghost use Rattle.std.specs.Duration.{as_nanos};
 ghost use Rattle.std.specs.Time.{instant_nanos};
 
 use crate::socket::Socket;
-use crate::terms::Terms;
+use crate::terms::ServerTerms;
 use acceptor::State;
 use connection::ReadEnd;
 use journal::{Journal, Served};
@@ -47,7 +47,7 @@ impl<'a, R: Log + Clock, S: Files<File = File> + Alloc<A = Global> + Clone + Dro
         socket: Socket,
         filing: FolderFiling<S>,
         journal: Journal<'a, R, Global>,
-        terms: Terms<'_>,
+        terms: ServerTerms<'_>,
         now: Instant,
     ) -> Seat<'a, R, S> {
         let committed = filing.committed();
@@ -74,7 +74,7 @@ impl<'a, R: Log + Clock, S: Files<File = File> + Alloc<A = Global> + Clone + Dro
 
     /// Gives the association its turn, if its socket may have anything, and ends what has taken too
     /// long.
-    pub(crate) fn turn(&mut self, room: &mut [u8], terms: Terms<'_>, now: Instant) {
+    pub(crate) fn turn(&mut self, room: &mut [u8], terms: ServerTerms<'_>, now: Instant) {
         if self.is_ready {
             match self.connection.turn(now, room, &self.journal) {
                 Turn::Next => {}
@@ -141,7 +141,7 @@ impl<'a, R: Log + Clock, S: Files<File = File> + Alloc<A = Global> + Clone + Dro
     }
 
     /// Returns how long the connection may be left alone, at most so long.
-    pub(crate) fn patience(&self, terms: Terms<'_>, now: Instant, most: Duration) -> Duration
+    pub(crate) fn patience(&self, terms: ServerTerms<'_>, now: Instant, most: Duration) -> Duration
         ensures { as_nanos result ≤ as_nanos most }
     {
         if self.is_ready || self.is_over {

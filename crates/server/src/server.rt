@@ -5,7 +5,7 @@ mod opening;
 use crate::seat::Seat;
 use crate::socket::{AcceptedStream, Socket};
 use crate::stopping::is_asked;
-use crate::terms::{MOST_AT_ONCE, Terms};
+use crate::terms::{MOST_AT_ONCE, ServerTerms};
 use journal::{
     ConnectionFailed, Journal, NotAccepted, PeerFull, PlacesFull, Stopping, Teller, TurnedAway,
 };
@@ -43,7 +43,7 @@ where
     rt: &'a R,
     poll: Poll,
     listener: TcpListener,
-    terms: Terms<'a>,
+    terms: ServerTerms<'a>,
     folder: FolderWriter<S>,
     /// The filings of places that have had a connection and are free.
     filings: Vec<Option<FolderFiling<S>>>,

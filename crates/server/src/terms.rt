@@ -9,7 +9,7 @@ pub const MOST_AT_ONCE: usize = 64;
 
 /// What a server is held to.
 #[derive(Clone, Copy)]
-pub struct Terms<'a> {
+pub struct ServerTerms<'a> {
     /// Who may associate, and how much is accepted of them.
     pub config: &'a Config,
     /// How long a peer is waited for.

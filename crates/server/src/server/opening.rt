@@ -1,7 +1,7 @@
 //! A server from its start to its end.
 use super::{LISTENER, Server};
 use crate::stopping::clear;
-use crate::terms::Terms;
+use crate::terms::ServerTerms;
 use connection::PIECE;
 use journal::{Listening, Stopped, Teller};
 use log::Log;
@@ -36,7 +36,7 @@ fn server_of<
 >(
     rt: &'a R,
     listener: net::TcpListener,
-    terms: Terms<'a>,
+    terms: ServerTerms<'a>,
     folder: FolderWriter<S>,
 ) -> io::Result<Server<'a, R, S>>
 where
@@ -85,7 +85,7 @@ pub fn serve_many<
 >(
     rt: &R,
     listener: net::TcpListener,
-    terms: Terms<'_>,
+    terms: ServerTerms<'_>,
     files: &S,
     folder: FolderWriter<S>,
 ) -> io::Result<()> {
