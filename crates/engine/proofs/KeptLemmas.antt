@@ -4,7 +4,7 @@ use Rattle.std.proofs.lemmas.List.{length-drop}
 use Rattle.acceptor.specs.declared.state.State.{State}
 use Rattle.acceptor.specs.declared.state.State.TheVariants.{Sta1, Sta2, Sta3, Sta6, Sta8, Sta13}
 use Rattle.pdu.specs.Marks.{frame_kind}
-use Rattle.engine.specs.Requested.{Requested, request_record}
+use Rattle.engine.specs.Requested.{request_record}
 use Rattle.pdu.specs.Spot.{spot}
 use Rattle.dimse.specs.Messages.{Begun, NoMessage, InCommand, InSet}
 use Rattle.dimse.specs.Joining as joining

@@ -3,6 +3,7 @@ pub mod TimelineLemmas
 pub mod SizeLemmas
 pub mod StoreLemmas
 pub mod PendsLemmas
+pub mod PhaseLemmas
 pub mod DueLemmas
 pub mod HeadLemmas
 pub mod RequestLemmas

@@ -8,7 +8,6 @@ use Rattle.acceptor.specs.Table.{table}
 use Rattle.pdu.specs.declared.wire.WireFailed.{WireFailed}
 use Rattle.pdu.specs.declared.fault.PduFault.{PduFault}
 use Rattle.pdu.specs.Sent.{Line, Sends, sent_all, cut_after}
-use Rattle.negotiate.specs.declared.table.ContextRow.{ContextRow}
 use Rattle.part10.specs.Store.{Store}
 use Rattle.dimse.specs.Joining.{ShowsMessage, with_pdv}
 use Rattle.pdu.specs.Texts.{release_text}
@@ -21,7 +20,7 @@ use Rattle.negotiate.specs.declared.answer.Answer.TheVariants.{Accept, Reject}
 use Rattle.negotiate.specs.Settings.{Settings}
 use Rattle.negotiate.specs.Answer.{judged}
 use Rattle.negotiate.specs.Accept.{accept_text, answer_bytes, text_by}
-use Rattle.dimse.specs.Messages.{NoMessage}
+use Rattle.dimse.specs.Messages.{Begun, NoMessage}
 use Rattle.engine.specs.Requested as requested
 use Rattle.engine.specs.Requested.{Requested}
 use Rattle.engine.specs.Progress.{Progress, Advance, at_start, left, done, is_due, is_established}
@@ -29,9 +28,10 @@ use Rattle.engine.specs.Held.{is_ended}
 use Rattle.engine.specs.Requests.{keeping, accepting, declined, answered, at_request}
 use Rattle.engine.specs.Devices.{devices}
 use Rattle.engine.specs.Run.{released}
-use Rattle.engine.specs.Kept.{Kept, Pends, Agreed}
+use Rattle.engine.specs.Kept.{Kept, Pends, Agreed, counted_pdv}
+use Rattle.engine.specs.StoredData.{Nothing}
 use Rattle.engine.specs.machine.DoesDue.{DoesDue, ComesTo, step_text, is_left, rejected_state, rejected_text}
-use Rattle.engine.proofs.StoreLemmas.{so_far, carried, no_store, idle_carried}
+use Rattle.engine.proofs.StoreLemmas.{so_far, no_store, none_carried}
 use Rattle.engine.proofs.PendsLemmas.{pends_left, settled_failed}
 use Rattle.engine.proofs.DueLemmas.{none_counted_pdv, if_nothing}
 
@@ -123,9 +123,12 @@ request_comes s body p e =
     (subst (λ (g : Advance). LeavesOrStands s.further body p (by_fault s body p (request_fault body) (judged s (request_record body))) g) (sym (request_is s at_start body))
     (comes_to s body p (request_fault body) (judged s (request_record body)) e))
 
--- the request is given up, and these are kept of it
-abbrev pub given_up : List ℕ → ℕ → List ContextRow → Kept → Kept
-given_up caller maximum table k = record k { caller = caller; peer_max = maximum; table = table; body = [] }
+-- the association is established with this request, and nothing of a message has come
+pub record IsEstablishedBy (kept : Kept) (r : RequestRecord) : Type 0 where
+  pub body : kept.body ≡ []
+  pub join : ShowsMessage kept.room kept.join NoMessage []
+  pub storing : kept.storing ≡ Nothing
+  pub agreed : Agreed kept r
 
 not_taken : (st : State) (r : Bool) → ◌≡◌ {A = List ℕ} (if is_established st && not r then [] else []) []
 not_taken st r = if_nothing (is_established st && not r)
@@ -138,22 +141,21 @@ pends_due p old store body h due r =
 quiet_between : (p : Progress) → p.message ≡ NoMessage → so_far p [] ≡ NoMessage
 quiet_between p none = ap (λ (xs : List ℕ). with_pdv xs p.message) (none_counted_pdv p) ∙ none
 
-stood : (further : List (List ℕ)) (p : Progress) (body : List ℕ) (old new : Kept) (store : Store) (caller : List ℕ) (maximum : ℕ) (rows : List ContextRow) → Pends old store p body [] → old.state ≡ Sta2
-    → new ≡ record (given_up caller maximum rows old) { state = Sta6 } → (Agreed (record (given_up caller maximum rows old) { state = Sta6 }) (requested.request_record (asked further body)))
-    → Pends new store (record p { state = Sta6; request = asked further body }) body []
-stood further p body old new store caller maximum rows h due is agreed =
+stood : (further : List (List ℕ)) (p : Progress) (body : List ℕ) (old given new : Kept) (store : Store) → Pends old store p body [] → old.state ≡ Sta2 → given.refused ≡ old.refused
+    → new ≡ record given { state = Sta6 } → IsEstablishedBy given (requested.request_record (asked further body)) → Pends new store (record p { state = Sta6; request = asked further body }) body []
+stood further p body old given new store h due same is fresh =
     let q = record p { state = Sta6; request = asked further body } in
     let two : p.state ≡ Sta2 = sym h.state_is ∙ due in
     let none = h.none_left (ap is_established two) in
-    let c = idle_carried old.depth old.most old.storing store store p.request (asked further body) (so_far p []) (so_far q []) p.filing_failed p.filing_failed
-    (no_store p.request (so_far p []) (quiet_between p none)) (no_store (asked further body) (so_far q []) (quiet_between q none)) (carried old store p body [] h) in
+    let a = fresh.agreed in
+    let c = none_carried given.depth given.most given.storing store (asked further body) (so_far q []) p.filing_failed fresh.storing (no_store (asked further body) (so_far q []) (quiet_between q none)) in
     subst (λ (k : Kept). Pends k store q body []) (sym is)
     (record {
       state_is = refl;
-      refused_is = λ n. h.refused_is (ap is_ended two);
-      body_is = refl;
-      join_is = subst (λ (xs : List ℕ). ShowsMessage old.room old.join p.message xs) (not_taken p.state p.refused ∙ sym (not_taken Sta6 p.refused)) h.join_is;
-      agreed = λ six. agreed;
+      refused_is = λ n. same ∙ h.refused_is (ap is_ended two);
+      body_is = fresh.body;
+      join_is = subst (λ (m : Begun). ShowsMessage given.room given.join m (counted_pdv q [])) (sym none) (subst (λ (xs : List ℕ). ShowsMessage given.room given.join NoMessage xs) (sym (not_taken Sta6 p.refused)) fresh.join);
+      agreed = λ six. record { caller = a.caller; maximum = a.maximum; rows = a.rows; contexts = a.contexts; count = a.count };
       none_left = λ e. none;
       unagreed = λ e. absurd cc;
       walks = c.0;
@@ -162,43 +164,44 @@ stood further p body old new store caller maximum rows h due is agreed =
     })
 
 -- the request that is whole was answered, or the wire failed
-module _ (further : List (List ℕ)) (p : Progress) (g first : Advance) (body : List ℕ) (n : State) (old new : Kept) (caller : List ℕ) (maximum : ℕ) (rows : List ContextRow) (lo ln : Line) (so sn : Store) where
-  pends_answered : Pends old so p body [] → old.state ≡ Sta2 → LeavesOrStands further body p g first → n ≡ first.next.state → ComesTo n (Ok tt) (given_up caller maximum rows old) new so sn
-      → (n ≡ Sta6 → Agreed (record (given_up caller maximum rows old) { state = Sta6 }) (requested.request_record (asked further body))) → Pends new sn g.next body []
-  pends_answered h due (sent, files, inl (st, is)) e settles agreed =
+module _ (further : List (List ℕ)) (p : Progress) (g first : Advance) (body : List ℕ) (n : State) (old given new : Kept) (lo ln : Line) (so sn : Store) where
+  pends_answered : Pends old so p body [] → old.state ≡ Sta2 → given.refused ≡ old.refused → LeavesOrStands further body p g first → n ≡ first.next.state → ComesTo n (Ok tt) given new so sn
+      → (n ≡ Sta6 → IsEstablishedBy given (requested.request_record (asked further body))) → Pends new sn g.next body []
+  pends_answered h due same (sent, files, inl (st, is)) e settles fresh =
       let gone : is_left new.state ≡ true = ap is_left (settles.state_is ∙ e ∙ st) in
       subst (λ (q : Progress). Pends new sn q body []) (sym is)
-      (pends_left Sta13 p new sn body [] refl (settles.state_is ∙ e ∙ st) (settles.refused ∙ h.refused_is (ap is_ended (sym h.state_is ∙ due))) (settles.left gone))
-  pends_answered h due (sent, files, inr (st, is)) e settles agreed =
+      (pends_left Sta13 p new sn body [] refl (settles.state_is ∙ e ∙ st) (settles.refused ∙ same ∙ h.refused_is (ap is_ended (sym h.state_is ∙ due))) (settles.left gone))
+  pends_answered h due same (sent, files, inr (st, is)) e settles fresh =
       let six : new.state ≡ Sta6 = settles.state_is ∙ e ∙ st in
       subst (λ (x : Store). Pends new x g.next body []) (sym (settles.store_same (ap is_left six)))
       (subst (λ (q : Progress). Pends new so q body []) (sym is)
-      (stood further p body old new so caller maximum rows h due (settles.same (ap is_left six) ∙ ap (λ (y : State). record (given_up caller maximum rows old) { state = y }) six) (agreed (e ∙ st))))
+      (stood further p body old given new so h due same (settles.same (ap is_left six) ∙ ap (λ (y : State). record given { state = y }) six) (fresh (e ∙ st))))
 
-  tries_answered : (r : Result (Unit {0}) WireFailed) → Pends old so p body [] → old.state ≡ Sta2 → LeavesOrStands further body p g first → n ≡ first.next.state → ComesTo n r (given_up caller maximum rows old) new so sn
-      → (n ≡ Sta6 → Agreed (record (given_up caller maximum rows old) { state = Sta6 }) (requested.request_record (asked further body)))
+  tries_answered : (r : Result (Unit {0}) WireFailed) → Pends old so p body [] → old.state ≡ Sta2 → given.refused ≡ old.refused → LeavesOrStands further body p g first → n ≡ first.next.state → ComesTo n r given new so sn
+      → (n ≡ Sta6 → IsEstablishedBy given (requested.request_record (asked further body)))
       → Sends first.sent r lo ln → OnErr r (0 < length first.sent) → DoesDue p g new body [] (devices lo so) (devices ln sn)
-  tries_answered (Ok u) h due c e settles agreed sends some =
-      record { wire = None; fair = tt; pends = pends_answered h due c e settles agreed; line = sends ∙ ap (λ (t : List ℕ). sent_all t lo) (sym c.0); unfiled = settles.unfiled }
-  tries_answered (Err f) h due c e settles agreed sends some =
+  tries_answered (Ok u) h due same c e settles fresh sends some =
+      record { wire = None; fair = tt; pends = pends_answered h due same c e settles fresh; line = sends ∙ ap (λ (t : List ℕ). sent_all t lo) (sym c.0); unfiled = settles.unfiled }
+  tries_answered (Err f) h due same c e settles fresh sends some =
       record {
         wire = Some sends.count;
         fair = subst (λ (t : List ℕ). (0 < length t) × (sends.count ≤ length t)) (sym c.0) (some, sends.few);
-        pends = settled_failed p n f (given_up caller maximum rows old) new so sn body [] settles;
+        pends = settled_failed p n f given new so sn body [] settles;
         line = sends.line ∙ ap (λ (t : List ℕ). cut_after sends.count t lo) (sym c.0);
         unfiled = settles.unfiled;
       }
 
-pub request_tries : (s : Settings) (p : Progress) (body : List ℕ) (n : State) (r : Result (Unit {0}) WireFailed) (old new : Kept) (caller : List ℕ) (maximum : ℕ) (rows : List ContextRow) (lo ln : Line) (so sn : Store)
-    → Pends old so p body [] → old.state ≡ Sta2 → p.refused ≡ false → n ≡ (at_request s at_start old.body).next.state → ComesTo n r (given_up caller maximum rows old) new so sn
-    → (n ≡ Sta6 → Agreed (record (given_up caller maximum rows old) { state = Sta6 }) (requested.request_record (asked s.further old.body)))
+-- `given` is what is kept before the answer's result is known
+pub request_tries : (s : Settings) (p : Progress) (body : List ℕ) (n : State) (r : Result (Unit {0}) WireFailed) (old given new : Kept) (lo ln : Line) (so sn : Store)
+    → Pends old so p body [] → old.state ≡ Sta2 → p.refused ≡ false → given.refused ≡ old.refused → n ≡ (at_request s at_start old.body).next.state → ComesTo n r given new so sn
+    → (n ≡ Sta6 → IsEstablishedBy given (requested.request_record (asked s.further old.body)))
     → Sends (at_request s at_start old.body).sent r lo ln → OnErr r (0 < length (at_request s at_start old.body).sent)
     → DoesDue p (at_request s p body) new body [] (devices lo so) (devices ln sn)
-request_tries s p body n r old new caller maximum rows lo ln so sn h due unrefused state settles agreed sends some =
+request_tries s p body n r old given new lo ln so sn h due unrefused kept state settles fresh sends some =
     let same = pends_due p old so body h due unrefused in
-    tries_answered s.further p (at_request s p body) (at_request s at_start body) body n old new caller maximum rows lo ln so sn r h due (request_comes s body p (sym h.state_is ∙ due))
+    tries_answered s.further p (at_request s p body) (at_request s at_start body) body n old given new lo ln so sn r h due kept (request_comes s body p (sym h.state_is ∙ due))
     (state ∙ ap (λ (b : List ℕ). (at_request s at_start b).next.state) same) settles
-    (λ six. subst (λ (b : List ℕ). Agreed (record (given_up caller maximum rows old) { state = Sta6 }) (requested.request_record (asked s.further b))) same (agreed six))
+    (λ six. subst (λ (b : List ℕ). IsEstablishedBy given (requested.request_record (asked s.further b))) same (fresh six))
     (subst (λ (b : List ℕ). Sends (at_request s at_start b).sent r lo ln) same sends)
     (subst (λ (b : List ℕ). OnErr r (0 < length (at_request s at_start b).sent)) same some)
 

@@ -36,7 +36,7 @@ use Rattle.engine.specs.Held.{of_command}
 use Rattle.engine.specs.Progress.{Progress, Advance, absorb, left, moved, done, nothing, is_due, is_established}
 use Rattle.engine.specs.Reached.{takes_pdvs}
 use Rattle.engine.specs.Replies.{invalid, at_pdv_head, at_pdv, replied}
-use Rattle.engine.specs.Requested.{Requested, request_record}
+use Rattle.engine.specs.Requested.{request_record}
 use Rattle.engine.specs.Requests.{declined, answered, at_request, keeping}
 use Rattle.engine.specs.Run.{Rooms, at_end, at_entry, cut, gives, progress_of, released}
 use Rattle.engine.specs.Timeline.{Entry, At, Shut, TimedOut, Aborted, Finding, Happened, entries_of}

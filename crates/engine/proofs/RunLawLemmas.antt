@@ -3,7 +3,7 @@ use Rattle.std.proofs.Common.{◌≡◌, ◌⊎◌, inl, inr, ℕ, Bool, true, f
 use Rattle.element.specs.Uid.{uid_of}
 use Rattle.pdu.specs.Sent.{Line}
 use Rattle.pdu.specs.Frames.{rest_of}
-use Rattle.engine.specs.Requested.{Requested, request_record}
+use Rattle.engine.specs.Requested.{request_record}
 use Rattle.pdu.specs.Marks.{Head, PdvHead, Pdv, BadPdv, Leftover, End}
 use Rattle.negotiate.specs.declared.proposals.Context.{Context}
 use Rattle.negotiate.specs.Contexts.{context_of}

@@ -5,7 +5,10 @@ use mir.Syntax.{Ty}
 use prog.Memory.{size}
 use denote.RattleType.{RattleType}
 use denote.Param.{param, number}
+use denote.Enum.Declared as enum_row
 use denote.Struct.Declared.{row}
+use Rattle.engine.specs.contracts.phase.Message as message
+use Rattle.engine.specs.contracts.phase.Phase as phase
 use Rattle.engine.specs.contracts.provider.Provider as provider
 use Rattle.engine.specs.contracts.association.Association as association
 use Rattle.engine.specs.contracts.running.Running as running
@@ -17,6 +20,14 @@ size_in (t ∷ ts) = size t
 
 abbrev pub size_of : RattleType → ℕ
 size_of r = size_in r.mir
+
+pub message_fits : {C V D : ℕ} → C ≤ 2 ^ 24 → V ≤ 2 ^ 24 → D ≤ 2 ^ 24
+    → size_of (row (message.the_type (param 0 (number C)) (param 1 (number V)) (param 2 (number D)))) < 2 ^ 63
+message_fits c v d = grind arith
+
+pub phase_fits : {A C V D : ℕ} → A ≤ 2 ^ 24 → C ≤ 2 ^ 24 → V ≤ 2 ^ 24 → D ≤ 2 ^ 24
+    → size_of (enum_row.row (phase.the_type (param 0 (number A)) (param 1 (number C)) (param 2 (number V)) (param 3 (number D)))) < 2 ^ 63
+phase_fits a c v d = grind arith
 
 pub provider_fits : {A C V D : ℕ} → A ≤ 2 ^ 24 → C ≤ 2 ^ 24 → V ≤ 2 ^ 24 → D ≤ 2 ^ 24
     → size_of (row (provider.the_type (param 0 (number A)) (param 1 (number C)) (param 2 (number V)) (param 3 (number D)))) < 2 ^ 63
@@ -30,6 +41,10 @@ association_fits a c v d = grind arith
 pub provider_small : {A C V D : ℕ} → (p : Provider A C V D)
     → size_of (row (provider.the_type (param 0 (number A)) (param 1 (number C)) (param 2 (number V)) (param 3 (number D)))) < 2 ^ 63
 provider_small p = provider_fits p.greatest p.command_greatest p.greatest_kept p.greatest_levels
+
+pub phase_small : {A C V D : ℕ} → (p : Provider A C V D)
+    → size_of (enum_row.row (phase.the_type (param 0 (number A)) (param 1 (number C)) (param 2 (number V)) (param 3 (number D)))) < 2 ^ 63
+phase_small p = phase_fits p.greatest p.command_greatest p.greatest_kept p.greatest_levels
 
 pub association_small : {A C V D : ℕ} → (p : Provider A C V D)
     → size_of (row (association.the_type (param 0 (number A)) (param 1 (number C)) (param 2 (number V)) (param 3 (number D)))) < 2 ^ 63

@@ -1,7 +1,7 @@
 -- What comes of a store at the entry where it ends.
 use Rattle.std.proofs.Common.{◌≡◌, ℕ, Bool, true, false, not, ◌&&◌, ◌||◌, List, [], ◌∷◌, Option, Some, None, Result, Ok, refl, sym, ap, subst, ◌∙◌, nat_eq, if◌then◌else◌}
 use Rattle.pdu.specs.Marks.{Head, PdvHead, Pdv, BadPdv, Leftover, End}
-use Rattle.engine.specs.Requested.{Requested, request_record}
+use Rattle.engine.specs.Requested.{request_record}
 use Rattle.pdu.specs.Record.{RequestRecord}
 use Rattle.negotiate.specs.declared.proposals.Context.{Context}
 use Rattle.negotiate.specs.Contexts.{context_of}

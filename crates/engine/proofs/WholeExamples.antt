@@ -5,7 +5,6 @@ use Rattle.element.specs.Vr.{is_short}
 use Rattle.element.specs.Header.{need, is_whole}
 use Rattle.element.specs.declared.size.Need.{Need}
 use Rattle.element.specs.declared.size.Need.TheVariants.{More, BadVr}
-use Rattle.dictionary.specs.declared.class.Class.{Class}
 use Rattle.dictionary.specs.declared.class.Class.TheVariants.{Ct, Mr}
 use Rattle.dictionary.specs.Classes.{class_named}
 use Rattle.sequence.specs.Tree.{no_elements, nothing}
@@ -31,7 +30,7 @@ use Rattle.negotiate.specs.declared.proposals.Service.TheVariants.{Known}
 use Rattle.engine.specs.Timeline.{Entry, Finding, good, entries, entries_of}
 use Rattle.engine.specs.Fair.{IsFair, IsVerdict, InStore, message_at}
 use Rattle.negotiate.proofs.Public.{context_in-context_rows}
-use Rattle.engine.specs.Requested.{Requested, request_record}
+use Rattle.engine.specs.Requested.{Requested}
 use Rattle.std.specs.List.{IsDistinct}
 use Rattle.engine.specs.Progress.{Progress, absorb}
 use Rattle.engine.specs.Run.{Rooms}

@@ -7,7 +7,8 @@ use Rattle.negotiate.specs.Settings.{Settings, settings_of}
 use Rattle.engine.specs.declared.association.Association.{Association}
 use Rattle.engine.specs.declared.running.Running.{Running}
 use Rattle.engine.specs.Kept.{kept_of, held_by}
-use Rattle.engine.specs.StoredData.{stored_of, drafting_in}
+use Rattle.engine.specs.Phases.{state_in, stored_in}
+use Rattle.engine.specs.StoredData.{drafting_in}
 use Rattle.engine.specs.FrameFields.{Fields}
 
 abbrev pub fields_of : {A C V D : ℕ} → Association A C V D → Fields
@@ -19,14 +20,14 @@ abbrev pub held_in : Fields → ℕ
 held_in f = bytes_held f.position + held_by f.kept
 
 abbrev pub state_of : {A C V D : ℕ} → Association A C V D → State
-state_of a = a.provider.state
+state_of a = state_in a.provider.phase
 
 abbrev pub settings_in : {A C V D : ℕ} → Association A C V D → Settings
 settings_in a = settings_of a.provider.config
 
 -- whether it has a draft in the filing
 abbrev pub drafting_of : {A C V D : ℕ} → Association A C V D → Bool
-drafting_of a = drafting_in (stored_of a.provider.storing)
+drafting_of a = drafting_in (stored_in a.provider.phase)
 
 -- the association of a run that is taken turn by turn
 abbrev pub association_in : {A C V D : ℕ} → Running A C V D → Association A C V D

@@ -11,13 +11,16 @@ use Rattle.negotiate.specs.ContextRows.{context_in, context_rows, accepted_count
 use Rattle.dimse.specs.Messages.{NoMessage}
 use Rattle.dimse.specs.Joining.{Joining, ShowsMessage, with_pdv}
 use Rattle.part10.specs.Store.{Store}
+use Rattle.negotiate.specs.declared.config.Config.{Config}
+use Rattle.engine.specs.declared.phase.Phase.{Phase}
 use Rattle.engine.specs.declared.provider.Provider.{Provider}
+use Rattle.engine.specs.Phases.{state_in, caller_in, maximum_in, rows_in, request_in, joining_in, stored_in}
 use Rattle.engine.specs.Progress.{Progress, is_due, is_established}
 use Rattle.engine.specs.Held.{is_ended}
 use Rattle.engine.specs.Reached.{takes_pdvs}
 use Rattle.engine.specs.Drafts.{IsDraft}
 use Rattle.engine.specs.Fair.{InStore}
-use Rattle.engine.specs.StoredData.{Stored, Walks, stored_of, drafting_in, held_in}
+use Rattle.engine.specs.StoredData.{Stored, Walks, drafting_in, held_in}
 
 -- what contracts see of the fields
 pub record Kept : Type 0 where
@@ -40,9 +43,13 @@ pub record Kept : Type 0 where
   -- of the data of a message
   pub storing : Stored
 
+-- with these settings, in this phase
+abbrev pub kept_in : {A C V D : ℕ} → Config → Bool → Phase A C V D → Kept
+kept_in {A} {C} {V} {D} config refused phase =
+    record { room = C; depth = D; most = config.max_data; state = state_in phase; refused = refused; caller = caller_in phase; peer_max = maximum_in phase; table = rows_in phase; further = (settings_of config).further; body = request_in phase; join = joining_in phase; storing = stored_in phase }
+
 abbrev pub kept_of : {A C V D : ℕ} → Provider A C V D → Kept
-kept_of {A} {C} {V} {D} p =
-    record { room = C; depth = D; most = p.config.max_data; state = p.state; refused = p.refused; caller = p.caller; peer_max = p.peer_max; table = p.table.items; further = (settings_of p.config).further; body = p.body.items; join = p.join; storing = stored_of p.storing }
+kept_of p = kept_in p.config p.refused p.phase
 
 abbrev pub settings_in : {A C V D : ℕ} → Provider A C V D → Settings
 settings_in p = settings_of p.config

@@ -14,6 +14,7 @@ pub mod Reached
 pub mod Held
 pub mod Drafts
 pub mod StoredData
+pub mod Phases
 pub mod Kept
 pub mod FrameFields
 pub mod Stands

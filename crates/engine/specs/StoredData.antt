@@ -18,7 +18,7 @@ pub data Stored : Type 0 where
 
 abbrev pub stored_of : {V D : ℕ} → Storing V D → Stored
 stored_of storing.Nothing = Nothing
-stored_of (storing.DataSet walker drafting) = Walking walker drafting
+stored_of (storing.DataSet drafting walker) = Walking walker drafting
 
 abbrev pub drafting_in : Stored → Bool
 drafting_in Nothing = false

@@ -1,6 +1,7 @@
 -- What the code is proved against, beside the definitions.
 pub mod HeadEvents
 pub mod Answers
+pub mod Accepted
 pub mod Storing
 pub mod Verdicts
 pub mod Capacity

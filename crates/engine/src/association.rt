@@ -9,6 +9,7 @@ ghost use Rattle.engine.specs.machine.Skips.{in_pdv_head};
 mod fields;
 mod taking;
 
+use crate::phase::Phase;
 use crate::provider::Provider;
 use acceptor::State;
 use negotiate::Config;
@@ -75,7 +76,7 @@ impl<const A: usize, const C: usize, const V: usize, const D: usize> Association
     pub fn state(&self) -> State
         ensures { result ≡ state_of self.now }
     {
-        self.provider.state
+        self.provider.phase.state()
     }
 
     /// Whether the ARTIM timer runs: while a request is due, and while the peer is to close the
@@ -210,15 +211,15 @@ impl<const A: usize, const C: usize, const V: usize, const D: usize> Association
         ensures ended { result ≡ holding.is_ended (state_of self.now) }
         ensures no_draft { result ≡ true → drafting_of self.now ≡ false }
     {
-        matches!(self.provider.state, State::Sta1)
+        matches!(self.provider.phase, Phase::Ended)
     }
 
     /// Gives up the bytes of heads once the association has ended.
     fn drop_heads(&mut self)
         ensures settings { settings_in self.new ≡ settings_in self.old }
         ensures kept { kept_of self.new.provider ≡ kept_of self.old.provider }
-        ensures same { holding.is_ended self.old.provider.state ≡ false → fields_of self.new ≡ fields_of self.old }
-        ensures headless { holding.is_ended self.old.provider.state ≡ true → IsAt self.new.deframer [] [] }
+        ensures same { holding.is_ended (state_of self.old) ≡ false → fields_of self.new ≡ fields_of self.old }
+        ensures headless { holding.is_ended (state_of self.old) ≡ true → IsAt self.new.deframer [] [] }
     {
         if self.is_ended() {
             self.deframer = Deframer::new();

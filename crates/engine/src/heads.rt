@@ -154,16 +154,18 @@ impl<const A: usize, const C: usize, const V: usize, const D: usize> Provider<A,
         filing: &mut F,
     )
         requires draft { IsThere (drafting_in (kept_of self.old).storing) (F.store filing.old) }
-        ensures body { self.new.body.items ≡ [] }
+        ensures body { (kept_of self.new).body ≡ [] }
         ensures fits { BodyFits (A - 12) (kept_of self.new) kind length }
         ensures settings { settings_in self.new ≡ settings_in self.old }
         ensures drafts { Drafts (drafting_in (kept_of self.old).storing) (F.store filing.old) (drafting_in (kept_of self.new).storing) (F.store filing.new) }
         ensures does { (p : Progress) → Pends (kept_of self.old) (F.store filing.old) p [] [] → Does (rooms_of A C V D) (settings_in self.old) p (At (Head kind length)) (kept_of self.new) [] []
             (devices (W.line wire.old) (F.store filing.old)) (devices (W.line wire.new) (F.store filing.new)) }
     {
-        self.body.clear();
+        let state = self.phase.state();
+        let event = head_event(A - HEADS, self.config.max_pdu, state, kind, length);
+        self.clear_body();
         self.refused = false;
-        match head_event(A - HEADS, self.config.max_pdu, self.state, kind, length) {
+        match event {
             HeadEvent::Nothing => {}
             HeadEvent::AtOnce(event, reason) => {
                 self.refuse(event, reason, Answering::Nothing, wire, filing);

@@ -8,6 +8,7 @@ mod heads;
 pub mod laws;
 mod list_source;
 mod messages;
+mod phase;
 mod provider;
 mod report;
 mod requests;

@@ -1,39 +1,27 @@
 //! What an association does at each mark of its stream, above the framing.
 ghost use Rattle.std.specs.Prelude.{◌≡◌, ◌≤◌, ◌<◌, ◌+◌, ◌*◌, ◌-◌, ◌^◌, [], false};
-ghost use Rattle.arrayvec.specs.ArrayVec.{array_vec_len};
-ghost use Rattle.acceptor.specs.declared.state.State.TheVariants.{Sta1, Sta6};
-ghost use Rattle.engine.specs.StoredData.{drafting_in, stored_of};
+ghost use Rattle.acceptor.specs.declared.state.State.TheVariants.{Sta6};
+ghost use Rattle.engine.specs.Phases.{taken_in};
+ghost use Rattle.engine.specs.StoredData.{drafting_in};
 
 use crate::heads::INVALID_PARAMETER;
+use crate::phase::Phase;
 use crate::sending::{Answering, state_after, step};
-use crate::stores::Storing;
-use acceptor::{Event, State, act};
+use acceptor::{Event, State};
 use arrayvec::ArrayVec;
-use dimse::Join;
-use negotiate::{Config, ContextRow};
+use negotiate::Config;
 use part10::Filing;
 use pdu::{Deframer, Wire, WireFailed};
 
-/// An association above its framing: the acceptor's state, what is kept of a request and of a
-/// message, and what the service provider and the local user do at each mark of the stream.
+/// An association above its framing: the phase that it is in, and what the service provider and the
+/// local user do at each mark of the stream.
 #[derive(Drop)]
 pub(crate) struct Provider<const A: usize, const C: usize, const V: usize, const D: usize> {
     pub(crate) config: Config,
-    pub(crate) state: State,
     /// Whether the later marks of the PDU that has begun count for nothing.
     pub(crate) refused: bool,
-    /// The calling AE title of the accepted request.
-    pub(crate) caller: [u8; 16],
-    /// The peer's maximum length, or 0.
-    pub(crate) peer_max: u32,
-    /// The accepted presentation contexts.
-    pub(crate) table: ArrayVec<ContextRow, 128>,
-    /// What has come of a request's body.
-    pub(crate) body: ArrayVec<u8, A>,
-    /// What has come of a message.
-    pub(crate) join: Join<C>,
-    /// What is kept of the data of a store.
-    pub(crate) storing: Storing<V, D>,
+    /// What is kept of a request, of its peer and of a message.
+    pub(crate) phase: Phase<A, C, V, D>,
     ghost least: { 256 ≤ A },
     ghost greatest: { A ≤ 2 ^ 24 },
     ghost command_greatest: { C ≤ 2 ^ 24 },
@@ -41,17 +29,12 @@ pub(crate) struct Provider<const A: usize, const C: usize, const V: usize, const
     ghost greatest_kept: { V ≤ 2 ^ 24 },
     ghost least_levels: { 2 ≤ D },
     ghost greatest_levels: { D ≤ 2 ^ 24 },
-    ghost answerable: { peer_max < 8 → peer_max ≡ 0 },
-    ghost room: { array_vec_len body + 12 ≤ A },
-    ghost rows_room: { 32 + 4 * array_vec_len table ≤ A },
-    ghost given_up: { state ≡ Sta6 → body.items ≡ [] },
-    ghost left: { state ≡ Sta1 → drafting_in (stored_of storing) ≡ false },
+    ghost room: { taken_in phase ≤ A },
 }
 
 impl<const A: usize, const C: usize, const V: usize, const D: usize> Provider<A, C, V, D> {
     ghost use Rattle.std.specs.Prelude.{ℕ, List, true};
     ghost use Rattle.pdu.specs.Marks.{BadPdv, Leftover};
-    ghost use Rattle.acceptor.specs.Table.{table};
     ghost use Rattle.engine.specs.Progress.{Progress, done, refusing, at_start};
     ghost use Rattle.engine.specs.Timeline.{At, Shut, TimedOut, Aborted};
     ghost use Rattle.engine.specs.Devices.{devices};
@@ -59,14 +42,15 @@ impl<const A: usize, const C: usize, const V: usize, const D: usize> Provider<A,
     ghost use Rattle.negotiate.specs.Settings.{settings_of};
     ghost use Rattle.part10.specs.Store.{Store};
     ghost use Rattle.engine.specs.Drafts.{IsThere, Drafts};
-    ghost use Rattle.engine.specs.machine.DoesDue.{IsLeft, Unfiled};
     ghost use Rattle.engine.specs.Kept.{Pends, held_by, takes_pdvs_in, counted_body, counted_pdv, kept_of, settings_in};
     ghost use Rattle.engine.specs.machine.Capacity.{BodyFits, FragmentFits};
     ghost use Rattle.pdu.specs.Deframed.{position_of};
     ghost use Rattle.pdu.specs.Steps.{events_due};
     ghost use Rattle.engine.specs.FrameFields.{IsUncounted};
     ghost use Rattle.engine.specs.machine.Skips.{passed};
-    ghost use Rattle.engine.specs.machine.DoesDue.{DoesDue, ComesTo, Stays};
+    ghost use Rattle.engine.specs.machine.DoesDue.{DoesDue, ComesTo, Stays, is_left};
+    ghost use Rattle.engine.specs.machine.Messages.{with_body, with_storing};
+    ghost use Rattle.engine.specs.machine.Storing.{Drops};
     ghost use Rattle.engine.specs.machine.Does.{Does};
     ghost use Rattle.engine.specs.Run.{rooms_of};
 
@@ -80,20 +64,16 @@ impl<const A: usize, const C: usize, const V: usize, const D: usize> Provider<A,
         requires least_levels { 2 ≤ D }
         requires greatest_levels { D ≤ 2 ^ 24 }
         ensures pends { (store : Store) → Pends (kept_of result) store at_start [] [] }
+        ensures body { (kept_of result).body ≡ [] }
         ensures no_draft { drafting_in (kept_of result).storing ≡ false }
         ensures settings { settings_in result ≡ settings_of config.now }
     {
-        let (_, state) = act(State::Sta1, Event::Connected);
         Provider {
             config: config.copied(),
-            state,
             refused: false,
-            caller: [0; 16],
-            peer_max: 0,
-            table: ArrayVec::new(),
-            body: ArrayVec::new(),
-            join: Join::new(),
-            storing: Storing::Nothing,
+            phase: Phase::AwaitingRequest {
+                body: ArrayVec::new(),
+            },
         }
     }
 
@@ -101,8 +81,8 @@ impl<const A: usize, const C: usize, const V: usize, const D: usize> Provider<A,
     pub(crate) fn takes_pdvs(&self) -> bool
         ensures { result ≡ takes_pdvs_in (kept_of self.now) }
     {
-        match self.state {
-            State::Sta6 => !self.refused,
+        match &self.phase {
+            Phase::Established { .. } => !self.refused,
             _ => false,
         }
     }
@@ -123,7 +103,10 @@ impl<const A: usize, const C: usize, const V: usize, const D: usize> Provider<A,
     pub(crate) fn drafting(&self) -> bool
         ensures { result ≡ drafting_in (kept_of self.now).storing }
     {
-        self.storing.drafting()
+        match &self.phase {
+            Phase::Established { peer: _, message } => message.storing.drafting(),
+            _ => false,
+        }
     }
 
     /// Returns how many bytes are kept of a request and of a message: 20 and 4 for each accepted
@@ -131,36 +114,39 @@ impl<const A: usize, const C: usize, const V: usize, const D: usize> Provider<A,
     pub(crate) fn held(&self) -> usize
         ensures value { result ≡ held_by (kept_of self.now) }
         ensures room { result + 12 ≤ A + C + V + 16 * D }
-        ensures accepted_room { self.now.state ≡ Sta6 → result ≤ 532 + C + V + 16 * D }
+        ensures accepted_room { (kept_of self.now).state ≡ Sta6 → result ≤ 532 + C + V + 16 * D }
     {
-        let message = self.join.command().len() + self.storing.held();
-        match self.state {
-            State::Sta6 => 20 + 4 * self.table.len() + self.body.len() + message,
-            _ => self.body.len() + message,
+        match &self.phase {
+            Phase::AwaitingRequest { body } => body.len(),
+            Phase::Established { peer, message } => peer.held() + message.held(),
+            _ => 0,
         }
     }
 
-    /// Gives up all that is kept of a request and of a message, and drops the draft of a store.
-    fn leave<F: Filing>(&mut self, filing: &mut F)
-        requires draft { IsThere (drafting_in (kept_of self.old).storing) (F.store filing.old) }
-        requires given_up { self.old.state ≡ Sta6 → self.old.body.items ≡ [] }
-        ensures left { IsLeft (kept_of self.new) }
-        ensures state { self.new.state ≡ self.old.state }
-        ensures refused { self.new.refused ≡ self.old.refused }
+    /// Drops what has come of the body of a request.
+    pub(crate) fn clear_body(&mut self)
+        ensures kept { kept_of self.new ≡ with_body [] (kept_of self.old) }
         ensures settings { settings_in self.new ≡ settings_in self.old }
-        ensures unfiled { Unfiled (F.store filing.old) (F.store filing.new) }
-        ensures drafts { Drafts (drafting_in (kept_of self.old).storing) (F.store filing.old) (drafting_in (kept_of self.new).storing) (F.store filing.new) }
     {
-        self.storing.leave(filing);
-        self.caller = [0; 16];
-        self.peer_max = 0;
-        self.table.clear();
-        self.body.clear();
-        self.join.clear();
+        if let Phase::AwaitingRequest { body } = &mut self.phase {
+            body.clear();
+        }
     }
 
-    /// The state that comes after a send: `next`, or Sta1 where the send failed. Where the association
-    /// is left, nothing of it is kept.
+    /// Drops the draft of a store.
+    fn drop_draft<F: Filing>(&mut self, filing: &mut F)
+        requires draft { IsThere (drafting_in (kept_of self.old).storing) (F.store filing.old) }
+        ensures kept { kept_of self.new ≡ with_storing (kept_of self.new).storing (kept_of self.old) }
+        ensures settings { settings_in self.new ≡ settings_in self.old }
+        ensures drops { Drops (drafting_in (kept_of self.old).storing) (F.store filing.old) (F.store filing.new) }
+    {
+        if let Phase::Established { peer: _, message } = &mut self.phase {
+            message.storing.leave(filing);
+        }
+    }
+
+    /// The state that comes after a send: `next`, which is that of the phase or leaves it, or Sta1 where
+    /// the send failed. Where the association is left, nothing of it is kept.
     pub(crate) fn settle<F: Filing>(
         &mut self,
         next: State,
@@ -168,7 +154,7 @@ impl<const A: usize, const C: usize, const V: usize, const D: usize> Provider<A,
         filing: &mut F,
     )
         requires draft { IsThere (drafting_in (kept_of self.old).storing) (F.store filing.old) }
-        requires given_up { next ≡ Sta6 → self.old.body.items ≡ [] }
+        requires stays { is_left next ≡ false → next ≡ (kept_of self.old).state }
         ensures settings { settings_in self.new ≡ settings_in self.old }
         ensures settles { ComesTo next sent (kept_of self.old) (kept_of self.new) (F.store filing.old) (F.store filing.new) }
         ensures drafts { Drafts (drafting_in (kept_of self.old).storing) (F.store filing.old) (drafting_in (kept_of self.new).storing) (F.store filing.new) }
@@ -176,14 +162,14 @@ impl<const A: usize, const C: usize, const V: usize, const D: usize> Provider<A,
         let next = state_after(next, sent);
         match next {
             State::Sta1 => {
-                self.leave(filing);
-                self.state = State::Sta1;
+                self.drop_draft(filing);
+                self.phase = Phase::Ended;
             }
             State::Sta13 => {
-                self.leave(filing);
-                self.state = State::Sta13;
+                self.drop_draft(filing);
+                self.phase = Phase::AwaitingClose;
             }
-            _ => self.state = next,
+            _ => {}
         }
     }
 
@@ -197,11 +183,11 @@ impl<const A: usize, const C: usize, const V: usize, const D: usize> Provider<A,
         filing: &mut F,
     )
         requires draft { IsThere (drafting_in (kept_of self.old).storing) (F.store filing.old) }
-        requires stays { Stays self.old.state event }
+        requires stays { Stays (kept_of self.old).state event }
         ensures drafts { Drafts (drafting_in (kept_of self.old).storing) (F.store filing.old) (drafting_in (kept_of self.new).storing) (F.store filing.new) }
         ensures settings { settings_in self.new ≡ settings_in self.old }
         ensures refused { self.new.refused ≡ self.old.refused }
-        ensures body { self.old.body.items ≡ [] → self.new.body.items ≡ [] }
+        ensures body { (kept_of self.old).body ≡ [] → (kept_of self.new).body ≡ [] }
         ensures body_fits { (kind m : ℕ) → BodyFits (A - 12) (kept_of self.old) kind m → BodyFits (A - 12) (kept_of self.new) kind m }
         ensures fragment_fits { (m : ℕ) → FragmentFits (kept_of self.old) m → FragmentFits (kept_of self.new) m }
         ensures uncounted { (kind : ℕ) → IsUncounted (kept_of self.old) kind → IsUncounted (kept_of self.new) kind }
@@ -209,7 +195,7 @@ impl<const A: usize, const C: usize, const V: usize, const D: usize> Provider<A,
             → DoesDue p (done (answer_text answering.entry) reason p event) (kept_of self.new) body begun
             (devices (W.line wire.old) (F.store filing.old)) (devices (W.line wire.new) (F.store filing.new)) }
     {
-        let (next, sent) = step(self.state, event, reason, answering, wire);
+        let (next, sent) = step(self.phase.state(), event, reason, answering, wire);
         self.settle(next, sent, filing);
     }
 
@@ -223,11 +209,11 @@ impl<const A: usize, const C: usize, const V: usize, const D: usize> Provider<A,
         filing: &mut F,
     )
         requires draft { IsThere (drafting_in (kept_of self.old).storing) (F.store filing.old) }
-        requires stays { Stays self.old.state event }
+        requires stays { Stays (kept_of self.old).state event }
         ensures drafts { Drafts (drafting_in (kept_of self.old).storing) (F.store filing.old) (drafting_in (kept_of self.new).storing) (F.store filing.new) }
         ensures settings { settings_in self.new ≡ settings_in self.old }
         ensures refused { self.new.refused ≡ true }
-        ensures body { self.old.body.items ≡ [] → self.new.body.items ≡ [] }
+        ensures body { (kept_of self.old).body ≡ [] → (kept_of self.new).body ≡ [] }
         ensures tries { (p : Progress) (body begun body_then begun_then : List ℕ) → Pends (kept_of self.old) (F.store filing.old) p body begun
             → counted_body (done (answer_text answering.entry) reason p event).next body ≡ [] → counted_pdv (done (answer_text answering.entry) reason p event).next begun ≡ []
             → DoesDue p (refusing (done (answer_text answering.entry) reason p event)) (kept_of self.new) body_then begun_then

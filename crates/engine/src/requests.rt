@@ -1,23 +1,26 @@
 //! Association requests, and the other PDUs that act when they are whole.
-ghost use Rattle.std.specs.Prelude.{◌≡◌, ◌≤◌, ◌<◌, ◌+◌, ◌*◌, ◌-◌, ◌++◌, [], List, ℕ, length, true, false, OnErr};
+ghost use Rattle.std.specs.Prelude.{◌≡◌, ◌≤◌, ◌<◌, ◌+◌, ◌*◌, ◌-◌, ◌++◌, [], List, ℕ, length, true, false, OnErr, IfSome, IfNone};
 ghost use Rattle.acceptor.specs.declared.state.State.TheVariants.{Sta2, Sta6};
 ghost use Rattle.arrayvec.specs.ArrayVec.{array_vec_len};
 ghost use Rattle.pdu.specs.Items.{request_record};
 ghost use Rattle.pdu.specs.Sent.{Sends};
-ghost use Rattle.negotiate.specs.ContextRows.{context_in, context_rows, accepted_count};
-ghost use Rattle.negotiate.specs.Contexts as contexts;
+ghost use Rattle.negotiate.specs.Contexts.{offered};
 ghost use Rattle.negotiate.specs.Settings.{settings_of};
 ghost use Rattle.negotiate.specs.Accept.{answer_bytes};
-ghost use Rattle.engine.specs.machine.DoesDue.{rejected_state, rejected_text};
+ghost use Rattle.engine.specs.machine.DoesDue.{rejected_state, rejected_text, is_left};
+ghost use Rattle.engine.specs.machine.Accepted.{IsPeerOf};
 ghost use Rattle.engine.specs.Progress.{at_start};
 ghost use Rattle.engine.specs.Requests.{at_request};
 
 use crate::heads::INVALID_PARAMETER;
+use crate::phase::{Message, Peer, Phase};
 use crate::provider::Provider;
 use crate::sending::{Answering, step};
+use crate::stores::Storing;
 use acceptor::{Event, State, act};
 use arrayvec::ArrayVec;
-use negotiate::{Answer, Config, ContextRow, compact, judge, rejection};
+use dimse::Join;
+use negotiate::{Answer, Config, compact, judge, rejection};
 use part10::Filing;
 use pdu::{Request, Wire, WireFailed, pdu_type, read_request};
 
@@ -26,66 +29,74 @@ fn reject<W: Wire>(
     config: &Config,
     request: &Request,
     source: u8,
-    state: State,
     wire: &mut W,
 ) -> (State, Result<(), WireFailed>)
-    ensures state { result.0 ≡ rejected_state state source }
-    ensures sends { Sends (rejected_text state source (answer_bytes (settings_of config.now) request.now)) result.1 (W.line wire.old) (W.line wire.new) }
-    ensures due { OnErr result.1 (0 < length (rejected_text state source (answer_bytes (settings_of config.now) request.now))) }
+    ensures state { result.0 ≡ rejected_state Sta2 source }
+    ensures sends { Sends (rejected_text Sta2 source (answer_bytes (settings_of config.now) request.now)) result.1 (W.line wire.old) (W.line wire.new) }
+    ensures due { OnErr result.1 (0 < length (rejected_text Sta2 source (answer_bytes (settings_of config.now) request.now))) }
 {
     let answering = Answering::Request(config, request);
     if source == rejection::SERVICE_PROVIDER_ACSE {
-        step(state, Event::Request(false), 0, answering, wire)
+        step(State::Sta2, Event::Request(false), 0, answering, wire)
     } else {
-        let (_, asked) = act(state, Event::Request(true));
+        let (_, asked) = act(State::Sta2, Event::Request(true));
         step(asked, Event::UserRefuses, 0, answering, wire)
     }
 }
 
-/// Reads the body of an association request, judges it, and sends the answer. What is kept of an
-/// accepted one is put into `caller`, `peer_max` and `table`.
+/// Returns what is kept of a request that is accepted.
+fn peer_of(config: &Config, request: &Request) -> Peer
+    requires answerable { request.now.maximum < 8 → request.now.maximum ≡ 0 }
+    ensures { IsPeerOf result (settings_of config.now).further (offered (settings_of config.now).further request.now) }
+{
+    let calling = request.calling();
+    let caller = calling.0;
+    let mut contexts = ArrayVec::new();
+    compact(config, request, &mut contexts);
+    Peer {
+        caller,
+        max_length: request.maximum(),
+        contexts,
+    }
+}
+
+/// Reads the body of an association request, judges it, and sends the answer. Returns the peer of an
+/// accepted one, the next state and whether all was sent.
 fn answer_request<W: Wire>(
     config: &Config,
     body: &[u8],
-    state: State,
-    caller: &mut [u8; 16],
-    peer_max: &mut u32,
-    table: &mut ArrayVec<ContextRow, 128>,
     wire: &mut W,
-) -> (State, Result<(), WireFailed>)
-    requires due { state ≡ Sta2 }
-    ensures state { result.0 ≡ (at_request (settings_of config.now) at_start body.now).next.state }
-    ensures sends { Sends (at_request (settings_of config.now) at_start body.now).sent result.1 (W.line wire.old) (W.line wire.new) }
-    ensures due { OnErr result.1 (0 < length (at_request (settings_of config.now) at_start body.now).sent) }
-    ensures caller { result.0 ≡ Sta6 → caller.new ≡ (request_record body.now).calling }
-    ensures maximum { result.0 ≡ Sta6 → peer_max.new ≡ (request_record body.now).maximum }
-    ensures contexts { result.0 ≡ Sta6 → (id : ℕ) → context_in (settings_of config.now).further table.new.items id ≡ contexts.context_of (contexts.offered (settings_of config.now).further (request_record body.now)) id }
-    ensures kept_rows { result.0 ≡ Sta6 → table.new.items ≡ context_rows (settings_of config.now).further (contexts.offered (settings_of config.now).further (request_record body.now)) }
-    ensures count { result.0 ≡ Sta6 → length table.new.items ≡ accepted_count (contexts.offered (settings_of config.now).further (request_record body.now)) }
-    ensures rows { (n : ℕ) → 32 + 4 * array_vec_len table.old ≤ n → length body.now + 12 ≤ n → 32 + 4 * array_vec_len table.new ≤ n }
-    ensures answerable { (peer_max.old < 8 → peer_max.old ≡ 0) → peer_max.new < 8 → peer_max.new ≡ 0 }
+) -> (Option<Peer>, State, Result<(), WireFailed>)
+    ensures state { result.1 ≡ (at_request (settings_of config.now) at_start body.now).next.state }
+    ensures sends { Sends (at_request (settings_of config.now) at_start body.now).sent result.2 (W.line wire.old) (W.line wire.new) }
+    ensures due { OnErr result.2 (0 < length (at_request (settings_of config.now) at_start body.now).sent) }
+    ensures accepted { IfSome result.0 (λ peer. (result.1 ≡ Sta6) × IsPeerOf peer (settings_of config.now).further (offered (settings_of config.now).further (request_record body.now))) }
+    ensures room { IfSome result.0 (λ peer. 20 + 4 * array_vec_len peer.contexts ≤ length body.now) }
+    ensures rejected { IfNone result.0 (is_left result.1 ≡ true) }
 {
     match read_request(body) {
-        Err(_) => step(
-            state,
-            Event::Invalid,
-            INVALID_PARAMETER,
-            Answering::Nothing,
-            wire,
-        ),
+        Err(_) => {
+            let (next, sent) = step(
+                State::Sta2,
+                Event::Invalid,
+                INVALID_PARAMETER,
+                Answering::Nothing,
+                wire,
+            );
+            (None, next, sent)
+        }
         Ok(request) => match judge(config, &request) {
             Answer::Accept => {
-                let calling = request.calling();
-                let title = calling.0;
-                *caller = title;
-                *peer_max = request.maximum();
-                table.clear();
-                compact(config, &request, table);
-                let (_, asked) = act(state, Event::Request(true));
+                let peer = peer_of(config, &request);
+                let (_, asked) = act(State::Sta2, Event::Request(true));
                 let answering = Answering::Request(config, &request);
-                step(asked, Event::UserAccepts, 0, answering, wire)
+                let (next, sent) = step(asked, Event::UserAccepts, 0, answering, wire);
+                (Some(peer), next, sent)
             }
-            Answer::Reject(_, source, _) => reject(config, &request, source, state, wire),
+            Answer::Reject(_, source, _) => {
+                let (next, sent) = reject(config, &request, source, wire);
+                (None, next, sent)
+            }
         },
     }
 }
@@ -108,8 +119,8 @@ impl<const A: usize, const C: usize, const V: usize, const D: usize> Provider<A,
     pub(crate) fn takes_body(&self, kind: u8) -> bool
         ensures { result ≡ takes_body_in (kept_of self.now) kind }
     {
-        match self.state {
-            State::Sta2 => !self.refused && kind == pdu_type::A_ASSOCIATE_RQ,
+        match &self.phase {
+            Phase::AwaitingRequest { .. } => !self.refused && kind == pdu_type::A_ASSOCIATE_RQ,
             _ => false,
         }
     }
@@ -122,43 +133,57 @@ impl<const A: usize, const C: usize, const V: usize, const D: usize> Provider<A,
         ensures fits { (m : ℕ) → BodyFits (A - 12) (kept_of self.old) kind (length part.now + m) → BodyFits (A - 12) (kept_of self.new) kind m }
         ensures pends { (store : Store) (p : Progress) (body : List ℕ) → Pends (kept_of self.old) store p (body_in kind body) [] → Pends (kept_of self.new) store p (body_in kind (body ++ part.now)) [] }
     {
-        if self.takes_body(kind) {
-            self.body.try_extend_from_slice(part).unwrap();
+        if self.refused || kind != pdu_type::A_ASSOCIATE_RQ {
+            return;
+        }
+        if let Phase::AwaitingRequest { body } = &mut self.phase {
+            body.try_extend_from_slice(part).unwrap();
+        }
+    }
+
+    /// Returns what has come of the body of a request.
+    fn body(&self) -> &[u8]
+        ensures { result.now ≡ (kept_of self.now).body }
+    {
+        match &self.phase {
+            Phase::AwaitingRequest { body } => body.as_slice(),
+            _ => &[],
         }
     }
 
     /// The association request is whole: it is read, judged and answered, and then given up.
     fn on_request<W: Wire, F: Filing>(&mut self, wire: &mut W, filing: &mut F)
         requires draft { IsThere (drafting_in (kept_of self.old).storing) (F.store filing.old) }
-        requires due { self.old.state ≡ Sta2 }
+        requires due { (kept_of self.old).state ≡ Sta2 }
         ensures settings { settings_in self.new ≡ settings_in self.old }
         ensures drafts { Drafts (drafting_in (kept_of self.old).storing) (F.store filing.old) (drafting_in (kept_of self.new).storing) (F.store filing.new) }
         ensures tries { (p : Progress) (body : List ℕ) → Pends (kept_of self.old) (F.store filing.old) p body [] → p.refused ≡ false
             → DoesDue p (at_request (settings_in self.old) p body) (kept_of self.new) body [] (devices (W.line wire.old) (F.store filing.old)) (devices (W.line wire.new) (F.store filing.new)) }
     {
-        let (next, sent) = answer_request(
-            &self.config,
-            self.body.as_slice(),
-            self.state,
-            &mut self.caller,
-            &mut self.peer_max,
-            &mut self.table,
-            wire,
-        );
-        self.body.clear();
-        self.settle(next, sent, filing);
+        let (peer, next, sent) = answer_request(&self.config, self.body(), wire);
+        match peer {
+            Some(peer) => {
+                let message = Message {
+                    join: Join::new(),
+                    storing: Storing::Nothing,
+                };
+                self.phase = Phase::Established { peer, message };
+                self.settle(next, sent, filing);
+            }
+            None => self.settle(next, sent, filing),
+        }
     }
 
     /// A release request is whole, and the local user agrees to it at once.
     fn on_release<W: Wire, F: Filing>(&mut self, wire: &mut W, filing: &mut F)
         requires draft { IsThere (drafting_in (kept_of self.old).storing) (F.store filing.old) }
-        requires due { self.old.state ≡ Sta6 }
+        requires due { (kept_of self.old).state ≡ Sta6 }
         ensures settings { settings_in self.new ≡ settings_in self.old }
         ensures drafts { Drafts (drafting_in (kept_of self.old).storing) (F.store filing.old) (drafting_in (kept_of self.new).storing) (F.store filing.new) }
         ensures tries { (p : Progress) (body begun : List ℕ) → Pends (kept_of self.old) (F.store filing.old) p body begun
             → DoesDue p (released p) (kept_of self.new) body begun (devices (W.line wire.old) (F.store filing.old)) (devices (W.line wire.new) (F.store filing.new)) }
     {
-        let (_, asked) = act(self.state, Event::ReleaseRq);
+        let (_, asked) = act(State::Sta6, Event::ReleaseRq);
         let (next, sent) = step(asked, Event::UserReleases, 0, Answering::Nothing, wire);
         self.settle(next, sent, filing);
     }
@@ -171,7 +196,8 @@ impl<const A: usize, const C: usize, const V: usize, const D: usize> Provider<A,
         ensures tries { (p : Progress) (body : List ℕ) → Pends (kept_of self.old) (F.store filing.old) p (body_in kind body) []
             → DoesDue p (at_entry (rooms_of A C V D) (settings_in self.old) p good (At (End kind body))) (kept_of self.new) (body_in kind body) [] (devices (W.line wire.old) (F.store filing.old)) (devices (W.line wire.new) (F.store filing.new)) }
     {
-        if let State::Sta1 = self.state {
+        let state = self.phase.state();
+        if let State::Sta1 = state {
             return;
         }
         if self.refused {
@@ -180,12 +206,12 @@ impl<const A: usize, const C: usize, const V: usize, const D: usize> Provider<A,
         match kind {
             pdu_type::A_ABORT => self.happens(Event::Abort, 0, Answering::Nothing, wire, filing),
             pdu_type::A_ASSOCIATE_RQ => {
-                if let State::Sta2 = self.state {
+                if let State::Sta2 = state {
                     self.on_request(wire, filing);
                 }
             }
             pdu_type::A_RELEASE_RQ => {
-                if let State::Sta6 = self.state {
+                if let State::Sta6 = state {
                     self.on_release(wire, filing);
                 }
             }
@@ -202,6 +228,6 @@ impl<const A: usize, const C: usize, const V: usize, const D: usize> Provider<A,
             (devices (W.line wire.old) (F.store filing.old)) (devices (W.line wire.new) (F.store filing.new)) }
     {
         self.on_whole(kind, wire, filing);
-        self.body.clear()
+        self.clear_body();
     }
 }

@@ -37,8 +37,8 @@ pub(crate) enum Storing<const V: usize, const D: usize> {
     Nothing,
     /// A data set is walked. Its draft is in the filing until a filing call fails.
     DataSet {
-        walker: Walker<V, D>,
         drafting: bool,
+        walker: Walker<V, D>,
     },
 }
 
@@ -171,8 +171,8 @@ pub(crate) fn begin_store<const V: usize, const D: usize, F: Filing>(
     let header = meta_bytes(&meta);
     let drafting = begin_draft(header.as_slice(), filing);
     Storing::DataSet {
-        walker: Walker::new(context.syntax, wanted(), max_data),
         drafting,
+        walker: Walker::new(context.syntax, wanted(), max_data),
     }
 }
 
@@ -315,7 +315,7 @@ impl<const V: usize, const D: usize> Storing<V, D> {
     {
         match self {
             Storing::Nothing => {}
-            Storing::DataSet { walker, drafting } => {
+            Storing::DataSet { drafting, walker } => {
                 walk(walker, part);
                 *drafting = extend_draft(part, *drafting, filing);
             }

@@ -21,6 +21,9 @@ use Rattle.engine.specs.Drafts.{IsDraft}
 use Rattle.engine.specs.StoredData.{Stored, Walks, drafting_in}
 use Rattle.engine.specs.Kept.{Kept, Pends, Agreed, IsUnagreed, counted_body}
 
+abbrev pub with_body : List ℕ → Kept → Kept
+with_body body kept = record kept { body = body }
+
 abbrev pub with_join : Joining → Kept → Kept
 with_join join kept = record kept { join = join }
 

@@ -10,7 +10,6 @@ use Rattle.engine.specs.declared.stores.StoreStatus.{StoreStatus}
 use Rattle.engine.specs.StoredData.{Stored, Nothing, Walking, HasWalked}
 use Rattle.engine.specs.Stores.{IsOfContext, Verdict}
 use Rattle.engine.specs.Timeline.{Finding}
-use Rattle.engine.specs.Requested.{Requested}
 
 abbrev pub finding_of : StoreStatus → Finding
 finding_of s = record { status = s.status; detail = s.detail }

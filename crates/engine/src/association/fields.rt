@@ -1,10 +1,11 @@
-//! The fields of an association, each with its type: bytes that came are held by the deframer, in `body` and
-//! `caller`, by the join and by the walker alone. A further field does not compile here before it is named.
+//! The fields of an association, each with its type: bytes that came are held by the deframer, in the
+//! phase's `body` and `caller`, by the join and by the walker alone. A further field does not compile here
+//! before it is named.
 
 use super::Association;
+use crate::phase::{Message, Peer, Phase};
 use crate::provider::Provider;
 use crate::stores::Storing;
-use acceptor::State;
 use arrayvec::ArrayVec;
 use dimse::Join;
 use negotiate::{Config, ContextRow};
@@ -17,29 +18,43 @@ fn fields<const A: usize, const C: usize, const V: usize, const D: usize>(
     let Association { deframer, provider } = association;
     let Provider {
         config,
-        state,
         refused,
-        caller,
-        peer_max,
-        table,
-        body,
-        join,
-        storing,
+        phase,
     } = provider;
     let _: &Deframer = deframer;
     let _: &Config = config;
-    let _: &State = state;
     let _: &bool = refused;
+    match phase {
+        Phase::AwaitingRequest { body } => {
+            let _: &ArrayVec<u8, A> = body;
+        }
+        Phase::Established { peer, message } => {
+            fields_of_peer(peer);
+            fields_of_message(message);
+        }
+        Phase::AwaitingClose | Phase::Ended => {}
+    }
+}
+
+fn fields_of_peer(peer: &Peer) {
+    let Peer {
+        caller,
+        max_length,
+        contexts,
+    } = peer;
     let _: &[u8; 16] = caller;
-    let _: &u32 = peer_max;
-    let _: &ArrayVec<ContextRow, 128> = table;
-    let _: &ArrayVec<u8, A> = body;
+    let _: &u32 = max_length;
+    let _: &ArrayVec<ContextRow, 128> = contexts;
+}
+
+fn fields_of_message<const C: usize, const V: usize, const D: usize>(message: &Message<C, V, D>) {
+    let Message { join, storing } = message;
     let _: &Join<C> = join;
     match storing {
         Storing::Nothing => {}
-        Storing::DataSet { walker, drafting } => {
-            let _: &Walker<V, D> = walker;
+        Storing::DataSet { drafting, walker } => {
             let _: &bool = drafting;
+            let _: &Walker<V, D> = walker;
         }
     }
 }

@@ -1,11 +1,19 @@
 -- The next state and the text are those of the definition from Sta2.
-use Rattle.std.proofs.Common.{◌≡◌, ◌∙◌, ap, sym, subst, ℕ, ◌<◌, List, length, OnErr, arith}
+use Rattle.std.proofs.Common.{◌≡◌, ◌∙◌, refl, ap, sym, subst, ℕ, ◌<◌, List, length, OnErr, arith}
+use Rattle.acceptor.specs.declared.state.State.{State}
+use Rattle.acceptor.specs.declared.state.State.TheVariants.{Sta2}
+use Rattle.acceptor.specs.declared.action.Action.{Action}
+use Rattle.acceptor.specs.declared.event.Event.TheVariants.{UserAccepts}
+use Rattle.acceptor.specs.Table.{table}
+use Rattle.pdu.specs.Record.{RequestRecord}
 use Rattle.pdu.specs.Sent.{Sends}
 use Rattle.pdu.specs.Items.{request_record}
 use Rattle.pdu.proofs.Public.{request_fits}
 use Rattle.negotiate.specs.declared.answer.Answer.TheVariants.{Accept, Reject}
 use Rattle.negotiate.specs.Settings.{settings_of}
 use Rattle.negotiate.specs.Answer.{judged}
+use Rattle.negotiate.specs.Contexts.{offered}
+use Rattle.engine.specs.machine.Accepted.{IsPeerOf}
 use Rattle.engine.proofs.RowsLemmas.{few_rows}
 use Rattle.engine.proofs.RequestLemmas.{accepted_state, accepted_sent, rejection_state, rejection_sent}
 use Rattle.engine.proofs.requests.answer_request.Goals as goal
@@ -15,15 +23,15 @@ returns-in-Accept-clause-state g c =
     let s = settings_of c.args.config.now in
     let none = request_fits c.in-Ok.request c.args.body.now c.in-Ok.ensures.text in
     let accept : judged s (request_record c.args.body.now) ≡ Accept = ap (judged s) (sym c.in-Ok.ensures.record) ∙ sym c.judge.ensures ∙ c.in-Accept.is in
-    accepted_state s c.args.body.now c.args.state c.requires.due none c.act-asked.result _ c.act-asked.ensures.table c.step-in-Accept.ensures.state accept
+    accepted_state s c.args.body.now Sta2 refl none c.act-asked.result _ c.act-asked.ensures.table c.step-next-in-Accept.ensures.state accept
 
 pub returns-in-Accept-clause-sends : goal.returns-in-Accept-clause-sends
 returns-in-Accept-clause-sends g c =
     let s = settings_of c.args.config.now in
     let none = request_fits c.in-Ok.request c.args.body.now c.in-Ok.ensures.text in
     let accept : judged s (request_record c.args.body.now) ≡ Accept = ap (judged s) (sym c.in-Ok.ensures.record) ∙ sym c.judge.ensures ∙ c.in-Accept.is in
-    subst (λ (t : List ℕ). Sends t c.step-in-Accept.result.1 (g.W.Wire.line c.args.wire.now) (g.W.Wire.line c.step-in-Accept.new.wire))
-    (accepted_sent s c.args.body.now c.args.state c.requires.due none c.act-asked.result c.in-Ok.request c.act-asked.ensures.table c.in-Ok.ensures.record accept) c.step-in-Accept.ensures.sends
+    subst (λ (t : List ℕ). Sends t c.step-next-in-Accept.result.1 (g.W.Wire.line c.args.wire.now) (g.W.Wire.line c.step-next-in-Accept.new.wire))
+    (accepted_sent s c.args.body.now Sta2 refl none c.act-asked.result c.in-Ok.request c.act-asked.ensures.table c.in-Ok.ensures.record accept) c.step-next-in-Accept.ensures.sends
 
 pub returns-in-Reject-clause-state : goal.returns-in-Reject-clause-state
 returns-in-Reject-clause-state g c =
@@ -31,7 +39,7 @@ returns-in-Reject-clause-state g c =
     let none = request_fits c.in-Ok.request c.args.body.now c.in-Ok.ensures.text in
     let rejected : judged s (request_record c.args.body.now) ≡ Reject c.in-Reject.field-0 c.in-Reject.source c.in-Reject.field-2 =
     ap (judged s) (sym c.in-Ok.ensures.record) ∙ sym c.judge.ensures ∙ c.in-Reject.is in
-    c.reject.ensures.state ∙ rejection_state s c.args.body.now c.args.state c.requires.due none c.in-Reject.field-0 c.in-Reject.source c.in-Reject.field-2 rejected
+    c.reject-next.ensures.state ∙ rejection_state s c.args.body.now Sta2 refl none c.in-Reject.field-0 c.in-Reject.source c.in-Reject.field-2 rejected
 
 pub returns-in-Reject-clause-sends : goal.returns-in-Reject-clause-sends
 returns-in-Reject-clause-sends g c =
@@ -39,8 +47,8 @@ returns-in-Reject-clause-sends g c =
     let none = request_fits c.in-Ok.request c.args.body.now c.in-Ok.ensures.text in
     let rejected : judged s (request_record c.args.body.now) ≡ Reject c.in-Reject.field-0 c.in-Reject.source c.in-Reject.field-2 =
     ap (judged s) (sym c.in-Ok.ensures.record) ∙ sym c.judge.ensures ∙ c.in-Reject.is in
-    subst (λ (t : List ℕ). Sends t c.reject.result.1 (g.W.Wire.line c.args.wire.now) (g.W.Wire.line c.reject.new.wire))
-    (rejection_sent s c.args.body.now c.args.state c.requires.due none c.in-Reject.field-0 c.in-Reject.source c.in-Reject.field-2 c.in-Ok.request c.in-Ok.ensures.record rejected) c.reject.ensures.sends
+    subst (λ (t : List ℕ). Sends t c.reject-next.result.1 (g.W.Wire.line c.args.wire.now) (g.W.Wire.line c.reject-next.new.wire))
+    (rejection_sent s c.args.body.now Sta2 refl none c.in-Reject.field-0 c.in-Reject.source c.in-Reject.field-2 c.in-Ok.request c.in-Ok.ensures.record rejected) c.reject-next.ensures.sends
 
 pub returns-in-Reject-clause-due : goal.returns-in-Reject-clause-due
 returns-in-Reject-clause-due g c =
@@ -48,8 +56,15 @@ returns-in-Reject-clause-due g c =
     let none = request_fits c.in-Ok.request c.args.body.now c.in-Ok.ensures.text in
     let rejected : judged s (request_record c.args.body.now) ≡ Reject c.in-Reject.field-0 c.in-Reject.source c.in-Reject.field-2 =
     ap (judged s) (sym c.in-Ok.ensures.record) ∙ sym c.judge.ensures ∙ c.in-Reject.is in
-    subst (λ (t : List ℕ). OnErr c.reject.result.1 (0 < length t))
-    (rejection_sent s c.args.body.now c.args.state c.requires.due none c.in-Reject.field-0 c.in-Reject.source c.in-Reject.field-2 c.in-Ok.request c.in-Ok.ensures.record rejected) c.reject.ensures.due
+    subst (λ (t : List ℕ). OnErr c.reject-next.result.1 (0 < length t))
+    (rejection_sent s c.args.body.now Sta2 refl none c.in-Reject.field-0 c.in-Reject.source c.in-Reject.field-2 c.in-Ok.request c.in-Ok.ensures.record rejected) c.reject-next.ensures.due
 
-pub returns-in-Accept-clause-rows : goal.returns-in-Accept-clause-rows
-returns-in-Accept-clause-rows g c = λ n old fits. omega (arith, c.compact.ensures.count, few_rows (settings_of c.args.config.now).further c.in-Ok.request c.args.body.now c.in-Ok.ensures.text, fits)
+pub returns-in-Accept-clause-accepted : goal.returns-in-Accept-clause-accepted
+returns-in-Accept-clause-accepted g c =
+    let further = (settings_of c.args.config.now).further in (
+      c.step-next-in-Accept.ensures.state ∙ ap (λ (x : Action × State). (table x.1 UserAccepts).1) c.act-asked.ensures.table,
+      subst (λ (r : RequestRecord). IsPeerOf c.peer_of-peer.result further (offered further r)) c.in-Ok.ensures.record c.peer_of-peer.ensures,
+    )
+
+pub returns-in-Accept-clause-room : goal.returns-in-Accept-clause-room
+returns-in-Accept-clause-room g c = omega (arith, c.peer_of-peer.ensures.count, few_rows (settings_of c.args.config.now).further c.in-Ok.request c.args.body.now c.in-Ok.ensures.text)

@@ -1,5 +1,5 @@
 -- By what the join makes of the PDV.
-use Rattle.std.proofs.Common.{◌≡◌, ◌∙◌, ap, sym, subst, refl, List, ℕ, [], get_or, false, Ok, Result}
+use Rattle.std.proofs.Common.{◌≡◌, ◌∙◌, ◌&&◌, Bool, not, ap, sym, subst, refl, List, ℕ, [], get_or, false, Ok, Result}
 use Rattle.dimse.specs.declared.joined.Joined.{Joined}
 use Rattle.dimse.specs.declared.joined.Joined.TheVariants as joined
 use Rattle.dimse.specs.declared.fault.DimseFault.{DimseFault}
@@ -10,34 +10,52 @@ use Rattle.engine.specs.Timeline.{At, good}
 use Rattle.engine.specs.Progress.{nothing}
 use Rattle.engine.specs.Replies.{user_aborts, going_on}
 use Rattle.engine.specs.Devices.{devices}
-use Rattle.engine.specs.Kept.{Kept, Pends, kept_of, settings_in}
+use Rattle.engine.specs.Kept.{Pends, kept_of, settings_in}
+use Rattle.engine.specs.Requested.{request_record}
+use Rattle.engine.specs.machine.Accepted.{IsPeerOf}
 use Rattle.engine.specs.machine.Does.{Does}
-use Rattle.engine.specs.machine.Messages.{with_join, Proceeds}
+use Rattle.engine.specs.machine.Messages.{with_join, with_storing, Proceeds}
 use Rattle.engine.specs.Run.{rooms_of}
+use Rattle.engine.specs.StoredData.{stored_of}
 use Rattle.engine.proofs.ShownLemmas.{takes_shown}
-use Rattle.engine.proofs.StoreLemmas.{Carried, carried, nothing_walked, no_store_yet, long_pdv, pdv_store}
+use Rattle.engine.proofs.StoreLemmas.{Carried, carried, nothing_walked, no_store_yet, long_pdv, pdv_store, same_drafts, drops_drafts, drops_unfiled, drafts_then}
 use Rattle.engine.proofs.DueLemmas.{does_by, does_nothing}
 use Rattle.engine.proofs.MessageLemmas.{entry_of, pdv_taken, pdv_dropped, pdv_comes, pends_dropped, goes_of, ends_of, refuses_of, due_of, counted_taken, pends_going_on, aside_of, aside_joined, taken_state, aborted_pdv, aborted_body, verdict_by, verdict_none, tries_still, pdv_context}
-use Rattle.engine.proofs.EndedLemmas.{does_concluded}
+use Rattle.engine.proofs.EndedLemmas.{concludes, does_concluded}
 use Rattle.engine.proofs.DataLemmas.{does_due}
-use Rattle.engine.proofs.SizeLemmas.{provider_small}
+use Rattle.engine.proofs.PhaseLemmas.{refused_pdvs, kept_by, unestablished}
 use Rattle.engine.proofs.provider.Provider.on_pdv.Goals as goal
 
-pub returns-then-not-takes_pdvs-clause-does : goal.returns-then-not-takes_pdvs-clause-does
-returns-then-not-takes_pdvs-clause-does g c = λ p begun six whole h.
+pub returns-then-self-clause-does : goal.returns-then-self-clause-does
+returns-then-self-clause-does g c = λ p begun six whole h.
     let rooms = rooms_of g.row.A g.row.C g.row.V g.row.D in
     let s = settings_in c.args.self.now in
     let k = kept_of c.args.self.now in
-    let dropped = sym (takes_shown k _ p [] begun h) ∙ sym c.takes_pdvs.ensures ∙ c.if-not-takes_pdvs.true in
+    let dropped = sym (takes_shown k _ p [] begun h) ∙ refused_pdvs k c.if-self.true in
     does_nothing rooms s p (At (entry_of begun)) k [] [] _ (pdv_dropped rooms s p begun dropped) (verdict_none rooms s p begun dropped) (pends_dropped k _ p [] begun [] dropped h)
 
+pub returns-in_default : goal.returns-in_default
+returns-in_default g c = record {
+  settings = refl;
+  drafts = same_drafts _ _ c.requires.draft;
+  does = λ p begun six whole h.
+      let rooms = rooms_of g.row.A g.row.C g.row.V g.row.D in
+      let s = settings_in c.args.self.now in
+      let k = kept_of c.args.self.now in
+      let dropped = sym (takes_shown k _ p [] begun h) ∙ ap (λ (t : Bool). t && not k.refused) (unestablished c.args.self.now.phase c.in_default.not-Established) in
+      does_nothing rooms s p (At (entry_of begun)) k [] [] _ (pdv_dropped rooms s p begun dropped) (verdict_none rooms s p begun dropped) (pends_dropped k _ p [] begun [] dropped h);
+}
+
+pub returns-in-Ok-More-clause-drafts : goal.returns-in-Ok-More-clause-drafts
+returns-in-Ok-More-clause-drafts g c = rw c.in-Established.is (same_drafts _ _ (rw c.in-Established.is at c.requires.draft))
+
 pub returns-in-Ok-More-clause-does : goal.returns-in-Ok-More-clause-does
-returns-in-Ok-More-clause-does g c = λ p begun six whole h.
+returns-in-Ok-More-clause-does g c = rw c.in-Established.is (λ p begun six whole h.
     let rooms = rooms_of g.row.A g.row.C g.row.V g.row.D in
     let s = settings_in c.args.self.now in
-    let k = kept_of c.args.self.now in
+    let k = kept_by c.args.self.now c.in-Established.peer c.in-Established.message in
     let so = g.F.Filing.store c.args.filing.now in
-    let taken = sym (takes_shown k so p [] begun h) ∙ sym c.takes_pdvs.ensures ∙ c.if-not-takes_pdvs.false in
+    let taken = sym (takes_shown k so p [] begun h) ∙ ap not c.if-self.false in
     let was : ShowsMessage g.row.C k.join p.message begun = subst (λ (xs : List ℕ). ShowsMessage g.row.C k.join p.message xs) (counted_taken p begun taken) h.join_is in
     let j = c.end.new.self in
     let joins : Joins g.row.C p.message (brought p.message (pdv_of begun)) k.join j c.end.result = c.end.ensures p.message begun six was in
@@ -47,15 +65,15 @@ returns-in-Ok-More-clause-does g c = λ p begun six whole h.
     let later = got.0 in
     does_by rooms s p (At (entry_of begun)) (nothing (going_on later p)) (with_join j k) [] [] _ _
     (pdv_taken rooms s p good begun taken ∙ pdv_comes p good begun (Goes later) got.1) refl (verdict_by rooms s p p good begun (Goes later) taken got.1 tt)
-    (tries_still p (going_on later p) (with_join j k) [] [] _ (pends_going_on k so p j later begun h taken got.2 got.3 six))
+    (tries_still p (going_on later p) (with_join j k) [] [] _ (pends_going_on k so p j later begun h taken got.2 got.3 six)))
 
 pub returns-in-Ok-Message-clause-does : goal.returns-in-Ok-Message-clause-does
-returns-in-Ok-Message-clause-does g c = λ p begun six whole h.
+returns-in-Ok-Message-clause-does g c = rw c.in-Established.is (λ p begun six whole h.
     let rooms = rooms_of g.row.A g.row.C g.row.V g.row.D in
     let s = settings_in c.args.self.now in
-    let k = kept_of c.args.self.now in
+    let k = kept_by c.args.self.now c.in-Established.peer c.in-Established.message in
     let so = g.F.Filing.store c.args.filing.now in
-    let taken = sym (takes_shown k so p [] begun h) ∙ sym c.takes_pdvs.ensures ∙ c.if-not-takes_pdvs.false in
+    let taken = sym (takes_shown k so p [] begun h) ∙ ap not c.if-self.false in
     let was : ShowsMessage g.row.C k.join p.message begun = subst (λ (xs : List ℕ). ShowsMessage g.row.C k.join p.message xs) (counted_taken p begun taken) h.join_is in
     let j = c.end.new.self in
     let joins : Joins g.row.C p.message (brought p.message (pdv_of begun)) k.join j c.end.result = c.end.ensures p.message begun six was in
@@ -67,16 +85,29 @@ returns-in-Ok-Message-clause-does g c = λ p begun six whole h.
     let same : j.command ≡ m.command = ap (λ (x : Joining). x.command) got.2 in
     let here : c.context-context.result ≡ m.context = pdv_context g.row.C k.join p.message begun c.context-context.result six was c.context-context.ensures ∙ sym got.4 in
     let kept = subst (λ (xs : List ℕ). Carried k.depth k.most k.storing so p.request (with_pdv xs p.message) p.filing_failed) (counted_taken p begun taken) (carried k so p [] begun h) in
-    does_concluded rooms s p begun m come (kept_of c.on_message.new.self) _ _ taken got.1 (λ st. pdv_store p.request begun p.message six st)
-    (c.on_message.ensures.concludes p m come (aside_joined k p j (aside_of k so p begun h)) got.3 same here kept.0 kept.1)
+    let aside = aside_joined k p j (aside_of k so p begun h) in
+    let agreed = aside.agreed (taken_state p taken) in
+    let peer : IsPeerOf c.in-Established.peer s.further (request_record p.request) = record { caller = agreed.caller; maximum = agreed.maximum; rows = agreed.rows; contexts = agreed.contexts; count = agreed.count } in
+    let ended = c.reply-sent.ensures.ended g.row.A p m come peer got.3 same here kept.0 kept.1 in
+    does_concluded rooms s p begun m come (kept_of c.settle.new.self) _ _ taken got.1 (λ st. pdv_store p.request begun p.message six st)
+    (concludes rooms s p m come c.reply-sent.result (with_join j k) (kept_of c.settle.new.self) c.clear.new.self (stored_of c.leave.new.self) _ _ _ _ _ _
+    aside refl c.clear.ensures c.leave.ensures.nothing ended (drops_unfiled _ _ _ c.leave.ensures.drops) c.settle.ensures.settles))
+
+pub returns-in-Ok-Message-clause-drafts : goal.returns-in-Ok-Message-clause-drafts
+returns-in-Ok-Message-clause-drafts g c = rw c.in-Established.is (
+    drafts_then _ _ _ _ _ _ c.reply-sent.ensures.drafts
+    (drafts_then _ _ _ _ _ _ (drops_drafts _ _ _ (stored_of c.leave.new.self) c.leave.ensures.nothing c.leave.ensures.drops) c.settle.ensures.drafts))
+
+pub returns-in-Ok-DataDue-clause-drafts : goal.returns-in-Ok-DataDue-clause-drafts
+returns-in-Ok-DataDue-clause-drafts g c = rw c.in-Established.is c.begin.ensures.drafts
 
 pub returns-in-Ok-DataDue-clause-does : goal.returns-in-Ok-DataDue-clause-does
-returns-in-Ok-DataDue-clause-does g c = λ p begun six whole h.
+returns-in-Ok-DataDue-clause-does g c = rw c.in-Established.is (λ p begun six whole h.
     let rooms = rooms_of g.row.A g.row.C g.row.V g.row.D in
     let s = settings_in c.args.self.now in
-    let k = kept_of c.args.self.now in
+    let k = kept_by c.args.self.now c.in-Established.peer c.in-Established.message in
     let so = g.F.Filing.store c.args.filing.now in
-    let taken = sym (takes_shown k so p [] begun h) ∙ sym c.takes_pdvs.ensures ∙ c.if-not-takes_pdvs.false in
+    let taken = sym (takes_shown k so p [] begun h) ∙ ap not c.if-self.false in
     let was : ShowsMessage g.row.C k.join p.message begun = subst (λ (xs : List ℕ). ShowsMessage g.row.C k.join p.message xs) (counted_taken p begun taken) h.join_is in
     let j = c.end.new.self in
     let joins : Joins g.row.C p.message (brought p.message (pdv_of begun)) k.join j c.end.result = c.end.ensures p.message begun six was in
@@ -85,24 +116,26 @@ returns-in-Ok-DataDue-clause-does g c = λ p begun six whole h.
     let got = due_of g.row.C p.message begun six (was.accepted six) k.join j told in
     let later = got.0 in
     let due = got.3 in
-    let z = (kept_of c.on_store_command.new.self).storing in
+    let z = stored_of c.begin.new.self.storing in
     let kept = subst (λ (xs : List ℕ). Carried k.depth k.most k.storing so p.request (with_pdv xs p.message) p.filing_failed) (counted_taken p begun taken) (carried k so p [] begun h) in
     let none = nothing_walked (λ st. no_store_yet p.request (with_pdv begun p.message) (get_or begun 4 0) due.command (long_pdv begun p.message six ∙ due.came) st) kept.0 in
     let command : j.command ≡ due.command = ap (λ (x : Joining). x.command) got.2.shows ∙ ap command_bytes due.later_is in
     let same : InSet c.context-context.result j.command [] ≡ later = ap (λ (n : ℕ). InSet n j.command []) (pdv_context g.row.C k.join p.message begun c.context-context.result six was c.context-context.ensures) ∙ ap (λ (xs : List ℕ). InSet (get_or begun 4 0) xs []) command ∙ sym due.later_is in
-    let proceeds = c.on_store_command.ensures.proceeds p.request ((aside_joined k p j (aside_of k so p begun h)).agreed (taken_state p taken)) none (λ x e. due.announced x (ap command_in (sym command) ∙ e)) in
-    subst (λ (x : Kept). Does rooms s p (At (entry_of begun)) x [] [] (devices (g.W.Wire.line c.args.wire.now) so) (devices (g.W.Wire.line c.args.wire.now) (g.F.Filing.store c.on_store_command.new.filing)))
-    (sym c.on_store_command.ensures.kept)
+    let agreed = (aside_joined k p j (aside_of k so p begun h)).agreed (taken_state p taken) in
+    let peer : IsPeerOf c.in-Established.peer s.further (request_record p.request) = record { caller = agreed.caller; maximum = agreed.maximum; rows = agreed.rows; contexts = agreed.contexts; count = agreed.count } in
+    let proceeds = c.begin.ensures.proceeds p.request peer none (λ x e. due.announced x (ap command_in (sym command) ∙ e)) in
+    subst (λ (x : Joining). Does rooms s p (At (entry_of begun)) (with_storing z (with_join x k)) [] [] (devices (g.W.Wire.line c.args.wire.now) so) (devices (g.W.Wire.line c.args.wire.now) (g.F.Filing.store c.begin.new.filing)))
+    (sym c.begin.ensures.join)
     (does_due rooms s p begun g.row.C k j z _ so _ later h taken got.1 got.2 due
-    (subst (λ (x : Begun). Proceeds g.row.D c.args.self.now.config.max_data p.request x false z so (g.F.Filing.store c.on_store_command.new.filing)) same proceeds))
+    (subst (λ (x : Begun). Proceeds g.row.D c.args.self.now.config.max_data p.request x false z so (g.F.Filing.store c.begin.new.filing)) same proceeds)))
 
 pub returns-in-Err-clause-does : goal.returns-in-Err-clause-does
-returns-in-Err-clause-does g c = λ p begun six whole h.
+returns-in-Err-clause-does g c = rw c.in-Established.is (λ p begun six whole h.
     let rooms = rooms_of g.row.A g.row.C g.row.V g.row.D in
     let s = settings_in c.args.self.now in
-    let k = kept_of c.args.self.now in
+    let k = kept_by c.args.self.now c.in-Established.peer c.in-Established.message in
     let so = g.F.Filing.store c.args.filing.now in
-    let taken = sym (takes_shown k so p [] begun h) ∙ sym c.takes_pdvs.ensures ∙ c.if-not-takes_pdvs.false in
+    let taken = sym (takes_shown k so p [] begun h) ∙ ap not c.if-self.false in
     let was : ShowsMessage g.row.C k.join p.message begun = subst (λ (xs : List ℕ). ShowsMessage g.row.C k.join p.message xs) (counted_taken p begun taken) h.join_is in
     let j = c.end.new.self in
     let joins : Joins g.row.C p.message (brought p.message (pdv_of begun)) k.join j c.end.result = c.end.ensures p.message begun six was in
@@ -111,23 +144,4 @@ returns-in-Err-clause-does g c = λ p begun six whole h.
     let pends : Pends (with_join j k) so p [] begun = subst (λ (x : Joining). Pends (with_join x k) so p [] begun) (sym got.1) h in
     does_by rooms s p (At (entry_of begun)) (user_aborts p) (kept_of c.refuse.new.self) [] [] _ _
     (pdv_taken rooms s p good begun taken ∙ pdv_comes p good begun (Refuses c.in-Err.field-0) got.0) refl (verdict_by rooms s p p good begun (Refuses c.in-Err.field-0) taken got.0 tt)
-    (c.refuse.ensures.tries p [] begun [] [] pends (aborted_body p taken) (aborted_pdv p begun taken))
-
-pub takes_pdvs-requires : goal.takes_pdvs-requires
-takes_pdvs-requires g c = provider_small c.args.self.now
-
-pub invariant_of-self : goal.invariant_of-self
-invariant_of-self g c = record {
-  least = c.args.self.now.least;
-  greatest = c.args.self.now.greatest;
-  command_greatest = c.args.self.now.command_greatest;
-  least_kept = c.args.self.now.least_kept;
-  greatest_kept = c.args.self.now.greatest_kept;
-  least_levels = c.args.self.now.least_levels;
-  greatest_levels = c.args.self.now.greatest_levels;
-  answerable = c.args.self.now.answerable;
-  room = c.args.self.now.room;
-  rows_room = c.args.self.now.rows_room;
-  given_up = c.args.self.now.given_up;
-  left = c.args.self.now.left;
-}
+    (c.refuse.ensures.tries p [] begun [] [] pends (aborted_body p taken) (aborted_pdv p begun taken)))

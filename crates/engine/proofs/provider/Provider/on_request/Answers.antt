@@ -1,37 +1,61 @@
 -- The request is answered, and what is kept of it is what was agreed.
-use Rattle.std.proofs.Common.{◌<◌, ◌∙◌, ap, subst, List, ℕ, length, OnErr, arith}
+use Rattle.std.proofs.Common.{◌≡◌, ◌<◌, ◌∙◌, ap, sym, subst, refl, true, List, ℕ, length, OnErr, arith}
 use Rattle.acceptor.specs.declared.state.State.TheVariants.{Sta6}
 use Rattle.pdu.specs.Sent.{Sends}
+use Rattle.engine.specs.Drafts.{Drafts}
 use Rattle.engine.specs.Requested.{request_record}
 use Rattle.engine.specs.Progress.{at_start}
 use Rattle.engine.specs.Requests.{at_request}
 use Rattle.engine.specs.Kept.{Agreed, kept_of, settings_in}
-use Rattle.engine.specs.machine.DoesDue.{ComesTo}
-use Rattle.engine.proofs.RequestLemmas.{asked, request_tries, given_up}
+use Rattle.engine.specs.declared.stores.Storing.TheVariants.{Nothing}
+use Rattle.engine.specs.StoredData.{Stored, drafting_in}
+use Rattle.engine.specs.machine.DoesDue.{is_left}
+use Rattle.engine.proofs.PhaseLemmas.{kept_by, awaiting_stored, awaiting_room}
+use Rattle.engine.proofs.RequestLemmas.{asked, request_tries}
 use Rattle.engine.proofs.provider.Provider.on_request.Goals as goal
 
-pub returns : goal.returns
-returns g c = record {
-  settings = c.settle.ensures.settings;
-  drafts = c.settle.ensures.drafts;
-  tries = λ p body h unrefused.
-      let s = settings_in c.args.self.now in
-      let old = kept_of c.args.self.now in
-      let new = kept_of c.settle.new.self in
-      let a = c.answer_request-next in
-      let caller = a.new.caller in
-      let maximum = a.new.peer_max in
-      let rows = a.new.table.items in
-      let given = given_up caller maximum rows old in
-      let bytes = c.as_slice.ensures.value in
-      request_tries s p body a.result.0 a.result.1 old new caller maximum rows _ _ _ _ h c.requires.due unrefused
-      (a.ensures.state ∙ ap (λ (b : List ℕ). (at_request s at_start b).next.state) bytes)
-      (subst (λ (b : List ℕ). ComesTo a.result.0 a.result.1 (record given { body = b }) new (g.F.Filing.store c.args.filing.now) (g.F.Filing.store c.settle.new.filing)) c.clear.ensures c.settle.ensures.settles)
-      (λ six. subst (λ (b : List ℕ). Agreed (record given { state = Sta6 }) (request_record (asked s.further b))) bytes
-      (record { caller = a.ensures.caller six; maximum = a.ensures.maximum six; rows = a.ensures.kept_rows six; contexts = a.ensures.contexts six; count = a.ensures.count six }))
-      (subst (λ (b : List ℕ). Sends (at_request s at_start b).sent a.result.1 (g.W.Wire.line c.args.wire.now) (g.W.Wire.line a.new.wire)) bytes a.ensures.sends)
-      (subst (λ (b : List ℕ). OnErr a.result.1 (0 < length (at_request s at_start b).sent)) bytes a.ensures.due);
-}
+pub returns-in-Some : goal.returns-in-Some
+returns-in-Some g c =
+    let a = c.answer_request-peer in
+    let accepted = rw c.in-Some.is at a.ensures.accepted in
+    let peer = accepted.1 in
+    let nothing = sym (awaiting_stored c.args.self.now.phase c.requires.due) in
+    record {
+      settings = c.settle.ensures.settings;
+      drafts = subst (λ (z : Stored). Drafts (drafting_in z) (g.F.Filing.store c.args.filing.now) (drafting_in (kept_of c.settle.new.self).storing) (g.F.Filing.store c.settle.new.filing)) nothing c.settle.ensures.drafts;
+      tries = λ p body h unrefused.
+          let s = settings_in c.args.self.now in
+          let given = kept_by c.args.self.now c.in-Some.peer (record { join = c.new.result; storing = Nothing }) in
+          let bytes = c.body.ensures in
+          request_tries s p body a.result.1 a.result.2 (kept_of c.args.self.now) given (kept_of c.settle.new.self) _ _ _ _ h c.requires.due unrefused refl
+          (a.ensures.state ∙ ap (λ (b : List ℕ). (at_request s at_start b).next.state) bytes) c.settle.ensures.settles
+          (λ six. record {
+            body = refl;
+            join = c.new.ensures;
+            storing = refl;
+            agreed = subst (λ (b : List ℕ). Agreed given (request_record (asked s.further b))) bytes (record { caller = peer.caller; maximum = peer.maximum; rows = peer.rows; contexts = peer.contexts; count = peer.count });
+          })
+          (subst (λ (b : List ℕ). Sends (at_request s at_start b).sent a.result.2 (g.W.Wire.line c.args.wire.now) (g.W.Wire.line a.new.wire)) bytes a.ensures.sends)
+          (subst (λ (b : List ℕ). OnErr a.result.2 (0 < length (at_request s at_start b).sent)) bytes a.ensures.due);
+    }
+
+pub returns-in-None : goal.returns-in-None
+returns-in-None g c =
+    let a = c.answer_request-peer in
+    let gone = rw c.in-None.is at a.ensures.rejected in
+    record {
+      settings = c.settle-in-None.ensures.settings;
+      drafts = c.settle-in-None.ensures.drafts;
+      tries = λ p body h unrefused.
+          let s = settings_in c.args.self.now in
+          let old = kept_of c.args.self.now in
+          let bytes = c.body.ensures in
+          request_tries s p body a.result.1 a.result.2 old old (kept_of c.settle-in-None.new.self) _ _ _ _ h c.requires.due unrefused refl
+          (a.ensures.state ∙ ap (λ (b : List ℕ). (at_request s at_start b).next.state) bytes) c.settle-in-None.ensures.settles
+          (λ six. let wrong : is_left Sta6 ≡ true = sym (ap is_left six) ∙ gone in absurd cc)
+          (subst (λ (b : List ℕ). Sends (at_request s at_start b).sent a.result.2 (g.W.Wire.line c.args.wire.now) (g.W.Wire.line a.new.wire)) bytes a.ensures.sends)
+          (subst (λ (b : List ℕ). OnErr a.result.2 (0 < length (at_request s at_start b).sent)) bytes a.ensures.due);
+    }
 
 pub invariant_of-self : goal.invariant_of-self
 invariant_of-self g c = record {
@@ -42,9 +66,5 @@ invariant_of-self g c = record {
   greatest_kept = c.args.self.now.greatest_kept;
   least_levels = c.args.self.now.least_levels;
   greatest_levels = c.args.self.now.greatest_levels;
-  answerable = c.answer_request-next.ensures.answerable c.args.self.now.answerable;
-  room = omega (arith, c.args.self.now.least, ap length c.clear.ensures);
-  rows_room = c.answer_request-next.ensures.rows g.row.A c.args.self.now.rows_room (omega (arith, c.args.self.now.room, ap length c.as_slice.ensures.value));
-  given_up = λ six. c.clear.ensures;
-  left = c.args.self.now.left;
+  room = let rows = rw c.in-Some.is at c.answer_request-peer.ensures.room in omega (arith, rows, awaiting_room c.args.self.now.phase c.requires.due, ap length c.body.ensures, c.args.self.now.room);
 }

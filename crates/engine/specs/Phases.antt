@@ -1,0 +1,51 @@
+-- What an association keeps, by its phase.
+use Rattle.std.specs.Prelude.{ℕ, ◌+◌, ◌*◌, List, [], replicate}
+use Rattle.arrayvec.specs.ArrayVec.{array_vec_len}
+use Rattle.acceptor.specs.declared.state.State.{State}
+use Rattle.acceptor.specs.declared.state.State.TheVariants.{Sta1, Sta2, Sta6, Sta13}
+use Rattle.negotiate.specs.declared.table.ContextRow.{ContextRow}
+use Rattle.dimse.specs.Messages.{NoMessage}
+use Rattle.dimse.specs.Joining.{Joining, shown}
+use Rattle.engine.specs.declared.phase.Phase.{Phase}
+use Rattle.engine.specs.declared.phase.Phase.TheVariants.{AwaitingRequest, Established, AwaitingClose, Ended}
+use Rattle.engine.specs.StoredData.{Stored, Nothing, stored_of}
+
+-- the acceptor's state
+abbrev pub state_in : {A C V D : ℕ} → Phase A C V D → State
+state_in (AwaitingRequest body) = Sta2
+state_in (Established peer message) = Sta6
+state_in AwaitingClose = Sta13
+state_in Ended = Sta1
+
+-- of an accepted request: the calling AE title, the peer's maximum length, the accepted contexts
+abbrev pub caller_in : {A C V D : ℕ} → Phase A C V D → List ℕ
+caller_in (Established peer message) = peer.caller
+caller_in phase = replicate 16 0
+
+abbrev pub maximum_in : {A C V D : ℕ} → Phase A C V D → ℕ
+maximum_in (Established peer message) = peer.max_length
+maximum_in phase = 0
+
+abbrev pub rows_in : {A C V D : ℕ} → Phase A C V D → List ContextRow
+rows_in (Established peer message) = peer.contexts.items
+rows_in phase = []
+
+-- what has come of a request's body
+abbrev pub request_in : {A C V D : ℕ} → Phase A C V D → List ℕ
+request_in (AwaitingRequest body) = body.items
+request_in phase = []
+
+-- of a message: what a join shows of it, and its data
+abbrev pub joining_in : {A C V D : ℕ} → Phase A C V D → Joining
+joining_in (Established peer message) = message.join
+joining_in phase = shown NoMessage []
+
+abbrev pub stored_in : {A C V D : ℕ} → Phase A C V D → Stored
+stored_in (Established peer message) = stored_of message.storing
+stored_in phase = Nothing
+
+-- how many bytes are taken, with the heads of a PDU and of a PDV, where the body of a request has its room
+abbrev pub taken_in : {A C V D : ℕ} → Phase A C V D → ℕ
+taken_in (AwaitingRequest body) = array_vec_len body + 12
+taken_in (Established peer message) = 32 + 4 * array_vec_len peer.contexts
+taken_in phase = 0
