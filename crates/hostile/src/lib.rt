@@ -19,6 +19,8 @@ mod memory_failures;
 #[cfg(test)]
 mod read_failures;
 #[cfg(test)]
+mod replaced_folder;
+#[cfg(test)]
 mod runtimes;
 #[cfg(test)]
 mod send_failures;

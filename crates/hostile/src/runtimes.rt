@@ -6,8 +6,8 @@ use std::fs::{File, Metadata, OpenOptions};
 use std::io;
 use std::rt::Files;
 
-/// A runtime that opens a device in place of files of one name, so many times. A file that is to be created is
-/// there, and stays empty.
+/// A runtime that opens a device in place of files of one name, so many times; as long as it does, the device is also
+/// what a look at that name finds. A file that is to be created is there, and stays empty.
 #[derive(Drop)]
 pub(crate) struct Diverted<'a> {
     pub(crate) rt: &'a HostRuntime,
@@ -60,6 +60,9 @@ impl Files for Diverted<'_> {
     }
 
     fn metadata(&self, path: &str) -> io::Result<Metadata> {
+        if self.times.get() > 0 && path.ends_with(self.name) {
+            return self.rt.metadata(self.device);
+        }
         self.rt.metadata(path)
     }
 

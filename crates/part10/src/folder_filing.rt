@@ -11,7 +11,6 @@ use element::count::Count;
 use element::trace::Traces;
 use element::traced::Traced;
 use std::alloc::AllocError;
-use std::fs::File;
 use std::io;
 use std::io::{Error, ErrorKind, Write};
 use std::marker::Model;
@@ -24,6 +23,10 @@ use std::rt::Files;
 /// folder alone, or is the first one that its `FolderWriter` has handed out. The folder has one writer:
 /// it stays locked until this value is dropped, as its writer and its other filings. No file is ever
 /// written over.
+///
+/// Once the folder was renamed and another one has its name, which may have a writer of its own, each
+/// `begin` and `commit` fails, and neither they nor `discard` change anything there. Each looks at the
+/// path before it does: a folder that is replaced after that look is noticed by the next call.
 ///
 /// A commit writes the draft to the disk (`sync_all`) before it gives it its name, and the folder
 /// after that, so that a file that was committed survives a loss of power. The name is made by a hard
@@ -139,11 +142,6 @@ where
         self.notes.clone()
     }
 
-    /// Removes the file of the draft, so that nothing is written into a file that may have a name.
-    fn remove_draft(&self) -> io::Result<()> {
-        self.folder.remove_draft(self.draft_path.as_str())
-    }
-
     fn drop_draft(&mut self)
         ensures draft { self.new.contents.draft ≡ None }
         ensures same_files { self.new.contents.files ≡ self.old.contents.files }
@@ -152,7 +150,7 @@ where
         if self.draft.take().is_some() {
             self.dropped = self.dropped.saturating_add(1);
             // What stays there is removed when the next draft is begun.
-            let _ = self.remove_draft();
+            let _ = self.folder.discard_draft(self.draft_path.as_str());
         }
     }
 
@@ -162,8 +160,7 @@ where
         ensures same_count { self.new.contents.failures ≡ self.old.contents.failures }
     {
         self.drop_draft();
-        self.remove_draft()?;
-        let file = File::create_new(self.folder.runtime(), self.draft_path.as_str())?;
+        let file = self.folder.create_draft(self.draft_path.as_str())?;
         self.draft = Some(Traced::new(file));
         Ok(())
     }
@@ -204,7 +201,7 @@ where
         self.sync_draft()?;
         self.name_draft()?;
         self.draft = None;
-        let _ = self.remove_draft();
+        let _ = self.folder.remove_old_name(self.draft_path.as_str());
         Ok(())
     }
 

@@ -4,6 +4,7 @@
 mod drafts;
 mod filing;
 mod folder_filing;
+mod folder_identity;
 mod folder_writer;
 pub mod laws;
 mod listing;

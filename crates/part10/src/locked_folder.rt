@@ -1,19 +1,25 @@
 //! A folder that is locked for its writer, in which drafts get their names.
 
 use crate::drafts::DraftName;
+use crate::folder_identity::FolderIdentity;
 use crate::listing::{contents_of, file_path, folder_path};
 use crate::naming::{Named, name_file};
 use crate::place::{Layout, Place};
 use crate::stored_file::StoredFile;
 use std::alloc::{AllocError, Allocator};
 use std::cell::Cell;
-use std::fs::{OpenFile, TryLockError};
+use std::fs::{File, OpenFile, TryLockError};
 use std::io::{Error, ErrorKind};
 use std::rt::Files;
 use std::{fs, io};
 
 /// A folder that stays locked until this value is dropped. What it has of its files is shared by all
 /// filings over it: each number is given once, in the order of the commits.
+///
+/// The lock is of the folder that was opened, and files are reached by its path. Before a draft is
+/// begun, named or discarded, the path is looked at: if it leads to another folder, since this one was
+/// renamed and another one has its name, the call fails and changes nothing. A folder that is
+/// replaced after that look is noticed by the next one.
 #[derive(Drop)]
 pub(crate) struct LockedFolder<R: Files + Alloc + Clone + Drop>
 where
@@ -23,6 +29,7 @@ where
     dir: String<R::A>,
     /// The opened folder, which holds the lock.
     folder: R::File,
+    identity: FolderIdentity,
     layout: Layout,
     /// Of the last file that was found or committed.
     last: Cell<Place>,
@@ -75,9 +82,12 @@ where
 {
     /// Opens a folder, which must be there, and removes the drafts that were left in it.
     ///
-    /// Fails with `WouldBlock` if another writer has the folder open.
+    /// Fails with `WouldBlock` if another writer has the folder open, and if the folder was replaced
+    /// before it was locked.
     pub(crate) fn open(rt: R, dir: &str, layout: Layout) -> io::Result<LockedFolder<R>> {
         let folder = lock(&rt, dir)?;
+        let identity = FolderIdentity::of(&folder.metadata()?);
+        identity.check_at(&rt, dir)?;
         let contents = contents_of(&rt, dir, layout)?;
         remove_drafts(&rt, dir, contents.drafts.as_slice())?;
         let dir = String::from_str(rt.alloc(), dir)?;
@@ -85,6 +95,7 @@ where
             rt,
             dir,
             folder,
+            identity,
             layout,
             last: Cell::new(contents.last),
             has_sync: Cell::new(true),
@@ -111,9 +122,34 @@ where
         draft_path(self.rt.alloc(), self.dir.as_str(), number)
     }
 
-    /// Removes the file of a draft, so that nothing is written into a file that may have a name.
-    pub(crate) fn remove_draft(&self, draft: &str) -> io::Result<()> {
+    /// Fails if the path leads to another folder than the one that is locked.
+    fn check_path(&self) -> io::Result<()> {
+        self.identity.check_at(&self.rt, self.dir.as_str())
+    }
+
+    /// Creates the file of a draft, in place of one that could not be removed before.
+    pub(crate) fn create_draft(&self, draft: &str) -> io::Result<R::File> {
+        self.check_path()?;
+        remove_left(&self.rt, draft)?;
+        File::create_new(&self.rt, draft)
+    }
+
+    /// Removes the file of a draft that gets no name, if it is there.
+    pub(crate) fn discard_draft(&self, draft: &str) -> io::Result<()> {
+        self.check_path()?;
         remove_left(&self.rt, draft)
+    }
+
+    /// Removes the old name of a draft that was just named, if it still has it, so that nothing is
+    /// written into a file that has a name.
+    pub(crate) fn remove_old_name(&self, draft: &str) -> io::Result<()> {
+        remove_left(&self.rt, draft)
+    }
+
+    /// Removes a file whose name could not be written to the disk.
+    fn remove_named(&self, path: &str) -> io::Result<()> {
+        self.check_path()?;
+        fs::remove_file(&self.rt, path)
     }
 
     /// Makes a folder for files.
@@ -122,7 +158,9 @@ where
         fs::create_dir(&self.rt, path.as_str())?;
         if self.has_sync() {
             if let Err(error) = self.folder.sync_all() {
-                let _ = fs::remove_dir(&self.rt, path.as_str());
+                if self.check_path().is_ok() {
+                    let _ = fs::remove_dir(&self.rt, path.as_str());
+                }
                 return Err(error);
             }
         }
@@ -168,7 +206,7 @@ where
             }
         };
         if let Err(error) = self.sync_name(place, named) {
-            if fs::remove_file(&self.rt, path.as_str()).is_err() {
+            if self.remove_named(path.as_str()).is_err() {
                 self.last.set(place);
             }
             return Err(error);
@@ -181,6 +219,7 @@ where
     ///
     /// Fails with `StorageFull` if all numbers are in use.
     pub(crate) fn name_draft(&self, draft: &str) -> io::Result<Place> {
+        self.check_path()?;
         let last = self.last.get();
         let Some(place) = last.next(self.layout) else {
             return Err(Error::new(ErrorKind::StorageFull, "all numbers are in use"));

@@ -50,6 +50,14 @@ fn name_of(text: &str) -> io::Result<Name> {
     Name::of(text).ok_or(Error::from(ErrorKind::InvalidFilename))
 }
 
+/// Returns what a look finds; a disk in memory has no numbers of devices and inodes.
+fn metadata_of(node: Node) -> Metadata {
+    match node {
+        Node::File(_) => Metadata::of_file(0),
+        Node::Folder(_) => Metadata::of_dir(),
+    }
+}
+
 impl Disk {
     pub(crate) fn new(alloc: Global, trouble: Trouble) -> io::Result<Disk> {
         let mut folders = Vec::new(alloc);
@@ -204,11 +212,22 @@ impl Disk {
     }
 
     pub(crate) fn metadata(&mut self, path: &str) -> io::Result<Metadata> {
-        self.call(Act::Look)?;
-        match self.node(path)? {
-            Node::File(_) => Ok(Metadata::of_file(0)),
-            Node::Folder(_) => Ok(Metadata::of_dir()),
-        }
+        let is_own_folder = matches!(self.find(path), Ok((_, None)));
+        self.call(if is_own_folder {
+            Act::LookAtFolder
+        } else {
+            Act::Look
+        })?;
+        Ok(metadata_of(self.node(path)?))
+    }
+
+    /// Looks at a file or a folder that is open.
+    pub(crate) fn metadata_of_open(&mut self, node: Node) -> io::Result<Metadata> {
+        self.call(match node {
+            Node::Folder(0) => Act::LookAtFolder,
+            _ => Act::Look,
+        })?;
+        Ok(metadata_of(node))
     }
 
     /// Appends to a file as many of these bytes as a write takes; returns how many.

@@ -39,8 +39,7 @@ enum Effect {
 fn effect_of(failed: Failed, kind: ErrorKind) -> Effect {
     match failed.act {
         Act::Write if kind == ErrorKind::Interrupted => Effect::Nothing,
-        // A draft that is left is removed when the next one is begun.
-        Act::Remove => Effect::MayFail,
+        act if act.may_leave_draft() => Effect::MayFail,
         _ => Effect::Fails,
     }
 }
@@ -112,7 +111,7 @@ fn add_due<'a>(due: &mut Vec<Due<'a>>, life: &'a Life, outcome: Outcome) -> io::
 /// Whether a disk has what is due; and after a loss of power has so still, where a file that failed may be there.
 fn has_due(alloc: Global, disk: &Disk, kept: Kept, due: &mut Vec<Due>) -> io::Result<bool> {
     let is_left = disk.has_draft()?;
-    let may_be_left = matches!(disk.failed(), Some(failed) if failed.act == Act::Remove);
+    let may_be_left = matches!(disk.failed(), Some(failed) if failed.act.may_leave_draft());
     let filed = Filed::of(alloc, disk, kept)?;
     if !filed.is_due(disk, due.as_slice())? || is_left && !may_be_left {
         return Ok(false);

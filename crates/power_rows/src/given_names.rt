@@ -76,6 +76,22 @@ fn a_file_is_renamed_once_its_name_was_looked_at(rt: HostRuntime) -> Result<(), 
     Ok(())
 }
 
+/// The folder's path is looked at before a draft is begun and before it is named; when the folder is opened, so are both
+/// the path and what was opened.
+#[test]
+fn the_path_is_looked_at_first(rt: HostRuntime) -> Result<(), Fail> {
+    for has_links in [true, false] {
+        let acts = acts(rt.alloc(), Kept::Flat, has_links)?;
+        let acts = acts.as_slice();
+        let opens = [Act::Lock, Act::LookAtFolder, Act::LookAtFolder, Act::List];
+        assert!(rt; times(acts, &opens) == 1);
+        assert!(rt; times(acts, &[Act::LookAtFolder, Act::Remove, Act::Create]) == 2);
+        assert!(rt; times(acts, &[Act::Sync, Act::LookAtFolder, Act::Link]) == 2);
+        assert!(rt; times(acts, &[Act::LookAtFolder]) == 6);
+    }
+    Ok(())
+}
+
 /// The file that another program puts into the folder under the next name.
 const OTHER: &[u8] = b"of another";
 

@@ -44,7 +44,7 @@ impl Seek for Handle {
 
 impl OpenFile for Handle {
     fn metadata(&self) -> io::Result<Metadata> {
-        Err(unsupported())
+        self.disk.try_borrow_mut()?.metadata_of_open(self.node)
     }
 
     fn set_len(&self, _size: u64) -> io::Result<()> {

@@ -9,6 +9,8 @@ pub(crate) enum Act {
     Create,
     Lock,
     List,
+    /// Looks at the disk's own folder.
+    LookAtFolder,
     Look,
     Write,
     Sync,
@@ -17,6 +19,14 @@ pub(crate) enum Act {
     Remove,
     MakeFolder,
     RemoveFolder,
+}
+
+impl Act {
+    /// Returns whether it is a step of the removal of a draft, which is left where the step fails, until the next one is
+    /// begun.
+    pub(crate) fn may_leave_draft(self) -> bool {
+        matches!(self, Act::LookAtFolder | Act::Remove)
+    }
 }
 
 /// What goes wrong: calls are counted from 0.

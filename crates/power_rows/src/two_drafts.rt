@@ -5,7 +5,7 @@ use crate::disk::{Disk, Shared};
 use crate::filed::{Due, Filed, Kept};
 use crate::lives::{NEXT, open_writer, tried_states};
 use crate::mounted::Mounted;
-use crate::trouble::{Act, Trouble};
+use crate::trouble::Trouble;
 use part10::{Filing, FolderFiling};
 use std::alloc::Global;
 use std::io;
@@ -175,7 +175,7 @@ fn two_drafts_in_levels_without_links(rt: HostRuntime) -> Result<(), Fail> {
 fn is_one_failed(disk: &Disk, committed: [bool; 3]) -> bool {
     let failed = committed.iter().filter(|is_done| !**is_done).count();
     match disk.failed() {
-        Some(call) if call.act == Act::Remove => failed <= 1,
+        Some(call) if call.act.may_leave_draft() => failed <= 1,
         Some(_) => failed == 1 || committed == [true; 3],
         None => failed == 0,
     }
@@ -199,7 +199,7 @@ fn fails(
     };
     let due = due_of(alloc, committed.unwrap_or([false; 3]), false)?;
     let filed = Filed::of(alloc, &disk, kept)?;
-    let may_be_left = matches!(disk.failed(), Some(call) if call.act == Act::Remove);
+    let may_be_left = matches!(disk.failed(), Some(call) if call.act.may_leave_draft());
     let is_clean = may_be_left || !disk.has_draft()?;
     if !is_as_due || !is_clean || !filed.is_due(&disk, due.as_slice())? {
         return Ok(None);
