@@ -31,23 +31,15 @@ fn write_tree<A: Allocator + Copy, O: Write>(tree: &Tree<'_, A>, out: &mut O) ->
     writeln!(out, "records {count}")
 }
 
-/// Reads a directory whole.
-pub fn read_directory<A: Allocator + Copy, R: Read>(
-    alloc: A,
-    input: &mut R,
-) -> io::Result<Vec<u8, A>> {
-    let mut bytes = Vec::new(alloc);
-    input.read_to_end(&mut bytes)?;
-    Ok(bytes)
-}
-
 /// Writes the line of a fault; fails where it is that memory ran out.
 pub fn tell_fault<O: Write>(fault: DirFault, out: &mut O) -> Result<Outcome, ProgramError> {
     if fault.number == DirFault::OUT_OF_MEMORY {
         return Err(ProgramError::Memory(AllocError));
     }
-    write_dir_fault(fault, out).map_err(ProgramError::Write)?;
-    Ok(Outcome::Faulty)
+    match write_dir_fault(fault, out) {
+        Ok(()) => Ok(Outcome::Faulty),
+        Err(error) => Err(ProgramError::Write(error)),
+    }
 }
 
 /// Lists the records of a directory, or writes its first fault.

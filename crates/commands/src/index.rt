@@ -1,5 +1,5 @@
 //! `dcmbox index`: the directory of a folder of received files.
-use crate::checkdir::{read_directory, tell_fault};
+use crate::checkdir::tell_fault;
 use crate::contents::{Contents, Skipped, read_rows, tell_skipped};
 use crate::error::ProgramError;
 use crate::names::received_files;
@@ -7,6 +7,7 @@ use crate::new_uid::new_uid;
 use crate::options::Index;
 use crate::outcome::flushed;
 use crate::texts::PathText;
+use crate::whole::read_whole;
 use dicomdir::{Built, DirFault, FileId, build, check, kept_of, write_dir};
 use dictionary::IMPLEMENTATION_CLASS_UID;
 use element::Uid;
@@ -31,12 +32,9 @@ fn read_present<A: Allocator + Copy, R: Read>(
     alloc: A,
     file: &mut R,
 ) -> Result<Vec<u8, A>, ProgramError> {
-    match read_directory(alloc, file) {
-        Ok(bytes) => Ok(bytes),
-        Err(error) if error.kind() == ErrorKind::OutOfMemory => {
-            Err(ProgramError::Memory(AllocError))
-        }
-        Err(error) => Err(ProgramError::NoDirectory(error)),
+    match read_whole(alloc, file) {
+        Err(ProgramError::Read(error)) => Err(ProgramError::NoDirectory(error)),
+        result => result,
     }
 }
 

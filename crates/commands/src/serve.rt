@@ -110,6 +110,19 @@ fn serve_each<R: Log + Clock + Alloc<A = Global>, S: Files<File = File> + Alloc 
     }
 }
 
+/// Listens on the port.
+///
+/// Fails if the address or the port can't be listened on.
+fn listen<R: Net<Listener = TcpListener, Stream = TcpStream>>(
+    rt: &R,
+    settings: &Serve,
+) -> Result<TcpListener, ProgramError> {
+    match TcpListener::bind(rt, (settings.bind, settings.port)) {
+        Ok(listener) => Ok(listener),
+        Err(error) => Err(ProgramError::of_listening(error)),
+    }
+}
+
 /// Listens on the port, and serves associations until the program is ended, or only one where that
 /// was asked for. Logs where it listens, and that it has stopped.
 ///
@@ -118,8 +131,7 @@ pub fn serve<
     R: Log + Clock + Net<Listener = TcpListener, Stream = TcpStream> + Alloc<A = Global>,
     S: Files<File = File> + Alloc + Clone + Drop,
 >(rt: &R, settings: &Serve, filing: &mut FolderFiling<S>) -> Result<(), ProgramError> {
-    let address = (settings.bind, settings.port);
-    let listener = TcpListener::bind(rt, address).map_err(ProgramError::of_listening)?;
+    let listener = listen(rt, settings)?;
     let address = listener.local_addr().map_err(ProgramError::Listen)?;
     let teller = Teller::new(rt, settings.form);
     teller.tell(&Listening(address));
@@ -137,8 +149,7 @@ pub fn serve_several<
     R: Log + Clock + Net<Listener = TcpListener, Stream = TcpStream> + Alloc<A = Global>,
     S: Files<File = File> + Alloc<A = Global> + Clone + Drop,
 >(rt: &R, settings: &Serve, files: &S, folder: FolderWriter<S>) -> Result<(), ProgramError> {
-    let address = (settings.bind, settings.port);
-    let listener = TcpListener::bind(rt, address).map_err(ProgramError::of_listening)?;
+    let listener = listen(rt, settings)?;
     let terms = ServerTerms {
         config: &settings.config,
         timeouts: settings.timeouts,
