@@ -130,8 +130,13 @@ where
     /// Creates the file of a draft, in place of one that could not be removed before.
     pub(crate) fn create_draft(&self, draft: &str) -> io::Result<R::File> {
         self.check_path()?;
-        remove_left(&self.rt, draft)?;
-        File::create_new(&self.rt, draft)
+        match File::create_new(&self.rt, draft) {
+            Err(error) if error.kind() == ErrorKind::AlreadyExists => {
+                remove_left(&self.rt, draft)?;
+                File::create_new(&self.rt, draft)
+            }
+            result => result,
+        }
     }
 
     /// Removes the file of a draft that gets no name, if it is there.

@@ -32,14 +32,15 @@ enum Effect {
     Fails,
     /// It fails, or the call was one that may fail.
     MayFail,
-    /// The call is made again.
+    /// The store is done: the call is made again, or what it was to remove is removed when the next draft is begun.
     Nothing,
 }
 
 fn effect_of(failed: Failed, kind: ErrorKind) -> Effect {
     match failed.act {
         Act::Write if kind == ErrorKind::Interrupted => Effect::Nothing,
-        act if act.may_leave_draft() => Effect::MayFail,
+        Act::Remove => Effect::Nothing,
+        Act::LookAtFolder => Effect::MayFail,
         _ => Effect::Fails,
     }
 }

@@ -85,10 +85,21 @@ fn the_path_is_looked_at_first(rt: HostRuntime) -> Result<(), Fail> {
         let acts = acts.as_slice();
         let opens = [Act::Lock, Act::LookAtFolder, Act::LookAtFolder, Act::List];
         assert!(rt; times(acts, &opens) == 1);
-        assert!(rt; times(acts, &[Act::LookAtFolder, Act::Remove, Act::Create]) == 2);
+        assert!(rt; times(acts, &[Act::LookAtFolder, Act::Create, Act::Write]) == 2);
         assert!(rt; times(acts, &[Act::Sync, Act::LookAtFolder, Act::Link]) == 2);
         assert!(rt; times(acts, &[Act::LookAtFolder]) == 6);
     }
+    Ok(())
+}
+
+/// A draft that may have been left is removed when the folder is opened, and each draft once it has its name; nothing is
+/// removed before a draft is begun.
+#[test]
+fn no_draft_is_removed_that_is_not_there(rt: HostRuntime) -> Result<(), Fail> {
+    let acts = acts(rt.alloc(), Kept::Flat, true)?;
+    let acts = acts.as_slice();
+    assert!(rt; times(acts, &[Act::Sync, Act::Remove]) == 2);
+    assert!(rt; times(acts, &[Act::Remove]) == 3);
     Ok(())
 }
 

@@ -5,7 +5,7 @@ use crate::disk::{Disk, Shared};
 use crate::filed::{Due, Filed, Kept};
 use crate::lives::{NEXT, open_writer, tried_states};
 use crate::mounted::Mounted;
-use crate::trouble::Trouble;
+use crate::trouble::{Act, Trouble};
 use part10::{Filing, FolderFiling};
 use std::alloc::Global;
 use std::io;
@@ -170,12 +170,12 @@ fn two_drafts_in_levels_without_links(rt: HostRuntime) -> Result<(), Fail> {
     Ok(())
 }
 
-/// Returns whether one text at most is not committed after a failed call, and one is unless the call was one that may
-/// fail: nothing fails the other filing.
+/// Returns whether one text at most is not committed after a failed call, and each is where a draft could not be removed:
+/// nothing fails the other filing.
 fn is_one_failed(disk: &Disk, committed: [bool; 3]) -> bool {
     let failed = committed.iter().filter(|is_done| !**is_done).count();
     match disk.failed() {
-        Some(call) if call.act.may_leave_draft() => failed <= 1,
+        Some(call) if call.act == Act::Remove => failed == 0,
         Some(_) => failed == 1 || committed == [true; 3],
         None => failed == 0,
     }
