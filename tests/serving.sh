@@ -125,3 +125,27 @@ form=
 does_what_it_is_told
 form='of several at once: '
 does_what_it_is_told --at-once 4
+
+# A folder that is renamed while the box runs, and another one under its name: the box stores nothing into it, another
+# program does, and the box leaves its files alone.
+mkdir renamed
+"$program" serve --timeout 2 --port $port --out renamed >out.txt 2>err.txt &
+listening=$!
+logged 'listening on'
+mv renamed moved
+mkdir renamed
+# The status of both replies, (0000,0900), is A700.
+{ head -n -1 "$here/expected/two_stores.txt" | tr -d '\n' | sed 's/\(0000000902000000\)0000/\100a7/g'; echo; echo; } >refused.txt
+answers stores.bin refused.txt && logged 'a file could not be written: the folder was replaced by another one' &&
+  [ -z "$(ls -A renamed)" ] && [ -z "$(ls -A moved)" ]
+report 'a folder that took the name of the locked one gets nothing'
+timeout 60 "$program" replay stores.bin --out renamed >replayed.txt 2>&1
+[ "$?" -eq 0 ] && answers stores.bin refused.txt && [ "$(ls -A renamed)" = $'I0000001\nI0000002' ] &&
+  cmp ct.dcm renamed/I0000001
+report 'and keeps what another program stores'
+mv renamed other_folder
+mv moved renamed
+answers stores.bin "$here/expected/two_stores.txt" && [ "$(ls -A renamed)" = $'I0000001\nI0000002' ]
+report 'a folder that has its name again is stored into'
+kill "$listening"
+wait "$listening" 2>/dev/null
