@@ -1,6 +1,5 @@
 -- A part of the body of a PDU: it is kept where the body is, and else nothing changes.
-use Rattle.std.proofs.Common.{◌≡◌, ◌∙◌, ℕ, ◌+◌, Bool, true, false, not, ◌&&◌, List, [], ◌++◌, length, nat_eq, ap, sym, refl, arith, if◌then◌else◌}
-use Rattle.std.proofs.lemmas.List.{length-append}
+use Rattle.std.proofs.Common.{◌≡◌, ◌∙◌, ℕ, ◌+◌, Bool, true, false, not, ◌&&◌, List, [], ◌++◌, nat_eq, ap, sym, refl, arith, if◌then◌else◌}
 use Rattle.acceptor.specs.declared.state.State.{State}
 use Rattle.acceptor.specs.declared.state.State.TheVariants.{Sta1, Sta2, Sta3, Sta6, Sta8, Sta13}
 use Rattle.part10.specs.Store.{Store}
@@ -42,7 +41,7 @@ pends_taken k store p kind body part held taken more h =
       refused_is = h.refused_is;
       body_is = more ∙ counted_more p.state k.refused p.refused (nat_eq kind 1) k.body body part h.refused_is t h.body_is;
       join_is = h.join_is;
-      agreed = λ six. let a = h.agreed six in record { caller = a.caller; maximum = a.maximum; rows = a.rows; contexts = a.contexts; count = a.count };
+      agreed = h.agreed;
       none_left = h.none_left;
       unagreed = h.unagreed;
       walks = h.walks;
@@ -67,9 +66,6 @@ pends_untaken k store p kind body part dropped h =
       failed_in = h.failed_in;
     }
 
--- so many bytes fewer have to have room after the part; the bytes of another body take none
-pub fits_taken : (room : ℕ) (k : Kept) (kind m : ℕ) (part held : List ℕ) → held ≡ k.body ++ part → BodyFits room k kind (length part + m) → BodyFits room (record k { body = held }) kind m
-fits_taken room k kind m part held more h = λ due taken one. let f = h due taken one in omega (arith, f, length-append k.body part, ap length more)
-
+-- the bytes of another body take no room
 pub fits_untaken : (room : ℕ) (k : Kept) (kind m n : ℕ) → BodyFits room k kind (n + m) → BodyFits room k kind m
 fits_untaken room k kind m n h = λ due taken one. let f = h due taken one in omega (arith, f)

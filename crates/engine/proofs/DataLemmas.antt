@@ -139,7 +139,7 @@ does_due rooms s p begun room k j z l so sn later h taken goes shows due x =
       refused_is = h.refused_is;
       body_is = h.body_is;
       join_is = subst (λ (xs : List ℕ). ShowsMessage k.room j later xs) (sym nil) shows;
-      agreed = λ y. let a = h.agreed y in record { caller = a.caller; maximum = a.maximum; rows = a.rows; contexts = a.contexts; count = a.count };
+      agreed = h.agreed;
       none_left = λ e. let wrong : is_established Sta6 ≡ false = sym (ap is_established six) ∙ e in absurd cc;
       unagreed = h.unagreed;
       walks = c.0;

@@ -81,7 +81,7 @@ pends_refused q mid store body begun body2 begun2 b d h =
       refused_is = λ n. refl;
       body_is = h.body_is ∙ b ∙ not_counted (is_due q.state) body2;
       join_is = subst (λ (xs : List ℕ). ShowsMessage mid.room mid.join q.message xs) same h.join_is;
-      agreed = λ six. let a = h.agreed six in record { caller = a.caller; maximum = a.maximum; rows = a.rows; contexts = a.contexts; count = a.count };
+      agreed = h.agreed;
       none_left = h.none_left;
       unagreed = h.unagreed;
       walks = subst (λ (xs : List ℕ). Walks mid.depth mid.most q.request (with_pdv xs q.message) mid.storing) same h.walks;

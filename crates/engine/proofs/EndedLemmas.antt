@@ -305,7 +305,7 @@ ended_pends p old j z store h six quiet none =
       refused_is = h.refused_is;
       body_is = h.body_is;
       join_is = subst (λ (xs : List ℕ). ShowsMessage old.room j NoMessage xs) (sym nil) quiet;
-      agreed = λ x. let a = h.agreed x in record { caller = a.caller; maximum = a.maximum; rows = a.rows; contexts = a.contexts; count = a.count };
+      agreed = h.agreed;
       none_left = λ e. refl;
       unagreed = h.unagreed;
       walks = c.0;

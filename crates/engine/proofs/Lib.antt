@@ -37,7 +37,6 @@ pub mod WalkVerdictLemmas
 pub mod ShownLemmas
 pub mod WalkedLemmas
 pub mod BodyLemmas
-pub mod CountLemmas
 pub mod AskedLemmas
 pub mod OutputLemmas
 pub mod Public

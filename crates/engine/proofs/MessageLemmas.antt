@@ -83,7 +83,7 @@ aside_joined k p j h = record {
   state_is = h.state_is;
   refused_is = h.refused_is;
   body_is = h.body_is;
-  agreed = λ six. let a = h.agreed six in record { caller = a.caller; maximum = a.maximum; rows = a.rows; contexts = a.contexts; count = a.count };
+  agreed = h.agreed;
   none_left = h.none_left;
   unagreed = h.unagreed;
 }
@@ -99,7 +99,7 @@ pends_joined k store p j stored begun h shows c failed = record {
   refused_is = h.refused_is;
   body_is = h.body_is;
   join_is = shows;
-  agreed = λ six. let a = h.agreed six in record { caller = a.caller; maximum = a.maximum; rows = a.rows; contexts = a.contexts; count = a.count };
+  agreed = h.agreed;
   none_left = h.none_left;
   unagreed = h.unagreed;
   walks = c.0;
@@ -345,7 +345,7 @@ pends_going_on k store p j later begun h t shows is six =
       refused_is = h.refused_is;
       body_is = h.body_is;
       join_is = subst (λ (xs : List ℕ). ShowsMessage k.room j later xs) (sym none) shows;
-      agreed = λ six. let a = h.agreed six in record { caller = a.caller; maximum = a.maximum; rows = a.rows; contexts = a.contexts; count = a.count };
+      agreed = h.agreed;
       none_left = λ e. let x : is_established Sta6 ≡ false = sym (ap is_established (taken_state p t)) ∙ e in absurd cc;
       unagreed = h.unagreed;
       walks = c.0;

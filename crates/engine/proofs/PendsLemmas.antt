@@ -245,7 +245,7 @@ pends_begins k store p h =
       refused_is = λ n. refl;
       body_is = if_nothing (is_due p.state && true);
       join_is = subst (λ (xs : List ℕ). ShowsMessage k.room k.join p.message xs) same h.join_is;
-      agreed = λ six. let a = h.agreed six in record { caller = a.caller; maximum = a.maximum; rows = a.rows; contexts = a.contexts; count = a.count };
+      agreed = h.agreed;
       none_left = h.none_left;
       unagreed = h.unagreed;
       walks = subst (λ (xs : List ℕ). Walks k.depth k.most p.request (with_pdv xs p.message) k.storing) same h.walks;

@@ -128,7 +128,7 @@ pub record IsEstablishedBy (kept : Kept) (r : RequestRecord) : Type 0 where
   pub body : kept.body ≡ []
   pub join : ShowsMessage kept.room kept.join NoMessage []
   pub storing : kept.storing ≡ Nothing
-  pub agreed : Agreed kept r
+  pub agreed : Agreed kept.caller kept.peer_max kept.table kept.further r
 
 not_taken : (st : State) (r : Bool) → ◌≡◌ {A = List ℕ} (if is_established st && not r then [] else []) []
 not_taken st r = if_nothing (is_established st && not r)
@@ -147,7 +147,6 @@ stood further p body old given new store h due same is fresh =
     let q = record p { state = Sta6; request = asked further body } in
     let two : p.state ≡ Sta2 = sym h.state_is ∙ due in
     let none = h.none_left (ap is_established two) in
-    let a = fresh.agreed in
     let c = none_carried given.depth given.most given.storing store (asked further body) (so_far q []) p.filing_failed fresh.storing (no_store (asked further body) (so_far q []) (quiet_between q none)) in
     subst (λ (k : Kept). Pends k store q body []) (sym is)
     (record {
@@ -155,7 +154,7 @@ stood further p body old given new store h due same is fresh =
       refused_is = λ n. same ∙ h.refused_is (ap is_ended two);
       body_is = fresh.body;
       join_is = subst (λ (m : Begun). ShowsMessage given.room given.join m (counted_pdv q [])) (sym none) (subst (λ (xs : List ℕ). ShowsMessage given.room given.join NoMessage xs) (sym (not_taken Sta6 p.refused)) fresh.join);
-      agreed = λ six. record { caller = a.caller; maximum = a.maximum; rows = a.rows; contexts = a.contexts; count = a.count };
+      agreed = λ six. fresh.agreed;
       none_left = λ e. none;
       unagreed = λ e. absurd cc;
       walks = c.0;

@@ -7,7 +7,6 @@ use denote.RattleType.{RattleType}
 use denote.Param.{param, number}
 use denote.Enum.Declared as enum_row
 use denote.Struct.Declared.{row}
-use Rattle.engine.specs.contracts.phase.Message as message
 use Rattle.engine.specs.contracts.phase.Phase as phase
 use Rattle.engine.specs.contracts.provider.Provider as provider
 use Rattle.engine.specs.contracts.association.Association as association
@@ -20,10 +19,6 @@ size_in (t ∷ ts) = size t
 
 abbrev pub size_of : RattleType → ℕ
 size_of r = size_in r.mir
-
-pub message_fits : {C V D : ℕ} → C ≤ 2 ^ 24 → V ≤ 2 ^ 24 → D ≤ 2 ^ 24
-    → size_of (row (message.the_type (param 0 (number C)) (param 1 (number V)) (param 2 (number D)))) < 2 ^ 63
-message_fits c v d = grind arith
 
 pub phase_fits : {A C V D : ℕ} → A ≤ 2 ^ 24 → C ≤ 2 ^ 24 → V ≤ 2 ^ 24 → D ≤ 2 ^ 24
     → size_of (enum_row.row (phase.the_type (param 0 (number A)) (param 1 (number C)) (param 2 (number V)) (param 3 (number D)))) < 2 ^ 63

@@ -106,16 +106,6 @@ goes_drafts part Nothing b old new (off, same) = record { there = λ is. let x :
 goes_drafts part (Walking walker d) Nothing old new g = absurd g
 goes_drafts part (Walking walker d) (Walking after e) old new (keeps, g) = grows_drafts part d e old new g
 
--- where there is no draft none comes
-grows_left : (part : List ℕ) (before after : Bool) (old new : Store) → Grows part before after old new → before ≡ false → after ≡ false
-grows_left part false after old new (off, same) none = off
-grows_left part true after old new g none = absurd cc
-
-pub goes_left : (part : List ℕ) (a b : Stored) (old new : Store) → GoesOn part a b old new → drafting_in a ≡ false → drafting_in b ≡ false
-goes_left part Nothing b old new (off, same) none = ap drafting_in off
-goes_left part (Walking walker d) Nothing old new g none = absurd g
-goes_left part (Walking walker d) (Walking after e) old new (keeps, g) none = grows_left part d e old new g none
-
 -- ---- a part of a fragment more
 
 pub long_pdv : (begun : List ℕ) (m : Begun) → 6 ≤ length begun → with_pdv begun m ≡ with_fragment (get_or begun 4 0) (drop 6 begun) m

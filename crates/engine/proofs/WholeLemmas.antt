@@ -151,7 +151,7 @@ cleared_pends k store q xs e h = record {
   refused_is = h.refused_is;
   body_is = sym (none_counted_body q);
   join_is = h.join_is;
-  agreed = λ six. let a = h.agreed six in record { caller = a.caller; maximum = a.maximum; rows = a.rows; contexts = a.contexts; count = a.count };
+  agreed = h.agreed;
   none_left = h.none_left;
   unagreed = h.unagreed;
   walks = h.walks;

@@ -54,13 +54,13 @@ kept_of p = kept_in p.config p.refused p.phase
 abbrev pub settings_in : {A C V D : ℕ} → Provider A C V D → Settings
 settings_in p = settings_of p.config
 
--- what an accepted request leaves of itself
-pub record Agreed (kept : Kept) (r : RequestRecord) : Type 0 where
-  pub caller : kept.caller ≡ r.calling
-  pub maximum : kept.peer_max ≡ r.maximum
-  pub rows : kept.table ≡ context_rows kept.further r
-  pub contexts : (id : ℕ) → context_in kept.further kept.table id ≡ context_of r id
-  pub count : length kept.table ≡ accepted_count r
+-- what an accepted request leaves of itself, where these further storage classes are taken
+pub record Agreed (calling : List ℕ) (most : ℕ) (table : List ContextRow) (further : List (List ℕ)) (r : RequestRecord) : Type 0 where
+  pub caller : calling ≡ r.calling
+  pub maximum : most ≡ r.maximum
+  pub rows : table ≡ context_rows further r
+  pub contexts : (id : ℕ) → context_in further table id ≡ context_of r id
+  pub count : length table ≡ accepted_count r
 
 -- nothing of a request: no title, no maximum length and no context
 pub record IsUnagreed (caller : List ℕ) (maximum : ℕ) (table : List ContextRow) : Type 0 where
@@ -86,7 +86,7 @@ pub record Pends (kept : Kept) (store : Store) (p : Progress) (body begun : List
   pub refused_is : is_ended p.state ≡ false → kept.refused ≡ p.refused
   pub body_is : kept.body ≡ counted_body p body
   pub join_is : ShowsMessage kept.room kept.join p.message (counted_pdv p begun)
-  pub agreed : p.state ≡ Sta6 → Agreed kept (request_record p.request)
+  pub agreed : p.state ≡ Sta6 → Agreed kept.caller kept.peer_max kept.table kept.further (request_record p.request)
   pub unagreed : is_established p.state ≡ false → IsUnagreed kept.caller kept.peer_max kept.table
   pub none_left : is_established p.state ≡ false → p.message ≡ NoMessage
   pub walks : Walks kept.depth kept.most p.request (with_pdv (counted_pdv p begun) p.message) kept.storing

@@ -35,7 +35,7 @@ pub record Aside (kept : Kept) (p : Progress) : Type 0 where
   pub state_is : kept.state ≡ p.state
   pub refused_is : is_ended p.state ≡ false → kept.refused ≡ p.refused
   pub body_is : kept.body ≡ counted_body p []
-  pub agreed : p.state ≡ Sta6 → Agreed kept (request_record p.request)
+  pub agreed : p.state ≡ Sta6 → Agreed kept.caller kept.peer_max kept.table kept.further (request_record p.request)
   pub unagreed : is_established p.state ≡ false → IsUnagreed kept.caller kept.peer_max kept.table
   pub none_left : is_established p.state ≡ false → p.message ≡ NoMessage
 

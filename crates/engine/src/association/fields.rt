@@ -1,6 +1,5 @@
-//! The fields of an association, each with its type: bytes that came are held by the deframer, in the
-//! phase's `body` and `caller`, by the join and by the walker alone. A further field does not compile here
-//! before it is named.
+//! The fields of an association, each with its type: bytes that came are held by the deframer, in `body` and
+//! `caller`, by the join and by the walker alone. A further field does not compile here before it is named.
 
 use super::Association;
 use crate::phase::{Message, Peer, Phase};
@@ -29,32 +28,24 @@ fn fields<const A: usize, const C: usize, const V: usize, const D: usize>(
             let _: &ArrayVec<u8, A> = body;
         }
         Phase::Established { peer, message } => {
-            fields_of_peer(peer);
-            fields_of_message(message);
+            let Peer {
+                caller,
+                max_length,
+                contexts,
+            } = peer;
+            let Message { join, storing } = message;
+            let _: &[u8; 16] = caller;
+            let _: &u32 = max_length;
+            let _: &ArrayVec<ContextRow, 128> = contexts;
+            let _: &Join<C> = join;
+            match storing {
+                Storing::Nothing => {}
+                Storing::DataSet { drafting, walker } => {
+                    let _: &bool = drafting;
+                    let _: &Walker<V, D> = walker;
+                }
+            }
         }
         Phase::AwaitingClose | Phase::Ended => {}
-    }
-}
-
-fn fields_of_peer(peer: &Peer) {
-    let Peer {
-        caller,
-        max_length,
-        contexts,
-    } = peer;
-    let _: &[u8; 16] = caller;
-    let _: &u32 = max_length;
-    let _: &ArrayVec<ContextRow, 128> = contexts;
-}
-
-fn fields_of_message<const C: usize, const V: usize, const D: usize>(message: &Message<C, V, D>) {
-    let Message { join, storing } = message;
-    let _: &Join<C> = join;
-    match storing {
-        Storing::Nothing => {}
-        Storing::DataSet { drafting, walker } => {
-            let _: &bool = drafting;
-            let _: &Walker<V, D> = walker;
-        }
     }
 }

@@ -1,10 +1,9 @@
 -- The join has the part, and it is walked and goes to the draft.
-use Rattle.std.proofs.Common.{◌∙◌, ◌++◌, ◌&&◌, ap, not, sym, refl, subst, Bool, List, ℕ, [], length}
+use Rattle.std.proofs.Common.{◌∙◌, ◌++◌, ◌&&◌, ap, not, sym, refl, arith, subst, Bool, List, ℕ, []}
 use Rattle.dimse.specs.Joining.{ShowsMessage}
 use Rattle.engine.specs.Kept.{kept_of, settings_in}
 use Rattle.engine.specs.Run.{rooms_of}
 use Rattle.engine.specs.StoredData.{stored_of}
-use Rattle.engine.proofs.CountLemmas.{fewer_due}
 use Rattle.engine.proofs.StoreLemmas.{goes_drafts, same_drafts}
 use Rattle.engine.proofs.ShownLemmas.{takes_shown}
 use Rattle.engine.proofs.MessageLemmas.{counted_taken, pends_dropped}
@@ -36,7 +35,7 @@ returns-in_default g c =
     record {
       settings = refl;
       drafts = same_drafts _ _ c.requires.draft;
-      fits = λ m h there taken. fewer_due (length c.args.part.now) m _ (h there taken);
+      fits = λ m h there taken. let few = h there taken in omega (arith, few);
       appends = λ p begun six h.
           let dropped = sym (takes_shown k _ p [] begun h) ∙ ap (λ (t : Bool). t && not k.refused) none in
           appends_none (rooms_of g.row.A g.row.C g.row.V g.row.D) (settings_in c.args.self.now) p k (begun ++ c.args.part.now) _ (pends_dropped k _ p [] begun (begun ++ c.args.part.now) dropped h);

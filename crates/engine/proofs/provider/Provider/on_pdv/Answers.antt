@@ -11,8 +11,6 @@ use Rattle.engine.specs.Progress.{nothing}
 use Rattle.engine.specs.Replies.{user_aborts, going_on}
 use Rattle.engine.specs.Devices.{devices}
 use Rattle.engine.specs.Kept.{Pends, kept_of, settings_in}
-use Rattle.engine.specs.Requested.{request_record}
-use Rattle.engine.specs.machine.Accepted.{IsPeerOf}
 use Rattle.engine.specs.machine.Does.{Does}
 use Rattle.engine.specs.machine.Messages.{with_join, with_storing, Proceeds}
 use Rattle.engine.specs.Run.{rooms_of}
@@ -87,8 +85,7 @@ returns-in-Ok-Message-clause-does g c = rw c.in-Established.is (λ p begun six w
     let kept = subst (λ (xs : List ℕ). Carried k.depth k.most k.storing so p.request (with_pdv xs p.message) p.filing_failed) (counted_taken p begun taken) (carried k so p [] begun h) in
     let aside = aside_joined k p j (aside_of k so p begun h) in
     let agreed = aside.agreed (taken_state p taken) in
-    let peer : IsPeerOf c.in-Established.peer s.further (request_record p.request) = record { caller = agreed.caller; maximum = agreed.maximum; rows = agreed.rows; contexts = agreed.contexts; count = agreed.count } in
-    let ended = c.reply-sent.ensures.ended g.row.A p m come peer got.3 same here kept.0 kept.1 in
+    let ended = c.reply-sent.ensures.ended g.row.A p m come agreed got.3 same here kept.0 kept.1 in
     does_concluded rooms s p begun m come (kept_of c.settle.new.self) _ _ taken got.1 (λ st. pdv_store p.request begun p.message six st)
     (concludes rooms s p m come c.reply-sent.result (with_join j k) (kept_of c.settle.new.self) c.clear.new.self (stored_of c.leave.new.self) _ _ _ _ _ _
     aside refl c.clear.ensures c.leave.ensures.nothing ended (drops_unfiled _ _ _ c.leave.ensures.drops) c.settle.ensures.settles))
@@ -122,8 +119,7 @@ returns-in-Ok-DataDue-clause-does g c = rw c.in-Established.is (λ p begun six w
     let command : j.command ≡ due.command = ap (λ (x : Joining). x.command) got.2.shows ∙ ap command_bytes due.later_is in
     let same : InSet c.context-context.result j.command [] ≡ later = ap (λ (n : ℕ). InSet n j.command []) (pdv_context g.row.C k.join p.message begun c.context-context.result six was c.context-context.ensures) ∙ ap (λ (xs : List ℕ). InSet (get_or begun 4 0) xs []) command ∙ sym due.later_is in
     let agreed = (aside_joined k p j (aside_of k so p begun h)).agreed (taken_state p taken) in
-    let peer : IsPeerOf c.in-Established.peer s.further (request_record p.request) = record { caller = agreed.caller; maximum = agreed.maximum; rows = agreed.rows; contexts = agreed.contexts; count = agreed.count } in
-    let proceeds = c.begin.ensures.proceeds p.request peer none (λ x e. due.announced x (ap command_in (sym command) ∙ e)) in
+    let proceeds = c.begin.ensures.proceeds p.request agreed none (λ x e. due.announced x (ap command_in (sym command) ∙ e)) in
     subst (λ (x : Joining). Does rooms s p (At (entry_of begun)) (with_storing z (with_join x k)) [] [] (devices (g.W.Wire.line c.args.wire.now) so) (devices (g.W.Wire.line c.args.wire.now) (g.F.Filing.store c.begin.new.filing)))
     (sym c.begin.ensures.join)
     (does_due rooms s p begun g.row.C k j z _ so _ later h taken got.1 got.2 due

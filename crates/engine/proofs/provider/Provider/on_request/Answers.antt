@@ -6,9 +6,10 @@ use Rattle.engine.specs.Drafts.{Drafts}
 use Rattle.engine.specs.Requested.{request_record}
 use Rattle.engine.specs.Progress.{at_start}
 use Rattle.engine.specs.Requests.{at_request}
-use Rattle.engine.specs.Kept.{Agreed, kept_of, settings_in}
+use Rattle.engine.specs.Kept.{kept_of, settings_in}
 use Rattle.engine.specs.declared.stores.Storing.TheVariants.{Nothing}
 use Rattle.engine.specs.StoredData.{Stored, drafting_in}
+use Rattle.engine.specs.machine.Accepted.{IsPeerOf}
 use Rattle.engine.specs.machine.DoesDue.{is_left}
 use Rattle.engine.proofs.PhaseLemmas.{kept_by, awaiting_stored, awaiting_room}
 use Rattle.engine.proofs.RequestLemmas.{asked, request_tries}
@@ -18,7 +19,6 @@ pub returns-in-Some : goal.returns-in-Some
 returns-in-Some g c =
     let a = c.answer_request-peer in
     let accepted = rw c.in-Some.is at a.ensures.accepted in
-    let peer = accepted.1 in
     let nothing = sym (awaiting_stored c.args.self.now.phase c.requires.due) in
     record {
       settings = c.settle.ensures.settings;
@@ -33,7 +33,7 @@ returns-in-Some g c =
             body = refl;
             join = c.new.ensures;
             storing = refl;
-            agreed = subst (λ (b : List ℕ). Agreed given (request_record (asked s.further b))) bytes (record { caller = peer.caller; maximum = peer.maximum; rows = peer.rows; contexts = peer.contexts; count = peer.count });
+            agreed = subst (λ (b : List ℕ). IsPeerOf c.in-Some.peer s.further (request_record (asked s.further b))) bytes accepted.1;
           })
           (subst (λ (b : List ℕ). Sends (at_request s at_start b).sent a.result.2 (g.W.Wire.line c.args.wire.now) (g.W.Wire.line a.new.wire)) bytes a.ensures.sends)
           (subst (λ (b : List ℕ). OnErr a.result.2 (0 < length (at_request s at_start b).sent)) bytes a.ensures.due);
@@ -57,14 +57,5 @@ returns-in-None g c =
           (subst (λ (b : List ℕ). OnErr a.result.2 (0 < length (at_request s at_start b).sent)) bytes a.ensures.due);
     }
 
-pub invariant_of-self : goal.invariant_of-self
-invariant_of-self g c = record {
-  least = c.args.self.now.least;
-  greatest = c.args.self.now.greatest;
-  command_greatest = c.args.self.now.command_greatest;
-  least_kept = c.args.self.now.least_kept;
-  greatest_kept = c.args.self.now.greatest_kept;
-  least_levels = c.args.self.now.least_levels;
-  greatest_levels = c.args.self.now.greatest_levels;
-  room = let rows = rw c.in-Some.is at c.answer_request-peer.ensures.room in omega (arith, rows, awaiting_room c.args.self.now.phase c.requires.due, ap length c.body.ensures, c.args.self.now.room);
-}
+pub invariant_of-self-clause-room : goal.invariant_of-self-clause-room
+invariant_of-self-clause-room g c = let rows = rw c.in-Some.is at c.answer_request-peer.ensures.room in omega (arith, rows, awaiting_room c.args.self.now.phase c.requires.due, ap length c.body.ensures, c.args.self.now.room)
