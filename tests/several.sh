@@ -76,7 +76,7 @@ until_logged() {
 #   byte, half: sends a byte, or a half, of a request, and stalls
 #   store: stores the first image of stores.bin up to the middle of its data set, and stalls
 #   slow: sends the rest of it after so many seconds, and prints what the reply says
-#   idle: opens an association, and prints what comes, in hexadecimal, until the box closes the connection
+#   idle: opens an association, says so, and prints what comes, in hexadecimal, until the box closes the connection
 #   echoes: echoes without end, and reads no reply
 #   chatter: sends an echo each 0.2 s, and prints what came last
 #   echo: echoes once, and succeeds where all of the answer comes
@@ -133,6 +133,7 @@ elif kind in ("store", "slow"):
 elif kind == "idle":
     peer.sendall(echo[:170])
     answer(169)
+    print("accepted", flush=True)
     print(rest().hex())
 elif kind == "echoes":
     peer.sendall(echo[:170])
@@ -332,7 +333,11 @@ python3 peer.py 127.0.0.1 slow 2 >slow.txt &
 peers+=($!)
 python3 peer.py 127.0.0.1 store >cut.txt &
 peers+=($!)
-sleep 0.7
+# The file appears once one association is established and two have a store.
+for _ in $(seq 200); do
+  grep -q accepted idle.txt && [ "$(ls stopped | grep -c DRAFT)" -eq 2 ] && break
+  sleep 0.05
+done
 touch stop.txt
 ends 12
 report 'a box ends once the file appears'
