@@ -21,10 +21,11 @@ use crate::row::Row;
 use crate::skip::Skip;
 use arrayvec::ArrayVec;
 use element::Tag;
+use element::again::read_again;
 use part10::{MetaFault, read_meta};
 use sequence::{Walker, Want, Wanted};
 use std::alloc::Allocator;
-use std::io::{ErrorKind, Read};
+use std::io::Read;
 
 /// The bytes that one read takes at most.
 const PIECE: usize = 4096;
@@ -57,24 +58,6 @@ fn wanted() -> Wanted
     }
 }
 
-/// Reads once, and again where a signal interrupted the call.
-fn read_once<R: Read>(reader: &mut R, room: &mut [u8]) -> Result<usize, Skip>
-    ensures size { length room.new ≡ length room.old }
-    ensures within { IfOk result (λ n. n ≤ length room.new) }
-    ensures took { IfOk result (λ n. Consumes (R.remaining reader.old) (R.remaining reader.new) (take n room.new)) }
-    ensures end { IfOk result (λ n. n ≡ 0 → 0 < length room.new → IsAtEnd (R.remaining reader.new)) }
-    ensures failed { IfErr result (λ reason. reason ≡ skip.Fault 54) }
-{
-    for _ in 0..u64::MAX {
-        match reader.read(room) {
-            Ok(n) => return Ok(n),
-            Err(error) if error.kind() == ErrorKind::Interrupted => {}
-            Err(_) => return Err(Skip::Fault(MetaFault::ReadFailed.number())),
-        }
-    }
-    Err(Skip::Fault(MetaFault::ReadFailed.number()))
-}
-
 /// Walks the data set that the reader goes on with; fails with the number of its first fault, or of a
 /// failed read.
 fn walk<R: Read>(walker: &mut RowWalker, reader: &mut R) -> Result<(), Skip>
@@ -86,7 +69,9 @@ fn walk<R: Read>(walker: &mut RowWalker, reader: &mut R) -> Result<(), Skip>
     let mut room = [0; PIECE];
     // The walker refuses what passes its limit of bytes, so there are never so many pieces.
     for _ in 0..u64::MAX {
-        let count = read_once(reader, &mut room)?;
+        let Ok(count) = read_again(reader, &mut room) else {
+            return Err(Skip::Fault(MetaFault::ReadFailed.number()));
+        };
         let is_end = count == 0;
         if is_end {
             return match walker.finish() {

@@ -3,24 +3,9 @@ ghost use Rattle.std.specs.Prelude.{◌≤◌, IfOk, OnOk, OnErr, length, take};
 ghost use Rattle.std.specs.Io.KnownBytes.{Appends, Keeps};
 ghost use Rattle.dicomdir.specs.Written.{AppendsFront};
 
+use element::again::write_again;
 use std::io;
 use std::io::{ErrorKind, Write};
-
-/// Writes once, and again where a signal interrupted the call.
-fn write_once<W: Write>(writer: &mut W, bytes: &[u8]) -> io::Result<usize>
-    ensures within { IfOk result (λ n. n ≤ length bytes.now) }
-    ensures appends { IfOk result (λ n. Appends (W.contents writer.old) (W.contents writer.new) (take n bytes.now)) }
-    ensures keeps { OnErr result (Keeps (W.contents writer.old) (W.contents writer.new)) }
-{
-    for _ in 0..u64::MAX {
-        match writer.write(bytes) {
-            Ok(n) => return Ok(n),
-            Err(error) if error.kind() == ErrorKind::Interrupted => {}
-            Err(error) => return Err(error),
-        }
-    }
-    Err(io::Error::from(ErrorKind::Interrupted))
-}
 
 /// Writes all of the bytes. If a write fails, a beginning of them was written; a writer that takes
 /// nothing fails with `WriteZero`.
@@ -30,7 +15,7 @@ pub(crate) fn write_all<W: Write>(writer: &mut W, bytes: &[u8]) -> io::Result<()
 {
     let mut at = 0;
     while at < bytes.len() {
-        let n = write_once(writer, &bytes[at..])?;
+        let n = write_again(writer, &bytes[at..])?;
         if n == 0 {
             return Err(io::Error::from(ErrorKind::WriteZero));
         }

@@ -2,6 +2,7 @@
 //! (PS3.5 sections 6 and 7).
 #![tactic(auto)]
 
+pub mod again;
 pub mod count;
 mod header;
 pub mod header_laws;

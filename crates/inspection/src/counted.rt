@@ -2,6 +2,7 @@
 ghost use Rattle.std.specs.Prelude.{◌≡◌, ◌≤◌, length, IfOk};
 
 use crate::error::InspectionError;
+use element::again::read_again;
 use std::io;
 use std::io::{Error, ErrorKind, Read};
 
@@ -41,17 +42,13 @@ impl<'a, R: Read> Counted<'a, R> {
         ensures size { length room.new ≡ length room.old }
         ensures within { IfOk result (λ n. n ≤ length room.new) }
     {
-        for _ in 0..u64::MAX {
-            match self.input.read(room) {
-                Ok(len) => {
-                    self.count = self.count.saturating_add(len as u64);
-                    return Ok(len);
-                }
-                Err(error) if error.kind() == ErrorKind::Interrupted => {}
-                Err(error) => return Err(InspectionError::Read(error)),
+        match read_again(self.input, room) {
+            Ok(len) => {
+                self.count = self.count.saturating_add(len as u64);
+                Ok(len)
             }
+            Err(error) => Err(InspectionError::Read(error)),
         }
-        Err(InspectionError::Read(Error::from(ErrorKind::Interrupted)))
     }
 }
 

@@ -14,26 +14,9 @@ use crate::meta_fault::MetaFault;
 use arrayvec::ArrayVec;
 use byteorder::{ByteOrder, LittleEndian};
 use dictionary::syntax_of;
+use element::again::read_again;
 use element::{AeTitle, Header, Need, Syntax, Tag, Uid, need, read_header, unpadded};
-use std::io::{ErrorKind, Read};
-
-/// Reads once, and again where a signal interrupted the call.
-fn read_once<R: Read>(input: &mut R, room: &mut [u8]) -> Result<usize, MetaFault>
-    ensures size { length room.new ≡ length room.old }
-    ensures within { IfOk result (λ n. n ≤ length room.new) }
-    ensures took { IfOk result (λ n. Consumes (R.remaining input.old) (R.remaining input.new) (take n room.new)) }
-    ensures end { IfOk result (λ n. n ≡ 0 → 0 < length room.new → IsAtEnd (R.remaining input.new)) }
-    ensures failed { IfErr result (λ fault. fault ≡ ReadFailed) }
-{
-    for _ in 0..u64::MAX {
-        match input.read(room) {
-            Ok(n) => return Ok(n),
-            Err(error) if error.kind() == ErrorKind::Interrupted => {}
-            Err(_) => return Err(MetaFault::ReadFailed),
-        }
-    }
-    Err(MetaFault::ReadFailed)
-}
+use std::io::Read;
 
 /// Fills the room, and returns how many bytes the reader had for it.
 fn fill<R: Read>(input: &mut R, room: &mut [u8]) -> Result<usize, MetaFault>
@@ -45,7 +28,9 @@ fn fill<R: Read>(input: &mut R, room: &mut [u8]) -> Result<usize, MetaFault>
 {
     let mut at = 0;
     while at < room.len() {
-        let n = read_once(input, &mut room[at..])?;
+        let Ok(n) = read_again(input, &mut room[at..]) else {
+            return Err(MetaFault::ReadFailed);
+        };
         if n == 0 {
             return Ok(at);
         }

@@ -71,16 +71,12 @@ impl<S: Read> Link<S> {
         ensures same_inbox { self.new.inbox ≡ self.old.inbox }
         ensures same_outbox { self.new.outbox ≡ self.old.outbox }
     {
-        for _ in 0..u64::MAX {
-            match self.stream.read(room) {
-                Ok(0) => return Arrival::End(ReadEnd::Closed),
-                Ok(len) => return Arrival::Bytes(len),
-                Err(error) if error.kind() == ErrorKind::Interrupted => {}
-                Err(error) if error.kind() == ErrorKind::WouldBlock => return Arrival::Nothing,
-                Err(_) => return Arrival::End(ReadEnd::Failed),
-            }
+        match self.stream.read(room) {
+            Ok(0) => Arrival::End(ReadEnd::Closed),
+            Ok(len) => Arrival::Bytes(len),
+            Err(error) if error.kind() == ErrorKind::WouldBlock => Arrival::Nothing,
+            Err(_) => Arrival::End(ReadEnd::Failed),
         }
-        Arrival::End(ReadEnd::Failed)
     }
 
     /// Lends the next bytes that the association is to take, at most a portion, at the front of the room:
@@ -136,7 +132,6 @@ impl<S: Write> Link<S> {
                     observer.sent(&pending[..len]);
                     self.outbox.drop_front(len);
                 }
-                Err(error) if error.kind() == ErrorKind::Interrupted => {}
                 Err(error) if error.kind() == ErrorKind::WouldBlock => return Ok(false),
                 Err(error) => return Err(error),
             }
