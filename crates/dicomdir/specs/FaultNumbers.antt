@@ -1,38 +1,65 @@
 -- The faults of a directory, each with its number (this product's own profile).
-use Rattle.std.specs.Prelude.{ℕ}
+use Rattle.std.specs.Prelude.{ℕ, Bool, List, [], ◌∷◌, Option, nat_eq}
+use Rattle.std.specs.List.{find}
+use Rattle.dicomdir.specs.declared.rule.DirRule.{DirRule}
+use Rattle.dicomdir.specs.declared.rule.DirRule.TheVariants.{BadOffset, Cycle, TwiceReached, Unreached, WrongLevel, BadFileId, TooLarge, OutOfMemory, BadRecord}
+
+-- the number of a rule
+abbrev pub rule_number : DirRule → ℕ
+rule_number BadOffset = 60
+rule_number Cycle = 61
+rule_number TwiceReached = 62
+rule_number Unreached = 63
+rule_number WrongLevel = 64
+rule_number BadFileId = 65
+rule_number TooLarge = 66
+rule_number OutOfMemory = 67
+rule_number BadRecord = 68
+
+-- the rules, in the order of their numbers
+abbrev pub all_rules : List DirRule
+all_rules = BadOffset ∷ Cycle ∷ TwiceReached ∷ Unreached ∷ WrongLevel ∷ BadFileId ∷ TooLarge ∷ OutOfMemory ∷ BadRecord ∷ []
+
+-- whether this is the rule's number
+abbrev pub has_number : ℕ → DirRule → Bool
+has_number n rule = nat_eq (rule_number rule) n
+
+-- the rule with this number
+abbrev pub rule_of : ℕ → Option DirRule
+rule_of n = find (has_number n) all_rules
 
 -- an offset that is no record's place
 abbrev pub bad_offset : ℕ
-bad_offset = 60
+bad_offset = rule_number BadOffset
 
 -- an offset that leads back
 abbrev pub cycle : ℕ
-cycle = 61
+cycle = rule_number Cycle
 
 -- a second way to a record
 abbrev pub twice_reached : ℕ
-twice_reached = 62
+twice_reached = rule_number TwiceReached
 
 -- a record in use to which no offset leads
 abbrev pub unreached : ℕ
-unreached = 63
+unreached = rule_number Unreached
 
 -- a record whose type does not fit its level
 abbrev pub wrong_level : ℕ
-wrong_level = 64
+wrong_level = rule_number WrongLevel
 
 -- a file ID that is none
 abbrev pub bad_file_id : ℕ
-bad_file_id = 65
+bad_file_id = rule_number BadFileId
 
 -- a directory of 2^32 bytes or more
 abbrev pub too_large : ℕ
-too_large = 66
+too_large = rule_number TooLarge
 
 -- memory ran out
 abbrev pub out_of_memory : ℕ
-out_of_memory = 67
+out_of_memory = rule_number OutOfMemory
 
 -- a record, or the root, that lacks something
 abbrev pub bad_record : ℕ
-bad_record = 68
+bad_record = rule_number BadRecord

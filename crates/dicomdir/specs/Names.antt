@@ -1,23 +1,32 @@
 -- The names of what may be wrong with a directory (this product's own profile).
-use Rattle.std.specs.Prelude.{ℕ, List, nat_eq, if◌then◌else◌, codes}
+use Rattle.std.specs.Prelude.{ℕ, List, Option, Some, None, nat_eq, if◌then◌else◌, codes}
 use Rattle.part10.specs.declared.meta_fault.MetaFault.TheVariants.{NotPart10, BadMeta, OtherSyntax}
 use Rattle.part10.specs.MetaText.{fault_name}
 use Rattle.sequence.specs.Names.{rule_name}
-use Rattle.dicomdir.specs.FaultNumbers.{bad_offset, cycle, twice_reached, unreached, wrong_level, bad_file_id, too_large, out_of_memory, bad_record}
+use Rattle.dicomdir.specs.declared.rule.DirRule.{DirRule}
+use Rattle.dicomdir.specs.declared.rule.DirRule.TheVariants.{BadOffset, Cycle, TwiceReached, Unreached, WrongLevel, BadFileId, TooLarge, OutOfMemory, BadRecord}
+use Rattle.dicomdir.specs.FaultNumbers.{rule_of}
+
+-- the name of a rule, as it is printed
+abbrev pub text_of_rule : DirRule → List ℕ
+text_of_rule BadOffset = codes "BadOffset"
+text_of_rule Cycle = codes "Cycle"
+text_of_rule TwiceReached = codes "TwiceReached"
+text_of_rule Unreached = codes "Unreached"
+text_of_rule WrongLevel = codes "WrongLevel"
+text_of_rule BadFileId = codes "BadFileId"
+text_of_rule TooLarge = codes "TooLarge"
+text_of_rule OutOfMemory = codes "OutOfMemory"
+text_of_rule BadRecord = codes "BadRecord"
+
+-- the name of a rule of the links or records, and `other` where there is none
+abbrev pub text_or : List ℕ → Option DirRule → List ℕ
+text_or other None = other
+text_or other (Some rule) = text_of_rule rule
 
 -- the name of the fault of the links or records with this number, and `other` where it is none
 abbrev pub link_name : ℕ → List ℕ → List ℕ
-link_name n other =
-    if nat_eq n bad_offset then codes "BadOffset"
-    else (if nat_eq n cycle then codes "Cycle"
-    else (if nat_eq n twice_reached then codes "TwiceReached"
-    else (if nat_eq n unreached then codes "Unreached"
-    else (if nat_eq n wrong_level then codes "WrongLevel"
-    else (if nat_eq n bad_file_id then codes "BadFileId"
-    else (if nat_eq n too_large then codes "TooLarge"
-    else (if nat_eq n out_of_memory then codes "OutOfMemory"
-    else (if nat_eq n bad_record then codes "BadRecord"
-    else other))))))))
+link_name n other = text_or other (rule_of n)
 
 -- the name of the fault of a file header with this number
 abbrev pub header_name : ℕ → List ℕ → List ℕ

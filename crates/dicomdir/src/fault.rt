@@ -3,6 +3,7 @@ ghost use Rattle.std.specs.Prelude.{◌≡◌};
 ghost use Rattle.sequence.specs.Rules.{no_tag};
 ghost use Rattle.dicomdir.specs.Names as names;
 
+use crate::rule::DirRule;
 use element::Tag;
 use part10::MetaFault;
 use sequence::Fault;
@@ -13,7 +14,7 @@ use std::fmt::{Display, Formatter};
 #[derive(Clone, Copy, Debug, PartialEq, Eq)]
 pub struct DirFault {
     /// Which rule: 10 to 20 are those of a data set (`sequence::Fault`), 50, 51 and 53 those of a file header
-    /// (`part10::MetaFault`), and 60 to 68 the constants of this type.
+    /// (`part10::MetaFault`), and 60 to 68 those of links and records (`DirRule`).
     pub number: u8,
     /// The byte that it concerns, counted from the file's first byte; 0 for 66 and 67.
     pub place: u64,
@@ -22,33 +23,32 @@ pub struct DirFault {
 }
 
 impl DirFault {
-    /// An offset is no record's place. It is reported at the record that has the offset, or at the header of the
-    /// root's element.
-    pub const BAD_OFFSET: u8 = 60;
+    /// The number of `DirRule::BadOffset`.
+    pub const BAD_OFFSET: u8 = DirRule::BadOffset as u8;
 
-    /// An offset leads back: to the record that has it, to one before that in its chain, or to one above.
-    pub const CYCLE: u8 = 61;
+    /// The number of `DirRule::Cycle`.
+    pub const CYCLE: u8 = DirRule::Cycle as u8;
 
-    /// An offset leads to another record that was reached before.
-    pub const TWICE_REACHED: u8 = 62;
+    /// The number of `DirRule::TwiceReached`.
+    pub const TWICE_REACHED: u8 = DirRule::TwiceReached as u8;
 
-    /// A record in use that no offset leads to.
-    pub const UNREACHED: u8 = 63;
+    /// The number of `DirRule::Unreached`.
+    pub const UNREACHED: u8 = DirRule::Unreached as u8;
 
-    /// A record's type does not fit its level.
-    pub const WRONG_LEVEL: u8 = 64;
+    /// The number of `DirRule::WrongLevel`.
+    pub const WRONG_LEVEL: u8 = DirRule::WrongLevel as u8;
 
-    /// A file ID is invalid, or an image has none.
-    pub const BAD_FILE_ID: u8 = 65;
+    /// The number of `DirRule::BadFileId`.
+    pub const BAD_FILE_ID: u8 = DirRule::BadFileId as u8;
 
-    /// A file of 2^32 bytes or more.
-    pub const TOO_LARGE: u8 = 66;
+    /// The number of `DirRule::TooLarge`.
+    pub const TOO_LARGE: u8 = DirRule::TooLarge as u8;
 
-    /// The allocator refused a growth.
-    pub const OUT_OF_MEMORY: u8 = 67;
+    /// The number of `DirRule::OutOfMemory`.
+    pub const OUT_OF_MEMORY: u8 = DirRule::OutOfMemory as u8;
 
-    /// An element that the root or a record must have is missing, or its value has the wrong size.
-    pub const BAD_RECORD: u8 = 68;
+    /// The number of `DirRule::BadRecord`.
+    pub const BAD_RECORD: u8 = DirRule::BadRecord as u8;
 
     /// Returns a fault of the links or records at a place of the file.
     pub(crate) fn at(number: u8, place: u64) -> DirFault
@@ -83,21 +83,15 @@ impl DirFault {
             50 => MetaFault::NotPart10.name(),
             51 => MetaFault::BadMeta.name(),
             53 => MetaFault::OtherSyntax.name(),
-            DirFault::BAD_OFFSET => "BadOffset",
-            DirFault::CYCLE => "Cycle",
-            DirFault::TWICE_REACHED => "TwiceReached",
-            DirFault::UNREACHED => "Unreached",
-            DirFault::WRONG_LEVEL => "WrongLevel",
-            DirFault::BAD_FILE_ID => "BadFileId",
-            DirFault::TOO_LARGE => "TooLarge",
-            DirFault::OUT_OF_MEMORY => "OutOfMemory",
-            DirFault::BAD_RECORD => "BadRecord",
-            number => Fault {
-                number,
-                place: self.place,
-                tag: self.tag,
-            }
-            .name(),
+            number => match DirRule::of(number) {
+                Some(rule) => rule.name(),
+                None => Fault {
+                    number,
+                    place: self.place,
+                    tag: self.tag,
+                }
+                .name(),
+            },
         }
     }
 }
