@@ -1,5 +1,5 @@
 -- The file that is built has the size and the text of the definitions.
-use Rattle.std.proofs.Common.{◌≡◌, ℕ, ◌+◌, ◌^◌, ◌<◌, ◌≤◌, true, false, List, [], ◌∷◌, ◌++◌, length, None, refl, sym, ap, ap₂, codes, ◌∙◌, append_assoc, arith}
+use Rattle.std.proofs.Common.{◌≡◌, ℕ, ◌+◌, ◌^◌, ◌<◌, ◌≤◌, true, false, List, [], ◌++◌, length, Some, None, refl, sym, ap, ap₂, codes, ◌∙◌, append_assoc, arith}
 use Rattle.std.proofs.lemmas.Bool.Decides.{nat_tests}
 use Rattle.std.proofs.lemmas.List.{append-nil}
 use Rattle.element.specs.Header.{header_bytes, item_tag}
@@ -70,27 +70,17 @@ pub lays_tree : {A : Type 0} (rows kept : List Row) (e0 e1 : List (LaidRecord A)
     → Lays (forest_for Patient kept) e0 e1 s0 s1 first last → Lays (TreeOf rows) [] e1 0 s1 first last
 lays_tree rows kept e0 e1 s0 s1 first last e none zero_is lays = rw (← same_tree kept rows e, ← none, ← zero_is) lays
 
-root_parts : (first last size : ℕ)
-    → root_text first last size
-    ≡ element_text (tag 0x0004 0x1130) (codes "CS") []
-    ++ (element_text (tag 0x0004 0x1200) (codes "UL") (le first 4)
-    ++ (element_text (tag 0x0004 0x1202) (codes "UL") (le last 4)
-    ++ (element_text (tag 0x0004 0x1212) (codes "US") (le 0 2)
-    ++ ((0x04 ∷ 0x00 ∷ 0x20 ∷ 0x12 ∷ 0x53 ∷ 0x51 ∷ 0 ∷ 0 ∷ []) ++ le size 4))))
-unfolding root_text is_short
-root_parts first last size = refl
-
-joined : (a b c d e f : List ℕ) → (((((([] ++ a) ++ b) ++ c) ++ d) ++ e) ++ f) ≡ a ++ (b ++ (c ++ (d ++ (e ++ f))))
-joined a b c d e f = simp append_assoc
+joined : (a b c d e : List ℕ) → ((((([] ++ a) ++ b) ++ c) ++ d) ++ e) ≡ a ++ (b ++ (c ++ (d ++ e)))
+joined a b c d e = simp append_assoc
 
 pub root_laid : (first last size : ℕ)
-    → (((((([] ++ element_text (tag 0x0004 0x1130) (codes "CS") []) ++ element_text (tag 0x0004 0x1200) (codes "UL") (le first 4)) ++ element_text (tag 0x0004 0x1202) (codes "UL") (le last 4))
-    ++ element_text (tag 0x0004 0x1212) (codes "US") (le 0 2)) ++ (0x04 ∷ 0x00 ∷ 0x20 ∷ 0x12 ∷ 0x53 ∷ 0x51 ∷ 0 ∷ 0 ∷ [])) ++ le size 4)
+    → (((([] ++ element_text (tag 0x0004 0x1130) (codes "CS") []) ++ element_text (tag 0x0004 0x1200) (codes "UL") (le first 4)) ++ element_text (tag 0x0004 0x1202) (codes "UL") (le last 4))
+    ++ element_text (tag 0x0004 0x1212) (codes "US") (le 0 2)) ++ header_bytes (record { tag = tag 0x0004 0x1220; vr = Some (codes "SQ"); length = size })
     ≡ root_text first last size
+unfolding root_text
 root_laid first last size =
     joined (element_text (tag 0x0004 0x1130) (codes "CS") []) (element_text (tag 0x0004 0x1200) (codes "UL") (le first 4)) (element_text (tag 0x0004 0x1202) (codes "UL") (le last 4))
-    (element_text (tag 0x0004 0x1212) (codes "US") (le 0 2)) (0x04 ∷ 0x00 ∷ 0x20 ∷ 0x12 ∷ 0x53 ∷ 0x51 ∷ 0 ∷ 0 ∷ []) (le size 4)
-    ∙ sym (root_parts first last size)
+    (element_text (tag 0x0004 0x1212) (codes "US") (le 0 2)) (header_bytes (record { tag = tag 0x0004 0x1220; vr = Some (codes "SQ"); length = size }))
 
 -- the root's elements, and the text of the items
 root_elements_are : (first last : ℕ) (is : Items) → spelled (root_elements first last is) ≡ root_text first last (length (spelled_items is)) ++ spelled_items is

@@ -1,5 +1,6 @@
 -- The bytes of a record are those of its elements, one after the other.
-use Rattle.std.proofs.Common.{◌≡◌, ℕ, ◌≤◌, ◌<◌, ◌+◌, Bool, true, false, ◌&&◌, cond, List, [], ◌∷◌, ◌++◌, length, get_or, drop, Option, Some, None, codes, refl, sym, ap, ◌∙◌, append_assoc, arith}
+use Rattle.std.proofs.Common.{◌≡◌, ℕ, ◌≤◌, ◌<◌, ◌+◌, Bool, true, false, ◌&&◌, cond, if◌then◌else◌, nat_eq, List, [], ◌∷◌, ◌++◌, length, get_or, drop, Option, Some, None, codes, refl, sym, ap, ◌∙◌, append_assoc, arith}
+use Rattle.std.proofs.lemmas.Bool.Decides.{nat_tests}
 use Rattle.std.specs.List.{list_all}
 use Rattle.std.proofs.lemmas.List.{append-nil, at_drop_more}
 use Rattle.element.specs.declared.tag.Tag.{Tag}
@@ -8,7 +9,7 @@ use Rattle.element.specs.declared.syntax.Syntax.TheVariants.{Implicit, Explicit}
 use Rattle.element.specs.Header.{number, header_bytes}
 use Rattle.element.specs.Numbers.{le}
 use Rattle.element.specs.Padding.{is_empty, without_trailing, is_padding, padded}
-use Rattle.element.specs.Vr.{is_short}
+use Rattle.element.specs.Vr.{is_capital, is_short, is_short_vr, vr_of}
 use Rattle.dictionary.specs.Syntaxes.{syntax_uid}
 use Rattle.sequence.specs.Tree.{Elements, no_elements}
 use Rattle.sequence.specs.Wanted.{Values, value_of}
@@ -188,3 +189,30 @@ record_fits Image = omega arith
 pub short_table : list_all text.has_short_vr key_table ≡ true
 unfolding is_short
 short_table = refl
+
+pub element_table : list_all text.is_element key_table ≡ true
+element_table = refl
+
+-- the VRs with a length of two bytes are capital letters
+
+one_of : {C : Type 0} (test here rest : Bool) → (test ≡ true → here ≡ true → C) → (rest ≡ true → C) → (if test then here else rest) ≡ true → C
+one_of true here rest f g e = f refl e
+one_of false here rest f g e = g e
+
+short_capital : (a b : ℕ) → is_short a b ≡ true → (is_capital a && is_capital b) ≡ true
+unfolding is_short
+short_capital a b =
+    one_of (nat_eq a 65) _ _ (λ p q. grind (arith, nat_tests))
+    (one_of (nat_eq a 67) _ _ (λ p q. grind (arith, nat_tests))
+    (one_of (nat_eq a 68) _ _ (λ p q. grind (arith, nat_tests))
+    (one_of (nat_eq a 70) _ _ (λ p q. grind (arith, nat_tests))
+    (one_of (nat_eq a 73) _ _ (λ p q. grind (arith, nat_tests))
+    (one_of (nat_eq a 76) _ _ (λ p q. grind (arith, nat_tests))
+    (one_of (nat_eq a 80) _ _ (λ p q. grind (arith, nat_tests))
+    (one_of (nat_eq a 83) _ _ (λ p q. grind (arith, nat_tests))
+    (one_of (nat_eq a 84) _ _ (λ p q. grind (arith, nat_tests))
+    (one_of (nat_eq a 85) _ _ (λ p q. grind (arith, nat_tests))
+    (λ e. absurd cc))))))))))
+
+pub short_named : (vr : List ℕ) → is_short_vr vr ≡ true → vr_of vr ≡ Some vr
+short_named vr e = rw (short_capital (get_or vr 0 0) (get_or vr 1 0) e) refl

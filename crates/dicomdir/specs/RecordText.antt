@@ -1,7 +1,7 @@
 -- The bytes of a directory record, element after element (PS3.5 section 7.1.2, PS3.3 section F.5).
-use Rattle.std.specs.Prelude.{ℕ, Bool, List, [], ◌∷◌, ◌+◌, ◌++◌, length, Some, codes, if◌then◌else◌}
+use Rattle.std.specs.Prelude.{ℕ, Bool, not, List, [], ◌∷◌, ◌+◌, ◌++◌, length, Some, codes, if◌then◌else◌}
 use Rattle.element.specs.declared.tag.Tag.{Tag}
-use Rattle.element.specs.Header.{header_bytes}
+use Rattle.element.specs.Header.{header_bytes, is_marker}
 use Rattle.element.specs.Numbers.{le}
 use Rattle.element.specs.Padding.{padded}
 use Rattle.element.specs.Vr.{is_short_vr}
@@ -48,6 +48,10 @@ keys_room level (rule ∷ rules) = key_room level rule + keys_room level rules
 
 abbrev pub has_short_vr : KeyRule → Bool
 has_short_vr rule = is_short_vr rule.vr
+
+-- its tag is none of an item or a delimitation
+abbrev pub is_element : KeyRule → Bool
+is_element rule = not (is_marker rule.tag)
 
 -- how many bytes the record of an image takes at most for what it says of its file
 abbrev pub file_room : Level → ℕ

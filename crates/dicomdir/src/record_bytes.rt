@@ -1,18 +1,19 @@
 //! Lays down directory records.
-ghost use Rattle.std.specs.Prelude.{◌≡◌, ◌+◌, ◌≤◌, ◌++◌, length, true};
+ghost use Rattle.std.specs.Prelude.{◌≡◌, ◌+◌, ◌≤◌, ◌++◌, length, true, false, IsTrue};
 ghost use Rattle.std.specs.List.{list_all};
 ghost use Rattle.arrayvec.specs.ArrayVec.{array_vec_len};
 ghost use Rattle.element.specs.Numbers.{le};
 ghost use Rattle.element.specs.Padding.{padded};
 ghost use Rattle.element.specs.Vr.{is_short_vr};
 ghost use Rattle.sequence.specs.Tree.{no_elements};
-ghost use Rattle.element.specs.Header.{number};
+ghost use Rattle.element.specs.declared.syntax.Syntax.TheVariants.{Explicit};
+ghost use Rattle.element.specs.Header.{number, is_marker, header_bytes, header_fits};
 ghost use Rattle.sequence.specs.Wanted.{value_of};
 ghost use Rattle.dicomdir.specs.declared.level.Level.TheVariants.{Image};
 ghost use Rattle.dicomdir.specs.Keys.{fits_room};
 ghost use Rattle.dicomdir.specs.Layout.{spelled, with_offsets};
 ghost use Rattle.dicomdir.specs.Record.{key_field, key_field_of, written, key_fields, file_fields, record_for};
-ghost use Rattle.dicomdir.specs.RecordText.{keys_room, has_short_vr};
+ghost use Rattle.dicomdir.specs.RecordText.{keys_room, has_short_vr, is_element};
 ghost use Rattle.dicomdir.specs.RecordText as text;
 
 use crate::Row;
@@ -21,33 +22,48 @@ use crate::level::Level;
 use arrayvec::ArrayVec;
 use byteorder::{ByteOrder, LittleEndian};
 use dictionary::syntax_uid;
-use element::{Tag, unpadded};
+use element::{Header, Syntax, Tag, Vr, unpadded, write_header};
 use std::alloc::Allocator;
 
 /// The room of a record: no record is longer.
 pub(crate) type RecordBytes = ArrayVec<u8, 1024>;
 
-pub(crate) fn put(out: &mut RecordBytes, bytes: &[u8])
+fn put(out: &mut RecordBytes, bytes: &[u8])
     requires { array_vec_len out.old + length bytes.now ≤ 1024 }
     ensures { out.new.items ≡ out.old.items ++ bytes.now }
 {
     out.try_extend_from_slice(bytes).unwrap();
 }
 
+/// Appends a header in Explicit VR Little Endian.
+pub(crate) fn put_header(out: &mut RecordBytes, header: &Header)
+    requires room { array_vec_len out.old + 12 ≤ 1024 }
+    requires fits { IsTrue (header_fits Explicit header.now) }
+    ensures { out.new.items ≡ out.old.items ++ header_bytes header.now }
+{
+    let mut room = [0; 12];
+    let size = write_header(Syntax::Explicit, header, &mut room);
+    put(out, &room[..size]);
+}
+
 /// Appends an element in Explicit VR Little Endian with a VR whose length takes two bytes.
 #[tactic(auto, unfolding(crate::specs::RecordText::element_text))]
-pub(crate) fn put_element(out: &mut RecordBytes, tag: Tag, vr: [u8; 2], value: &[u8], padding: u8)
-    requires room { array_vec_len out.old + length value.now + 9 ≤ 1024 }
+pub(crate) fn put_element(out: &mut RecordBytes, tag: Tag, vr: Vr, value: &[u8], padding: u8)
+    requires room { array_vec_len out.old + length value.now + 12 ≤ 1024 }
+    requires plain { is_marker tag ≡ false }
     requires short { is_short_vr vr ≡ true }
     ensures items { out.new.items ≡ out.old.items ++ text.element_text tag vr (padded padding value.now) }
     ensures bound { array_vec_len out.new ≤ array_vec_len out.old + length value.now + 9 }
 {
+    // `letters` ensures that there are two.
+    vr.letters();
     let odd = value.len() % 2;
-    let mut header = [0, 0, 0, 0, vr[0], vr[1], 0, 0];
-    LittleEndian::write_u16(&mut header[0..2], tag.0);
-    LittleEndian::write_u16(&mut header[2..4], tag.1);
-    LittleEndian::write_u16(&mut header[6..8], (value.len() + odd) as u16);
-    put(out, &header);
+    let header = Header {
+        tag,
+        vr: Some(vr),
+        length: (value.len() + odd) as u32,
+    };
+    put_header(out, &header);
     put(out, value);
     if odd == 1 {
         out.push(padding);
@@ -55,9 +71,10 @@ pub(crate) fn put_element(out: &mut RecordBytes, tag: Tag, vr: [u8; 2], value: &
 }
 
 /// Appends a key, padded anew: an identifier by 00H, text by a space.
-#[tactic(auto, using(crate::proofs::RecordLemmas::key_length, crate::proofs::RecordLemmas::key_text))]
+#[tactic(auto, using(crate::proofs::RecordLemmas::key_length, crate::proofs::RecordLemmas::key_text, crate::proofs::RecordLemmas::short_named))]
 fn put_key(out: &mut RecordBytes, rule: &KeyRule, value: &[u8])
-    requires room { array_vec_len out.old + length value.now + 9 ≤ 1024 }
+    requires room { array_vec_len out.old + length value.now + 12 ≤ 1024 }
+    requires plain { is_marker rule.now.tag ≡ false }
     requires short { is_short_vr rule.now.vr ≡ true }
     ensures items { out.new.items ≡ out.old.items ++ spelled (key_field rule.now value.now no_elements) }
     ensures bound { array_vec_len out.new ≤ array_vec_len out.old + length value.now + 9 }
@@ -67,12 +84,16 @@ fn put_key(out: &mut RecordBytes, rule: &KeyRule, value: &[u8])
     } else {
         b' '
     };
-    put_element(out, rule.tag, rule.vr, unpadded(value), padding);
+    let Some(vr) = Vr::read(rule.vr) else {
+        unreachable!()
+    };
+    put_element(out, rule.tag, vr, unpadded(value), padding);
 }
 
 /// Appends a key of a row, if a record has it.
 fn put_row_key<A: Allocator>(out: &mut RecordBytes, rule: &KeyRule, row: &Row<A>)
-    requires room { array_vec_len out.old + rule.now.room + 9 ≤ 1024 }
+    requires room { array_vec_len out.old + rule.now.room + 12 ≤ 1024 }
+    requires plain { is_marker rule.now.tag ≡ false }
     requires short { is_short_vr rule.now.vr ≡ true }
     requires fits { fits_room row.now.values rule.now ≡ true }
     ensures items { out.new.items ≡ out.old.items ++ spelled (key_field_of rule.now (written rule.now.kind (value_of row.now.values (number rule.now.tag))) no_elements) }
@@ -87,7 +108,8 @@ fn put_row_key<A: Allocator>(out: &mut RecordBytes, rule: &KeyRule, row: &Row<A>
 
 /// Appends those of these keys that a record of the level has.
 fn put_keys<A: Allocator>(out: &mut RecordBytes, rules: &[KeyRule], level: Level, row: &Row<A>)
-    requires room { array_vec_len out.old + keys_room level rules.now ≤ 1024 }
+    requires room { array_vec_len out.old + keys_room level rules.now + 3 ≤ 1024 }
+    requires plain { list_all is_element rules.now ≡ true }
     requires short { list_all has_short_vr rules.now ≡ true }
     requires fits { list_all (fits_room row.now.values) rules.now ≡ true }
     ensures items { out.new.items ≡ out.old.items ++ spelled (key_fields level rules.now row.now.values) }
@@ -103,17 +125,17 @@ fn put_keys<A: Allocator>(out: &mut RecordBytes, rules: &[KeyRule], level: Level
 /// Appends the offsets, Record In-use Flag and Directory Record Type, which is given with its padding.
 #[tactic(auto, unfolding(element::specs::Vr::is_short))]
 fn put_start(out: &mut RecordBytes, next: u32, lower: u32, kind: &[u8])
-    requires room { array_vec_len out.old + length kind.now + 46 ≤ 1024 }
+    requires room { array_vec_len out.old + length kind.now + 49 ≤ 1024 }
     ensures items { out.new.items ≡ out.old.items ++ text.start_text next lower (padded 32 kind.now) }
     ensures bound { array_vec_len out.new ≤ array_vec_len out.old + length kind.now + 46 }
 {
     let mut offset = [0; 4];
     LittleEndian::write_u32(&mut offset, next);
-    put_element(out, Tag(0x0004, 0x1400), *b"UL", &offset, 0);
-    put_element(out, Tag(0x0004, 0x1410), *b"US", &[0xff, 0xff], 0);
+    put_element(out, Tag(0x0004, 0x1400), Vr::UL, &offset, 0);
+    put_element(out, Tag(0x0004, 0x1410), Vr::US, &[0xff, 0xff], 0);
     LittleEndian::write_u32(&mut offset, lower);
-    put_element(out, Tag(0x0004, 0x1420), *b"UL", &offset, 0);
-    put_element(out, Tag(0x0004, 0x1430), *b"CS", kind, b' ');
+    put_element(out, Tag(0x0004, 0x1420), Vr::UL, &offset, 0);
+    put_element(out, Tag(0x0004, 0x1430), Vr::CS, kind, b' ');
 }
 
 /// Appends the file ID and what the file header says of the file.
@@ -124,13 +146,13 @@ fn put_image_file<A: Allocator>(out: &mut RecordBytes, row: &Row<A>)
     ensures bound { array_vec_len out.new ≤ array_vec_len out.old + 400 }
 {
     let file_id = row.file_id();
-    put_element(out, Tag(0x0004, 0x1500), *b"CS", file_id.text(), b' ');
-    put_element(out, Tag(0x0004, 0x1510), *b"UI", row.class(), 0);
-    put_element(out, Tag(0x0004, 0x1511), *b"UI", row.instance(), 0);
+    put_element(out, Tag(0x0004, 0x1500), Vr::CS, file_id.text(), b' ');
+    put_element(out, Tag(0x0004, 0x1510), Vr::UI, row.class(), 0);
+    put_element(out, Tag(0x0004, 0x1511), Vr::UI, row.instance(), 0);
     put_element(
         out,
         Tag(0x0004, 0x1512),
-        *b"UI",
+        Vr::UI,
         syntax_uid(row.syntax()),
         0,
     );
@@ -149,7 +171,7 @@ fn put_file<A: Allocator>(out: &mut RecordBytes, level: Level, row: &Row<A>)
 }
 
 /// Returns the elements of a record with its offsets.
-#[tactic(auto, using(crate::proofs::RecordLemmas::record_spelled, crate::proofs::RecordLemmas::kind_short, crate::proofs::RecordLemmas::record_fits, crate::proofs::RecordLemmas::short_table))]
+#[tactic(auto, using(crate::proofs::RecordLemmas::record_spelled, crate::proofs::RecordLemmas::kind_short, crate::proofs::RecordLemmas::record_fits, crate::proofs::RecordLemmas::short_table, crate::proofs::RecordLemmas::element_table))]
 fn record_elements<A: Allocator>(level: Level, row: &Row<A>, next: u32, lower: u32) -> RecordBytes
     ensures items { result.items ≡ spelled (with_offsets next lower (record_for level row.now)) }
     ensures bound { array_vec_len result ≤ 960 }
@@ -174,10 +196,13 @@ pub(crate) fn record_bytes<A: Allocator>(
     ensures bound { array_vec_len result ≤ 968 }
 {
     let elements = record_elements(level, row, next, lower);
-    let mut header = [0xfe, 0xff, 0x00, 0xe0, 0, 0, 0, 0];
-    LittleEndian::write_u32(&mut header[4..8], elements.len() as u32);
+    let header = Header {
+        tag: Tag::ITEM,
+        vr: None,
+        length: elements.len() as u32,
+    };
     let mut out = RecordBytes::new();
-    put(&mut out, &header);
+    put_header(&mut out, &header);
     put(&mut out, elements.as_slice());
     out
 }

@@ -4,10 +4,10 @@ ghost use Rattle.element.specs.Uid.{is_uid};
 ghost use Rattle.dicomdir.specs.Built.{directory_header};
 ghost use Rattle.dicomdir.specs.machine.Building.{root_text};
 
-use crate::record_bytes::{RecordBytes, put, put_element};
+use crate::record_bytes::{RecordBytes, put_element, put_header};
 use arrayvec::ArrayVec;
 use byteorder::{ByteOrder, LittleEndian};
-use element::{AeTitle, Syntax, Tag, Uid};
+use element::{AeTitle, Header, Syntax, Tag, Uid, Vr};
 use part10::{Meta, meta_bytes};
 
 /// Media Storage Directory Storage (PS3.6 annex A).
@@ -42,14 +42,17 @@ pub(crate) fn root_bytes(first: u32, last: u32, size: u32) -> RecordBytes
 {
     let mut out = RecordBytes::new();
     let mut number = [0; 4];
-    put_element(&mut out, Tag(0x0004, 0x1130), *b"CS", &[], b' ');
+    put_element(&mut out, Tag(0x0004, 0x1130), Vr::CS, &[], b' ');
     LittleEndian::write_u32(&mut number, first);
-    put_element(&mut out, Tag(0x0004, 0x1200), *b"UL", &number, 0);
+    put_element(&mut out, Tag(0x0004, 0x1200), Vr::UL, &number, 0);
     LittleEndian::write_u32(&mut number, last);
-    put_element(&mut out, Tag(0x0004, 0x1202), *b"UL", &number, 0);
-    put_element(&mut out, Tag(0x0004, 0x1212), *b"US", &[0, 0], 0);
-    LittleEndian::write_u32(&mut number, size);
-    put(&mut out, &[0x04, 0x00, 0x20, 0x12, b'S', b'Q', 0, 0]);
-    put(&mut out, &number);
+    put_element(&mut out, Tag(0x0004, 0x1202), Vr::UL, &number, 0);
+    put_element(&mut out, Tag(0x0004, 0x1212), Vr::US, &[0, 0], 0);
+    let records = Header {
+        tag: Tag(0x0004, 0x1220),
+        vr: Some(Vr::SQ),
+        length: size,
+    };
+    put_header(&mut out, &records);
     out
 }

@@ -1,6 +1,7 @@
 //! Writes file headers.
-ghost use Rattle.std.specs.Prelude.{◌≡◌, ◌+◌, ◌<◌, ◌≤◌, ◌∷◌, ◌++◌, [], ℕ, true, length};
+ghost use Rattle.std.specs.Prelude.{◌≡◌, ◌+◌, ◌^◌, ◌<◌, ◌≤◌, ◌∷◌, ◌++◌, [], ℕ, true, Some, length};
 ghost use Rattle.arrayvec.specs.ArrayVec.{array_vec_len};
+ghost use Rattle.element.specs.Header.{header_bytes};
 ghost use Rattle.element.specs.Title.{title_text};
 ghost use Rattle.element.specs.Uid.{is_uid};
 ghost use Rattle.element.specs.Vr.{is_short_vr};
@@ -12,7 +13,7 @@ use crate::Meta;
 use arrayvec::ArrayVec;
 use byteorder::{ByteOrder, LittleEndian};
 use dictionary::{IMPLEMENTATION_CLASS_UID, IMPLEMENTATION_VERSION_NAME, syntax_uid};
-use element::AeTitle;
+use element::{AeTitle, Header, Syntax, Tag, Vr, write_header};
 
 type Head = ArrayVec<u8, 512>;
 
@@ -23,18 +24,34 @@ fn put(head: &mut Head, bytes: &[u8])
     head.try_extend_from_slice(bytes).unwrap();
 }
 
+/// Appends the header of an element of group 0002.
+fn put_header(head: &mut Head, number: u16, vr: Vr, size: u32)
+    requires room { array_vec_len head.old + 12 ≤ 512 }
+    requires short { size < 2 ^ 16 }
+    ensures items { head.new.items ≡ head.old.items ++ header_bytes (record { tag = record { 0 = 2; 1 = number }; vr = Some vr; length = size }) }
+    ensures letters { length vr ≡ 2 }
+{
+    // `letters` ensures that there are two.
+    vr.letters();
+    let header = Header {
+        tag: Tag(0x0002, number),
+        vr: Some(vr),
+        length: size,
+    };
+    let mut room = [0; 12];
+    let len = write_header(Syntax::Explicit, &header, &mut room);
+    put(head, &room[..len]);
+}
+
 /// Appends an element of group 0002 with a VR whose length takes two bytes.
-fn put_element(head: &mut Head, number: u16, vr: [u8; 2], value: &[u8], padding: u8)
-    requires room { array_vec_len head.old + length value.now + 9 ≤ 512 }
+fn put_element(head: &mut Head, number: u16, vr: Vr, value: &[u8], padding: u8)
+    requires room { array_vec_len head.old + length value.now + 12 ≤ 512 }
     requires short { is_short_vr vr ≡ true }
     ensures items { head.new.items ≡ head.old.items ++ file.meta_element number vr (padded padding value.now) }
     ensures bound { array_vec_len head.new ≤ array_vec_len head.old + length value.now + 9 }
 {
     let odd = value.len() % 2;
-    let mut header = [2, 0, 0, 0, vr[0], vr[1], 0, 0];
-    LittleEndian::write_u16(&mut header[2..4], number);
-    LittleEndian::write_u16(&mut header[6..8], (value.len() + odd) as u16);
-    put(head, &header);
+    put_header(head, number, vr, (value.len() + odd) as u32);
     put(head, value);
     if odd == 1 {
         head.push(padding);
@@ -44,11 +61,11 @@ fn put_element(head: &mut Head, number: u16, vr: [u8; 2], value: &[u8], padding:
 #[tactic(auto, unfolding(element::specs::Vr::is_short))]
 fn put_uid(head: &mut Head, number: u16, text: &[u8])
     requires fits { length text.now ≤ 64 }
-    requires room { array_vec_len head.old + 73 ≤ 512 }
+    requires room { array_vec_len head.old + 76 ≤ 512 }
     ensures items { head.new.items ≡ head.old.items ++ file.uid_element number text.now }
     ensures bound { array_vec_len head.new ≤ array_vec_len head.old + 73 }
 {
-    put_element(head, number, *b"UI", text, 0);
+    put_element(head, number, Vr::UI, text, 0);
 }
 
 /// Returns the elements with the version of the header, the class, the instance and the syntax.
@@ -60,10 +77,8 @@ fn identity_elements(meta: &Meta) -> Head
     ensures bound { array_vec_len result ≤ 240 }
 {
     let mut group = Head::new();
-    put(
-        &mut group,
-        &[2, 0, 1, 0, b'O', b'B', 0, 0, 2, 0, 0, 0, 0, 1],
-    );
+    put_header(&mut group, 0x0001, Vr::OB, 2);
+    put(&mut group, &[0, 1]);
     // `len` ensures that an identifier has at most 64 bytes.
     meta.class.len();
     put_uid(&mut group, 0x0002, meta.class.as_bytes());
@@ -81,7 +96,7 @@ fn put_implementation(group: &mut Head)
     ensures bound { array_vec_len group.new ≤ 330 }
 {
     put_uid(group, 0x0012, IMPLEMENTATION_CLASS_UID);
-    put_element(group, 0x0013, *b"SH", IMPLEMENTATION_VERSION_NAME, b' ');
+    put_element(group, 0x0013, Vr::SH, IMPLEMENTATION_VERSION_NAME, b' ');
 }
 
 /// Appends the element with the sender's title, if anything remains of the title without spaces.
@@ -94,7 +109,7 @@ fn put_title(group: &mut Head, calling: AeTitle)
 {
     let title = calling.trimmed();
     if !title.is_empty() {
-        put_element(group, 0x0016, *b"AE", title, b' ');
+        put_element(group, 0x0016, Vr::AE, title, b' ');
     }
 }
 
@@ -125,7 +140,7 @@ fn file_header(meta: &Meta) -> Head
     let mut head = Head::new();
     put(&mut head, &[0; 128]);
     put(&mut head, b"DICM");
-    put_element(&mut head, 0x0000, *b"UL", &length, 0);
+    put_element(&mut head, 0x0000, Vr::UL, &length, 0);
     put(&mut head, group.as_slice());
     head
 }
