@@ -66,6 +66,16 @@ for file in usr/bin/dcmbox usr/share/man/man1/dcmbox.1.gz usr/share/bash-complet
   check "/$file" test -s "$tree/$file"
 done
 check 'it prints its version' test "$("$root/usr/bin/dcmbox" --version)" = "$("$program" --version)"
+version=$("$program" --version | awk '{ print $2 }')
+check 'its changelog names the version and its day' test "$(zgrep -c -e "^dcmbox ($version) " \
+  -e " $(LC_ALL=C date -u -d "$(sed -n "s/^## $version, //p" CHANGELOG.md)" '+%a, %d %b %Y') " \
+  "$tree/usr/share/doc/dcmbox/changelog.gz")" = 2
+printf '#!/bin/sh\necho dcmbox 9.9.9\n' >"$work/unreleased"
+chmod +x "$work/unreleased"
+unreleased() {
+  ! packaging/make-deb "$work/unreleased" "$work" 2>"$work/why.txt" && grep -q "no heading '## 9.9.9, DATE'" "$work/why.txt"
+}
+check 'a version that was not released has no package' unreleased
 check 'the unit runs the installed program' grep -q '^ExecStart=/usr/bin/dcmbox serve ' "$root/lib/systemd/system/dcmbox.service"
 
 # The units' own command lines, with the options that the package brings, but for the port that one of them names.

@@ -99,7 +99,7 @@ try 'bytes that are no PDU' 0 "$abort"$'\n'"$end" '' replay text.bin --out .
 try 'an echo that is cut' 0 "([0-9a-f]+"$'\n'")+$end" '' replay cut.bin --out .
 try 'help' 0 '.*replay.*' '' --help
 try 'help on a command' 0 '.*--out.*' '' replay --help
-try 'the version' 0 'dcmbox 0\.1\.0' '' --version
+try 'the version' 0 'dcmbox 1\.0\.0' '' --version
 try 'no arguments' 2 '' '.*[Uu]sage.*'
 try 'an unknown command' 2 '' '.*frobnicate.*' frobnicate
 try 'no folder' 2 '' '.*--out.*' replay empty.bin

@@ -194,6 +194,7 @@ COPY_FAULTS = [
     ("a limit that the code has not", "tables.py", [("docs/tables.json", '"1,024 bytes", "code": "COMMAND"', '"2,048 bytes", "code": "COMMAND"')], "Command set: the code has 1,024, and not 2,048 bytes"),
     ("another version on the cover page", "tables.py", [("docs/CONFORMANCE.md", "| Version | ", "| Version | 9")], "docs/CONFORMANCE.md isn't what docs/tables.json gives"),
     ("another version in the manual page", "tables.py", [("man/dcmbox.1", '"DCMBOX ', '"DCMBOX 9')], "man/dcmbox.1: its title doesn't name the version"),
+    ("another version in the changelog", "tables.py", [("CHANGELOG.md", "\n## ", "\n## 9.")], "CHANGELOG.md: its newest release isn't"),
     ("a table that was changed by hand", "tables.py", [("docs/CONFORMANCE.md", "| Command set | 1,024 bytes |", "| Command set | 2,048 bytes |")], "docs/CONFORMANCE.md isn't what docs/tables.json gives"),
     ("a completion that was changed by hand", "tables.py", [("packaging/dcmbox.bash", "--once", "--twice")], "packaging/dcmbox.bash isn't what docs/tables.json gives"),
     ("a type by the name of another crate's", "names.py", [("crates/acceptor/src/table.rt", "pub fn", "pub struct Walker;\n\npub fn")], "Walker means more than one thing"),
@@ -219,7 +220,7 @@ def make(tree):
 
 def copy(tree):
     """Copies this tree, without what a check leaves."""
-    for name in ("crates.txt", "crates", "docs", "tests", "man", "packaging", "README.md", "Makefile"):
+    for name in ("crates.txt", "crates", "docs", "tests", "man", "packaging", "README.md", "CHANGELOG.md", "Makefile"):
         source = TESTS.parent / name
         if source.is_dir():
             shutil.copytree(source, tree / name, ignore=shutil.ignore_patterns("out", "proofs", "data", "must-fail"))

@@ -398,8 +398,14 @@ def limit_faults():
 
 def version_faults():
     title = (ROOT / "man/dcmbox.1").read_text().splitlines()[0]
-    named = f'"DCMBOX {version()}"' in title
-    return [] if named else [f"man/dcmbox.1: its title doesn't name the version {version()}"]
+    faults = []
+    if f'"DCMBOX {version()}"' not in title:
+        faults.append(f"man/dcmbox.1: its title doesn't name the version {version()}")
+    releases = re.findall(r"^## (.*)$", (ROOT / "CHANGELOG.md").read_text(), re.M)
+    newest = next((release for release in releases if release != "Unreleased"), "")
+    if not re.fullmatch(re.escape(version()) + r", \d{4}-\d\d-\d\d", newest):
+        faults.append(f"CHANGELOG.md: its newest release isn't {version()} with a date")
+    return faults
 
 
 def help_faults(program):

@@ -240,7 +240,7 @@ pub fn command<'a>(alloc: Global) -> Result<Command<'a>, AllocError>
     ensures { IfOk result (λ c. app_of c ≡ the_command) }
 {
     let command = Command::new(alloc, "dcmbox")
-        .version("0.1.0")
+        .version("1.0.0")
         .about("A DICOM storage receiver whose behaviour is proved")
         .after_help("Help on a command, with an example: dcmbox help COMMAND")
         .subcommand_required(true);
