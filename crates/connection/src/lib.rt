@@ -2,6 +2,7 @@
 //! association that runs over both.
 #![tactic(auto)]
 
+mod acknowledge;
 mod exchange;
 pub mod laws;
 mod limits;
@@ -11,6 +12,7 @@ mod source;
 mod timer;
 mod wire;
 
+pub use acknowledge::acknowledge_at_once;
 pub use exchange::{Exchange, Terms, exchange_over};
 pub use limits::{COMMAND, DEPTH, PIECE, REQUEST, VALUES};
 pub use observer::{Observer, ReadEnd};

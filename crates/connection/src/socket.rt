@@ -6,7 +6,7 @@
 ghost use Rattle.std.specs.Prelude.{◌≡◌, [], ◌++◌, take, IfOk, OnErr};
 ghost use Rattle.std.specs.Io.{ReadsAtMost};
 
-use acknowledge::acknowledge_at_once;
+use crate::acknowledge::acknowledge_at_once;
 use element::trace::Trace;
 use element::traced::Traced;
 use element::traced_stream::TracedStream;

@@ -1,5 +1,5 @@
 //! The socket of a connection, which doesn't block.
-use acknowledge::acknowledge_at_once;
+use connection::acknowledge_at_once;
 use mio::net::TcpStream;
 use std::io;
 use std::io::{ErrorKind, Read, Write};

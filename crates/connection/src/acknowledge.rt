@@ -1,6 +1,4 @@
 //! Immediate acknowledgements of what a peer sends over TCP.
-#![tactic(auto)]
-
 use libc::net;
 use std::os::fd::AsRawFd;
 
