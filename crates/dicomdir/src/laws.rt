@@ -34,43 +34,51 @@ pub fn fault_numbers() -> [u8; 9]
 }
 
 /// The directory of one image, laid out byte by byte, is linked to the tree of its row.
+#[tactic(auto, using(crate::proofs::OneImage::one_image_is_linked))]
 pub fn one_image_is_linked()
     ensures { OneImageIsLinked }
 {}
 
 /// Offsets that are counted from behind the preamble link that directory to no tree.
+#[tactic(auto, using(crate::proofs::OneImage::preamble_counts))]
 pub fn preamble_counts()
     ensures { PreambleCounts }
 {}
 
 /// Where one of its offsets is changed, the fault that is found first and its place are those of the
 /// rules.
+#[tactic(auto, using(crate::proofs::OneImage::one_image_faults))]
 pub fn one_image_faults()
     ensures { OneImageFaults }
 {}
 
 /// Rows are grouped in first-seen order, padding does not count in keys, and doubles are left out.
+#[tactic(auto, using(crate::proofs::OneImage::rows_are_grouped))]
 pub fn rows_are_grouped()
     ensures { RowsAreGrouped }
 {}
 
 /// File IDs have one to eight components, and spaces at the end of the value do not count.
+#[tactic(auto, using(crate::proofs::OneImage::file_ids_are_read))]
 pub fn file_ids_are_read()
     ensures { FileIdsAreRead }
 {}
 
 /// What a record or the root lacks is told at the place of the rules, and so is a level that does not
 /// fit.
+#[tactic(auto, using(crate::proofs::OneImage::record_faults))]
 pub fn record_faults()
     ensures { RecordFaults }
 {}
 
 /// The directory of no rows has 320 bytes and is linked.
+#[tactic(auto, using(crate::proofs::OneImage::no_rows_are_linked))]
 pub fn no_rows_are_linked()
     ensures { NoRowsAreLinked }
 {}
 
 /// Files without a file header, and of another syntax than Explicit, are told so.
+#[tactic(auto, using(crate::proofs::HeaderFaults::header_faults))]
 pub fn header_faults()
     ensures { HeaderFaults }
 {}
@@ -86,6 +94,7 @@ pub fn linked_has_no_fault()
 {}
 
 /// The records of a directory without a fault are linked to a tree, which leaves none in use out.
+#[tactic(auto, using(crate::proofs::FaultFree::no_fault_is_linked))]
 pub fn no_fault_is_linked()
     ensures { NoFaultIsLinked }
 {}
@@ -101,6 +110,7 @@ pub fn accepted_has_no_fault()
 {}
 
 /// A file has one first fault at most.
+#[tactic(auto, using(crate::proofs::OneCheck::one_check_fault))]
 pub fn one_fault_of_a_check()
     ensures { OneCheckFault }
 {}
@@ -112,6 +122,7 @@ pub fn one_list_of_nodes()
 
 /// Records stand depth first, without gaps: the directory that the definitions lay down of one image
 /// is the known one, byte by byte.
+#[tactic(auto, using(crate::proofs::Places::places_are_assigned))]
 pub fn places_are_assigned()
     ensures { PlacesAreAssigned }
 {}
@@ -123,11 +134,13 @@ pub fn sizes_are_true()
 {}
 
 /// Inactive records are followed as any other, and keep neither themselves nor what is below them.
+#[tactic(auto, using(crate::proofs::Kept::inactive_records))]
 pub fn inactive_records()
     ensures { InactiveRecords }
 {}
 
 /// The directory of one image has these four records, with their places and levels.
+#[tactic(auto, using(crate::proofs::OneImage::one_image_has_nodes))]
 pub fn one_image_has_nodes()
     ensures { OneImageHasNodes }
 {}
@@ -150,6 +163,7 @@ pub fn a_filed_instance_has_its_row()
 
 /// The directory that is written of rows is linked to their tree, with no record left over, and has no
 /// fault.
+#[tactic(auto, using(crate::proofs::WrittenLinked::written_is_linked))]
 pub fn written_is_linked()
     ensures { WrittenIsLinked }
 {}
@@ -166,6 +180,7 @@ pub fn paths_name_nodes()
 
 /// The paths of a directory name its records in order, and an offset back to a record above is a cycle, one to a record
 /// before that is a second way.
+#[tactic(auto, using(crate::proofs::PathLaws::paths_name_records))]
 pub fn paths_name_records()
     ensures { PathsNameRecords }
 {}
