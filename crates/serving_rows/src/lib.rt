@@ -1,11 +1,20 @@
-//! Connections of several over sockets of tests, mixed by generated turns.
+//! Connections of several over sockets of tests, mixed by generated turns; and worked rows of the log: what goes over
+//! a connection, and the lines that tell of it.
 #![tactic(auto)]
 
+#[cfg(test)]
+mod association_lines;
 mod chance;
+#[cfg(test)]
+mod json_lines;
 #[cfg(test)]
 mod mixed_rows;
 mod peer;
 mod scripted;
+#[cfg(test)]
+mod shown;
+#[cfg(test)]
+mod store_lines;
 mod streams;
 #[cfg(test)]
 mod turn_rows;
