@@ -1,12 +1,34 @@
-//! Worked rows and outside vectors of data sets, of files and of values, tried on the public calls of `element`,
-//! `dictionary`, `sequence`, `part10`, `values` and `inspection`. They stand here and not beside the code, because a
-//! crate with tests is proved twice.
+//! Worked rows and outside vectors of data sets, of files, of values and of directories, tried on the public calls of
+//! `element`, `dictionary`, `sequence`, `part10`, `values`, `inspection` and `dicomdir`. They stand here and not beside
+//! the code, because a crate with tests is proved twice.
 #![tactic(auto)]
 
+#[cfg(test)]
+mod dicomdir_build;
+#[cfg(test)]
+mod dicomdir_check;
+#[cfg(test)]
+mod dicomdir_faults;
+#[cfg(test)]
+mod dicomdir_memory;
+#[cfg(test)]
+mod dicomdir_readers;
+#[cfg(test)]
+mod dicomdir_row_of;
+#[cfg(test)]
+mod dicomdir_rows;
+#[cfg(test)]
+mod dicomdir_sizes;
+#[cfg(test)]
+mod dicomdir_writers;
 #[cfg(test)]
 mod dictionary_rows;
 #[cfg(test)]
 mod element_rows;
+#[cfg(test)]
+mod files;
+#[cfg(test)]
+mod images;
 #[cfg(test)]
 mod inspection_rows;
 #[cfg(test)]
