@@ -50,7 +50,7 @@ TITLES = {
     "dimse": "Messages",
     "part10": "Files",
     "engine": "The association",
-    "commands": "The connection",
+    "connection": "The connection",
     "dicomdir": "Directories",
 }
 PRELUDE = [
