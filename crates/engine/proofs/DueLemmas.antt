@@ -130,12 +130,17 @@ taken_when true false a b = refl
 taken_when false true a b = refl
 taken_when false false a b = refl
 
--- a PDV that is bad or leaves bytes over
-pub bad_is : (rooms : Rooms) (s : Settings) (p : Progress) → at_entry rooms s p good (At BadPdv) ≡ (if takes_pdvs p then invalid p else nothing p)
-bad_is rooms s p = taken_when (is_established p.state) p.refused (invalid p) (nothing p)
+no_files : (t : Bool) (p : Progress) → (if t then invalid p else nothing p).files ≡ []
+no_files true p = refl
+no_files false p = refl
 
-pub leftover_is : (rooms : Rooms) (s : Settings) (p : Progress) → at_entry rooms s p good (At Leftover) ≡ (if takes_pdvs p then invalid p else nothing p)
-leftover_is rooms s p = taken_when (is_established p.state) p.refused (invalid p) (nothing p)
+-- a PDV that is bad or leaves bytes over
+module _ (rooms : Rooms) (s : Settings) (p : Progress) (new : Kept) (old later : Devices) (due : DoesDue p (if takes_pdvs p then invalid p else nothing p) new [] [] old later) where
+  pub does_bad : Does rooms s p (At BadPdv) new [] [] old later
+  does_bad = does_by rooms s p (At BadPdv) _ new [] [] old later (taken_when (is_established p.state) p.refused (invalid p) (nothing p)) (no_files (takes_pdvs p) p) tt due
+
+  pub does_leftover : Does rooms s p (At Leftover) new [] [] old later
+  does_leftover = does_by rooms s p (At Leftover) _ new [] [] old later (taken_when (is_established p.state) p.refused (invalid p) (nothing p)) (no_files (takes_pdvs p) p) tt due
 
 -- ---- events that leave the association or keep its state
 

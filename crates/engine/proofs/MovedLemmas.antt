@@ -2,6 +2,7 @@
 use Rattle.std.proofs.Common.{◌≡◌, ℕ, Bool, true, false, List, [], ◌∷◌, ◌++◌, map, refl, sym, ap, subst, ◌∙◌, append_assoc, arith}
 use Rattle.std.proofs.lemmas.List.{append-nil, map-append}
 use Rattle.acceptor.specs.declared.state.State.TheVariants.{Sta1}
+use Rattle.acceptor.specs.declared.event.Event.{Event}
 use Rattle.part10.specs.Store.{Store}
 use Rattle.pdu.specs.Frames.{IsRest, rest_of}
 use Rattle.pdu.specs.Marks.{Mark, new_marks}
@@ -11,8 +12,8 @@ use Rattle.negotiate.specs.Settings.{Settings}
 use Rattle.pdu.specs.declared.position.Position.{Position}
 use Rattle.pdu.specs.Deframing as deframing
 use Rattle.engine.specs.Inputs.{Received, Bytes, Close, Expiry, UserAbort, stream_of}
-use Rattle.engine.specs.Timeline.{Entry, At, Happened, entries, entries_of}
-use Rattle.engine.specs.Progress.{Progress, absorb, at_start}
+use Rattle.engine.specs.Timeline.{Entry, At, Shut, TimedOut, Aborted, Happened, entries, entries_of}
+use Rattle.engine.specs.Progress.{Progress, absorb, at_start, done}
 use Rattle.engine.specs.Devices.{Devices, files_in}
 use Rattle.engine.specs.Run.{Rooms, gives, progress_of}
 use Rattle.engine.specs.Fair.{MayFail, IsStory}
@@ -25,10 +26,13 @@ use Rattle.engine.specs.Kept.{Kept, Pends}
 use Rattle.engine.specs.StoredData.{drafting_in}
 use Rattle.engine.specs.machine.Does.{Does, DoesAll, push, still_failed}
 use Rattle.engine.specs.FrameFields.{StandsAt, IsUncounted, reads, Fields, ShowsFrame, body_of}
+use Rattle.engine.specs.machine.DoesDue.{DoesDue}
+use Rattle.engine.specs.machine.Events.{Outside, closed, expired, aborted}
 use Rattle.engine.specs.machine.Skips.{passed}
 use Rattle.engine.specs.machine.Shows.{DoesPart}
 use Rattle.engine.proofs.TimelineLemmas.{entries_append}
 use Rattle.engine.proofs.StoryLemmas.{progress_then, fair_then, line_nothing, no_files}
+use Rattle.engine.proofs.DueLemmas.{does_by}
 use Rattle.engine.proofs.DoesLemmas.{push_entries, push_wire, push_sent, push_files, push_fair, push_last, push_filing, push_progress, does_one}
 use Rattle.engine.proofs.ShownLemmas.{pends_ended}
 use Rattle.engine.proofs.SkipLemmas.{stands_passed}
@@ -48,6 +52,24 @@ pushed_charged : (failed : Bool) (story : List Happened) (last : Bool) → Stays
 pushed_charged false story last = tt
 pushed_charged true [] last = refl
 pushed_charged true ((entry, o) ∷ story) last = refl
+
+-- ---- an input that brings no byte
+
+entry_outside : (event : Event) (x : Received) (entry : Entry) → Outside event x entry → (before : List ℕ) → entries before (x ∷ []) ≡ entry ∷ []
+entry_outside _ _ _ closed before = refl
+entry_outside _ _ _ expired before = refl
+entry_outside _ _ _ aborted before = refl
+
+stream_outside : (event : Event) (x : Received) (entry : Entry) → Outside event x entry → stream_of (x ∷ []) ≡ []
+stream_outside _ _ _ closed = refl
+stream_outside _ _ _ expired = refl
+stream_outside _ _ _ aborted = refl
+
+does_outside : (rooms : Rooms) (s : Settings) (p : Progress) (new : Kept) (body begun : List ℕ) (old later : Devices) (event : Event) (x : Received) (entry : Entry) → Outside event x entry
+    → DoesDue p (done [] 0 p event) new body begun old later → Does rooms s p entry new body begun old later
+does_outside rooms s p new body begun old later _ _ _ closed t = does_by rooms s p Shut _ new body begun old later refl refl tt t
+does_outside rooms s p new body begun old later _ _ _ expired t = does_by rooms s p TimedOut _ new body begun old later refl refl tt t
+does_outside rooms s p new body begun old later _ _ _ aborted t = does_by rooms s p Aborted _ new body begun old later refl refl tt t
 
 module _ (rooms : Rooms) (s : Settings) where
   -- what the entries of the new input did
@@ -189,18 +211,18 @@ module _ (rooms : Rooms) (s : Settings) where
       (drafts_kept old_f f g d.store e.store dropped.kept same)
 
   -- a call that takes another input
-  pub moved_call : (inputs : List Received) (story : List Happened) (failed : Bool) (x : Received) (entry : Entry) (ps : Position) (k n : Kept) (g : Fields) (d e : Devices)
+  pub moved_call : (inputs : List Received) (story : List Happened) (failed : Bool) (event : Event) (x : Received) (entry : Entry) → Outside event x entry → (ps : Position) (k n : Kept) (g : Fields) (d e : Devices)
       → Stands rooms s inputs story failed (record { position = ps; kept = k }) d.store → is_ended k.state ≡ false
-      → entries (stream_of inputs) (x ∷ []) ≡ entry ∷ [] → stream_of (x ∷ []) ≡ []
-      → ((p : Progress) (body begun : List ℕ) → Pends k d.store p body begun → Does rooms s p entry n body begun d e)
+      → ((p : Progress) (body begun : List ℕ) → Pends k d.store p body begun → DoesDue p (done [] 0 p event) n body begun d e)
       → ((kind : ℕ) → IsUncounted k kind → IsUncounted n kind)
       → Dropped (record { position = passed n ps; kept = n }) g → Drafts (drafting_in k.storing) d.store (drafting_in n.storing) e.store
       → Moved rooms s inputs story failed x (record { position = ps; kept = k }) g d e
-  moved_call inputs story failed x entry ps k n g d e h there one none does still dropped same =
+  moved_call inputs story failed event x entry o ps k n g d e h there tries still dropped same =
       let p = absorb failed (progress_of rooms s at_start story) in
       let rest = rest_of (stream_of inputs) in
       let framed : StandsAt (passed n ps) n rest [] = stands_passed ps k n rest still (h.shows.frame.framed (sym (ap is_ended h.shows.frame.pends.state_is) ∙ there)) in
-      let did : Does rooms s p entry g.kept (body_of rest) (begun_in (spot rest)) d e = subst (λ (y : Kept). Does rooms s p entry y (body_of rest) (begun_in (spot rest)) d e) (sym dropped.kept) (does p (body_of rest) (begun_in (spot rest)) h.shows.frame.pends) in
-      moved_other inputs story failed x entry _ g d e h.story_is one none did
+      let does : Does rooms s p entry n (body_of rest) (begun_in (spot rest)) d e = does_outside rooms s p n _ _ d e event x entry o (tries p (body_of rest) (begun_in (spot rest)) h.shows.frame.pends) in
+      let did : Does rooms s p entry g.kept (body_of rest) (begun_in (spot rest)) d e = subst (λ (y : Kept). Does rooms s p entry y (body_of rest) (begun_in (spot rest)) d e) (sym dropped.kept) does in
+      moved_other inputs story failed x entry _ g d e h.story_is (entry_outside event x entry o (stream_of inputs)) (stream_outside event x entry o) did
       (λ still. subst (λ (y : Fields). StandsAt y.position y.kept rest []) (sym (dropped.same (ap (λ (y : Kept). is_ended y.state) (sym dropped.kept) ∙ still))) framed)
       (headless_then _ g dropped) (drafts_kept (record { position = ps; kept = k }) (record { position = passed n ps; kept = n }) g d.store e.store dropped.kept same)

@@ -11,7 +11,8 @@ mod taking;
 
 use crate::phase::Phase;
 use crate::provider::Provider;
-use acceptor::State;
+use crate::sending::Answering;
+use acceptor::{Event, State};
 use negotiate::Config;
 use part10::Filing;
 use pdu::{Deframer, Wire};
@@ -50,7 +51,9 @@ impl<const A: usize, const C: usize, const V: usize, const D: usize> Association
     ghost use Rattle.engine.specs.OutputLaws.{SendsFew};
     ghost use Rattle.engine.specs.Reached.{reached};
     ghost use Rattle.engine.specs.Stands.{Stands};
-    ghost use Rattle.engine.specs.Timeline.{Happened};
+    ghost use Rattle.engine.specs.Timeline.{Entry, Happened};
+    ghost use Rattle.engine.specs.machine.DoesDue.{Stays};
+    ghost use Rattle.engine.specs.machine.Events.{Outside};
     ghost use Rattle.engine.specs.Run.{rooms_of};
 
     /// The transport connection is open: a request is due, and the ARTIM timer runs.
@@ -158,12 +161,7 @@ impl<const A: usize, const C: usize, const V: usize, const D: usize> Association
         ensures ended { state_of self.old ≡ Sta1
             → StaysEnded (fields_of self.old) (fields_of self.new) (devices (W.line wire.old) (F.store filing.old)) (devices (W.line wire.new) (F.store filing.new)) }
     {
-        if self.is_ended() {
-            return;
-        }
-        self.provider.on_closed(wire, filing);
-        self.provider.skip_uncounted(&mut self.deframer);
-        self.drop_heads();
+        self.happens(Event::Closed, wire, filing);
     }
 
     /// The ARTIM timer ran out. A draft is still in `filing`, as in `feed`.
@@ -178,12 +176,7 @@ impl<const A: usize, const C: usize, const V: usize, const D: usize> Association
         ensures ended { state_of self.old ≡ Sta1
             → StaysEnded (fields_of self.old) (fields_of self.new) (devices (W.line wire.old) (F.store filing.old)) (devices (W.line wire.new) (F.store filing.new)) }
     {
-        if self.is_ended() {
-            return;
-        }
-        self.provider.on_expired(wire, filing);
-        self.provider.skip_uncounted(&mut self.deframer);
-        self.drop_heads();
+        self.happens(Event::Expired, wire, filing);
     }
 
     /// The local user aborts the association. A draft is still in `filing`, as in `feed`.
@@ -198,12 +191,7 @@ impl<const A: usize, const C: usize, const V: usize, const D: usize> Association
         ensures ended { state_of self.old ≡ Sta1
             → StaysEnded (fields_of self.old) (fields_of self.new) (devices (W.line wire.old) (F.store filing.old)) (devices (W.line wire.new) (F.store filing.new)) }
     {
-        if self.is_ended() {
-            return;
-        }
-        self.provider.on_local_abort(wire, filing);
-        self.provider.skip_uncounted(&mut self.deframer);
-        self.drop_heads();
+        self.happens(Event::UserAborts, wire, filing);
     }
 
     /// Whether the association has ended.
@@ -212,6 +200,28 @@ impl<const A: usize, const C: usize, const V: usize, const D: usize> Association
         ensures no_draft { result ≡ true → drafting_of self.now ≡ false }
     {
         matches!(self.provider.phase, Phase::Ended)
+    }
+
+    /// An event happens that no byte of the stream brings.
+    fn happens<W: Wire, F: Filing>(&mut self, event: Event, wire: &mut W, filing: &mut F)
+        requires draft { IsThere (drafting_of self.old) (F.store filing.old) }
+        requires stays { Stays (state_of self.old) event }
+        ensures draft { IsThere (drafting_of self.new) (F.store filing.new) }
+        ensures settings { settings_in self.new ≡ settings_in self.old }
+        ensures moved { (input : Received) (entry : Entry) → Outside event input entry → (inputs : List Received) (story : List Happened) (failed : Bool)
+            → Stands (rooms_of A C V D) (settings_in self.old) inputs story failed (fields_of self.old) (F.store filing.old)
+            → Moved (rooms_of A C V D) (settings_in self.old) inputs story failed input (fields_of self.old) (fields_of self.new)
+            (devices (W.line wire.old) (F.store filing.old)) (devices (W.line wire.new) (F.store filing.new)) }
+        ensures ended { state_of self.old ≡ Sta1
+            → StaysEnded (fields_of self.old) (fields_of self.new) (devices (W.line wire.old) (F.store filing.old)) (devices (W.line wire.new) (F.store filing.new)) }
+    {
+        if self.is_ended() {
+            return;
+        }
+        self.provider
+            .happens(event, Answering::Nothing, wire, filing);
+        self.provider.skip_uncounted(&mut self.deframer);
+        self.drop_heads();
     }
 
     /// Gives up the bytes of heads once the association has ended.

@@ -35,8 +35,8 @@ impl<const A: usize, const C: usize, const V: usize, const D: usize> Provider<A,
             Event::PdvHead(head) => self.on_pdv_head(head, wire, filing),
             Event::Fragment(part) => self.on_data(part, wire, filing),
             Event::PdvEnd => self.on_pdv(wire, filing),
-            Event::BadPdv => self.on_bad(wire, filing),
-            Event::Leftover => self.on_leftover(wire, filing),
+            Event::BadPdv => self.on_invalid(wire, filing),
+            Event::Leftover => self.on_invalid(wire, filing),
             Event::PduEnd(kind) => self.on_end(kind, wire, filing),
         }
     }

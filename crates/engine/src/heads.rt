@@ -168,10 +168,10 @@ impl<const A: usize, const C: usize, const V: usize, const D: usize> Provider<A,
         match event {
             HeadEvent::Nothing => {}
             HeadEvent::AtOnce(event, reason) => {
-                self.refuse(event, reason, Answering::Nothing, wire, filing);
+                self.refuse(event, Answering::Abort(reason), wire, filing);
             }
             HeadEvent::TooLong => {
-                self.refuse(Event::Request(false), 0, Answering::TooLong, wire, filing);
+                self.refuse(Event::Request(false), Answering::TooLong, wire, filing);
             }
         }
     }

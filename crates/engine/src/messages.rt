@@ -128,18 +128,13 @@ impl<const A: usize, const C: usize, const V: usize, const D: usize> Provider<A,
         }
         if let Phase::Established { peer, message } = &mut self.phase {
             let Some(_) = peer.context(&self.config, head.context) else {
-                self.refuse(
-                    Event::Invalid,
-                    INVALID_PARAMETER,
-                    Answering::Nothing,
-                    wire,
-                    filing,
-                );
+                let answering = Answering::Abort(INVALID_PARAMETER);
+                self.refuse(Event::Invalid, answering, wire, filing);
                 return;
             };
             match message.join.head(&head) {
                 Ok(()) => {}
-                Err(_) => self.refuse(Event::UserAborts, 0, Answering::Nothing, wire, filing),
+                Err(_) => self.refuse(Event::UserAborts, Answering::Nothing, wire, filing),
             }
         }
     }
@@ -188,7 +183,7 @@ impl<const A: usize, const C: usize, const V: usize, const D: usize> Provider<A,
                     self.settle(State::Sta6, sent, filing);
                 }
                 Ok(Joined::DataDue) => message.begin(peer, &self.config, context, filing),
-                Err(_) => self.refuse(Event::UserAborts, 0, Answering::Nothing, wire, filing),
+                Err(_) => self.refuse(Event::UserAborts, Answering::Nothing, wire, filing),
             }
         }
     }

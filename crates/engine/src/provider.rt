@@ -33,12 +33,12 @@ pub(crate) struct Provider<const A: usize, const C: usize, const V: usize, const
 }
 
 impl<const A: usize, const C: usize, const V: usize, const D: usize> Provider<A, C, V, D> {
-    ghost use Rattle.std.specs.Prelude.{ℕ, List, true};
-    ghost use Rattle.pdu.specs.Marks.{BadPdv, Leftover};
-    ghost use Rattle.engine.specs.Progress.{Progress, done, refusing, at_start};
-    ghost use Rattle.engine.specs.Timeline.{At, Shut, TimedOut, Aborted};
+    ghost use Rattle.std.specs.Prelude.{ℕ, List, true, if◌then◌else◌};
+    ghost use Rattle.engine.specs.Progress.{Progress, nothing, done, refusing, at_start};
+    ghost use Rattle.engine.specs.Reached.{takes_pdvs};
+    ghost use Rattle.engine.specs.Replies.{invalid};
     ghost use Rattle.engine.specs.Devices.{devices};
-    ghost use Rattle.engine.specs.machine.Answers.{answer_text};
+    ghost use Rattle.engine.specs.machine.Answers.{answer_text, reason_of};
     ghost use Rattle.negotiate.specs.Settings.{settings_of};
     ghost use Rattle.part10.specs.Store.{Store};
     ghost use Rattle.engine.specs.Drafts.{IsThere, Drafts};
@@ -51,8 +51,6 @@ impl<const A: usize, const C: usize, const V: usize, const D: usize> Provider<A,
     ghost use Rattle.engine.specs.machine.DoesDue.{DoesDue, ComesTo, Stays, is_left};
     ghost use Rattle.engine.specs.machine.Messages.{with_body, with_storing};
     ghost use Rattle.engine.specs.machine.Storing.{Drops};
-    ghost use Rattle.engine.specs.machine.Does.{Does};
-    ghost use Rattle.engine.specs.Run.{rooms_of};
 
     /// The transport connection is open: a request is due.
     pub(crate) fn open(config: &Config) -> Self
@@ -177,7 +175,6 @@ impl<const A: usize, const C: usize, const V: usize, const D: usize> Provider<A,
     pub(crate) fn happens<W: Wire, F: Filing>(
         &mut self,
         event: Event,
-        reason: u8,
         answering: Answering,
         wire: &mut W,
         filing: &mut F,
@@ -192,10 +189,10 @@ impl<const A: usize, const C: usize, const V: usize, const D: usize> Provider<A,
         ensures fragment_fits { (m : ℕ) → FragmentFits (kept_of self.old) m → FragmentFits (kept_of self.new) m }
         ensures uncounted { (kind : ℕ) → IsUncounted (kept_of self.old) kind → IsUncounted (kept_of self.new) kind }
         ensures tries { (p : Progress) (body begun : List ℕ) → Pends (kept_of self.old) (F.store filing.old) p body begun
-            → DoesDue p (done (answer_text answering.entry) reason p event) (kept_of self.new) body begun
+            → DoesDue p (done (answer_text answering.entry) (reason_of answering.entry) p event) (kept_of self.new) body begun
             (devices (W.line wire.old) (F.store filing.old)) (devices (W.line wire.new) (F.store filing.new)) }
     {
-        let (next, sent) = step(self.phase.state(), event, reason, answering, wire);
+        let (next, sent) = step(self.phase.state(), event, answering, wire);
         self.settle(next, sent, filing);
     }
 
@@ -203,7 +200,6 @@ impl<const A: usize, const C: usize, const V: usize, const D: usize> Provider<A,
     pub(crate) fn refuse<W: Wire, F: Filing>(
         &mut self,
         event: Event,
-        reason: u8,
         answering: Answering,
         wire: &mut W,
         filing: &mut F,
@@ -215,94 +211,26 @@ impl<const A: usize, const C: usize, const V: usize, const D: usize> Provider<A,
         ensures refused { self.new.refused ≡ true }
         ensures body { (kept_of self.old).body ≡ [] → (kept_of self.new).body ≡ [] }
         ensures tries { (p : Progress) (body begun body_then begun_then : List ℕ) → Pends (kept_of self.old) (F.store filing.old) p body begun
-            → counted_body (done (answer_text answering.entry) reason p event).next body ≡ [] → counted_pdv (done (answer_text answering.entry) reason p event).next begun ≡ []
-            → DoesDue p (refusing (done (answer_text answering.entry) reason p event)) (kept_of self.new) body_then begun_then
+            → counted_body (done (answer_text answering.entry) (reason_of answering.entry) p event).next body ≡ [] → counted_pdv (done (answer_text answering.entry) (reason_of answering.entry) p event).next begun ≡ []
+            → DoesDue p (refusing (done (answer_text answering.entry) (reason_of answering.entry) p event)) (kept_of self.new) body_then begun_then
             (devices (W.line wire.old) (F.store filing.old)) (devices (W.line wire.new) (F.store filing.new)) }
     {
-        self.happens(event, reason, answering, wire, filing);
+        self.happens(event, answering, wire, filing);
         self.refused = true;
     }
 
-    /// The head of a PDV is bad.
-    pub(crate) fn on_bad<W: Wire, F: Filing>(&mut self, wire: &mut W, filing: &mut F)
+    /// The head of a PDV is bad, or bytes are left over after a PDV.
+    pub(crate) fn on_invalid<W: Wire, F: Filing>(&mut self, wire: &mut W, filing: &mut F)
         requires draft { IsThere (drafting_in (kept_of self.old).storing) (F.store filing.old) }
         ensures settings { settings_in self.new ≡ settings_in self.old }
         ensures drafts { Drafts (drafting_in (kept_of self.old).storing) (F.store filing.old) (drafting_in (kept_of self.new).storing) (F.store filing.new) }
-        ensures does { (p : Progress) → Pends (kept_of self.old) (F.store filing.old) p [] [] → Does (rooms_of A C V D) (settings_in self.old) p (At BadPdv) (kept_of self.new) [] []
+        ensures tries { (p : Progress) → Pends (kept_of self.old) (F.store filing.old) p [] []
+            → DoesDue p (if takes_pdvs p then invalid p else nothing p) (kept_of self.new) [] []
             (devices (W.line wire.old) (F.store filing.old)) (devices (W.line wire.new) (F.store filing.new)) }
     {
         if self.takes_pdvs() {
-            self.refuse(
-                Event::Invalid,
-                INVALID_PARAMETER,
-                Answering::Nothing,
-                wire,
-                filing,
-            );
+            let answering = Answering::Abort(INVALID_PARAMETER);
+            self.refuse(Event::Invalid, answering, wire, filing);
         }
-    }
-
-    /// Bytes are left over after a PDV.
-    pub(crate) fn on_leftover<W: Wire, F: Filing>(&mut self, wire: &mut W, filing: &mut F)
-        requires draft { IsThere (drafting_in (kept_of self.old).storing) (F.store filing.old) }
-        ensures settings { settings_in self.new ≡ settings_in self.old }
-        ensures drafts { Drafts (drafting_in (kept_of self.old).storing) (F.store filing.old) (drafting_in (kept_of self.new).storing) (F.store filing.new) }
-        ensures does { (p : Progress) → Pends (kept_of self.old) (F.store filing.old) p [] [] → Does (rooms_of A C V D) (settings_in self.old) p (At Leftover) (kept_of self.new) [] []
-            (devices (W.line wire.old) (F.store filing.old)) (devices (W.line wire.new) (F.store filing.new)) }
-    {
-        if self.takes_pdvs() {
-            self.refuse(
-                Event::Invalid,
-                INVALID_PARAMETER,
-                Answering::Nothing,
-                wire,
-                filing,
-            );
-        }
-    }
-
-    /// The transport connection was closed.
-    pub(crate) fn on_closed<W: Wire, F: Filing>(&mut self, wire: &mut W, filing: &mut F)
-        requires draft { IsThere (drafting_in (kept_of self.old).storing) (F.store filing.old) }
-        ensures body_fits { (kind m : ℕ) → BodyFits (A - 12) (kept_of self.old) kind m → BodyFits (A - 12) (kept_of self.new) kind m }
-        ensures fragment_fits { (m : ℕ) → FragmentFits (kept_of self.old) m → FragmentFits (kept_of self.new) m }
-        ensures uncounted { (kind : ℕ) → IsUncounted (kept_of self.old) kind → IsUncounted (kept_of self.new) kind }
-        ensures settings { settings_in self.new ≡ settings_in self.old }
-        ensures drafts { Drafts (drafting_in (kept_of self.old).storing) (F.store filing.old) (drafting_in (kept_of self.new).storing) (F.store filing.new) }
-        ensures does { (p : Progress) (body begun : List ℕ) → Pends (kept_of self.old) (F.store filing.old) p body begun
-            → Does (rooms_of A C V D) (settings_in self.old) p Shut (kept_of self.new) body begun
-            (devices (W.line wire.old) (F.store filing.old)) (devices (W.line wire.new) (F.store filing.new)) }
-    {
-        self.happens(Event::Closed, 0, Answering::Nothing, wire, filing);
-    }
-
-    /// The ARTIM timer expired.
-    pub(crate) fn on_expired<W: Wire, F: Filing>(&mut self, wire: &mut W, filing: &mut F)
-        requires draft { IsThere (drafting_in (kept_of self.old).storing) (F.store filing.old) }
-        ensures body_fits { (kind m : ℕ) → BodyFits (A - 12) (kept_of self.old) kind m → BodyFits (A - 12) (kept_of self.new) kind m }
-        ensures fragment_fits { (m : ℕ) → FragmentFits (kept_of self.old) m → FragmentFits (kept_of self.new) m }
-        ensures uncounted { (kind : ℕ) → IsUncounted (kept_of self.old) kind → IsUncounted (kept_of self.new) kind }
-        ensures settings { settings_in self.new ≡ settings_in self.old }
-        ensures drafts { Drafts (drafting_in (kept_of self.old).storing) (F.store filing.old) (drafting_in (kept_of self.new).storing) (F.store filing.new) }
-        ensures does { (p : Progress) (body begun : List ℕ) → Pends (kept_of self.old) (F.store filing.old) p body begun
-            → Does (rooms_of A C V D) (settings_in self.old) p TimedOut (kept_of self.new) body begun
-            (devices (W.line wire.old) (F.store filing.old)) (devices (W.line wire.new) (F.store filing.new)) }
-    {
-        self.happens(Event::Expired, 0, Answering::Nothing, wire, filing);
-    }
-
-    /// The local user aborts the association.
-    pub(crate) fn on_local_abort<W: Wire, F: Filing>(&mut self, wire: &mut W, filing: &mut F)
-        requires draft { IsThere (drafting_in (kept_of self.old).storing) (F.store filing.old) }
-        ensures body_fits { (kind m : ℕ) → BodyFits (A - 12) (kept_of self.old) kind m → BodyFits (A - 12) (kept_of self.new) kind m }
-        ensures fragment_fits { (m : ℕ) → FragmentFits (kept_of self.old) m → FragmentFits (kept_of self.new) m }
-        ensures uncounted { (kind : ℕ) → IsUncounted (kept_of self.old) kind → IsUncounted (kept_of self.new) kind }
-        ensures settings { settings_in self.new ≡ settings_in self.old }
-        ensures drafts { Drafts (drafting_in (kept_of self.old).storing) (F.store filing.old) (drafting_in (kept_of self.new).storing) (F.store filing.new) }
-        ensures does { (p : Progress) (body begun : List ℕ) → Pends (kept_of self.old) (F.store filing.old) p body begun
-            → Does (rooms_of A C V D) (settings_in self.old) p Aborted (kept_of self.new) body begun
-            (devices (W.line wire.old) (F.store filing.old)) (devices (W.line wire.new) (F.store filing.new)) }
-    {
-        self.happens(Event::UserAborts, 0, Answering::Nothing, wire, filing);
     }
 }

@@ -37,10 +37,10 @@ fn reject<W: Wire>(
 {
     let answering = Answering::Request(config, request);
     if source == rejection::SERVICE_PROVIDER_ACSE {
-        step(State::Sta2, Event::Request(false), 0, answering, wire)
+        step(State::Sta2, Event::Request(false), answering, wire)
     } else {
         let (_, asked) = act(State::Sta2, Event::Request(true));
-        step(asked, Event::UserRefuses, 0, answering, wire)
+        step(asked, Event::UserRefuses, answering, wire)
     }
 }
 
@@ -76,13 +76,8 @@ fn answer_request<W: Wire>(
 {
     match read_request(body) {
         Err(_) => {
-            let (next, sent) = step(
-                State::Sta2,
-                Event::Invalid,
-                INVALID_PARAMETER,
-                Answering::Nothing,
-                wire,
-            );
+            let answering = Answering::Abort(INVALID_PARAMETER);
+            let (next, sent) = step(State::Sta2, Event::Invalid, answering, wire);
             (None, next, sent)
         }
         Ok(request) => match judge(config, &request) {
@@ -90,7 +85,7 @@ fn answer_request<W: Wire>(
                 let peer = peer_of(config, &request);
                 let (_, asked) = act(State::Sta2, Event::Request(true));
                 let answering = Answering::Request(config, &request);
-                let (next, sent) = step(asked, Event::UserAccepts, 0, answering, wire);
+                let (next, sent) = step(asked, Event::UserAccepts, answering, wire);
                 (Some(peer), next, sent)
             }
             Answer::Reject(_, source, _) => {
@@ -184,7 +179,7 @@ impl<const A: usize, const C: usize, const V: usize, const D: usize> Provider<A,
             → DoesDue p (released p) (kept_of self.new) body begun (devices (W.line wire.old) (F.store filing.old)) (devices (W.line wire.new) (F.store filing.new)) }
     {
         let (_, asked) = act(State::Sta6, Event::ReleaseRq);
-        let (next, sent) = step(asked, Event::UserReleases, 0, Answering::Nothing, wire);
+        let (next, sent) = step(asked, Event::UserReleases, Answering::Nothing, wire);
         self.settle(next, sent, filing);
     }
 
@@ -204,7 +199,7 @@ impl<const A: usize, const C: usize, const V: usize, const D: usize> Provider<A,
             return;
         }
         match kind {
-            pdu_type::A_ABORT => self.happens(Event::Abort, 0, Answering::Nothing, wire, filing),
+            pdu_type::A_ABORT => self.happens(Event::Abort, Answering::Nothing, wire, filing),
             pdu_type::A_ASSOCIATE_RQ => {
                 if let State::Sta2 = state {
                     self.on_request(wire, filing);

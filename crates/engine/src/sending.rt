@@ -7,17 +7,19 @@ ghost use Rattle.pdu.specs.Texts.{abort_text, release_text};
 ghost use Rattle.acceptor.specs.Effect.{bytes_sent};
 ghost use Rattle.engine.specs.machine.DoesDue.{step_text};
 ghost use Rattle.engine.specs.machine.DoesDue as machine;
-ghost use Rattle.engine.specs.machine.Answers.{answer_text};
+ghost use Rattle.engine.specs.machine.Answers.{answer_text, reason_of};
 
 use acceptor::{Event, Sending, State, act};
 use negotiate::{Config, rejection, write_answer};
 use pdu::{Request, Wire, WireFailed, write_abort, write_reject, write_release};
 
-/// What answers an association request, where an action sends an answer.
+/// What an action sends in answer to an event, where it does.
 #[derive(Clone, Copy)]
 pub(crate) enum Answering<'a> {
-    /// Nothing: the event asks for no answer.
+    /// Nothing that depends on the event.
     Nothing,
+    /// The service provider's abort for this reason (PS3.8 section 9.3.8).
+    Abort(u8),
     /// The rejection of a request that is longer than its room.
     TooLong,
     /// The answer to this request.
@@ -30,7 +32,7 @@ fn answer<W: Wire>(answering: Answering, wire: &mut W) -> Result<(), WireFailed>
     ensures due { OnErr result (0 < length (answer_text answering.entry)) }
 {
     match answering {
-        Answering::Nothing => Ok(()),
+        Answering::Nothing | Answering::Abort(_) => Ok(()),
         Answering::TooLong => write_reject(
             rejection::TRANSIENT,
             rejection::SERVICE_PROVIDER_PRESENTATION,
@@ -38,6 +40,16 @@ fn answer<W: Wire>(answering: Answering, wire: &mut W) -> Result<(), WireFailed>
             wire,
         ),
         Answering::Request(config, request) => write_answer(config, request, wire),
+    }
+}
+
+/// Returns the reason of the service provider's abort that may answer, or 0.
+fn reason(answering: Answering) -> u8
+    ensures { result ≡ reason_of answering.entry }
+{
+    match answering {
+        Answering::Abort(reason) => reason,
+        _ => 0,
     }
 }
 
@@ -55,20 +67,19 @@ fn send<W: Wire>(sending: Sending, answering: Answering, wire: &mut W) -> Result
 }
 
 /// Does the action that the table gives for the event, and returns the next state and whether all
-/// was sent. `reason` is that of a service provider's abort.
+/// was sent.
 pub(crate) fn step<W: Wire>(
     state: State,
     event: Event,
-    reason: u8,
     answering: Answering,
     wire: &mut W,
 ) -> (State, Result<(), WireFailed>)
     ensures state { result.0 ≡ (table state event).1 }
-    ensures sends { Sends (step_text state event reason (answer_text answering.entry)) result.1 (W.line wire.old) (W.line wire.new) }
-    ensures due { OnErr result.1 (0 < length (step_text state event reason (answer_text answering.entry))) }
+    ensures sends { Sends (step_text state event (reason_of answering.entry) (answer_text answering.entry)) result.1 (W.line wire.old) (W.line wire.new) }
+    ensures due { OnErr result.1 (0 < length (step_text state event (reason_of answering.entry) (answer_text answering.entry))) }
 {
     let (action, next) = act(state, event);
-    let sent = send(action.sends(next, reason), answering, wire);
+    let sent = send(action.sends(next, reason(answering)), answering, wire);
     (next, sent)
 }
 

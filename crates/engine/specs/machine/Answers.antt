@@ -1,4 +1,4 @@
--- The text that answers an association request.
+-- What answers an event: the text of the answer to an association request, and the reason of an abort.
 use Rattle.std.specs.Prelude.{ℕ, List, []}
 use Rattle.pdu.specs.Texts.{reject_text}
 use Rattle.negotiate.specs.Settings.{settings_of}
@@ -8,5 +8,10 @@ use Rattle.engine.specs.declared.sending.Answering.TheVariants as answering
 
 abbrev pub answer_text : Answering → List ℕ
 answer_text answering.Nothing = []
+answer_text (answering.Abort reason) = []
 answer_text answering.TooLong = reject_text 2 3 2
 answer_text (answering.Request config request) = answer_bytes (settings_of config.now) request.now
+
+abbrev pub reason_of : Answering → ℕ
+reason_of (answering.Abort reason) = reason
+reason_of other = 0

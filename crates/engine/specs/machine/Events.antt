@@ -4,8 +4,11 @@ use Rattle.pdu.specs.declared.event.Event.{Event}
 use Rattle.pdu.specs.declared.event.Event.TheVariants as event
 use Rattle.pdu.specs.Heads.{pdv_head_of}
 use Rattle.pdu.specs.Marks.{Head, Pdv, BadPdv, Leftover, End, head_mark, pdv_size}
+use Rattle.acceptor.specs.declared.event.Event as acceptor
+use Rattle.acceptor.specs.declared.event.Event.TheVariants as happened
 use Rattle.negotiate.specs.Settings.{Settings}
-use Rattle.engine.specs.Timeline.{At}
+use Rattle.engine.specs.Inputs.{Received, Close, Expiry, UserAbort}
+use Rattle.engine.specs.Timeline.{Entry, At, Shut, TimedOut, Aborted}
 use Rattle.engine.specs.Progress.{Progress}
 use Rattle.engine.specs.Devices.{Devices}
 use Rattle.engine.specs.Run.{Rooms}
@@ -44,3 +47,9 @@ LeavesRoom room old new kind event.PdvEnd = Unit {0}
 LeavesRoom room old new kind event.BadPdv = Unit {0}
 LeavesRoom room old new kind event.Leftover = Unit {0}
 LeavesRoom room old new kind (event.PduEnd whole) = Unit {0}
+
+-- an event that no byte of the stream brings, the input that tells it, and its entry
+pub data Outside : acceptor.Event → Received → Entry → Type 0 where
+  closed : Outside happened.Closed Close Shut
+  expired : Outside happened.Expired Expiry TimedOut
+  aborted : Outside happened.UserAborts UserAbort Aborted

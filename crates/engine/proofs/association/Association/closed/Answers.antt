@@ -1,35 +1,10 @@
-use Rattle.std.proofs.Common.{◌-◌, ◌∙◌, sym, refl}
-use Rattle.engine.specs.Inputs.{Close}
-use Rattle.engine.specs.Timeline.{Shut}
-use Rattle.engine.proofs.MovedLemmas.{moved_still, moved_call}
-use Rattle.pdu.specs.Deframed.{position_of}
-use Rattle.engine.specs.Kept.{kept_of}
-use Rattle.engine.proofs.SkipLemmas.{room_passed, heads_passed}
-use Rattle.engine.proofs.SizeLemmas.{association_small, provider_small}
+use Rattle.engine.specs.machine.Events.{closed}
+use Rattle.engine.proofs.DueLemmas.{stays_closed}
+use Rattle.engine.proofs.SizeLemmas.{association_small}
 use Rattle.engine.proofs.association.Association.closed.Goals as goal
 
-pub returns-then-is_ended-clause-moved : goal.returns-then-is_ended-clause-moved
-returns-then-is_ended-clause-moved g c inputs story failed h = moved_still _ _ inputs story failed Close _ _ h (sym c.is_ended.ensures.ended ∙ c.if-is_ended.true) c.requires.draft
-
-pub invariant_of-self : goal.invariant_of-self
-invariant_of-self g c =
-    let was = c.args.self.now in
-    let k = kept_of c.on_closed.new.self in
-    let q = position_of was.deframer in
-    let fits = room_passed (g.row.A - 12) k q (c.on_closed.ensures.body_fits _ _ was.body_fits, c.on_closed.ensures.fragment_fits _ was.fragment_fits) in
-    rw c.skip_uncounted.ensures.passes (record { body_fits = fits.0; fragment_fits = fits.1; headless = heads_passed k q })
-
 pub returns-clause-moved : goal.returns-clause-moved
-returns-clause-moved g c inputs story failed h =
-    let dropped = c.drop_heads.ensures in
-    moved_call _ _ inputs story failed Close Shut _ _ _ _ _ _ h (sym c.is_ended.ensures.ended ∙ c.if-is_ended.false) refl refl c.on_closed.ensures.does c.on_closed.ensures.uncounted
-    (rw (← c.skip_uncounted.ensures.passes) (record { kept = dropped.kept; same = dropped.same; headless = dropped.headless })) c.on_closed.ensures.drafts
+returns-clause-moved g c = c.happens.ensures.moved _ _ closed
 
-pub is_ended-requires : goal.is_ended-requires
-is_ended-requires g c = association_small c.args.self.now.provider
-
-pub drop_heads-requires : goal.drop_heads-requires
-drop_heads-requires g c = association_small c.args.self.now.provider
-
-pub skip_uncounted-requires : goal.skip_uncounted-requires
-skip_uncounted-requires g c = provider_small c.args.self.now.provider
+pub happens-requires : goal.happens-requires
+happens-requires g c = (association_small c.args.self.now.provider, (c.requires.draft, stays_closed _))

@@ -3,7 +3,7 @@ use Rattle.std.proofs.Common.{subst, ◌≡◌, ◌-◌, ◌∙◌, ◌<◌, len
 use Rattle.acceptor.specs.declared.state.State.{State}
 use Rattle.acceptor.specs.Table.{table}
 use Rattle.pdu.specs.Sent.{Sends}
-use Rattle.engine.specs.machine.Answers.{answer_text}
+use Rattle.engine.specs.machine.Answers.{answer_text, reason_of}
 use Rattle.engine.specs.machine.DoesDue.{ComesTo, Stays, is_left, step_text}
 use Rattle.engine.specs.Kept.{kept_of}
 use Rattle.engine.proofs.PendsLemmas.{happened, settles_body, settles_body_fits, settles_fragment_fits, settles_uncounted}
@@ -14,9 +14,9 @@ pub returns-clause-tries : goal.returns-clause-tries
 returns-clause-tries g c = λ p body begun h.
     let is = c.state.ensures in
     let e = c.args.event in
-    let text = λ (st : State). step_text st e c.args.reason (answer_text c.args.answering) in
+    let text = λ (st : State). step_text st e (reason_of c.args.answering) (answer_text c.args.answering) in
     let r = c.step-next.result.1 in
-    happened p e c.args.reason (answer_text c.args.answering) r (kept_of c.args.self.now) (kept_of c.settle.new.self) body begun _ _ _ _ h
+    happened p e (reason_of c.args.answering) (answer_text c.args.answering) r (kept_of c.args.self.now) (kept_of c.settle.new.self) body begun _ _ _ _ h
     (subst (λ (st : State). Stays st e) h.state_is c.requires.stays)
     (subst (λ (st : State). ComesTo st r (kept_of c.args.self.now) (kept_of c.settle.new.self) (g.F.Filing.store c.args.filing.now) (g.F.Filing.store c.settle.new.filing)) (c.step-next.ensures.state ∙ ap (λ (st : State). (table st e).1) is) c.settle.ensures.settles)
     (subst (λ (st : State). Sends (text st) r (g.W.Wire.line c.args.wire.now) (g.W.Wire.line c.step-next.new.wire)) is c.step-next.ensures.sends)
