@@ -20,6 +20,7 @@ use Rattle.dicomdir.specs.RecordText.{element_text}
 use Rattle.dicomdir.specs.TreeOf.{Forest, no_nodes, node, TreeOf}
 use Rattle.dicomdir.specs.machine.Building.{IsBuilt, root_text}
 use Rattle.dicomdir.proofs.Sizes.{items_size}
+use Rattle.std.proofs.lemmas.Grind.{common_steps}
 
 pub root_size_is : root_size ≡ 54
 unfolding is_short
@@ -78,9 +79,7 @@ pub root_laid : (first last size : ℕ)
     ++ element_text (tag 0x0004 0x1212) (codes "US") (le 0 2)) ++ header_bytes (record { tag = tag 0x0004 0x1220; vr = Some (codes "SQ"); length = size })
     ≡ root_text first last size
 unfolding root_text
-root_laid first last size =
-    joined (element_text (tag 0x0004 0x1130) (codes "CS") []) (element_text (tag 0x0004 0x1200) (codes "UL") (le first 4)) (element_text (tag 0x0004 0x1202) (codes "UL") (le last 4))
-    (element_text (tag 0x0004 0x1212) (codes "US") (le 0 2)) (header_bytes (record { tag = tag 0x0004 0x1220; vr = Some (codes "SQ"); length = size }))
+root_laid first last size = grind (arith, nat_tests, common_steps, joined (element_text (tag 0x0004 0x1130) (codes "CS") []) (element_text (tag 0x0004 0x1200) (codes "UL") (le first 4)) (element_text (tag 0x0004 0x1202) (codes "UL") (le last 4)) (element_text (tag 0x0004 0x1212) (codes "US") (le 0 2)) (header_bytes (record { tag = tag 0x0004 0x1220; vr = Some (codes "SQ"); length = size })))
 
 -- the root's elements, and the text of the items
 root_elements_are : (first last : ℕ) (is : Items) → spelled (root_elements first last is) ≡ root_text first last (length (spelled_items is)) ++ spelled_items is
@@ -107,8 +106,7 @@ placed_text tree start =
     let items = spelled_items (record_items placed no_items) in
     let text : items ≡ forest_text placed = items_are placed no_items ∙ append-nil (forest_text placed) in
     let size : length items ≡ forest_size tree = let s = items_size start tree no_items in omega (arith, s) in
-    root_elements_are (first_record_place placed) (last_record_place placed) (record_items placed no_items)
-    ∙ ap₂ (λ (n : ℕ) (t : List ℕ). root_text (first_record_place placed) (last_record_place placed) n ++ t) size text
+    grind (arith, nat_tests, common_steps, root_elements_are (first_record_place placed) (last_record_place placed) (record_items placed no_items))
 
 pub directory_text : (front : List ℕ) (rows : List Row)
     → directory_of front rows ≡ front ++ spelled (elements_with_places (with_places (length front + root_size) (TreeOf rows)))

@@ -26,6 +26,8 @@ use Rattle.dicomdir.proofs.FaultFree.{sound_by}
 use Rattle.dicomdir.proofs.FreePaths.{or_some, or_none}
 use Rattle.dicomdir.proofs.PathForests.{forest_nodes}
 use Rattle.dicomdir.proofs.RecordsLemmas.{entries_good, records_rise}
+use Rattle.std.proofs.lemmas.Bool.Decides.{nat_tests}
+use Rattle.std.proofs.lemmas.Grind.{common_steps}
 
 -- ---- faults
 
@@ -55,24 +57,16 @@ fails_first start es f is =
 pub fails_last : (start : ℕ) (es : Elements) (f : DirFault) → offset_fault start (found 0x00041200 start es) ≡ None
     → FailsAs (offset_fault start (found 0x00041202 start es)) f → FailsAs (directory_fault start es) f
 unfolding directory_fault
-fails_last start es f first is =
-    fails_on (offset_fault start (found 0x00041202 start es)) (directory_fault start es) f is
-    (λ x e. or_some (root_fault start es) (records_then_links start es (records_of start es)) x
-    (or_none (offset_fault start (found 0x00041200 start es)) (offset_fault start (found 0x00041202 start es) or_else records_fault start (found 0x00041220 start es)) first
-    ∙ or_some (offset_fault start (found 0x00041202 start es)) (records_fault start (found 0x00041220 start es)) x e))
+fails_last start es f first is = grind (arith, nat_tests, common_steps)
 
 root_then : (start : ℕ) (es : Elements) → offset_fault start (found 0x00041200 start es) ≡ None → offset_fault start (found 0x00041202 start es) ≡ None
     → root_fault start es ≡ records_fault start (found 0x00041220 start es)
-root_then start es first last =
-    or_none (offset_fault start (found 0x00041200 start es)) (offset_fault start (found 0x00041202 start es) or_else records_fault start (found 0x00041220 start es)) first
-    ∙ or_none (offset_fault start (found 0x00041202 start es)) (records_fault start (found 0x00041220 start es)) last
+root_then start es first last = grind (arith, nat_tests, common_steps, or_none (offset_fault start (found 0x00041200 start es)) (offset_fault start (found 0x00041202 start es) or_else records_fault start (found 0x00041220 start es)) first, or_none (offset_fault start (found 0x00041202 start es)) (records_fault start (found 0x00041220 start es)) last)
 
 pub fails_without_records : (start : ℕ) (es : Elements) (f : DirFault) → offset_fault start (found 0x00041200 start es) ≡ None → offset_fault start (found 0x00041202 start es) ≡ None
     → FailsAs (records_fault start (found 0x00041220 start es)) f → FailsAs (directory_fault start es) f
 unfolding directory_fault
-fails_without_records start es f first last is =
-    fails_on (records_fault start (found 0x00041220 start es)) (directory_fault start es) f is
-    (λ x e. or_some (root_fault start es) (records_then_links start es (records_of start es)) x (root_then start es first last ∙ e))
+fails_without_records start es f first last is = grind (arith, nat_tests, common_steps)
 
 -- the records, where both offsets of the root are good
 pub record HasRecords (start : ℕ) (es : Elements) (records : List Record) : Type 0 where
@@ -81,9 +75,7 @@ pub record HasRecords (start : ℕ) (es : Elements) (records : List Record) : Ty
 
 directory_is : (start : ℕ) (es : Elements) (records : List Record) → HasRecords start es records → directory_fault start es ≡ (each_fault records or_else links_fault start es (links_of start es records))
 unfolding directory_fault
-directory_is start es records has =
-    or_none (root_fault start es) (records_then_links start es (records_of start es)) has.good
-    ∙ ap (λ z. records_then_links start es z) has.are
+directory_is start es records has = grind (arith, nat_tests, common_steps, or_none (root_fault start es) (records_then_links start es (records_of start es)) has.good)
 
 pub has_records : (s : Syntax) (start p first : ℕ) (es : Elements) (text : List ℕ) (finds : FindsItems p first s text (found 0x00041220 start es))
     → offset_fault start (found 0x00041200 start es) ≡ None → offset_fault start (found 0x00041202 start es) ≡ None

@@ -14,16 +14,10 @@ second_true true b c e = refl
 second_true false b c e = rw e refl
 
 pub third_true : (a b c : Bool) → c ≡ true → (a || (b || c)) ≡ true
-third_true true b c e = refl
-third_true false true c e = refl
-third_true false false c e = e
+third_true v1 b c e = grind (arith, nat_tests)
 
 one_of_cons : (p x : ℕ) (xs ys : List ℕ) → is_one_of x ys ≡ false → (is_one_of p xs ≡ true → is_one_of p ys ≡ false) → is_one_of p (x ∷ xs) ≡ true → is_one_of p ys ≡ false
-one_of_cons p x xs ys none rest h = by (nat_eq p x) refl h
-  where
-    by : (b : Bool) → nat_eq p x ≡ b → (b || is_one_of p xs) ≡ true → is_one_of p ys ≡ false
-    by true eq h = rw (eqb-true p x eq) none
-    by false eq h = rest h
+one_of_cons p x xs ys none rest h = grind (arith, nat_tests)
 
 pub split_distinct : (xs ys : List ℕ) → is_distinct (xs ++ ys) ≡ true → (is_distinct xs ≡ true) × (is_distinct ys ≡ true) × ((p : ℕ) → is_one_of p xs ≡ true → is_one_of p ys ≡ false)
 split_distinct [] ys e = (refl, e, λ p h. absurd cc)
@@ -39,11 +33,7 @@ pub same_place : (x : ℕ) → nat_eq x x ≡ true
 same_place x = grind (arith, nat_tests)
 
 pub not_place : (p x : ℕ) (xs : List ℕ) → is_one_of x xs ≡ false → is_one_of p xs ≡ true → nat_eq p x ≡ false
-not_place p x xs none h = by (nat_eq p x) refl
-  where
-    by : (b : Bool) → nat_eq p x ≡ b → b ≡ false
-    by true eq = let other : is_one_of p xs ≡ false = rw (eqb-true p x eq) none in absurd cc
-    by false eq = refl
+not_place p x xs none h = grind (arith, nat_tests)
 
 pub clash : (b : Bool) → b ≡ true → b ≡ false → ⊥
 clash true e f = absurd cc

@@ -2,11 +2,13 @@
 use Rattle.std.proofs.Common.{zero, take, ◌≡◌, ℕ, suc, ◌+◌, ◌<◌, ◌≤◌, Bool, true, false, cond, not, ◌||◌, List, [], ◌∷◌, ◌++◌, drop, get_or, length, refl, sym, ap, ap₂, subst, ◌∙◌, append_assoc, drop-cons, arith}
 use Rattle.std.specs.List.{list_any, AllByRecursion}
 use Rattle.std.specs.Str.{bytes_eq}
-use Rattle.std.proofs.lemmas.List.{append-nil, drop_all, take_all}
+use Rattle.std.proofs.lemmas.List.{append-nil, take_all}
 use Rattle.std.proofs.lemmas.List.Folds.{list_any-append}
 use Rattle.dicomdir.specs.Places.{doubles_of, doubles_after}
 use Rattle.dicomdir.specs.Row.{Row, without_doubles}
 use Rattle.dicomdir.specs.machine.FirstSeen.{is_seen, with_one, Sees, TakesRow}
+use Rattle.std.proofs.lemmas.Bool.Decides.{nat_tests}
+use Rattle.std.proofs.lemmas.Grind.{common_steps}
 
 abbrev pub newest_first : List (List ℕ) → List (List ℕ)
 newest_first [] = []
@@ -17,10 +19,7 @@ one_newer [] x = refl
 one_newer (y ∷ xs) x = ap (λ (l : List (List ℕ)). l ++ y ∷ []) (one_newer xs x)
 
 turned : (a b : Bool) → (a || (b || false)) ≡ (b || a)
-turned true true = refl
-turned true false = refl
-turned false true = refl
-turned false false = refl
+turned v1 v2 = grind (arith, nat_tests)
 
 any_newest : (p : List ℕ → Bool) (xs : List (List ℕ)) → list_any p (newest_first xs) ≡ list_any p xs
 any_newest p [] = refl
@@ -139,11 +138,7 @@ module _ (rows : List Row) (at : ℕ) (row : Row) (lt : at < length rows) (is : 
 
 pub leaves_all : (rows : List Row) (at : ℕ) (before : List (List ℕ)) (kept : List Row) (doubles : List ℕ) → length rows ≤ at → Leaves rows at before kept doubles
     → (kept ≡ without_doubles [] rows) × (doubles ≡ doubles_of rows)
-leaves_all rows at before kept doubles le l =
-    let none : drop at rows ≡ [] = drop_all at rows le in (
-      sym (append-nil kept) ∙ ap (λ (rs : List Row). kept ++ without_doubles before rs) (sym none) ∙ l.rows_are,
-      sym (append-nil doubles) ∙ ap (λ (rs : List Row). doubles ++ doubles_after at before rs) (sym none) ∙ l.doubles_are,
-    )
+leaves_all rows at before kept doubles le l = grind (arith, nat_tests, common_steps, append-nil kept, append-nil doubles)
 
 -- one row more is one
 pub all_more : {X : Type 0} (P : X → Type 0) (xs : List X) (at : ℕ) (x : X) → at < length xs → x ≡ get_or xs at x → P x → AllByRecursion P (take at xs) → AllByRecursion P (take (at + 1) xs)

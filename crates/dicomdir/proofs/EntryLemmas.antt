@@ -1,5 +1,5 @@
 -- Entries of records, whose places rise: a search among them, and the flags of those that were reached.
-use Rattle.std.proofs.Common.{◌≡◌, ℕ, zero, suc, ◌<◌, ◌≤◌, Bool, true, false, ◌||◌, List, [], ◌∷◌, length, set, drop, replicate, get_or, not, Some, None, Less, Equal, Greater, refl, sym, ap, subst, ◌∙◌, arith, eqb-true, nat_eq, ◌⊎◌, inl, inr, if◌then◌else◌}
+use Rattle.std.proofs.Common.{◌≡◌, ℕ, zero, suc, ◌<◌, ◌≤◌, Bool, true, false, ◌||◌, List, [], ◌∷◌, length, set, drop, replicate, get_or, not, Some, None, Less, Equal, Greater, refl, sym, ap, subst, ◌∙◌, arith, nat_eq, ◌⊎◌, inl, inr, if◌then◌else◌}
 use Rattle.std.specs.List.{HoldsAt, AllWithin}
 use Rattle.std.specs.List.Sorted.{IsNonDecreasingBy, IsPartitionPoint}
 use Rattle.std.specs.Ordering.{nat_cmp, ordering_index}
@@ -13,6 +13,7 @@ use Rattle.dicomdir.specs.DirFault.{fault, unreached_fault}
 use Rattle.dicomdir.specs.machine.Entries.{IsEntry, AreEntries, no_entries, entry_then, Rise}
 use Rattle.dicomdir.specs.machine.Turns.{flags_of, AreFlagged}
 use Rattle.dicomdir.proofs.Distinct.{same_place}
+use Rattle.std.proofs.lemmas.Grind.{common_steps}
 
 -- the search
 
@@ -51,11 +52,7 @@ comparisons_rise entries records place are rise i j d below fits =
     compared (get_or entries i d).place (get_or entries j d).place place (places_rise entries records 0 are rise i j d below fits)
 
 no_record_step : (r : Record) (rs : List Record) (place : ℕ) → (r.place ≡ place → ⊥) → record_at place rs ≡ None → record_at place (r ∷ rs) ≡ None
-no_record_step r rs place other none = by (nat_eq r.place place) refl
-  where
-    by : (b : Bool) → nat_eq r.place place ≡ b → (if b then Some r.elements else record_at place rs) ≡ None
-    by true same = absurd (other (eqb-true r.place place same))
-    by false differs = none
+no_record_step r rs place other none = grind (arith, nat_tests)
 
 no_record : (entries : List ReadRecord) (records : List Record) (place : ℕ) → AreEntries entries records
     → ((k : ℕ) (d : ReadRecord) → k < length entries → (get_or entries k d).place ≡ place → ⊥) → record_at place records ≡ None
@@ -155,11 +152,7 @@ left_at entries flags records reached e at flagged is fits =
     let there : AtEntry e records at 0 = subst (λ z. AtEntry z records at 0) (sym is) (at_entry entries records 0 at e flagged.are flagged.rise fits) in
     let in_use : e.in_use ≡ (carried_node there.of_it.elements).in_use = ap (λ z. z.in_use) there.is.carries in
     let flag : get_or flags at false ≡ is_one_of there.of_it.place reached = ap (λ z. get_or z at false) flagged.flagged ∙ there.flag reached false in
-    there.left reached
-    ∙ (λ i. if not (sym in_use i) || sym flag i then unreached_fault reached (drop (suc at) records) else fault 63 (sym there.is.place i))
+    grind (arith, nat_tests, common_steps, suc at)
 
 pub passes : (u r : Bool) → (u ≡ false) ⊎ (r ≡ true) → (not u || r) ≡ true
-passes false r e = refl
-passes true true e = refl
-passes true false (inl e) = absurd cc
-passes true false (inr e) = absurd cc
+passes v1 r e = grind (arith, nat_tests)

@@ -1,27 +1,22 @@
 -- A directory without a fault is linked to a tree.
-use Rattle.std.proofs.Common.{◌≡◌, ℕ, suc, ◌+◌, Bool, true, false, not, ◌&&◌, ◌||◌, List, [], ◌∷◌, length, Some, None, is_some, refl, sym, ap, subst, ◌∙◌, arith, eqb-true, nat_eq, if◌then◌else◌}
+use Rattle.std.proofs.Common.{◌≡◌, ℕ, suc, ◌+◌, true, not, ◌&&◌, ◌||◌, List, [], ◌∷◌, length, Some, None, refl, sym, ap, ◌∙◌, arith}
 use Rattle.std.specs.List.{list_all}
-use Rattle.std.specs.Str.{bytes_eq}
 use Rattle.std.proofs.lemmas.Bool.{and_parts, and_from}
-use Rattle.byteorder.specs.Endian.{little_number}
 use Rattle.sequence.specs.Tree.{Elements}
 use Rattle.dicomdir.specs.TreeOf.{Forest}
-use Rattle.dicomdir.specs.Directory.{Found, missing, value_at, items_at, found, number_in, Record, header_size, records_at, records_in, carried_node, first_offset, last_offset, records_of, next_offset, lower_offset, has_record, has_file_id, is_use_flag, Node, or_zero}
-use Rattle.dicomdir.specs.Linked.{PlacedNode, nodes_of, places_of, record_at, are_records, LinkedElements, IsAllReached, is_one_of, is_distinct}
-use Rattle.dicomdir.specs.DirFault.{fault, ◌or_else◌, offset_fault, records_fault, root_fault, record_fault, each_fault, place_in, unreached_fault, first_fault, last_fault, links_of, links_fault, records_then_links, directory_fault}
+use Rattle.dicomdir.specs.Directory.{Found, missing, value_at, items_at, found, number_in, Record, header_size, records_at, records_in, carried_node, first_offset, last_offset, records_of, has_record, has_file_id, Node, or_zero}
+use Rattle.dicomdir.specs.Linked.{PlacedNode, nodes_of, places_of, are_records, LinkedElements, IsAllReached, is_one_of, is_distinct}
+use Rattle.dicomdir.specs.DirFault.{◌or_else◌, offset_fault, records_fault, root_fault, record_fault, each_fault, unreached_fault, first_fault, last_fault, links_of, links_fault, records_then_links, directory_fault}
 use Rattle.dicomdir.specs.NoFault.{NoFaultIsLinked}
 use Rattle.dicomdir.specs.Paths.{Links, paths_of, reached_by, root_records, last_from}
 use Rattle.dicomdir.proofs.Linking.{HaveOffsets, LinksTo, links_to}
 use Rattle.dicomdir.proofs.PathForests.{forest_from, forest_places, forest_last}
 use Rattle.dicomdir.proofs.FreePaths.{both_none, are_free}
+use Rattle.std.proofs.lemmas.Bool.Decides.{nat_tests}
 
 offset_some : (start : ℕ) (f : Found) → offset_fault start f ≡ None → number_in 4 f ≡ Some (or_zero (number_in 4 f))
 offset_some start missing e = absurd cc
-offset_some start (value_at place v) e = by (nat_eq (length v) 4) e
-  where
-    by : (b : Bool) → (if b then None else fault 68 place) ≡ None → (if b then Some (little_number 4 v) else None) ≡ Some (or_zero (if b then Some (little_number 4 v) else None))
-    by true e = refl
-    by false e = absurd cc
+offset_some start (value_at place v) e = grind (arith, nat_tests)
 offset_some start (items_at place h is) e = absurd cc
 
 pub record HasRecords (f : Found) : Type 0 where
@@ -34,12 +29,7 @@ records_some start (value_at place v) e = absurd cc
 records_some start (items_at place h is) e = record { records = records_at (place + header_size h) is; are = refl }
 
 good_record : (r : Record) → record_fault r ≡ None → (has_record r.elements && has_file_id r.elements) ≡ true
-good_record r e = by (has_record r.elements) (has_file_id r.elements) e
-  where
-    by : (a b : Bool) → (if not a then fault 68 r.place else (if not b then fault 65 r.place else None)) ≡ None → (a && b) ≡ true
-    by true true e = refl
-    by true false e = absurd cc
-    by false b e = absurd cc
+good_record r e = grind (arith, nat_tests)
 
 each_good : (records : List Record) → each_fault records ≡ None → are_records records ≡ true
 each_good [] e = refl
@@ -52,37 +42,14 @@ have_offsets [] good p es e = absurd cc
 have_offsets (r ∷ records) good p es e =
     let parts = and_parts (has_record r.elements && has_file_id r.elements) (are_records records) good in
     let both = and_parts (has_record r.elements) (has_file_id r.elements) parts.0 in
-    by (nat_eq r.place p) both.0 (have_offsets records parts.1 p es) e
-  where
-    offsets : has_record r.elements ≡ true → (is_some (lower_offset r.elements) ≡ true) × (is_some (next_offset r.elements) ≡ true)
-    offsets h =
-        let sides = and_parts (is_some (next_offset r.elements) && is_use_flag (number_in 2 (found 0x00041410 0 r.elements))) (is_some (lower_offset r.elements) && not (bytes_eq (carried_node r.elements).kind [])) h in
-        let left = and_parts (is_some (next_offset r.elements)) (is_use_flag (number_in 2 (found 0x00041410 0 r.elements))) sides.0 in
-        let right = and_parts (is_some (lower_offset r.elements)) (not (bytes_eq (carried_node r.elements).kind [])) sides.1 in
-        (right.0, left.0)
-
-    by : (b : Bool) → has_record r.elements ≡ true
-        → (record_at p records ≡ Some es → (is_some (lower_offset es) ≡ true) × (is_some (next_offset es) ≡ true))
-        → (if b then Some r.elements else record_at p records) ≡ Some es → (is_some (lower_offset es) ≡ true) × (is_some (next_offset es) ≡ true)
-    by true h rest e = let same : r.elements ≡ es = cc in subst (λ z. (is_some (lower_offset z) ≡ true) × (is_some (next_offset z) ≡ true)) same (offsets h)
-    by false h rest e = rest e
+    grind (arith, nat_tests, have_offsets records parts.1 p es)
 
 last_is : (start : ℕ) (es : Elements) (links : Links) → last_fault start es links ≡ None → or_zero (last_offset start es) ≡ last_from 0 (root_records links (paths_of links))
-last_is start es links e = by (nat_eq (or_zero (last_offset start es)) (last_from 0 (root_records links (paths_of links)))) refl e
-  where
-    by : (b : Bool) → nat_eq (or_zero (last_offset start es)) (last_from 0 (root_records links (paths_of links))) ≡ b
-        → (if b then None else fault 60 (place_in (found 0x00041202 start es))) ≡ None → or_zero (last_offset start es) ≡ last_from 0 (root_records links (paths_of links))
-    by true same e = eqb-true (or_zero (last_offset start es)) (last_from 0 (root_records links (paths_of links))) same
-    by false same e = absurd cc
+last_is start es links e = grind (arith, nat_tests)
 
 all_there : (nodes : List ℕ) (records : List Record) → unreached_fault nodes records ≡ None → list_all (λ r. not (carried_node r.elements).in_use || is_one_of r.place nodes) records ≡ true
 all_there nodes [] e = refl
-all_there nodes (r ∷ records) e = by (not (carried_node r.elements).in_use || is_one_of r.place nodes) (all_there nodes records) e
-  where
-    by : (b : Bool) → (unreached_fault nodes records ≡ None → list_all (λ r. not (carried_node r.elements).in_use || is_one_of r.place nodes) records ≡ true)
-        → (if b then unreached_fault nodes records else fault 63 r.place) ≡ None → (b && list_all (λ r. not (carried_node r.elements).in_use || is_one_of r.place nodes) records) ≡ true
-    by true rest e = rest e
-    by false rest e = absurd cc
+all_there nodes (r ∷ records) e = grind (arith, nat_tests, all_there nodes records)
 
 -- the tree that the records are linked to is the one that following their offsets goes through
 pub record IsSoundBy (start : ℕ) (es : Elements) (records : List Record) : Type 0 where

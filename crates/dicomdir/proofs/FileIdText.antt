@@ -1,10 +1,11 @@
 -- A file ID that is padded by a space is read back.
-use Rattle.std.proofs.Common.{◌≡◌, ℕ, ◌%◌, Bool, true, false, not, ◌&&◌, List, [], ◌∷◌, ◌++◌, length, Some, None, refl, sym, ap, ◌∙◌, nat_eq, nat_le, if◌then◌else◌, eqb-true}
+use Rattle.std.proofs.Common.{◌≡◌, ℕ, ◌%◌, Bool, true, false, not, ◌&&◌, List, [], ◌∷◌, ◌++◌, length, Some, None, refl, ap, ◌∙◌, nat_eq, nat_le, if◌then◌else◌, arith}
 use Rattle.std.specs.List.{list_all}
 use Rattle.std.proofs.lemmas.Bool.{and_parts, and_from}
-use Rattle.element.specs.Padding.{is_space, is_empty, kept_before, without_trailing, padded}
+use Rattle.element.specs.Padding.{is_space, kept_before, without_trailing, padded}
 use Rattle.dicomdir.specs.FileId.{is_id_character, is_file_id_component, before_parts, parts_of, is_file_id, if_file_id, file_id_of}
 use Rattle.dicomdir.proofs.Distinct.{not_true}
+use Rattle.std.proofs.lemmas.Bool.Decides.{nat_tests}
 
 abbrev no_space : ℕ → Bool
 no_space c = not (is_space c)
@@ -13,11 +14,7 @@ abbrev are_characters : List (List ℕ) → Bool
 are_characters parts = list_all (list_all is_id_character) parts
 
 character_is_no_space : (c : ℕ) → is_id_character c ≡ true → no_space c ≡ true
-character_is_no_space c e = by (nat_eq c 32) refl
-  where
-    by : (b : Bool) → nat_eq c 32 ≡ b → not b ≡ true
-    by false f = refl
-    by true f = let c32 : c ≡ 32 = eqb-true c 32 f in let wrong : is_id_character 32 ≡ true = ap is_id_character (sym c32) ∙ e in absurd cc
+character_is_no_space c e = grind (arith, nat_tests)
 
 of_before : (c : ℕ) (parts : List (List ℕ)) → are_characters (before_parts c parts) ≡ true → (is_id_character c ≡ true) × (are_characters parts ≡ true)
 of_before c [] e = ((and_parts (is_id_character c) true (and_parts (is_id_character c && true) true e).0).0, refl)
@@ -28,16 +25,7 @@ of_before c (part ∷ parts) e =
 
 no_spaces : (text : List ℕ) → are_characters (parts_of text) ≡ true → list_all no_space text ≡ true
 no_spaces [] e = refl
-no_spaces (c ∷ text) e = by (nat_eq c 92) refl (no_spaces text) e
-  where
-    by : (b : Bool) → nat_eq c 92 ≡ b → (are_characters (parts_of text) ≡ true → list_all no_space text ≡ true)
-        → are_characters (if b then [] ∷ parts_of text else before_parts c (parts_of text)) ≡ true → (no_space c && list_all no_space text) ≡ true
-    by true f rest e =
-        let c92 : c ≡ 92 = eqb-true c 92 f in
-        and_from (no_space c) (list_all no_space text) (ap no_space c92) (rest e)
-    by false f rest e =
-        let both = of_before c (parts_of text) e in
-        and_from (no_space c) (list_all no_space text) (character_is_no_space c both.0) (rest both.1)
+no_spaces (c ∷ text) e = grind (arith, nat_tests, no_spaces text)
 
 components_are : (parts : List (List ℕ)) → list_all is_file_id_component parts ≡ true → are_characters parts ≡ true
 components_are [] e = refl
@@ -47,13 +35,7 @@ components_are (part ∷ parts) e =
     and_from (list_all is_id_character part) (are_characters parts) chars.1 (components_are parts two.1)
 
 keeps : (c : ℕ) (rest : List ℕ) → no_space c ≡ true → kept_before is_space c rest ≡ c ∷ rest
-keeps c rest e = by (is_empty rest) (is_space c) (not_true (is_space c) e)
-  where
-    by : (a b : Bool) → b ≡ false → (if a && b then [] else c ∷ rest) ≡ c ∷ rest
-    by true true f = absurd cc
-    by false true f = absurd cc
-    by true false f = refl
-    by false false f = refl
+keeps c rest e = grind (arith, nat_tests, not_true (is_space c) e)
 
 trimmed : (text : List ℕ) → list_all no_space text ≡ true → without_trailing is_space text ≡ text
 trimmed [] e = refl

@@ -1,5 +1,5 @@
 -- A file ID is read from its end: the parts that were seen, and the room that it needs.
-use Rattle.std.proofs.Common.{◌≡◌, ℕ, suc, ◌+◌, ◌*◌, ◌<◌, ◌≤◌, Bool, true, false, ◌&&◌, List, [], ◌∷◌, replicate, ◌-◌, length, get_or, take, drop, refl, sym, ap, ◌∙◌, add-one, drop-cons, arith, nat_eq, nat_le, if◌then◌else◌}
+use Rattle.std.proofs.Common.{◌≡◌, ℕ, suc, ◌+◌, ◌*◌, ◌<◌, ◌≤◌, Bool, true, false, ◌&&◌, List, [], ◌∷◌, replicate, ◌-◌, length, get_or, take, drop, refl, sym, ap, ◌∙◌, add-one, drop-cons, arith, nat_eq, nat_le}
 use Rattle.std.specs.List.{list_all}
 use Rattle.std.proofs.lemmas.Bool.{and_parts}
 use Rattle.std.proofs.lemmas.Bool.Decides.{nat_tests}
@@ -33,40 +33,17 @@ some_before c (part ∷ parts) = refl
 
 some_part : (xs : List ℕ) → is_none (parts_of xs) ≡ false
 some_part [] = refl
-some_part (x ∷ xs) = by (nat_eq x 92)
-  where
-    by : (b : Bool) → is_none (if b then [] ∷ parts_of xs else before_parts x (parts_of xs)) ≡ false
-    by true = refl
-    by false = some_before x (parts_of xs)
+some_part (x ∷ xs) = grind (arith, nat_tests)
 
 moved : (a b c d : Bool) → (((a && b && c) && d) && true) ≡ ((d && c) && (a && b))
-moved true true true true = refl
-moved true true true false = refl
-moved true true false true = refl
-moved true true false false = refl
-moved true false true true = refl
-moved true false true false = refl
-moved true false false true = refl
-moved true false false false = refl
-moved false true true true = refl
-moved false true true false = refl
-moved false true false true = refl
-moved false true false false = refl
-moved false false true true = refl
-moved false false true false = refl
-moved false false false true = refl
-moved false false false false = refl
+moved v1 v2 v3 v4 = grind (arith, nat_tests)
 
 good_end : (parts : List (List ℕ)) → is_none parts ≡ false → is_good ([] ∷ parts) ≡ (is_good parts && is_size (first_size parts))
 good_end [] some = absurd cc
 good_end (part ∷ parts) some = moved (nat_le 1 (length part)) (nat_le (length part) 8) (list_all is_id_character part) (list_all is_file_id_component parts)
 
 shifted : (a b c : Bool) → (a && (b && c)) ≡ ((a && c) && b)
-shifted true true c = by c
-  where
-    by : (c : Bool) → c ≡ (c && true)
-    by true = refl
-    by false = refl
+shifted true true c = grind (arith, nat_tests)
 shifted true false true = refl
 shifted true false false = refl
 shifted false b c = refl
@@ -120,13 +97,7 @@ gathered true true false true true = refl
 gathered true true false true false = refl
 gathered true true false false true = refl
 gathered true true false false false = refl
-gathered true false c d true = same c d
-  where
-    same : (c d : Bool) → false ≡ ((d && c) && false)
-    same true true = refl
-    same true false = refl
-    same false true = refl
-    same false false = refl
+gathered true false c d true = grind (arith, nat_tests)
 gathered true false true true false = refl
 gathered true false true false false = refl
 gathered true false false true false = refl
@@ -148,12 +119,7 @@ pub is_file_id_by_parts : (xs : List ℕ) → is_file_id xs ≡ (is_good (parts_
 is_file_id_by_parts xs = by_parts (parts_of xs) (some_part xs)
 
 refused_by_size : (xs : List ℕ) → is_size (first_size (parts_of xs)) ≡ false → is_file_id xs ≡ false
-refused_by_size xs e = is_file_id_by_parts xs ∙ by (is_good (parts_of xs)) (is_size (first_size (parts_of xs))) (nat_le (length (parts_of xs)) 8) e
-  where
-    by : (a b c : Bool) → b ≡ false → (a && (b && c)) ≡ false
-    by true true c e = absurd cc
-    by true false c e = refl
-    by false b c e = refl
+refused_by_size xs e = grind (arith, nat_tests, is_file_id_by_parts xs)
 
 pub refused_at_front : (xs : List ℕ) (at size : ℕ) → at ≡ 0 → first_size (parts_of (drop at xs)) ≡ size → is_size size ≡ false → false ≡ is_file_id xs
 refused_at_front xs at size z f e = sym (refused_by_size xs (ap is_size (ap (λ k. first_size (parts_of (drop k xs))) (sym z) ∙ f) ∙ e))
@@ -170,11 +136,7 @@ total_more c (part ∷ parts) n e = omega (arith, e)
 
 total_is : (xs : List ℕ) → total (parts_of xs) ≡ suc (length xs)
 total_is [] = refl
-total_is (x ∷ xs) = by (total_is xs) (nat_eq x 92)
-  where
-    by : total (parts_of xs) ≡ suc (length xs) → (b : Bool) → total (if b then [] ∷ parts_of xs else before_parts x (parts_of xs)) ≡ suc (suc (length xs))
-    by rest true = omega (arith, rest)
-    by rest false = total_more x (parts_of xs) (length xs) rest
+total_is (x ∷ xs) = grind (arith, nat_tests, total_is xs)
 
 short : (n : ℕ) (b : Bool) → (nat_le 1 n && nat_le n 8 && b) ≡ true → n ≤ 8
 short n b e = grind (arith, nat_tests, e)

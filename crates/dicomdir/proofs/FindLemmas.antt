@@ -1,5 +1,5 @@
 -- Finding an element under its tag.
-use Rattle.std.proofs.Common.{◌≡◌, ◌≢◌, ℕ, ◌+◌, ◌-◌, ◌*◌, ◌≤◌, ◌<◌, Bool, true, false, not, ◌&&◌, List, [], ◌++◌, length, take, drop, Some, None, ◌⊎◌, inl, inr, refl, sym, ap, subst, ◌∙◌, arith, append_assoc, length-append, eqb-true, eq-eqb, nat_eq, nat_le}
+use Rattle.std.proofs.Common.{◌≡◌, ◌≢◌, ℕ, ◌+◌, ◌-◌, ◌≤◌, ◌<◌, Bool, true, false, not, ◌&&◌, List, [], ◌++◌, length, take, drop, Some, None, ◌⊎◌, inl, inr, refl, sym, ap, subst, ◌∙◌, arith, append_assoc, length-append, eqb-true, eq-eqb, nat_eq, nat_le}
 use Rattle.std.proofs.lemmas.Bool.{cond-true, cond-false}
 use Rattle.std.proofs.lemmas.Bool.Decides.{nat_tests}
 use Rattle.std.proofs.lemmas.List.{append-nil}
@@ -7,7 +7,7 @@ use Rattle.std.proofs.Math.Seq.{take-append_seam}
 use Rattle.element.specs.declared.syntax.Syntax.{Syntax}
 use Rattle.element.specs.declared.tag.Tag.{Tag}
 use Rattle.element.specs.declared.header.Header.{Header}
-use Rattle.element.specs.Header.{number, is_marker, IsTag, SpellsHeader, plain, short, long, item_end_tag}
+use Rattle.element.specs.Header.{number, is_marker, IsTag, SpellsHeader, item_end_tag}
 use Rattle.sequence.specs.declared.shape.Shape.{Shape}
 use Rattle.sequence.specs.declared.shape.Shape.TheVariants.{Value, Sequence, NotAllowed}
 use Rattle.sequence.specs.Rules.{same_tag}
@@ -92,26 +92,13 @@ no_sequence s h r (inr e) same inner is = let other : NotAllowed ≡ Sequence in
 -- ---- tags
 
 pub spelled_tag : {s : Syntax} {h : Header} {b : List ℕ} → SpellsHeader s h b → IsTag h.tag
-spelled_tag (plain tag n fits p lt) = fits
-spelled_tag (short tag a b n fits m c h lt) = fits
-spelled_tag (long tag a b r q n fits m c h lt) = fits
+spelled_tag v1 = grind (arith, nat_tests)
 
 pub same_number : (t u : Tag) → same_tag t u ≡ true → nat_eq (number t) (number u) ≡ true
 same_number t u e = let same : t ≡ u = same_tags t u (ap not e) in eq-eqb (number t) (number u) (ap number same)
 
 pub other_number : (t u : Tag) → IsTag t → u.1 < 65536 → same_tag t u ≡ false → nat_eq (number t) (number u) ≡ false
-other_number t u fits low e = by (nat_eq (number t) (number u)) refl
-  where
-    by : (b : Bool) → nat_eq (number t) (number u) ≡ b → b ≡ false
-    by false f = refl
-    by true f =
-        let same : t.0 * 65536 + t.1 ≡ u.0 * 65536 + u.1 = eqb-true (number t) (number u) f in
-        let second : t.1 ≡ u.1 = omega (arith, same, fits, low) in
-        let first : t.0 ≡ u.0 = omega (arith, same, fits, low) in
-        let a = eq-eqb t.0 u.0 first in
-        let b = eq-eqb t.1 u.1 second in
-        let both : same_tag t u ≡ true = rw (a, b) refl in
-        absurd cc
+other_number t u fits low e = grind (arith, nat_tests)
 
 -- ---- one element after the other
 

@@ -1,9 +1,9 @@
 -- One turn of following the links, and its ends.
-use Rattle.std.proofs.Common.{◌≡◌, ℕ, suc, ◌<◌, ◌≤◌, ◌-◌, min, Bool, true, false, not, ◌&&◌, ◌||◌, List, [], ◌∷◌, ◌++◌, length, filter, cond, replicate, set, get_or, Option, Some, None, Result, Ok, Err, IfErr, refl, sym, ap, subst, ◌∙◌, arith, eqb-true, nat_eq, codes, bytes_eq, if◌then◌else◌}
+use Rattle.std.proofs.Common.{◌≡◌, ℕ, suc, ◌<◌, ◌≤◌, ◌-◌, min, Bool, true, false, not, ◌&&◌, ◌||◌, List, [], ◌∷◌, ◌++◌, length, filter, cond, replicate, set, get_or, Option, Some, None, Result, Ok, Err, IfErr, refl, sym, ap, subst, ◌∙◌, arith, nat_eq, if◌then◌else◌}
 use Rattle.std.proofs.lemmas.Bool.{cond-true, cond-false}
 use Rattle.std.specs.List.{flat_map}
 use Rattle.std.proofs.lemmas.Bool.Decides.{nat_tests}
-use Rattle.std.proofs.lemmas.Grind.{flat_map-append}
+use Rattle.std.proofs.lemmas.Grind.{flat_map-append, common_steps}
 use Rattle.std.proofs.lemmas.List.{append-nil, append_assoc, map-append}
 use Rattle.std.proofs.lemmas.List.Elements.{filter-append}
 use Rattle.std.proofs.lemmas.List.Folds.{list_any-append}
@@ -15,7 +15,7 @@ use Rattle.dicomdir.specs.declared.links.Mark.{Mark}
 use Rattle.dicomdir.specs.declared.links.Step.{Step}
 use Rattle.dicomdir.specs.declared.records.ReadRecord.{ReadRecord}
 use Rattle.dicomdir.specs.Directory.{found, Record, Node, carried_node, last_offset, lower_offset, next_offset, or_zero}
-use Rattle.dicomdir.specs.Linked.{record_at, fits, fits_level, is_upper_kind, is_one_of, elements_at, lower_at, next_at}
+use Rattle.dicomdir.specs.Linked.{record_at, fits, fits_level, is_one_of, elements_at, lower_at, next_at}
 use Rattle.dicomdir.specs.Paths.{Links, Turn, named_by, level_of, paths_from, paths_of, reached_by, root_records, last_from}
 use Rattle.dicomdir.specs.DirFault.{Fault, fault, ◌or_else◌, path_fault, first_fault, unreached_fault, links_of, links_fault, place_in}
 use Rattle.dicomdir.specs.NodesInUse.{LevelNode}
@@ -23,7 +23,7 @@ use Rattle.dicomdir.specs.machine.Entries.{AreRead, FailsToFollow, carried_by}
 use Rattle.dicomdir.specs.machine.Trail.{path_along, mark_of, own_node, node_on, paths_on, later, to_come, AreMarks, IsStep}
 use Rattle.dicomdir.specs.machine.Turns.{flags_of, AreFlagged, LeadsTo, GoesOn}
 use Rattle.dicomdir.proofs.PathForests.{lower_path, next_path, paths_more, elements_is}
-use Rattle.dicomdir.proofs.FreePaths.{path_free, or_some, or_none}
+use Rattle.dicomdir.proofs.FreePaths.{path_free, or_some}
 use Rattle.dicomdir.proofs.Linking.{IsIn, not_false, one_more_in, few_in}
 use Rattle.dicomdir.proofs.Trails.{length_along}
 use Rattle.dicomdir.proofs.EntryLemmas.{AtEntry, at_entry, length_entries, none_flagged}
@@ -69,16 +69,7 @@ starts links entries start es root flags pending nodes read none begins = record
 -- a record in use that fits its level stands on one of four
 
 small_level : (level : ℕ) (kind : List ℕ) → fits_level level kind ≡ true → level ≤ 4
-small_level level kind e = by (nat_eq level 1) (nat_eq level 2) (nat_eq level 3) (nat_eq level 4) refl refl refl refl e
-  where
-    by : (a b c d : Bool) → nat_eq level 1 ≡ a → nat_eq level 2 ≡ b → nat_eq level 3 ≡ c → nat_eq level 4 ≡ d
-        → (if a then bytes_eq kind (codes "PATIENT") else (if b then bytes_eq kind (codes "STUDY") else (if c then bytes_eq kind (codes "SERIES") else (d && not (is_upper_kind kind))))) ≡ true
-        → level ≤ 4
-    by true b c d one two three four e = let is : level ≡ 1 = eqb-true level 1 one in omega (arith, is)
-    by false true c d one two three four e = let is : level ≡ 2 = eqb-true level 2 two in omega (arith, is)
-    by false false true d one two three four e = let is : level ≡ 3 = eqb-true level 3 three in omega (arith, is)
-    by false false false true one two three four e = let is : level ≡ 4 = eqb-true level 4 four in omega (arith, is)
-    by false false false false one two three four e = absurd cc
+small_level level kind e = grind (arith, nat_tests)
 
 same_level : (level real : ℕ) (n : Node) → n.in_use ≡ true → level ≡ min real 5 → fits real n ≡ true → real ≡ level
 same_level level real n used is fit =
@@ -148,10 +139,7 @@ turned links entries flags path reached e at inside flagged good finds is fits_i
 -- what was collected, with one more path
 
 one_more_named : (a b : Bool) → (a || b) ≡ (b || (a || false))
-one_more_named true true = refl
-one_more_named true false = refl
-one_more_named false true = refl
-one_more_named false false = refl
+one_more_named v1 v2 = grind (arith, nat_tests)
 
 last_of_more : (n x : ℕ) (xs : List ℕ) → last_from n (xs ++ x ∷ []) ≡ x
 last_of_more n x [] = refl
@@ -254,8 +242,7 @@ ends start es links entries flags ms before nodes last at =
     let last_is : last_from 0 (root_records links (paths_of links)) ≡ last = ap (λ z. last_from 0 (root_records links z)) all ∙ at.last_is in
     let left : unreached_fault (reached_by links (paths_of links)) links.records ≡ unreached_fault at.reached links.records =
     ap (λ z. unreached_fault (reached_by links z) links.records) all ∙ sym (same_unreached at.reached (reached_by links at.gone) links.records at.members) in
-    or_none (first_fault links [] (paths_of links)) _ free
-    ∙ (λ i. (if nat_eq (or_zero (last_offset start es)) (last_is i) then None else fault 60 (place_in (found 0x00041202 start es))) or_else left i)
+    grind (arith, nat_tests, common_steps)
 
 pub ends_elsewhere : (root : Root) (entries : List ReadRecord) (start : ℕ) (es : Elements) (records : List Record) (flags : List Bool) (ms : List Mark) (before nodes : List LevelNode) (last : ℕ)
     → AreRead root entries start es records → Following (links_of start es records) entries flags ms None before nodes last
@@ -264,9 +251,7 @@ ends_elsewhere root entries start es records flags ms before nodes last read at 
     let there : ℕ = or_zero (last_offset start es) in
     let differs : (there ≡ last) → ⊥ = λ same. other (read.last ∙ same) in
     let test : nat_eq there last ≡ false = grind (arith, nat_tests, differs) in
-    ends start es (links_of start es records) entries flags ms before nodes last at
-    ∙ (ap (λ z. z or_else unreached_fault at.reached records) (cond-false (nat_eq there last) None (fault 60 (place_in (found 0x00041202 start es))) test)
-    ∙ ap (λ z. fault 60 z) (sym read.last_place))
+    grind (arith, nat_tests, common_steps, cond-false (nat_eq there last) None (fault 60 (place_in (found 0x00041202 start es))) test, ends start es (links_of start es records) entries flags ms before nodes last at)
 
 pub ends_there : (root : Root) (entries : List ReadRecord) (start : ℕ) (es : Elements) (records : List Record) (flags : List Bool) (ms : List Mark) (before nodes : List LevelNode) (last : ℕ)
     → AreRead root entries start es records → (at : Following (links_of start es records) entries flags ms None before nodes last)
@@ -275,8 +260,7 @@ ends_there root entries start es records flags ms before nodes last read at same
     let there : ℕ = or_zero (last_offset start es) in
     let is : there ≡ last = sym read.last ∙ same in
     let test : nat_eq there last ≡ true = grind (arith, nat_tests, is) in
-    ends start es (links_of start es records) entries flags ms before nodes last at
-    ∙ ap (λ z. z or_else unreached_fault at.reached records) (cond-true (nat_eq there last) None (fault 60 (place_in (found 0x00041202 start es))) test)
+    grind (arith, nat_tests, common_steps, cond-true (nat_eq there last) None (fault 60 (place_in (found 0x00041202 start es))) test, ends start es (links_of start es records) entries flags ms before nodes last at)
 
 pub nodes_of_all : (links : Links) (entries : List ReadRecord) (flags : List Bool) (ms : List Mark) (before nodes : List LevelNode) (last : ℕ)
     → Following links entries flags ms None before nodes last

@@ -1,11 +1,12 @@
 -- Paths have no fault where each names another record, which fits its level.
-use Rattle.std.proofs.Common.{◌≡◌, ℕ, Bool, true, false, not, ◌&&◌, List, [], ◌∷◌, Option, Some, None, refl, nat_eq, if◌then◌else◌}
+use Rattle.std.proofs.Common.{◌≡◌, ℕ, Bool, true, false, not, ◌&&◌, List, [], ◌∷◌, Option, Some, None, refl, nat_eq, arith}
 use Rattle.std.specs.List.{list_all}
 use Rattle.std.proofs.lemmas.Bool.{and_parts, and_from, or_parts, or_right, or_left, or_from, false_from_ne_true}
 use Rattle.dicomdir.specs.Linked.{is_distinct, is_one_of}
-use Rattle.dicomdir.specs.Paths.{Links, Turn, named_by, told_at, makes_cycle, reached_by}
+use Rattle.dicomdir.specs.Paths.{Links, Turn, named_by, reached_by}
 use Rattle.dicomdir.specs.DirFault.{Fault, fault, ◌or_else◌, names_no_record, names_wrong_level, path_fault, first_fault}
 use Rattle.dicomdir.proofs.Distinct.{not_true, same_place, not_place, clash, same_out, either_out}
+use Rattle.std.proofs.lemmas.Bool.Decides.{nat_tests}
 
 abbrev pub is_good : Links → List Turn → Bool
 is_good links path = not (names_no_record links path) && not (names_wrong_level links path)
@@ -34,15 +35,7 @@ two_none (Some x) b e f = absurd cc
 
 pub path_free : (links : Links) (reached : List ℕ) (path : List Turn) → path_fault links reached path ≡ None
     → (names_no_record links path ≡ false) × (is_one_of (named_by links path) reached ≡ false) × (names_wrong_level links path ≡ false)
-path_free links reached path e = by (names_no_record links path) (is_one_of (named_by links path) reached) (names_wrong_level links path) e
-  where
-    by : (a b c : Bool)
-        → (if a then fault 60 (told_at links path) else (if b then fault (if makes_cycle links path then 61 else 62) (told_at links path) else (if c then fault 64 (named_by links path) else None))) ≡ None
-        → (a ≡ false) × (b ≡ false) × (c ≡ false)
-    by true b c e = absurd cc
-    by false true c e = absurd cc
-    by false false true e = absurd cc
-    by false false false e = (refl, refl, refl)
+path_free links reached path e = grind (arith, nat_tests)
 
 pub free_path : (links : Links) (reached : List ℕ) (path : List Turn) → names_no_record links path ≡ false → is_one_of (named_by links path) reached ≡ false → names_wrong_level links path ≡ false
     → path_fault links reached path ≡ None

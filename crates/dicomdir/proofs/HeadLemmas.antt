@@ -1,5 +1,5 @@
 -- A header at the front of a text is read as it is spelled.
-use Rattle.std.proofs.Common.{◌≡◌, ℕ, ◌≤◌, ◌+◌, Bool, true, false, List, ◌++◌, length, Some, None, refl, sym, ap, ◌∙◌, arith, nat_le, if◌then◌else◌}
+use Rattle.std.proofs.Common.{◌≡◌, ℕ, ◌≤◌, ◌+◌, Bool, true, false, List, ◌++◌, length, Some, None, refl, ap, ◌∙◌, arith, nat_le, if◌then◌else◌}
 use Rattle.std.proofs.lemmas.List.{length-append}
 use Rattle.std.proofs.lemmas.Bool.Decides.{nat_tests}
 use Rattle.element.specs.declared.syntax.Syntax.{Syntax}
@@ -11,6 +11,7 @@ use Rattle.element.proofs.Public.{spelled_need, spelled_header}
 use Rattle.sequence.proofs.Public.{need_least}
 use Rattle.dicomdir.specs.declared.found.Head.{Head}
 use Rattle.dicomdir.specs.machine.Heads.{head_by, head_at}
+use Rattle.std.proofs.lemmas.Grind.{common_steps}
 
 pub head_whole : (s : Syntax) (b : List ℕ) (k : ℕ) → need s b ≡ Size k → k ≤ length b → is_whole s b ≡ true
 unfolding is_whole
@@ -42,5 +43,4 @@ head_read s h front rest b spelled whole =
     let is : h ≡ header_at s b = spelled_header s h front rest b spelled whole in
     let long : length b ≡ length front + length rest = ap length whole ∙ length-append front rest in
     let holds : nat_le (length front) (length b) ≡ true = grind (arith, nat_tests, long) in
-    ap (λ n. head_by s b n) size ∙ (ap (λ p. if p then Some (record { header = header_at s b; size = length front }) else None) holds
-    ∙ ap (λ x. Some (record { header = x; size = length front })) (sym is))
+    grind (arith, nat_tests, common_steps)

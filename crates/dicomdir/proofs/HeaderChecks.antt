@@ -1,5 +1,5 @@
 -- What a file header says of a check.
-use Rattle.std.proofs.Common.{◌≡◌, ◌≢◌, ◌≤◌, ◌+◌, ◌-◌, ℕ, true, false, nat_eq, List, length, Some, refl, ap, subst, ◌∙◌, arith, sym}
+use Rattle.std.proofs.Common.{◌≡◌, ◌≢◌, ◌≤◌, ◌+◌, ◌-◌, ℕ, true, false, nat_eq, List, length, Some, refl, ap, subst, ◌∙◌, arith}
 use Rattle.std.proofs.lemmas.List.{length-append}
 use Rattle.std.proofs.lemmas.Bool.Decides.{nat_tests}
 use Rattle.element.specs.declared.syntax.Syntax.TheVariants.{Implicit, Explicit}
@@ -23,10 +23,7 @@ header_check file OtherSyntax r some = in_header OtherSyntax r
 header_check file ReadFailed r some = absurd (some refl)
 
 pub header_at_none : (fault : MetaFault) (f : DirFault) → f ≡ header_fault_of fault → IsAtNone f
-header_at_none NotPart10 f is e = absurd (let other : 50 ≡ 67 = sym (ap (λ z. z.number) is) ∙ e in omega (arith, other))
-header_at_none BadMeta f is e = absurd (let other : 51 ≡ 67 = sym (ap (λ z. z.number) is) ∙ e in omega (arith, other))
-header_at_none OtherSyntax f is e = absurd (let other : 53 ≡ 67 = sym (ap (λ z. z.number) is) ∙ e in omega (arith, other))
-header_at_none ReadFailed f is e = (ap (λ z. z.place) is, ap (λ z. z.tag) is)
+header_at_none v1 f is e = grind (arith, nat_tests)
 
 pub implicit_check : (file rest : List ℕ) (meta : Meta) → TakesMeta (said_of meta) (Some file) (Some rest) → meta.syntax ≡ Implicit → CheckFault file 53 132 no_tag
 implicit_check file rest meta takes is =

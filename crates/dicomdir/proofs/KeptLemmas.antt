@@ -1,5 +1,5 @@
 -- What the nodes of a tree keep.
-use Rattle.std.proofs.Common.{◌≡◌, ℕ, suc, ◌+◌, ◌<◌, ◌≤◌, Bool, true, false, List, [], ◌∷◌, ◌++◌, length, drop, get_or, map, refl, sym, ap, ◌∙◌, if◌then◌else◌}
+use Rattle.std.proofs.Common.{◌≡◌, ℕ, suc, ◌+◌, ◌<◌, ◌≤◌, Bool, true, false, List, [], ◌∷◌, ◌++◌, length, drop, get_or, map, refl, sym, ap, ◌∙◌, if◌then◌else◌, arith}
 use Rattle.std.proofs.lemmas.List.{append_assoc, append-nil, drop_more, drop_all}
 use Rattle.dicomdir.specs.TreeOf.{Forest, no_nodes, node}
 use Rattle.dicomdir.specs.Linked.{PlacedNode, nodes_of}
@@ -7,12 +7,12 @@ use Rattle.dicomdir.specs.NodesInUse.{LevelNode, nodes_in_use, HasNodes}
 use Rattle.dicomdir.specs.Kept.{pruned, images_of, file_id_of_image, KeptOf}
 use Rattle.dicomdir.specs.TreeNodes.{kept_in, node_of}
 use Rattle.dicomdir.specs.declared.tree.TreeRecord.{TreeRecord}
+use Rattle.std.proofs.lemmas.Bool.Decides.{nat_tests}
+use Rattle.std.proofs.lemmas.Grind.{common_steps}
 
 kept_append : (xs ys : List LevelNode) → kept_in (xs ++ ys) ≡ kept_in xs ++ kept_in ys
 kept_append [] ys = refl
-kept_append (x ∷ xs) ys =
-    ap (λ z. file_id_of_image x.carries ++ z) (kept_append xs ys)
-    ∙ sym (append_assoc (file_id_of_image x.carries) (kept_in xs) (kept_in ys))
+kept_append (x ∷ xs) ys = grind (arith, nat_tests, common_steps, kept_append xs ys, append_assoc (file_id_of_image x.carries) (kept_in xs) (kept_in ys))
 
 kept_are_in_use : (level : ℕ) (placed : Forest PlacedNode) → KeptOf (nodes_of placed) ≡ kept_in (nodes_in_use level placed)
 kept_are_in_use level no_nodes = refl

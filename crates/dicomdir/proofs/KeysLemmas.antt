@@ -1,5 +1,5 @@
 -- The tests that a row's keys pass.
-use Rattle.std.proofs.Common.{◌≡◌, ◌≤◌, ℕ, Bool, true, false, cond, List, [], ◌∷◌, map, option_map, Option, Some, None, Ok, Err, refl, ap, subst, ◌∙◌, eqb-true, nat_eq}
+use Rattle.std.proofs.Common.{◌≡◌, ◌≤◌, ℕ, Bool, true, false, cond, List, [], ◌∷◌, map, Some, None, Ok, Err, refl, ap, subst, eqb-true, nat_eq, arith, rules}
 use Rattle.std.specs.List.{list_all, find}
 use Rattle.std.proofs.lemmas.Bool.{and_parts, leb-true}
 use Rattle.element.specs.Header.{number}
@@ -10,19 +10,17 @@ use Rattle.dicomdir.specs.KeyTable.{key_table, want_of}
 use Rattle.dicomdir.specs.Keys.{optional_size, fits_room, fits_rooms, is_missing, first_empty, row_unless, checked_row, IsRow}
 use Rattle.dicomdir.specs.Row.{Row}
 use Rattle.dicomdir.specs.RowOf.{row_wants}
+use Rattle.std.proofs.lemmas.Bool.Decides.{nat_tests}
+use Rattle.std.proofs.lemmas.Grind.{common_steps}
 
 pub too_long : (row : Row) → fits_rooms row ≡ false → checked_row row ≡ Err (Fault 21)
 too_long row e = ap (λ (b : Bool). cond b (row_unless row (first_empty row)) (Err (Fault 21))) e
 
 pub one_empty : (row : Row) (rule : KeyRule) → fits_rooms row ≡ true → find (is_missing row.values) key_table ≡ Some rule → checked_row row ≡ Err (Missing rule.tag)
-one_empty row rule e f =
-    ap (λ (b : Bool). cond b (row_unless row (first_empty row)) (Err (Fault 21))) e
-    ∙ ap (λ (o : Option KeyRule). row_unless row (option_map (λ rule. rule.tag) o)) f
+one_empty row rule e f = grind (arith, nat_tests, common_steps)
 
 pub none_empty : (row : Row) → fits_rooms row ≡ true → find (is_missing row.values) key_table ≡ None → checked_row row ≡ Ok row
-none_empty row e f =
-    ap (λ (b : Bool). cond b (row_unless row (first_empty row)) (Err (Fault 21))) e
-    ∙ ap (λ (o : Option KeyRule). row_unless row (option_map (λ rule. rule.tag) o)) f
+none_empty row e f = grind (arith, nat_tests, common_steps)
 
 -- no value is longer than the room for its tag
 

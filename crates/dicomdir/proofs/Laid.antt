@@ -1,5 +1,5 @@
 -- Elements that are laid down in Explicit, with defined lengths, spell themselves.
-use Rattle.std.proofs.Common.{◌≡◌, ◌≢◌, ℕ, ◌%◌, ◌^◌, ◌<◌, Bool, true, false, not, ◌&&◌, List, length, get_or, Option, Some, None, refl, sym, arith, eqb-true, ltb-true, false-eqb, nat_eq, nat_lt}
+use Rattle.std.proofs.Common.{◌≡◌, ◌≢◌, ℕ, ◌%◌, ◌^◌, ◌<◌, Bool, true, false, not, ◌&&◌, List, length, get_or, Option, Some, None, sym, arith, eqb-true, ltb-true, false-eqb, nat_eq, nat_lt}
 use Rattle.std.proofs.lemmas.Bool.{and_parts}
 use Rattle.element.specs.declared.header.Header.{Header}
 use Rattle.element.specs.Vr.{is_capital, IsVrOrNone}
@@ -13,6 +13,7 @@ use Rattle.element.specs.declared.syntax.Syntax.{Syntax}
 use Rattle.element.specs.declared.syntax.Syntax.TheVariants.{Implicit, Explicit}
 use Rattle.dicomdir.specs.Layout.{spelled, spelled_items}
 use Rattle.dicomdir.proofs.Distinct.{not_true}
+use Rattle.std.proofs.lemmas.Bool.Decides.{nat_tests}
 
 abbrev pub is_vr_or_none : Option (List ℕ) → Bool
 is_vr_or_none None = true
@@ -60,15 +61,10 @@ abbrev mutual
   are_laid (item h es is) = (is_item h && nat_eq (length (spelled es)) h.length) && (is_laid 0 es && are_laid is)
 
 value_shape : (s : Shape) → is_value s ≡ true → s ≡ Value
-value_shape Value e = refl
-value_shape (Sequence s) e = absurd cc
-value_shape NotAllowed e = absurd cc
+value_shape v1 e = grind (arith, nat_tests)
 
 sequence_shape : (s : Shape) → is_sequence s ≡ true → s ≡ Sequence Explicit
-sequence_shape Value e = absurd cc
-sequence_shape (Sequence Explicit) e = refl
-sequence_shape (Sequence Implicit) e = absurd cc
-sequence_shape NotAllowed e = absurd cc
+sequence_shape v1 e = grind (arith, nat_tests)
 
 named : (vr : Option (List ℕ)) → is_vr_or_none vr ≡ true → IsVrOrNone vr
 named None e = tt

@@ -1,5 +1,5 @@
 -- Elements that are written with a VR whose length takes two bytes, and with even values, are laid down as the standard has it.
-use Rattle.std.proofs.Common.{◌≡◌, ℕ, ◌+◌, ◌%◌, ◌<◌, ◌≤◌, Bool, true, false, not, cond, ◌&&◌, List, [], ◌∷◌, ◌++◌, length, get_or, Some, refl, ap, arith, codes, eqb-true, nat_eq, nat_lt, if◌then◌else◌}
+use Rattle.std.proofs.Common.{◌≡◌, ℕ, ◌+◌, ◌%◌, ◌<◌, ◌≤◌, Bool, true, false, not, cond, ◌&&◌, List, ◌∷◌, ◌++◌, length, get_or, Some, refl, ap, arith, codes, eqb-true, nat_eq, nat_lt}
 use Rattle.std.proofs.lemmas.Bool.{and_from, and_parts, or_right}
 use Rattle.std.proofs.lemmas.Bool.Decides.{nat_tests}
 use Rattle.std.proofs.lemmas.List.{length-append}
@@ -18,6 +18,7 @@ use Rattle.dicomdir.specs.Row.{key}
 use Rattle.dicomdir.proofs.Distinct.{not_true}
 use Rattle.dicomdir.proofs.Laid.{is_laid, is_vr_or_none, is_header, is_element, is_value}
 use Rattle.dicomdir.proofs.RecordLemmas.{key_length}
+use Rattle.std.proofs.lemmas.Grind.{common_steps}
 
 -- the tag and the VR of an element after the tag with number `last`
 pub record IsFixed (last : ℕ) (t : Tag) (vr : List ℕ) : Type 0 where
@@ -113,21 +114,10 @@ good_field last t vr v es f even short good =
     }
 
 pub padded_even : (p : ℕ) (v : List ℕ) → length (padded p v) % 2 ≡ 0
-padded_even p v = by (nat_eq (length v % 2) 0) refl
-  where
-    by : (b : Bool) → nat_eq (length v % 2) 0 ≡ b → length (if b then v else v ++ p ∷ []) % 2 ≡ 0
-    by true e = eqb-true (length v % 2) 0 e
-    by false e =
-        let one = length-append v (p ∷ []) in
-        let odd : 0 < length v % 2 = grind (arith, nat_tests) in
-        omega (arith, one, odd)
+padded_even p v = grind (arith, nat_tests, common_steps)
 
 pub padded_short : (p : ℕ) (v : List ℕ) → length (padded p v) ≤ length v + 1
-padded_short p v = by (nat_eq (length v % 2) 0)
-  where
-    by : (b : Bool) → length (if b then v else v ++ p ∷ []) ≤ length v + 1
-    by true = omega arith
-    by false = let one = length-append v (p ∷ []) in omega (arith, one)
+padded_short p v = grind (arith, nat_tests, common_steps)
 
 -- a value that is padded, and a key that is padded anew
 

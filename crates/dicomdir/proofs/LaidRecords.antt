@@ -1,5 +1,5 @@
 -- The records of a row are laid down as the standard has it, with any offsets.
-use Rattle.std.proofs.Common.{◌≡◌, ℕ, ◌<◌, ◌≤◌, ◌^◌, Bool, true, false, not, cond, ◌&&◌, ◌||◌, List, [], ◌∷◌, length, nat_le, nat_lt, nat_eq, ltb-true, Option, Some, None, is_some, refl, sym, ap, ◌∙◌, arith, codes}
+use Rattle.std.proofs.Common.{◌≡◌, ℕ, ◌<◌, ◌≤◌, ◌^◌, Bool, true, false, not, cond, ◌&&◌, ◌||◌, List, [], ◌∷◌, length, nat_le, nat_lt, nat_eq, ltb-true, Option, Some, None, is_some, refl, sym, ap, ◌∙◌, arith, codes, rules}
 use Rattle.std.specs.List.{list_all}
 use Rattle.std.specs.Str.{bytes_eq}
 use Rattle.std.proofs.lemmas.Bool.{and_parts, and_from, leb-true}
@@ -20,7 +20,6 @@ use Rattle.sequence.specs.Tree.{Elements, no_elements, value, sequence}
 use Rattle.sequence.specs.Wanted.{Values, value_of}
 use Rattle.dicomdir.specs.declared.key_table.KeyRule.{KeyRule}
 use Rattle.dicomdir.specs.declared.key_table.KeyType.{KeyType}
-use Rattle.dicomdir.specs.declared.key_table.KeyType.TheVariants.{Unique, Type1, Type1C, Type2, Type3}
 use Rattle.dicomdir.specs.declared.level.Level.{Level}
 use Rattle.dicomdir.specs.declared.level.Level.TheVariants.{Patient, Study, Series, Image}
 use Rattle.dicomdir.specs.Directory.{missing, found, carried_node, next_offset, lower_offset, has_record, has_file_id}
@@ -36,8 +35,9 @@ use Rattle.dicomdir.proofs.Distinct.{not_true}
 use Rattle.dicomdir.proofs.FileIds.{file_id_room}
 use Rattle.dicomdir.proofs.FileIdText.{file_id_back}
 use Rattle.dicomdir.proofs.Laid.{is_laid, is_header, is_element, is_value, is_sequence}
-use Rattle.dicomdir.proofs.LaidFields.{IsFixed, IsGood, is_fixed, fixed_from, good_none, good_field, good_value, good_key}
+use Rattle.dicomdir.proofs.LaidFields.{IsFixed, IsGood, is_fixed, fixed_from, good_none, good_value, good_key}
 use Rattle.dicomdir.proofs.RecordLemmas.{syntax_uid_short}
+use Rattle.std.proofs.lemmas.Grind.{common_steps}
 
 uid_room : (text : List ℕ) → is_uid text ≡ true → length text ≤ 1024
 uid_room text e =
@@ -49,11 +49,7 @@ uid_room text e =
 -- a record's offsets, its flag and its type, before good elements
 good_start : (next lower : ℕ) (kind : List ℕ) (es : Elements) → length kind ≤ 1024 → IsGood 0x00041430 es → IsGood 0 (with_offsets next lower (record_elements kind es))
 unfolding is_short
-good_start next lower kind es short good =
-    good_field 0 (tag 0x0004 0x1400) (codes "UL") (le next 4) _ (fixed_from _ _ _ refl) refl (omega arith)
-    (good_field 0x00041400 (tag 0x0004 0x1410) (codes "US") (le 0xffff 2) _ (fixed_from _ _ _ refl) refl (omega arith)
-    (good_field 0x00041410 (tag 0x0004 0x1420) (codes "UL") (le lower 4) _ (fixed_from _ _ _ refl) refl (omega arith)
-    (good_value 0x00041420 (tag 0x0004 0x1430) (codes "CS") 32 kind es (fixed_from _ _ _ refl) short good)))
+good_start next lower kind es short good = grind (arith, nat_tests, common_steps)
 
 rising_more : (last more : ℕ) (es : Elements) → last ≤ more → IsGood more es → IsGood last es
 rising_more last more es le good = record { laid = later last more es le good.laid; size = good.size; even = good.even }
@@ -88,14 +84,7 @@ unfolding is_short
 table_fixed = refl
 
 written_size : (kind : KeyType) (o : Option (List ℕ)) → optional_size (written kind o) ≤ optional_size o
-written_size Unique None = omega arith
-written_size Unique (Some v) = omega arith
-written_size Type1 None = omega arith
-written_size Type1 (Some v) = omega arith
-written_size Type1C o = omega arith
-written_size Type2 None = omega arith
-written_size Type2 (Some v) = omega arith
-written_size Type3 o = omega arith
+written_size v1 o = grind (arith, nat_tests)
 
 good_key_of : (last : ℕ) (rule : KeyRule) (o : Option (List ℕ)) (es : Elements) → IsFixed last rule.tag rule.vr → optional_size o ≤ 1024 → IsGood (number rule.tag) es → IsGood last (key_field_of rule o es)
 good_key_of last rule None es fixed short good = rising_more last (number rule.tag) es (let lt = ltb-true last (number rule.tag) fixed.rising in omega (arith, lt)) good

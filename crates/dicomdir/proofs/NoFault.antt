@@ -1,12 +1,11 @@
 -- A directory whose records are linked, with none left out, has no fault.
-use Rattle.std.proofs.Common.{◌≡◌, ℕ, zero, suc, Bool, true, false, not, ◌&&◌, ◌||◌, List, [], ◌∷◌, ◌++◌, length, Option, Some, None, is_none, refl, sym, ap, subst, ◌∙◌, arith, nat_eq, if◌then◌else◌}
+use Rattle.std.proofs.Common.{◌≡◌, ℕ, zero, suc, Bool, true, false, not, ◌&&◌, ◌||◌, List, [], ◌∷◌, length, Option, Some, None, refl, sym, ap, subst, ◌∙◌, arith, nat_eq, if◌then◌else◌}
 use Rattle.std.specs.List.{list_all}
-use Rattle.std.proofs.lemmas.Bool.{and_parts, and_from, cond-true}
-use Rattle.std.proofs.lemmas.List.Folds.{list_all-append}
-use Rattle.sequence.specs.Tree.{Elements, no_elements}
-use Rattle.dicomdir.specs.TreeOf.{Forest, no_nodes, node}
+use Rattle.std.proofs.lemmas.Bool.{and_parts, cond-true}
+use Rattle.sequence.specs.Tree.{Elements}
+use Rattle.dicomdir.specs.TreeOf.{Forest}
 use Rattle.dicomdir.specs.Directory.{Node, Found, first_offset, missing, value_at, items_at, found, number_in, records_in, records_of, Record, carried_node, last_offset, or_zero, has_record, has_file_id}
-use Rattle.dicomdir.specs.Linked.{PlacedNode, LinkedElements, places_of, last_place, are_records, AreLinked, is_one_of, is_distinct, record_at, elements_at, fits}
+use Rattle.dicomdir.specs.Linked.{LinkedElements, places_of, last_place, are_records, AreLinked, is_one_of, is_distinct, record_at, fits}
 use Rattle.dicomdir.specs.Paths.{Links, Turn, named_by, level_of, paths_from, paths_of, reached_by, root_records, last_from}
 use Rattle.dicomdir.specs.DirFault.{fault, offset_fault, records_fault, root_fault, record_fault, each_fault, unreached_fault, last_fault, links_of, links_fault, records_then_links, directory_fault, ◌or_else◌}
 use Rattle.dicomdir.specs.NoFault.{LinkedHasNoFault}
@@ -15,6 +14,8 @@ use Rattle.dicomdir.proofs.Distinct.{same_place}
 use Rattle.dicomdir.proofs.Within.{nodes_are_records}
 use Rattle.dicomdir.proofs.PathForests.{forest_from, lower_path, next_path, forest_places, forest_last, followed_is}
 use Rattle.dicomdir.proofs.FreePaths.{is_good, AreFree, free_paths, two_none}
+use Rattle.std.proofs.lemmas.Bool.Decides.{nat_tests}
+use Rattle.std.proofs.lemmas.Grind.{common_steps}
 
 sized : (b : Bool) (x n place : ℕ) → (if b then Some x else None) ≡ Some n → (if b then None else fault 68 place) ≡ None
 sized true x n place e = refl
@@ -52,32 +53,12 @@ unreached_none places (r ∷ records) e =
 -- the paths to the records of a linked forest name records that fit their levels
 
 good_path : (links : Links) (path : List Turn) (es : Elements) → record_at (named_by links path) links.records ≡ Some es → fits (level_of path) (carried_node es) ≡ true → is_good links path ≡ true
-good_path links path es stands fit = by (record_at (named_by links path) links.records) stands
-  where
-    by : (o : Option Elements) → o ≡ Some es → (not (is_none o) && not (not (fits (level_of path) (carried_node (elim o [ None ↦ no_elements | Some es ↦ es ]))))) ≡ true
-    by None e = absurd cc
-    by (Some found) e =
-        let same : found ≡ es = cc in
-        let fit_there : fits (level_of path) (carried_node found) ≡ true = ap (λ z. fits (level_of path) (carried_node z)) same ∙ fit in
-        rw fit_there refl
+good_path links path es stands fit = grind (arith, nat_tests)
 
 good_paths : (most : ℕ) (links : Links) (path : List Turn) → AreLinked links.records (level_of path) (forest_from most links.records (named_by links path))
     → list_all (is_good links) (paths_from most links path) ≡ true
 good_paths zero links path linked = refl
-good_paths (suc most) links path linked =
-    by (nat_eq (named_by links path) 0) _ _ _ _ (good_paths most links (lower_path links path)) (good_paths most links (next_path links path)) linked
-  where
-    by : (b : Bool) (below next : Forest PlacedNode) (xs ys : List (List Turn))
-        → (AreLinked links.records (suc (level_of path)) below → list_all (is_good links) xs ≡ true) → (AreLinked links.records (level_of path) next → list_all (is_good links) ys ≡ true)
-        → AreLinked links.records (level_of path)
-        (if b then no_nodes else node (record { place = named_by links path; carries = carried_node (elements_at links.records (named_by links path)) }) below next)
-        → list_all (is_good links) (if b then [] else path ∷ (xs ++ ys)) ≡ true
-    by true below next xs ys low nxt linked = refl
-    by false below next xs ys low nxt linked =
-        let here = linked.0 in
-        let fit : fits (level_of path) (carried_node here.elements) ≡ true = ap (λ z. fits (level_of path) z) here.carries ∙ here.fits_there in
-        and_from (is_good links path) (list_all (is_good links) (xs ++ ys)) (good_path links path here.elements here.stands fit)
-        (list_all-append (is_good links) xs ys ∙ and_from (list_all (is_good links) xs) (list_all (is_good links) ys) (low linked.1) (nxt linked.2))
+good_paths (suc most) links path linked = grind (arith, nat_tests, common_steps, good_paths most links (lower_path links path), good_paths most links (next_path links path))
 
 last_named : (o : Option ℕ) (last there place : ℕ) → o ≡ Some last → last ≡ there → (if nat_eq (or_zero o) there then None else fault 60 place) ≡ None
 last_named o last there place e f =
@@ -88,8 +69,7 @@ followed : (start : ℕ) (elements : Elements) (tree : Forest Node) (linked : Li
 followed start elements tree linked =
     let facts = nodes_are_records start elements tree linked in
     let few = facts.0 in
-    ap (λ z. forest_from (suc (length linked.records)) linked.records z) (ap or_zero linked.names_first)
-    ∙ followed_is linked.placed (suc (length linked.records)) linked.records 1 linked.linked facts.1 (omega (arith, few))
+    grind (arith, nat_tests, common_steps, followed_is linked.placed (suc (length linked.records)) linked.records 1 linked.linked facts.1 (omega (arith, few)))
 
 pub paths_name_nodes : PathsNameNodes
 paths_name_nodes start elements tree linked =

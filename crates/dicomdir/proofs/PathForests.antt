@@ -3,8 +3,7 @@ use Rattle.std.proofs.Common.{◌≡◌, ℕ, zero, suc, ◌<◌, Bool, true, fa
 use Rattle.std.specs.List.{flat_map}
 use Rattle.std.proofs.lemmas.Bool.{or_parts, cond-true, cond-false}
 use Rattle.std.proofs.lemmas.Bool.Decides.{nat_tests}
-use Rattle.std.proofs.lemmas.Grind.{flat_map-append}
-use Rattle.std.proofs.lemmas.List.{map-append}
+use Rattle.std.proofs.lemmas.Grind.{common_steps}
 use Rattle.std.proofs.lemmas.List.Elements.{filter-append}
 use Rattle.std.proofs.lemmas.List.Folds.{list_any-append}
 use Rattle.sequence.specs.Tree.{Elements, no_elements}
@@ -49,13 +48,7 @@ node_at links path = record { place = named_by links path; carries = carried_nod
 
 pub forest_places : (most : ℕ) (links : Links) (path : List Turn) → places_of (forest_from most links.records (named_by links path)) ≡ reached_by links (paths_from most links path)
 forest_places zero links path = refl
-forest_places (suc most) links path =
-    by (nat_eq (named_by links path) 0) _ _ _ _ (forest_places most links (lower_path links path)) (forest_places most links (next_path links path))
-  where
-    by : (b : Bool) (below next : Forest PlacedNode) (xs ys : List (List Turn)) → places_of below ≡ reached_by links xs → places_of next ≡ reached_by links ys
-        → places_of (if b then no_nodes else node (node_at links path) below next) ≡ reached_by links (if b then [] else path ∷ (xs ++ ys))
-    by true below next xs ys e f = refl
-    by false below next xs ys e f = (λ i. named_by links path ∷ (e i ++ f i)) ∙ ap (λ z. named_by links path ∷ z) (sym (map-append (named_by links) xs ys))
+forest_places (suc most) links path = grind (arith, nat_tests, common_steps, forest_places most links (lower_path links path), forest_places most links (next_path links path))
 
 -- paths below the root's records name none of them, so the last of these is the forest's last place
 
@@ -69,29 +62,14 @@ none_at_root : (most : ℕ) (links : Links) (path : List Turn) → 1 < level_of 
 none_at_root zero links path low = refl
 none_at_root (suc most) links path low =
     let not_one : at_root path ≡ false = grind (arith, nat_tests, low) in
-    by (nat_eq (named_by links path) 0) (paths_from most links (lower_path links path)) (paths_from most links (next_path links path)) not_one
-    (none_at_root most links (lower_path links path) (omega (arith, low))) (none_at_root most links (next_path links path) low)
-  where
-    by : (b : Bool) (xs ys : List (List Turn)) → at_root path ≡ false → filter at_root xs ≡ [] → filter at_root ys ≡ []
-        → filter at_root (if b then [] else path ∷ (xs ++ ys)) ≡ []
-    by true xs ys out e f = refl
-    by false xs ys out e f = rooted path xs ys ∙ rw (out, e, f) refl
+    grind (arith, nat_tests, common_steps, none_at_root most links (lower_path links path) (omega (arith, low)), none_at_root most links (next_path links path) low)
 
 pub forest_last : (most : ℕ) (links : Links) (path : List Turn) (last : ℕ) → level_of path ≡ 1
     → last_place_behind last (forest_from most links.records (named_by links path)) ≡ last_from last (root_records links (paths_from most links path))
 forest_last zero links path last top = refl
 forest_last (suc most) links path last top =
     let here : at_root path ≡ true = ap (λ z. nat_eq z 1) top in
-    by (nat_eq (named_by links path) 0) _ _ (paths_from most links (lower_path links path)) (paths_from most links (next_path links path))
-    here (none_at_root most links (lower_path links path) (omega (arith, top))) (forest_last most links (next_path links path) (named_by links path) top)
-  where
-    by : (b : Bool) (below next : Forest PlacedNode) (xs ys : List (List Turn)) → at_root path ≡ true → filter at_root xs ≡ []
-        → last_place_behind (named_by links path) next ≡ last_from (named_by links path) (root_records links ys)
-        → last_place_behind last (if b then no_nodes else node (node_at links path) below next) ≡ last_from last (root_records links (if b then [] else path ∷ (xs ++ ys)))
-    by true below next xs ys here e f = refl
-    by false below next xs ys here e f =
-        let roots : filter at_root (path ∷ (xs ++ ys)) ≡ path ∷ filter at_root ys = rooted path xs ys ∙ rw (here, e) refl in
-        f ∙ ap (λ z. last_from last (reached_by links z)) (sym roots)
+    grind (arith, nat_tests, common_steps, none_at_root most links (lower_path links path) (omega (arith, top)), forest_last most links (next_path links path) (named_by links path) top)
 
 -- the nodes in use that no inactive record is above
 
@@ -104,26 +82,12 @@ none_shown false level = refl
 
 joined : (s u : Bool) (k : LevelNode) (bs ns : List LevelNode)
     → (if s && u then k ∷ [] else []) ++ ((if s && u then bs else []) ++ (if s then ns else [])) ≡ (if s then (if u then k ∷ (bs ++ ns) else ns) else [])
-joined true true k bs ns = refl
-joined true false k bs ns = refl
-joined false u k bs ns = refl
+joined v1 u k bs ns = grind (arith, nat_tests)
 
 pub forest_nodes : (most : ℕ) (links : Links) (path : List Turn)
     → flat_map (node_on links) (paths_from most links path) ≡ shown_nodes (is_shown links path) (level_of path) (forest_from most links.records (named_by links path))
 forest_nodes zero links path = none_shown (is_shown links path) (level_of path)
-forest_nodes (suc most) links path =
-    by (nat_eq (named_by links path) 0) _ _ (paths_from most links (lower_path links path)) (paths_from most links (next_path links path))
-    (forest_nodes most links (lower_path links path)) (forest_nodes most links (next_path links path))
-  where
-    by : (b : Bool) (below next : Forest PlacedNode) (xs ys : List (List Turn))
-        → flat_map (node_on links) xs ≡ shown_nodes (is_shown links (lower_path links path)) (suc (level_of path)) below
-        → flat_map (node_on links) ys ≡ shown_nodes (is_shown links path) (level_of path) next
-        → flat_map (node_on links) (if b then [] else path ∷ (xs ++ ys)) ≡ shown_nodes (is_shown links path) (level_of path) (if b then no_nodes else node (node_at links path) below next)
-    by true below next xs ys e f = none_shown (is_shown links path) (level_of path)
-    by false below next xs ys e f =
-        let n = node_at links path in
-        ap (λ z. node_on links path ++ z) (flat_map-append (node_on links) xs ys ∙ (λ i. e i ++ f i))
-        ∙ joined (is_shown links path) n.carries.in_use (record { place = n.place; level = level_of path; carries = n.carries }) (nodes_in_use (suc (level_of path)) below) (nodes_in_use (level_of path) next)
+forest_nodes (suc most) links path = grind (arith, nat_tests, common_steps, forest_nodes most links (lower_path links path), forest_nodes most links (next_path links path))
 
 -- a forest that records are linked to is that one
 
@@ -147,5 +111,4 @@ followed_is (node n below next) (suc most) records level linked nonzero few =
     let carries : carried_node (elements_at records n.place) ≡ n.carries = ap (λ z. carried_node z) same ∙ here.carries in
     let bs : forest_from most records (lower_at records n.place) ≡ below = ap (λ z. forest_from most records z) low ∙ followed_is below most records (suc level) linked.1 inside.0 (omega (arith, few)) in
     let ns : forest_from most records (next_at records n.place) ≡ next = ap (λ z. forest_from most records z) nxt ∙ followed_is next most records level linked.2 inside.1 (omega (arith, few)) in
-    cond-false (nat_eq n.place 0) no_nodes (node (record { place = n.place; carries = carried_node (elements_at records n.place) }) (forest_from most records (lower_at records n.place)) (forest_from most records (next_at records n.place))) some
-    ∙ (λ i. node (record { place = n.place; carries = carries i }) (bs i) (ns i))
+    grind (arith, nat_tests, common_steps, cond-false (nat_eq n.place 0) no_nodes (node (record { place = n.place; carries = carried_node (elements_at records n.place) }) (forest_from most records (lower_at records n.place)) (forest_from most records (next_at records n.place))) some)

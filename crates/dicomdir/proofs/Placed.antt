@@ -58,21 +58,11 @@ last_small last place (node es below next) small lt =
 
 at_second : (p : ℕ) (xs ys : List Record) → record_at p xs ≡ None → record_at p (xs ++ ys) ≡ record_at p ys
 at_second p [] ys e = refl
-at_second p (x ∷ xs) ys e = by (nat_eq x.place p) e (at_second p xs ys)
-  where
-    by : (b : Bool) → (if b then Some x.elements else record_at p xs) ≡ None → (record_at p xs ≡ None → record_at p (xs ++ ys) ≡ record_at p ys)
-        → (if b then Some x.elements else record_at p (xs ++ ys)) ≡ record_at p ys
-    by true e rest = absurd cc
-    by false e rest = rest e
+at_second p (x ∷ xs) ys e = grind (arith, nat_tests, at_second p xs ys)
 
 at_first : (p : ℕ) (xs ys : List Record) (es : Elements) → record_at p xs ≡ Some es → record_at p (xs ++ ys) ≡ Some es
 at_first p [] ys es e = absurd cc
-at_first p (x ∷ xs) ys es e = by (nat_eq x.place p) e (at_first p xs ys es)
-  where
-    by : (b : Bool) → (if b then Some x.elements else record_at p xs) ≡ Some es → (record_at p xs ≡ Some es → record_at p (xs ++ ys) ≡ Some es)
-        → (if b then Some x.elements else record_at p (xs ++ ys)) ≡ Some es
-    by true e rest = e
-    by false e rest = rest e
+at_first p (x ∷ xs) ys es e = grind (arith, nat_tests, at_first p xs ys es)
 
 elsewhere : (p q : ℕ) (es : Elements) (rest : Option Elements) → nat_eq q p ≡ false → (if nat_eq q p then Some es else rest) ≡ rest
 elsewhere p q es rest e = ap (λ (b : Bool). if b then Some es else rest) e

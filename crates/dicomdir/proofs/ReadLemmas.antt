@@ -1,42 +1,32 @@
 -- What is read of a record is what its elements say.
-use Rattle.std.proofs.Common.{◌≡◌, ℕ, Bool, true, false, not, ◌&&◌, ◌||◌, List, [], ◌∷◌, length, Option, Some, None, is_some, refl, sym, ap, ◌∙◌, nat_eq, if◌then◌else◌, codes}
+use Rattle.std.proofs.Common.{◌≡◌, ℕ, Bool, true, false, not, ◌&&◌, ◌||◌, List, [], ◌∷◌, length, Option, Some, None, is_some, refl, sym, ap, ◌∙◌, nat_eq, if◌then◌else◌, codes, arith}
 use Rattle.std.specs.Str.{bytes_eq}
 use Rattle.sequence.specs.Tree.{Elements}
 use Rattle.dicomdir.specs.declared.found.Element.{Element}
-use Rattle.dicomdir.specs.declared.found.Element.TheVariants as got
 use Rattle.dicomdir.specs.declared.records.ReadRecord.{ReadRecord}
 use Rattle.dicomdir.specs.Directory.{Found, found, number_in, kind_in, file_id_in, is_missing, is_in_use, is_use_flag, carried_node, next_offset, lower_offset, has_file_id, or_zero}
 use Rattle.dicomdir.specs.machine.Entries.{IsEntry}
 use Rattle.dicomdir.specs.machine.Reading.{IsEntryOf, use_flag, entry_has_file_id}
 use Rattle.dicomdir.specs.machine.Texts.{Finds, got_number, got_kind, got_file_id, got_none}
+use Rattle.std.proofs.lemmas.Bool.Decides.{nat_tests}
 
 pub finds_number : (n : ℕ) (e : Element) (f : Found) → Finds e f → got_number n e ≡ number_in n f
-finds_number n got.Missing f is = sym (ap (number_in n) is)
-finds_number n (got.Value p v) f is = sym (ap (number_in n) is)
-finds_number n (got.Items p first s t) f is = sym (ap (number_in n) is.is)
+finds_number n v2 f is = grind (arith, nat_tests)
 
 pub finds_kind : (e : Element) (f : Found) → Finds e f → got_kind e ≡ kind_in f
-finds_kind got.Missing f is = sym (ap kind_in is)
-finds_kind (got.Value p v) f is = sym (ap kind_in is)
-finds_kind (got.Items p first s t) f is = sym (ap kind_in is.is)
+finds_kind v1 f is = grind (arith, nat_tests)
 
 pub finds_file_id : (e : Element) (f : Found) → Finds e f → got_file_id e ≡ file_id_in f
-finds_file_id got.Missing f is = sym (ap file_id_in is)
-finds_file_id (got.Value p v) f is = sym (ap file_id_in is)
-finds_file_id (got.Items p first s t) f is = sym (ap file_id_in is.is)
+finds_file_id v1 f is = grind (arith, nat_tests)
 
 pub finds_missing : (e : Element) (f : Found) → Finds e f → got_none e ≡ is_missing f
-finds_missing got.Missing f is = sym (ap is_missing is)
-finds_missing (got.Value p v) f is = sym (ap is_missing is)
-finds_missing (got.Items p first s t) f is = sym (ap is_missing is.is)
+finds_missing v1 f is = grind (arith, nat_tests)
 
 -- ---- a record with all that it must have
 
 flag_in_use : (flag : ℕ) (a b used : Bool) → nat_eq flag 0xffff ≡ a → nat_eq flag 0 ≡ b → (if a then Some true else (if b then Some false else None)) ≡ Some used
     → (used ≡ nat_eq flag 0xffff) × ((nat_eq flag 0xffff || nat_eq flag 0) ≡ true)
-flag_in_use flag true b used e f is = let same : true ≡ used = cc in (sym same ∙ sym e, rw e refl)
-flag_in_use flag false true used e f is = let same : false ≡ used = cc in (sym same ∙ sym e, rw (e, f) refl)
-flag_in_use flag false false used e f is = absurd cc
+flag_in_use flag v2 b used e f is = grind (arith, nat_tests)
 
 use_is : (o : Option ℕ) (used : Bool) → use_flag o ≡ Some used → (used ≡ is_in_use o) × (is_use_flag o ≡ true)
 use_is None used is = absurd cc

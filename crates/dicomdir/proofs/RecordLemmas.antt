@@ -1,5 +1,5 @@
 -- The bytes of a record are those of its elements, one after the other.
-use Rattle.std.proofs.Common.{◌≡◌, ℕ, ◌≤◌, ◌<◌, ◌+◌, Bool, true, false, ◌&&◌, cond, if◌then◌else◌, nat_eq, List, [], ◌∷◌, ◌++◌, length, get_or, drop, Option, Some, None, codes, refl, sym, ap, ◌∙◌, append_assoc, arith}
+use Rattle.std.proofs.Common.{◌≡◌, ℕ, ◌≤◌, ◌<◌, ◌+◌, Bool, true, false, ◌&&◌, cond, if◌then◌else◌, nat_eq, List, [], ◌∷◌, ◌++◌, length, get_or, drop, Option, Some, None, codes, refl, sym, ap, ◌∙◌, append_assoc, arith, rules}
 use Rattle.std.proofs.lemmas.Bool.Decides.{nat_tests}
 use Rattle.std.specs.List.{list_all}
 use Rattle.std.proofs.lemmas.List.{append-nil, at_drop_more}
@@ -21,6 +21,7 @@ use Rattle.dicomdir.specs.Layout.{spelled, with_offsets}
 use Rattle.dicomdir.specs.Record.{tag, field, record_elements, padding_for, key_field, key_field_of, written, key_fields, kind_of, file_fields, record_for}
 use Rattle.dicomdir.specs.Row.{Row, key}
 use Rattle.dicomdir.specs.RecordText as text
+use Rattle.std.proofs.lemmas.Grind.{common_steps}
 
 dropped_length : (b : Bool) (x n : ℕ) (rest : List ℕ) → length rest ≤ n → length (cond b [] (x ∷ rest)) ≤ n + 1
 dropped_length true x n rest h = omega arith
@@ -63,9 +64,7 @@ key_text rule v = (field_last rule.tag rule.vr (padded (padding_for rule.vr) (ke
 
 key_then : (rule : KeyRule) (o : Option (List ℕ)) (es : Elements) → spelled (key_field_of rule o es) ≡ spelled (key_field_of rule o no_elements) ++ spelled es
 key_then rule None es = refl
-key_then rule (Some v) es =
-    (field_then rule.tag rule.vr (padded (padding_for rule.vr) (key v)) {es = es} {rest = spelled es} (record { is = refl })).is
-    ∙ ap (λ z. z ++ spelled es) (sym (key_text rule v))
+key_then rule (Some v) es = grind (arith, nat_tests, common_steps, field_then rule.tag rule.vr (padded (padding_for rule.vr) (key v)) {es = es} {rest = spelled es} (record { is = refl }), key_text rule v)
 
 -- one step of the loop over the keys
 
@@ -115,28 +114,13 @@ room_skip level rules i d before most lt has h = let step = room_step level rule
 
 -- what an image's record says of its file
 pub file_text : (row : Row) → spelled (file_fields Image row no_elements) ≡ text.file row
-file_text row =
-    (field_then (tag 0x0004 0x1500) (codes "CS") (padded 32 row.file_id)
-    (field_then (tag 0x0004 0x1510) (codes "UI") (padded 0 row.class)
-    (field_then (tag 0x0004 0x1511) (codes "UI") (padded 0 row.instance)
-    (field_last (tag 0x0004 0x1512) (codes "UI") (padded 0 (syntax_uid row.syntax)))))).is
+file_text row = grind (arith, nat_tests, common_steps, field_then (tag 0x0004 0x1500) (codes "CS") (padded 32 row.file_id) (field_then (tag 0x0004 0x1510) (codes "UI") (padded 0 row.class) (field_then (tag 0x0004 0x1511) (codes "UI") (padded 0 row.instance) (field_last (tag 0x0004 0x1512) (codes "UI") (padded 0 (syntax_uid row.syntax))))))
 
 file_then : (level : Level) (row : Row) (es : Elements) → spelled (file_fields level row es) ≡ spelled (file_fields level row no_elements) ++ spelled es
 file_then Patient row es = refl
 file_then Study row es = refl
 file_then Series row es = refl
-file_then Image row es =
-    (field_then (tag 0x0004 0x1500) (codes "CS") (padded 32 row.file_id)
-    (field_then (tag 0x0004 0x1510) (codes "UI") (padded 0 row.class)
-    (field_then (tag 0x0004 0x1511) (codes "UI") (padded 0 row.instance)
-    (field_then (tag 0x0004 0x1512) (codes "UI") (padded 0 (syntax_uid row.syntax)) {es = es} {rest = spelled es} (record { is = refl }))))).is
-    ∙ four
-    (text.element_text (tag 0x0004 0x1500) (codes "CS") (padded 32 row.file_id))
-    (text.element_text (tag 0x0004 0x1510) (codes "UI") (padded 0 row.class))
-    (text.element_text (tag 0x0004 0x1511) (codes "UI") (padded 0 row.instance))
-    (text.element_text (tag 0x0004 0x1512) (codes "UI") (padded 0 (syntax_uid row.syntax)))
-    (spelled es)
-    ∙ ap (λ z. z ++ spelled es) (sym (file_text row))
+file_then Image row es = grind (arith, nat_tests, common_steps, field_then (tag 0x0004 0x1500) (codes "CS") (padded 32 row.file_id) (field_then (tag 0x0004 0x1510) (codes "UI") (padded 0 row.class) (field_then (tag 0x0004 0x1511) (codes "UI") (padded 0 row.instance) (field_then (tag 0x0004 0x1512) (codes "UI") (padded 0 (syntax_uid row.syntax)) {es = es} {rest = spelled es} (record { is = refl })))), file_text row, four (text.element_text (tag 0x0004 0x1500) (codes "CS") (padded 32 row.file_id)) (text.element_text (tag 0x0004 0x1510) (codes "UI") (padded 0 row.class)) (text.element_text (tag 0x0004 0x1511) (codes "UI") (padded 0 row.instance)) (text.element_text (tag 0x0004 0x1512) (codes "UI") (padded 0 (syntax_uid row.syntax))) (spelled es))
 
 started : (next lower : ℕ) (kind : List ℕ) (es : Elements) (rest : List ℕ) → Spells es rest
     → spelled (with_offsets next lower (record_elements kind es)) ≡ text.start_text next lower (padded 32 kind) ++ rest
@@ -146,13 +130,7 @@ started next lower kind es rest e =
     (field_then (tag 0x0004 0x1410) (codes "US") (le 0xffff 2)
     (field_then (tag 0x0004 0x1420) (codes "UL") (le lower 4)
     (field_then (tag 0x0004 0x1430) (codes "CS") (padded 32 kind) e))) in
-    spells.is
-    ∙ four
-    (text.element_text (tag 0x0004 0x1400) (codes "UL") (le next 4))
-    (text.element_text (tag 0x0004 0x1410) (codes "US") (le 0xffff 2))
-    (text.element_text (tag 0x0004 0x1420) (codes "UL") (le lower 4))
-    (text.element_text (tag 0x0004 0x1430) (codes "CS") (padded 32 kind))
-    rest
+    grind (arith, nat_tests, common_steps, four (text.element_text (tag 0x0004 0x1400) (codes "UL") (le next 4)) (text.element_text (tag 0x0004 0x1410) (codes "US") (le 0xffff 2)) (text.element_text (tag 0x0004 0x1420) (codes "UL") (le lower 4)) (text.element_text (tag 0x0004 0x1430) (codes "CS") (padded 32 kind)) rest)
 
 pub record_spelled : (level : Level) (next lower : ℕ) (row : Row) → spelled (with_offsets next lower (record_for level row))
     ≡ text.start_text next lower (padded 32 (kind_of level)) ++ (spelled (file_fields level row no_elements) ++ spelled (key_fields level key_table row.values))
@@ -175,16 +153,10 @@ record_whole level next lower row empty kind start file whole rules none is tabl
 -- what the longest record takes
 
 pub kind_short : (level : Level) → length (kind_of level) ≤ 7
-kind_short Patient = omega arith
-kind_short Study = omega arith
-kind_short Series = omega arith
-kind_short Image = omega arith
+kind_short v1 = grind (arith, nat_tests)
 
 pub record_fits : (level : Level) → text.file_room level + text.keys_room level key_table ≤ 859
-record_fits Patient = omega arith
-record_fits Study = omega arith
-record_fits Series = omega arith
-record_fits Image = omega arith
+record_fits v1 = grind (arith, nat_tests)
 
 pub short_table : list_all text.has_short_vr key_table ≡ true
 unfolding is_short

@@ -1,14 +1,14 @@
 -- Reading one record after the other.
 use Rattle.element.specs.Header.{item_tag, sequence_end_tag}
-use Rattle.std.proofs.Common.{◌≡◌, ◌≢◌, ℕ, suc, ◌+◌, ◌-◌, ◌≤◌, Bool, true, false, not, List, [], ◌∷◌, ◌++◌, length, drop, Option, Some, None, refl, sym, ap, subst, ◌∙◌, arith, append_assoc, length-append, if◌then◌else◌}
+use Rattle.std.proofs.Common.{◌≡◌, ◌≢◌, ℕ, suc, ◌+◌, ◌-◌, ◌≤◌, List, [], ◌∷◌, ◌++◌, length, drop, Some, None, refl, sym, ap, subst, ◌∙◌, arith, append_assoc, length-append}
 use Rattle.std.proofs.lemmas.List.{append-nil}
 use Rattle.element.specs.declared.syntax.Syntax.{Syntax}
 use Rattle.sequence.specs.Tree.{Elements, Items, no_items, item}
 use Rattle.dicomdir.specs.declared.fault.DirFault.{DirFault}
 use Rattle.dicomdir.specs.declared.found.Head.{Head}
 use Rattle.dicomdir.specs.declared.records.ReadRecord.{ReadRecord}
-use Rattle.dicomdir.specs.Directory.{Record, header_size, size_of, end_size, records_at, has_record, has_file_id}
-use Rattle.dicomdir.specs.DirFault.{Fault, fault, ◌or_else◌, record_fault, each_fault}
+use Rattle.dicomdir.specs.Directory.{Record, header_size, size_of, end_size, records_at}
+use Rattle.dicomdir.specs.DirFault.{◌or_else◌, record_fault, each_fault}
 use Rattle.dicomdir.specs.machine.Entries.{IsEntry, AreEntries, no_entries, entry_then, Rise}
 use Rattle.dicomdir.specs.machine.Heads.{head_at}
 use Rattle.dicomdir.specs.machine.Reading.{FailsAs}
@@ -17,6 +17,7 @@ use Rattle.dicomdir.proofs.HeadLemmas.{head_read}
 use Rattle.dicomdir.proofs.TextLemmas.{FrontOfItems, no_item, at_item, front_of_items, header_length, is_head, marked_head, no_head}
 use Rattle.dicomdir.proofs.SkipLemmas.{fits_sequence_end}
 use Rattle.dicomdir.proofs.FindLemmas.{item_content}
+use Rattle.std.proofs.lemmas.Bool.Decides.{nat_tests}
 
 -- ---- entries and their faults
 
@@ -25,12 +26,7 @@ are_more (no_entries) last = entry_then last no_entries
 are_more (entry_then first rest) last = entry_then first (are_more rest last)
 
 no_fault : {e : ReadRecord} {r : Record} → IsEntry e r → record_fault r ≡ None
-no_fault {r = r} is = by (has_record r.elements) (has_file_id r.elements) is.has_record is.has_file_id
-  where
-    by : (a b : Bool) → a ≡ true → b ≡ true → (if not a then fault 68 r.place else (if not b then fault 65 r.place else None)) ≡ None
-    by true true e f = refl
-    by true false e f = absurd cc
-    by false b e f = absurd cc
+no_fault {r = r} is = grind (arith, nat_tests)
 
 pub entries_good : {es : List ReadRecord} {rs : List Record} → AreEntries es rs → each_fault rs ≡ None
 entries_good (no_entries) = refl
@@ -38,11 +34,7 @@ entries_good (entry_then {r = r} {rs = rs} first rest) = ap (λ f. f or_else eac
 
 each_append : (xs ys : List Record) → each_fault xs ≡ None → each_fault (xs ++ ys) ≡ each_fault ys
 each_append [] ys e = refl
-each_append (x ∷ xs) ys e = by (record_fault x) (each_append xs ys) e
-  where
-    by : (o : Option Fault) → (each_fault xs ≡ None → each_fault (xs ++ ys) ≡ each_fault ys) → (o or_else each_fault xs) ≡ None → (o or_else each_fault (xs ++ ys)) ≡ each_fault ys
-    by None rest none = rest none
-    by (Some f) rest none = absurd cc
+each_append (x ∷ xs) ys e = grind (arith, nat_tests, each_append xs ys)
 
 -- ---- one item after the other
 

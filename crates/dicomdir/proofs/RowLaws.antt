@@ -1,10 +1,9 @@
 -- A file has one row, and its keys fit.
-use Rattle.std.proofs.Common.{◌≡◌, ℕ, ◌≤◌, Bool, true, false, ◌&&◌, cond, List, [], ◌∷◌, ◌++◌, length, take, drop, Option, Some, None, Err, nat_eq, nat_le, unwrap_or, is_some, eqb-true, refl, sym, ap, subst, ◌∙◌, arith, append_assoc, codes}
+use Rattle.std.proofs.Common.{◌≡◌, ℕ, ◌≤◌, Bool, true, false, ◌&&◌, cond, List, [], ◌∷◌, ◌++◌, length, take, drop, Option, Some, None, Err, nat_eq, nat_le, unwrap_or, is_some, eqb-true, refl, sym, ap, subst, ◌∙◌, arith, append_assoc, codes, rules}
 use Rattle.std.proofs.lemmas.List.{append_cancel_left, drop_at}
 use Rattle.std.specs.List.{list_all}
 use Rattle.std.proofs.lemmas.Bool.{and_parts, le-leb}
 use Rattle.element.specs.declared.syntax.Syntax.{Syntax}
-use Rattle.element.specs.declared.syntax.Syntax.TheVariants.{Implicit, Explicit}
 use Rattle.element.specs.Header.{number}
 use Rattle.dictionary.specs.Syntaxes.{syntax_uid}
 use Rattle.part10.specs.File.{length_element}
@@ -26,7 +25,8 @@ use Rattle.dicomdir.specs.KeyTable.{key_table}
 use Rattle.dicomdir.specs.Keys.{checked_row, optional_size, fits_room}
 use Rattle.dicomdir.specs.RowOf.{row_wants, row_limits, row_from, with_value, values_for, IsInstance, in_header, in_data_set, of_values}
 use Rattle.dicomdir.specs.RowLaws.{OneRow, KeysFit}
-use Rattle.dicomdir.proofs.HeaderChecks.{not_same}
+use Rattle.std.proofs.lemmas.Bool.Decides.{nat_tests}
+use Rattle.std.proofs.lemmas.Grind.{common_steps}
 
 -- ---- a file has one row
 
@@ -41,10 +41,7 @@ has_letters {file = file} has =
     ap (λ z. take 4 (drop 128 z)) parts ∙ ap (λ z. take 4 z) (drop_at s.preamble (codes "DICM" ++ behind) 128 s.preamble_size)
 
 one_syntax : (s t : Syntax) → syntax_uid s ≡ syntax_uid t → s ≡ t
-one_syntax Implicit Implicit e = refl
-one_syntax Explicit Explicit e = refl
-one_syntax Implicit Explicit e = absurd (not_same (length (syntax_uid Implicit)) (length (syntax_uid Explicit)) refl (ap length e))
-one_syntax Explicit Implicit e = absurd (not_same (length (syntax_uid Explicit)) (length (syntax_uid Implicit)) refl (ap length e))
+one_syntax v1 v2 e = grind (arith, nat_tests)
 
 -- a file whose header names a syntax that is taken has no fault there
 no_header_fault : {file : List ℕ} (is : IsInstance file) (fault : MetaFault) → MetaFaultOf file fault → ⊥
@@ -110,11 +107,7 @@ spells_too {s = s} {t = t} {b = b} {c = c} {es = es} e d x = subst (λ z. DataSe
 
 one_result : {file : List ℕ} (file_id : List ℕ) (a b : IsInstance file) (es fs : Elements) → SameInstance a b → es ≡ fs
     → checked_row (row_from file_id a.class a.instance a.syntax (kept_of row_wants es)) ≡ checked_row (row_from file_id b.class b.instance b.syntax (kept_of row_wants fs))
-one_result file_id a b es fs same e =
-    ap (λ z. checked_row (row_from file_id z a.instance a.syntax (kept_of row_wants es))) same.class
-    ∙ ap (λ z. checked_row (row_from file_id b.class z a.syntax (kept_of row_wants es))) same.instance
-    ∙ ap (λ z. checked_row (row_from file_id b.class b.instance z (kept_of row_wants es))) same.syntax
-    ∙ ap (λ z. checked_row (row_from file_id b.class b.instance b.syntax (kept_of row_wants z))) e
+one_result file_id a b es fs same e = grind (arith, nat_tests, common_steps)
 
 pub one_row : OneRow
 one_row file file_id r q (in_header f m e) (in_header g n d) = e ∙ ap (λ z. Err (skip.Fault (fault_number z))) (one_header_fault file f g m n) ∙ sym d
@@ -140,13 +133,7 @@ one_row file file_id r q (of_values a es text within e) (of_values b fs text2 wi
 -- of one value and those behind it
 one_fits : (ws : List Want) (n t room : ℕ) (w v : List ℕ) (others : Values) → ((r : ℕ) → room_of ws n ≡ Some r → length w ≤ r) → room_of ws t ≡ Some room
     → (value_of others t ≡ Some v → length v ≤ room) → value_of ((n, w) ∷ others) t ≡ Some v → length v ≤ room
-one_fits ws n t room w v others fit r rest e = by (nat_eq n t) refl
-  where
-    by : (b : Bool) → nat_eq n t ≡ b → length v ≤ room
-    by true same =
-        let is : w ≡ v = let k = subst (λ (b : Bool). cond b (Some w) (value_of others t) ≡ Some v) same e in cc in
-        subst (λ z. length z ≤ room) is (fit room (ap (λ z. room_of ws z) (eqb-true n t same) ∙ r))
-    by false other = rest (subst (λ (b : Bool). cond b (Some w) (value_of others t) ≡ Some v) other e)
+one_fits ws n t room w v others fit r rest e = grind (arith, nat_tests)
 
 some_fits : (ws : List Want) (n t room : ℕ) (w v : List ℕ) (others : Values) (b : Bool) → ((r : ℕ) → room_of ws n ≡ Some r → length w ≤ r) → room_of ws t ≡ Some room
     → (value_of others t ≡ Some v → length v ≤ room) → value_of (cond b ((n, w) ∷ others) others) t ≡ Some v → length v ≤ room
@@ -182,11 +169,7 @@ never true e = absurd cc
 never false e = absurd cc
 
 room_is : (ws : List Want) (rule : KeyRule) → has_room ws rule ≡ true → room_of ws (number rule.tag) ≡ Some rule.room
-room_is ws rule e = by (room_of ws (number rule.tag)) e
-  where
-    by : (o : Option ℕ) → (nat_eq (unwrap_or o 0) rule.room && is_some o) ≡ true → o ≡ Some rule.room
-    by None e = absurd (never (nat_eq 0 rule.room) e)
-    by (Some n) e = let parts = and_parts (nat_eq n rule.room) true e in ap (λ z. Some z) (eqb-true n rule.room parts.0)
+room_is ws rule e = grind (arith, nat_tests)
 
 rooms_fit : (ws : List Want) (es : Elements) (taken rules : List KeyRule) → FitRooms ws es → list_all (has_room ws) rules ≡ true → list_all (fits_room (values_for taken (kept_of ws es))) rules ≡ true
 rooms_fit ws es taken [] fit e = refl

@@ -18,6 +18,7 @@ use Rattle.dicomdir.specs.declared.skip.Skip.TheVariants as skip
 use Rattle.dicomdir.specs.machine.Steps.{refusal_of}
 use Rattle.dicomdir.specs.machine.RowReading.{IsGoing, IsSameSet, FailsBy, FailsIn, TookWhole, WalkFails, text_fails}
 use Rattle.dicomdir.proofs.WalkLemmas.{unrefused, refused_fails, tells_none, failed_text, not_refused, farther}
+use Rattle.std.proofs.lemmas.Bool.Decides.{nat_tests}
 
 -- a walk along a piece, of which this is left
 pub record Walks {V D : ℕ} (w0 w : Walker V D) (piece rest : List ℕ) : Type 0 where
@@ -113,19 +114,11 @@ taken_all w0 w old mid new r none end =
 
 pub reads_whole : {V D : ℕ} (w0 w : Walker V D) (old mid new : Option (List ℕ)) → Reads w0 w old mid → Consumes mid new [] → IsAtEnd new
     → ((b : List ℕ) → StandsAt w b → IsWholeDataSet (walker_syntax w) (limits_of w) b) → TookWhole w old
-reads_whole w0 w old mid new r none end whole = by old (taken_all w0 w old mid new r none end)
-  where
-    by : (o : Option (List ℕ)) → IfSome o (λ text. r.taken ≡ text) → TookWhole w o
-    by None e = tt
-    by (Some text) e = (subst (λ z. StandsAt w z) e r.stands, subst (λ z. IsWholeDataSet (walker_syntax w) (limits_of w) z) e (whole r.taken r.stands))
+reads_whole w0 w old mid new r none end whole = grind (arith, nat_tests, taken_all w0 w old mid new r none end)
 
 pub reads_short : {V D : ℕ} (w0 w : Walker V D) (old mid new : Option (List ℕ)) (fault : Fault) → Reads w0 w old mid → Consumes mid new [] → IsAtEnd new
     → ((b : List ℕ) → StandsAt w b → Fails (walker_syntax w) (limits_of w) b fault) → WalkFails w0 old (skip.Fault fault.number)
-reads_short w0 w old mid new fault r none end fails = text_fails (by old (taken_all w0 w old mid new r none end))
-  where
-    by : (o : Option (List ℕ)) → IfSome o (λ text. r.taken ≡ text) → IfSome o (λ text. IsBytes text → FailsBy (walker_syntax w0) (limits_of w0) text (skip.Fault fault.number))
-    by None e = tt
-    by (Some text) e = λ _. (fault, failed_text (walker_syntax w0) (limits_of w0) text fault r.same.0 r.same.1 (subst (λ z. Fails (walker_syntax w) (limits_of w) z fault) e (fails r.taken r.stands)), refl)
+reads_short w0 w old mid new fault r none end fails = grind (arith, nat_tests, taken_all w0 w old mid new r none end)
 
 by_same : {V D : ℕ} (w0 w : Walker V D) (text : List ℕ) (reason : Skip) → IsSameSet w0 w → FailsBy (walker_syntax w) (limits_of w) text reason → FailsBy (walker_syntax w0) (limits_of w0) text reason
 by_same w0 w text reason same f = (f.0, failed_text (walker_syntax w0) (limits_of w0) text f.0 same.0 same.1 f.1, f.2)

@@ -1,15 +1,16 @@
 -- The numbers of a data set's faults are those of its rules.
-use Rattle.std.proofs.Common.{◌≡◌, ℕ, ◌≤◌, Bool, true, false, Some, None, ap, arith, nat_eq, nat_le, ◌&&◌, ◌||◌, if◌then◌else◌, List}
+use Rattle.std.proofs.Common.{◌≡◌, ℕ, ◌≤◌, Bool, true, false, Some, None, ap, arith, if◌then◌else◌, List}
 use Rattle.element.specs.declared.size.Need.{Need}
-use Rattle.element.specs.declared.size.Need.TheVariants.{More, Size, BadVr}
 use Rattle.element.specs.declared.syntax.Syntax.{Syntax}
 use Rattle.element.specs.declared.tag.Tag.{Tag}
 use Rattle.element.specs.declared.header.Header.{Header}
-use Rattle.element.specs.Header.{number, is_marker, tag_at, need, header_at, item_tag, item_end_tag, sequence_end_tag}
+use Rattle.element.specs.Header.{tag_at, need, header_at}
 use Rattle.sequence.specs.declared.fault.Fault.{Fault}
 use Rattle.sequence.specs.declared.spot.Spot.{Spot}
 use Rattle.sequence.specs.Ending.{Fails, breaks_rule, ends_early}
-use Rattle.sequence.specs.Rules.{Limits, Broken, same_tag, passes, broken_tag, broken_need, broken_header, broken, when, ◌or_else◌}
+use Rattle.sequence.specs.Rules.{Limits, Broken, passes, broken_tag, broken_need, broken_header, broken, when, ◌or_else◌}
+use Rattle.std.proofs.lemmas.Bool.Decides.{nat_tests}
+use Rattle.std.proofs.lemmas.Grind.{common_steps}
 
 -- a rule, if any is broken
 abbrev IsRule : Broken → Type 0
@@ -41,17 +42,10 @@ or_rule (Some x) y p q = p
 
 tag_rule : (spot : Spot) (t : Tag) → IsRule (broken_tag spot t)
 unfolding broken_tag
-tag_rule spot t =
-    if_rule spot.in_sequence _ _
-    (if_rule (same_tag t item_tag || (same_tag t sequence_end_tag && spot.open_ended)) _ _ none_rule (some_rule 15 t (omega arith)))
-    (if_rule (is_marker t) _ _ (if_rule (same_tag t item_end_tag && spot.open_ended) _ _ none_rule (some_rule 15 t (omega arith)))
-    (if_rule (nat_eq t.0 0 || nat_eq t.0 2) _ _ (some_rule 13 t (omega arith))
-    (if_rule (nat_le (number t) spot.last) _ _ (some_rule 12 t (omega arith)) none_rule)))
+tag_rule spot t = grind (arith, nat_tests, common_steps, some_rule 15 t (omega arith), some_rule 13 t (omega arith), some_rule 12 t (omega arith))
 
 need_rule : (spot : Spot) (n : Need) (t : Tag) → IsRule (broken_need spot n t)
-need_rule spot More t = none_rule
-need_rule spot BadVr t = some_rule 10 t (omega arith)
-need_rule spot (Size n) t = if_rule (passes spot.near n) _ _ (some_rule 17 t (omega arith)) none_rule
+need_rule spot v2 t = grind (arith, nat_tests)
 
 header_rule : (lim : Limits) (spot : Spot) (size : ℕ) (h : Header) → IsRule (broken_header lim spot size h)
 unfolding broken_header

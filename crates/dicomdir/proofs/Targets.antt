@@ -8,15 +8,16 @@ use Rattle.dicomdir.specs.declared.links.Mark.{Mark}
 use Rattle.dicomdir.specs.declared.links.Step.{Step}
 use Rattle.dicomdir.specs.declared.records.ReadRecord.{ReadRecord}
 use Rattle.dicomdir.specs.Directory.{Record, Node, carried_node}
-use Rattle.dicomdir.specs.Linked.{record_at, fits, fits_level, is_one_of, elements_at}
+use Rattle.dicomdir.specs.Linked.{record_at, fits, fits_level, is_one_of}
 use Rattle.dicomdir.specs.machine.Entries.{carried_by}
 use Rattle.dicomdir.specs.Paths.{Links, Turn, named_by, told_at, level_of, line_of}
 use Rattle.dicomdir.specs.DirFault.{fault, names_no_record, names_wrong_level, path_fault}
 use Rattle.dicomdir.specs.machine.Trail.{path_along, told_along, IsStep}
 use Rattle.dicomdir.specs.machine.Turns.{AreFlagged, IsTarget}
-use Rattle.dicomdir.proofs.FreePaths.{free_path, wrong_path}
+use Rattle.dicomdir.proofs.FreePaths.{free_path}
 use Rattle.dicomdir.proofs.PathForests.{elements_is}
 use Rattle.dicomdir.proofs.EntryLemmas.{at_entry}
+use Rattle.std.proofs.lemmas.Grind.{common_steps}
 
 -- a level of more than 5 is as 5
 
@@ -73,15 +74,11 @@ has_record links path offset es named stands = ap (λ z. is_none (record_at z li
 
 fits_there : (links : Links) (path : List Turn) (offset : ℕ) (es : Elements) (b : Bool) → named_by links path ≡ offset → record_at offset links.records ≡ Some es
     → fits (level_of path) (carried_node es) ≡ b → names_wrong_level links path ≡ not b
-fits_there links path offset es b named stands fit =
-    ap (λ z. not (fits (level_of path) (carried_node (elements_at links.records z)))) named
-    ∙ (ap (λ z. not (fits (level_of path) (carried_node z))) (elements_is (record_at offset links.records) es stands) ∙ ap not fit)
+fits_there links path offset es b named stands fit = grind (arith, nat_tests, common_steps, elements_is (record_at offset links.records) es stands)
 
 unfit_fault : (links : Links) (path : List Turn) (reached : List ℕ) (offset : ℕ) (es : Elements) → named_by links path ≡ offset → record_at offset links.records ≡ Some es
     → is_one_of offset reached ≡ false → fits (level_of path) (carried_node es) ≡ false → path_fault links reached path ≡ fault 64 offset
-unfit_fault links path reached offset es named stands new unfit =
-    wrong_path links reached path (has_record links path offset es named stands) (ap (λ z. is_one_of z reached) named ∙ new) (fits_there links path offset es false named stands unfit)
-    ∙ ap (λ z. fault 64 z) named
+unfit_fault links path reached offset es named stands new unfit = grind (arith, nat_tests, common_steps, has_record links path offset es named stands, fits_there links path offset es false named stands unfit)
 
 no_fault : (links : Links) (path : List Turn) (reached : List ℕ) (offset : ℕ) (es : Elements) → named_by links path ≡ offset → record_at offset links.records ≡ Some es
     → is_one_of offset reached ≡ false → fits (level_of path) (carried_node es) ≡ true → path_fault links reached path ≡ None
@@ -102,8 +99,7 @@ pub old_target : (links : Links) (entries : List ReadRecord) (flags : List Bool)
     → path_fault links reached (path_along step.begins ms) ≡ fault (if b then 61 else 62) told
 old_target links entries flags reached ms step at root told b flagged is_step root_is fits found old back is =
     let there = at_offset entries flags links.records reached step.offset at flagged fits found in
-    reached_fault links (path_along step.begins ms) reached step.offset there.elements b told (sym is_step.1) there.stands (sym (there.flag false) ∙ old)
-    (ap (λ z. is_one_of step.offset z) (same_line step.begins ms) ∙ back) (told_is links step.begins ms root root_is ∙ sym is)
+    grind (arith, nat_tests, common_steps, same_line step.begins ms)
 
 pub unfit_target : (links : Links) (entries : List ReadRecord) (flags : List Bool) (reached : List ℕ) (ms : List Mark) (step : Step) (at : ℕ) (e : ReadRecord)
     → AreFlagged entries flags links.records reached → IsStep links ms (Some step) → at < length entries → ((d : ReadRecord) → (get_or entries at d).place ≡ step.offset)
@@ -112,8 +108,7 @@ pub unfit_target : (links : Links) (entries : List ReadRecord) (flags : List Boo
 unfit_target links entries flags reached ms step at e flagged is_step fits_in found new is unfit =
     let there = at_offset entries flags links.records reached step.offset at flagged fits_in found in
     let carries : carried_by e ≡ carried_node there.elements = ap carried_by is ∙ there.carries e in
-    unfit_fault links (path_along step.begins ms) reached step.offset there.elements (sym is_step.1) there.stands (sym (there.flag false) ∙ new)
-    (sym (fits_same step.level (level_of (path_along step.begins ms)) (carried_node there.elements) is_step.2.0) ∙ (ap (λ z. fits step.level z) (sym carries) ∙ unfit))
+    grind (arith, nat_tests, common_steps, fits_same step.level (level_of (path_along step.begins ms)) (carried_node there.elements) is_step.2.0)
 
 pub good_target : (links : Links) (entries : List ReadRecord) (flags : List Bool) (reached : List ℕ) (ms : List Mark) (step : Step) (at : ℕ) (e : ReadRecord)
     → AreFlagged entries flags links.records reached → IsStep links ms (Some step) → at < length entries → ((d : ReadRecord) → (get_or entries at d).place ≡ step.offset)

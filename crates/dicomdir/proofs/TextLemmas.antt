@@ -1,5 +1,5 @@
 -- What stands at the front of a text that spells elements or items.
-use Rattle.std.proofs.Common.{◌≡◌, ◌≢◌, ℕ, ◌+◌, Bool, true, false, List, [], ◌∷◌, ◌++◌, length, drop, Some, None, refl, sym, ap, ◌∙◌, arith, append_assoc, length-append, eqb-true, eq-eqb, not, ◌&&◌, nat_eq, if◌then◌else◌, lit<}
+use Rattle.std.proofs.Common.{◌≡◌, ◌≢◌, ℕ, ◌+◌, Bool, true, false, List, [], ◌++◌, length, drop, Some, None, refl, sym, ap, ◌∙◌, arith, append_assoc, length-append, eqb-true, eq-eqb, not, ◌&&◌, nat_eq, if◌then◌else◌, lit<}
 use Rattle.std.proofs.lemmas.Bool.{cond-true, cond-false}
 use Rattle.std.proofs.lemmas.Bool.Decides.{nat_tests}
 use Rattle.std.proofs.Math.Seq.{drop-append_seam}
@@ -7,8 +7,7 @@ use Rattle.element.specs.declared.syntax.Syntax.{Syntax}
 use Rattle.element.specs.declared.syntax.Syntax.TheVariants.{Implicit, Explicit}
 use Rattle.element.specs.declared.tag.Tag.{Tag}
 use Rattle.element.specs.declared.header.Header.{Header}
-use Rattle.element.specs.Numbers.{le}
-use Rattle.element.specs.Header.{number, need, is_marker, is_plain, IsTag, SpellsHeader, plain, short, long}
+use Rattle.element.specs.Header.{number, need, is_marker, is_plain, IsTag, SpellsHeader, plain}
 use Rattle.sequence.specs.Shape.{undefined_length, is_undefined}
 use Rattle.sequence.specs.Rules.{same_tag}
 use Rattle.sequence.specs.Tree.{Elements, no_elements, Items, no_items, item, delimitation, IsElement, IsItem, Ended, counted, delimited, DataSet, nothing, value_then, sequence_then, ItemList, no_more, item_then}
@@ -21,16 +20,10 @@ use Rattle.dicomdir.proofs.HeadLemmas.{head_read}
 -- ---- sizes
 
 pub header_length : {s : Syntax} {h : Header} {b : List ℕ} → SpellsHeader s h b → length b ≡ header_size h
-header_length (plain tag n fits p lt) = refl
-header_length (short tag a b n fits m c h lt) = let e = ap length (cond-true _ (a ∷ b ∷ le n 2) (a ∷ b ∷ 0 ∷ 0 ∷ le n 4) h) in omega (arith, e)
-header_length (long tag a b r q n fits m c h lt) = let e = ap length (cond-false _ (a ∷ b ∷ le n 2) (a ∷ b ∷ 0 ∷ 0 ∷ le n 4) h) in omega (arith, e)
+header_length v1 = grind (arith, nat_tests)
 
 not_undefined : (n : ℕ) → n ≢ undefined_length → is_undefined n ≡ false
-not_undefined n other = by (is_undefined n) refl
-  where
-    by : (b : Bool) → is_undefined n ≡ b → b ≡ false
-    by true e = absurd (other (grind (arith, nat_tests, e)))
-    by false e = refl
+not_undefined n other = grind (arith, nat_tests)
 
 pub ended_size : {mark : Tag} {n : ℕ} {b c : List ℕ} → Ended mark n b c → length c ≡ length b + end_size n
 ended_size (counted {b = b} n other even size) =

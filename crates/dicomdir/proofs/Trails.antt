@@ -1,5 +1,5 @@
 -- The trail: what leads back, and the paths that are to come as chains end.
-use Rattle.std.proofs.Common.{◌≡◌, ℕ, zero, suc, ◌<◌, ◌≤◌, ◌-◌, ◌+◌, Bool, true, false, not, ◌&&◌, ◌||◌, List, [], ◌∷◌, ◌++◌, length, reverse, take, get_or, slice_get, Option, Some, ◌⊎◌, inl, inr, refl, sym, ap, subst, ◌∙◌, arith, nat_eq, if◌then◌else◌}
+use Rattle.std.proofs.Common.{◌≡◌, ℕ, zero, suc, ◌<◌, ◌≤◌, ◌-◌, ◌+◌, Bool, true, false, not, ◌&&◌, ◌||◌, List, [], ◌∷◌, ◌++◌, length, reverse, take, get_or, slice_get, Option, Some, ◌⊎◌, inl, inr, refl, sym, ap, subst, ◌∙◌, arith, nat_eq}
 use Rattle.std.proofs.lemmas.Bool.Decides.{nat_tests}
 use Rattle.std.proofs.lemmas.List.{reverse-append, append-nil, take_all, take_more, length-reverse}
 use Rattle.dicomdir.specs.declared.links.Mark.{Mark}
@@ -9,6 +9,7 @@ use Rattle.dicomdir.specs.Paths.{Links, Turn, named_by, paths_from, paths_of, ab
 use Rattle.dicomdir.specs.machine.Trail.{path_along, left_of, paths_on, later, to_come, AreMarks, IsStep}
 use Rattle.dicomdir.specs.machine.Turns.{IsToCome}
 use Rattle.dicomdir.proofs.PathForests.{paths_none}
+use Rattle.std.proofs.lemmas.Grind.{common_steps}
 
 -- a trail as it is gone through from its last mark
 
@@ -49,18 +50,13 @@ pub looks_at : (offset : ℕ) (in_chain is_above : Bool) (xs : List Mark) (at : 
 looks_at offset in_chain is_above xs at m some within is =
     let more = reverse_more xs (at - 1) m (omega (arith, some, within)) in
     let back : at - 1 + 1 ≡ at = omega (arith, some) in
-    ap (λ z. looks offset in_chain is_above (reverse (take z xs))) (sym back)
-    ∙ (ap (λ z. looks offset in_chain is_above z) more
-    ∙ ap (λ z. looks offset in_chain is_above (z ∷ reverse (take (at - 1) xs))) (sym is))
+    grind (arith, nat_tests, common_steps)
 
 pub looks_here : (i a : Bool) (p o : ℕ) → (i ≡ true) ⊎ ((i ≡ false) × (a ≡ true)) → p ≡ o → ((i || a) && nat_eq p o) ≡ true
 looks_here true a p o either same = grind (arith, nat_tests, same)
 looks_here false true p o either same = grind (arith, nat_tests, same)
 looks_here false false p o (inl first) same = absurd cc
-looks_here false false p o (inr second) same = absurd (contra second.1)
-  where
-    contra : false ≡ true → ⊥
-    contra e = absurd cc
+looks_here false false p o (inr second) same = grind (arith, nat_tests)
 
 pub looks_found : (offset : ℕ) (in_chain is_above : Bool) (xs : List Mark) (at : ℕ) (m : Mark) → 0 < at → at ≤ length xs → m ≡ get_or xs (at - 1) m
     → ((in_chain || is_above) && nat_eq m.place offset) ≡ true
@@ -91,8 +87,7 @@ pub last_first : (xs : List Mark) (m : Mark) → Some m ≡ slice_get xs (length
 last_first xs m e =
     let some = some_length xs m (length xs - 1) e in
     let back : length xs - 1 + 1 ≡ length xs = omega (arith, some) in
-    ap reverse (sym (take_all (length xs - 1 + 1) xs (omega (arith, some))))
-    ∙ (reverse_more xs (length xs - 1) m some ∙ ap (λ z. z ∷ reverse (take (length xs - 1) xs)) (got_is xs m (length xs - 1) e))
+    grind (arith, nat_tests, common_steps, take_all (length xs - 1 + 1) xs (omega (arith, some)), got_is xs m (length xs - 1) e)
 
 -- the paths of the open path, and all of them
 
@@ -109,19 +104,11 @@ paths_first links =
 
 later_left : (links : Links) (ms : List Mark) → later links false ms ≡ later links true (left_of ms)
 later_left links [] = refl
-later_left links (m ∷ ms) = by m.begins (later_left links ms)
-  where
-    by : (b : Bool) → later links false ms ≡ later links true (left_of ms) → later links b ms ≡ later links true (if b then ms else left_of ms)
-    by true e = refl
-    by false e = e
+later_left links (m ∷ ms) = grind (arith, nat_tests, later_left links ms)
 
 left_marks : (links : Links) (ms : List Mark) → AreMarks links ms → AreMarks links (left_of ms)
 left_marks links [] marks = tt
-left_marks links (m ∷ ms) marks = by m.begins marks.2 (left_marks links ms marks.2)
-  where
-    by : (b : Bool) → AreMarks links ms → AreMarks links (left_of ms) → AreMarks links (if b then ms else left_of ms)
-    by true here rest = here
-    by false here rest = rest
+left_marks links (m ∷ ms) marks = grind (arith, nat_tests, left_marks links ms marks.2)
 
 -- a trail from which chains were dropped that were at their end
 pub record Climbed (links : Links) (ms ms2 : List Mark) : Type 0 where

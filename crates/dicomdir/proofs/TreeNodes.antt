@@ -1,6 +1,6 @@
 -- Each node of the tree of rows is a record of its level.
-use Rattle.std.proofs.Common.{ℕ, suc, Bool, true, false, List, [], ◌∷◌, filter, if◌then◌else◌}
-use Rattle.std.specs.List.{list_any, AllByRecursion}
+use Rattle.std.proofs.Common.{ℕ, suc, Bool, List, [], ◌∷◌, filter, arith}
+use Rattle.std.specs.List.{AllByRecursion}
 use Rattle.std.specs.Str.{bytes_eq}
 use Rattle.sequence.specs.Tree.{Elements}
 use Rattle.dicomdir.specs.Keys.{IsRow}
@@ -10,26 +10,18 @@ use Rattle.dicomdir.specs.declared.level.Level.TheVariants.{Patient, Study, Seri
 use Rattle.dicomdir.specs.TreeOf.{Forest, key_for, rows_with, group_node, group_nodes, images, series, studies, TreeOf}
 use Rattle.dicomdir.proofs.LaidRecords.{IsNode, patient_node, study_node, series_node, image_node}
 use Rattle.dicomdir.proofs.Placed.{AreNodes}
+use Rattle.std.proofs.lemmas.Bool.Decides.{nat_tests}
 
 abbrev AreRows : List Row → Type 0
 AreRows rows = AllByRecursion IsRow rows
 
 with_rows : (p : Row → Bool) (rows : List Row) → AreRows rows → AreRows (filter p rows)
 with_rows p [] all = all
-with_rows p (row ∷ rows) all = by (p row) (with_rows p rows all.1)
-  where
-    by : (b : Bool) → AreRows (filter p rows) → AreRows (if b then row ∷ filter p rows else filter p rows)
-    by true rest = (all.0, rest)
-    by false rest = rest
+with_rows p (row ∷ rows) all = grind (arith, nat_tests, with_rows p rows all.1)
 
 no_doubles : (before : List (List ℕ)) (rows : List Row) → AreRows rows → AreRows (without_doubles before rows)
 no_doubles before [] all = all
-no_doubles before (row ∷ rows) all = by (list_any (bytes_eq row.instance) before) (no_doubles before rows all.1) (no_doubles (row.instance ∷ before) rows all.1)
-  where
-    by : (b : Bool) → AreRows (without_doubles before rows) → AreRows (without_doubles (row.instance ∷ before) rows)
-        → AreRows (if b then without_doubles before rows else row ∷ without_doubles (row.instance ∷ before) rows)
-    by true left kept = left
-    by false left kept = (all.0, kept)
+no_doubles before (row ∷ rows) all = grind (arith, nat_tests, no_doubles before rows all.1, no_doubles (row.instance ∷ before) rows all.1)
 
 images_are : (rows : List Row) → AreRows rows → AreNodes 4 (images rows)
 images_are [] all = tt

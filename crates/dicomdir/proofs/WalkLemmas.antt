@@ -10,7 +10,7 @@ use Rattle.sequence.specs.Rules.{Limits}
 use Rattle.sequence.specs.FirstFault.{IsUnbroken}
 use Rattle.sequence.specs.Walk.{Told, Tells, going, refused}
 use Rattle.sequence.specs.Ending.{Fails, breaks_rule, ends_early}
-use Rattle.sequence.specs.declared.step.Step.TheVariants.{More, Element, Run, Opened, Closed, Refused}
+use Rattle.sequence.specs.declared.step.Step.TheVariants.{Refused}
 use Rattle.sequence.specs.Answering.{IsRun, Answers, no_piece, goes_on, element, opened, closed, runs, refuses, stays}
 use Rattle.sequence.specs.declared.walker.Walker.{Walker}
 use Rattle.sequence.specs.Taken.{StandsAt, walker_syntax, limits_of}
@@ -18,6 +18,7 @@ use Rattle.sequence.proofs.Public.{fault_stays, nothing_unbroken}
 use Rattle.dicomdir.specs.CheckFault.{check_limits}
 use Rattle.dicomdir.specs.machine.RowReading.{IsGoing, FailsIn}
 use Rattle.dicomdir.specs.machine.Steps.{refusal_of}
+use Rattle.std.proofs.lemmas.Bool.Decides.{nat_tests}
 
 -- where nothing is refused, no rule is broken
 pub unrefused : {s : Syntax} {lim : Limits} {b piece taken : List ℕ} {step : Step} → Answers s lim b piece taken step → refusal_of step ≡ None → IsUnbroken s lim (b ++ taken)
@@ -31,12 +32,7 @@ unrefused (refuses unbroken fault whole at) e = absurd cc
 unrefused (stays fault none) e = absurd cc
 
 runs_none : (bytes : List ℕ) (step : Step) → IsRun bytes step → refusal_of step ≡ None
-runs_none bytes (Refused fault) r = absurd r
-runs_none bytes More r = refl
-runs_none bytes (Run run) r = refl
-runs_none bytes (Element h) r = refl
-runs_none bytes (Opened h) r = refl
-runs_none bytes (Closed h) r = refl
+runs_none bytes v2 r = grind (arith, nat_tests)
 
 -- and else a rule is broken, in any text that goes on from there
 pub refused_fails : {s : Syntax} {lim : Limits} {b piece taken : List ℕ} {step : Step} (more text : List ℕ) (fault : Fault) → Answers s lim b piece taken step → refusal_of step ≡ Some fault
@@ -107,12 +103,7 @@ fault_within {b = b} (breaks_rule {p = p} {u = u} first) =
 fault_within (ends_early end) = omega arith
 
 pub not_refused : (step : Step) → ((x : Fault) → step ≡ Refused x → ⊥) → refusal_of step ≡ None
-not_refused (Refused fault) other = absurd (other fault refl)
-not_refused More other = refl
-not_refused (Run run) other = refl
-not_refused (Element h) other = refl
-not_refused (Opened h) other = refl
-not_refused (Closed h) other = refl
+not_refused v1 other = grind (arith, nat_tests)
 
 -- ---- a walk over a whole text as one piece
 

@@ -20,23 +20,11 @@ without p (q ∷ qs) = if nat_eq p q then qs else q ∷ without p qs
 
 one_fewer : (p : ℕ) (qs : List ℕ) → is_one_of p qs ≡ true → length qs ≡ suc (length (without p qs))
 one_fewer p [] e = absurd cc
-one_fewer p (q ∷ qs) e = by (nat_eq p q) (one_fewer p qs) e
-  where
-    by : (b : Bool) → (is_one_of p qs ≡ true → length qs ≡ suc (length (without p qs))) → (b || is_one_of p qs) ≡ true
-        → suc (length qs) ≡ suc (length (if b then qs else q ∷ without p qs))
-    by true rest e = refl
-    by false rest e = ap suc (rest e)
+one_fewer p (q ∷ qs) e = grind (arith, nat_tests, one_fewer p qs)
 
 still_one : (x p : ℕ) (qs : List ℕ) → nat_eq x p ≡ false → is_one_of x qs ≡ true → is_one_of x (without p qs) ≡ true
 still_one x p [] other e = absurd cc
-still_one x p (q ∷ qs) other e = by (nat_eq p q) refl (nat_eq x q) refl (still_one x p qs other) e
-  where
-    by : (b : Bool) → nat_eq p q ≡ b → (a : Bool) → nat_eq x q ≡ a → (is_one_of x qs ≡ true → is_one_of x (without p qs) ≡ true) → (a || is_one_of x qs) ≡ true
-        → is_one_of x (if b then qs else q ∷ without p qs) ≡ true
-    by true same true here rest e = absurd (grind (arith, nat_tests, same, here, other))
-    by true same false here rest e = e
-    by false same true here rest e = or_left (nat_eq x q) (is_one_of x (without p qs)) here
-    by false same false here rest e = or_right (nat_eq x q) (is_one_of x (without p qs)) (rest e)
+still_one x p (q ∷ qs) other e = grind (arith, nat_tests, still_one x p qs other)
 
 pub no_more : (ps qs : List ℕ) → is_distinct ps ≡ true → ((x : ℕ) → is_one_of x ps ≡ true → is_one_of x qs ≡ true) → length ps ≤ length qs
 no_more [] qs distinct all = omega arith
@@ -61,12 +49,7 @@ length_places (r ∷ records) = ap suc (length_places records)
 
 pub stands_there : (p : ℕ) (records : List Record) (es : Elements) → record_at p records ≡ Some es → is_one_of p (places records) ≡ true
 stands_there p [] es e = absurd cc
-stands_there p (r ∷ records) es e = by (nat_eq r.place p) refl (stands_there p records es) e
-  where
-    by : (b : Bool) → nat_eq r.place p ≡ b → (record_at p records ≡ Some es → is_one_of p (places records) ≡ true)
-        → (if b then Some r.elements else record_at p records) ≡ Some es → (nat_eq p r.place || is_one_of p (places records)) ≡ true
-    by true same rest e = or_left (nat_eq p r.place) (is_one_of p (places records)) (grind (arith, nat_tests, same))
-    by false same rest e = or_right (nat_eq p r.place) (is_one_of p (places records)) (rest e)
+stands_there p (r ∷ records) es e = grind (arith, nat_tests, stands_there p records es)
 
 pub either : (a b c : Bool) → (a ≡ true → c ≡ true) → (b ≡ true → c ≡ true) → (a || b) ≡ true → c ≡ true
 either true b c f g e = f refl

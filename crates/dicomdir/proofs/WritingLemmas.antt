@@ -1,6 +1,5 @@
 -- What a writer has after several texts, or after a beginning of the last one.
-use Rattle.std.proofs.Common.{◌≡◌, ℕ, suc, ◌-◌, ◌+◌, ◌<◌, ◌≤◌, Bool, true, false, List, [], ◌∷◌, ◌++◌, length, take, get_or, Option, refl, sym, ap, ◌∙◌, take-add, ltb-true, nat_lt, arith}
-use Rattle.std.proofs.Math.Seq.{take-suc}
+use Rattle.std.proofs.Common.{◌≡◌, ℕ, suc, ◌-◌, ◌+◌, ◌<◌, ◌≤◌, Bool, true, false, List, ◌++◌, length, take, get_or, Option, refl, take-add, ltb-true, nat_lt, arith}
 use Rattle.std.proofs.lemmas.Bool.{ltb-false}
 use Rattle.std.proofs.lemmas.List.{take_all, take_at, drop_at, take-append-le}
 use Rattle.std.proofs.KnownBytes.{Appends-trans}
@@ -9,6 +8,8 @@ use Rattle.dicomdir.specs.declared.build_plan.LaidRecord.{LaidRecord}
 use Rattle.dicomdir.specs.Laying.{entry_text, laid_text}
 use Rattle.dicomdir.specs.Written.{AppendsFront}
 use Rattle.dicomdir.proofs.LayingLemmas.{laid_push}
+use Rattle.std.proofs.lemmas.Bool.Decides.{nat_tests}
+use Rattle.std.proofs.lemmas.Grind.{common_steps}
 
 take_past : (xs ys : List ℕ) (n : ℕ) → take (length xs + n) (xs ++ ys) ≡ xs ++ take n ys
 take_past xs ys n = rw (take-add, take_at xs ys (length xs) refl, drop_at xs ys (length xs) refl) refl
@@ -31,6 +32,4 @@ pub last_entry : {A : Type 0} (total : ℕ) (entries : List (LaidRecord A)) (at 
     → laid_text total (take at entries) ≡ entry_text total e ++ laid_text total (take (at - 1) entries)
 last_entry total entries at e some le is =
     let next : at ≡ suc (at - 1) = omega arith in
-    ap (λ (n : ℕ). laid_text total (take n entries)) next
-    ∙ ap (laid_text total) (take-suc entries (at - 1) e (omega arith) ∙ ap (λ (x : LaidRecord _). take (at - 1) entries ++ x ∷ []) (sym is))
-    ∙ laid_push total (take (at - 1) entries) e
+    grind (arith, nat_tests, common_steps, laid_push total (take (at - 1) entries) e)

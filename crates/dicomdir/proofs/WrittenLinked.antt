@@ -1,6 +1,6 @@
 -- The directory that is written of rows is linked to their tree, and has no fault.
 use Rattle.element.specs.Header.{item_tag}
-use Rattle.std.proofs.Common.{◌≡◌, ℕ, suc, ◌+◌, ◌%◌, ◌^◌, ◌<◌, ◌≤◌, true, false, List, [], ◌∷◌, ◌++◌, length, Some, None, refl, sym, ap, ◌∙◌, append_assoc, arith, codes, nat_eq, nat_lt}
+use Rattle.std.proofs.Common.{◌≡◌, ℕ, suc, ◌+◌, ◌%◌, ◌^◌, ◌<◌, ◌≤◌, true, false, List, ◌∷◌, ◌++◌, length, Some, None, refl, sym, ap, ◌∙◌, append_assoc, arith, codes, nat_eq, nat_lt}
 use Rattle.std.proofs.lemmas.Bool.{and_from, and_parts, leb-true}
 use Rattle.std.proofs.lemmas.Bool.Decides.{nat_tests}
 use Rattle.std.proofs.lemmas.List.{append-nil, length-append}
@@ -25,12 +25,13 @@ use Rattle.dicomdir.specs.TreeOf.{Forest, no_nodes, node, TreeOf}
 use Rattle.dicomdir.specs.WrittenIsLinked.{IsDirectoryOf, WrittenIsLinked}
 use Rattle.dicomdir.proofs.BuildingLemmas.{directory_text, root_size_is}
 use Rattle.dicomdir.proofs.Laid.{is_laid, are_laid, is_item, laid_elements}
-use Rattle.dicomdir.proofs.LaidFields.{fixed_from, laid_field, padded_short}
+use Rattle.dicomdir.proofs.LaidFields.{padded_short}
 use Rattle.dicomdir.proofs.LaidRecords.{number_back}
 use Rattle.dicomdir.proofs.NoFault.{linked_has_no_fault}
 use Rattle.dicomdir.proofs.Placed.{AreNodes, written, placed, nodes_are, first_same, last_same, first_small, last_small, linked, distinct, reached, good_records}
 use Rattle.dicomdir.proofs.Sizes.{items_size, offsets_size}
 use Rattle.dicomdir.proofs.TreeNodes.{tree_nodes}
+use Rattle.std.proofs.lemmas.Grind.{common_steps}
 
 -- an item's header of an even length is good
 item_good : (n : ℕ) → n < undefined_length → n % 2 ≡ 0 → is_item (record { tag = item_tag; vr = None; length = n }) ≡ true
@@ -52,10 +53,7 @@ items_laid place (node es below next) level others nodes small laid =
     let same = offsets_size (first_record_place n) (first_record_place b) es in
     let short : length (spelled own) < undefined_length = omega (arith, small, same) in
     let size : nat_eq (length (spelled own)) (length (spelled own)) ≡ true = grind (arith, nat_tests) in
-    and_from _ _ (and_from _ _ (item_good (length (spelled own)) short good.even) size)
-    (and_from _ _ good.laid
-    (items_laid after below (suc level) (record_items n others) nodes.1 (omega (arith, small))
-    (items_laid beyond next level others nodes.2 (omega (arith, small)) laid)))
+    grind (arith, nat_tests, common_steps, item_good (length (spelled own)) short good.even, items_laid after below (suc level) (record_items n others) nodes.1 (omega (arith, small)) (items_laid beyond next level others nodes.2 (omega (arith, small)) laid))
 
 forest_even : (tree : Forest Elements) (level : ℕ) → AreNodes level tree → forest_size tree % 2 ≡ 0
 forest_even no_nodes level nodes = refl
@@ -107,11 +105,7 @@ root_laid first last is short even laid =
     let flag : Elements = field (tag 0x0004 0x1212) (codes "US") (le 0 2) records in
     let last_one : Elements = field (tag 0x0004 0x1202) (codes "UL") (le last 4) flag in
     let first_one : Elements = field (tag 0x0004 0x1200) (codes "UL") (le first 4) last_one in
-    laid_field 0 (tag 0x0004 0x1130) (codes "CS") [] first_one (fixed_from _ _ _ refl) refl (omega arith)
-    (laid_field 0x00041130 (tag 0x0004 0x1200) (codes "UL") (le first 4) last_one (fixed_from _ _ _ refl) refl (omega arith)
-    (laid_field 0x00041200 (tag 0x0004 0x1202) (codes "UL") (le last 4) flag (fixed_from _ _ _ refl) refl (omega arith)
-    (laid_field 0x00041202 (tag 0x0004 0x1212) (codes "US") (le 0 2) records (fixed_from _ _ _ refl) refl (omega arith)
-    (sequence_laid is short even laid))))
+    grind (arith, nat_tests, common_steps, sequence_laid is short even laid)
 
 same_records : (a b : ℕ) (is : Items) → a ≡ b → Some (records_at a is) ≡ Some (records_at b is)
 same_records a b is e = ap (λ (p : ℕ). Some (records_at p is)) e
