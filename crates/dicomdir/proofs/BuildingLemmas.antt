@@ -36,10 +36,7 @@ same_tree kept rows e = ap (forest_for Patient) e ∙ tree_is rows
 -- records of 2^32 bytes are too large already without what stands before them
 pub records_too_large : (uid : List ℕ) (rows kept : List Row) (old : ℕ) → kept ≡ without_doubles [] rows → old ≡ 0 → 2 ^ 32 ≤ old + forest_size (forest_for Patient kept)
     → file_is_too_large uid rows ≡ true
-records_too_large uid rows kept old e none large =
-    let same = ap forest_size (same_tree kept rows e) in
-    let le : 2 ^ 32 ≤ length (directory_header uid) + root_size + forest_size (TreeOf rows) = omega (arith, large, none, same) in
-    grind (arith, nat_tests)
+records_too_large uid rows kept old e none large = grind (arith, nat_tests, common_steps, same_tree kept rows e)
 
 -- what was laid down, and what stands before it
 pub record Counts (uid : List ℕ) (rows : List Row) (header records : ℕ) : Type 0 where
@@ -50,16 +47,10 @@ total_is : (uid : List ℕ) (rows : List Row) (header records : ℕ) → Counts 
 total_is uid rows header records s = let root = root_size_is in let a = s.header_is in let b = s.records_are in omega (arith, a, b, root)
 
 pub file_too_large : (uid : List ℕ) (rows : List Row) (header records : ℕ) → Counts uid rows header records → 2 ^ 32 ≤ records + (header + 54) → file_is_too_large uid rows ≡ true
-file_too_large uid rows header records s large =
-    let total = total_is uid rows header records s in
-    let le : 2 ^ 32 ≤ length (directory_header uid) + root_size + forest_size (TreeOf rows) = omega (arith, large, total) in
-    grind (arith, nat_tests)
+file_too_large uid rows header records s large = grind (arith, nat_tests, common_steps, total_is uid rows header records s)
 
 pub file_fits : (uid : List ℕ) (rows : List Row) (header records : ℕ) → Counts uid rows header records → records + (header + 54) < 2 ^ 32 → file_is_too_large uid rows ≡ false
-file_fits uid rows header records s small =
-    let total = total_is uid rows header records s in
-    let lt : length (directory_header uid) + root_size + forest_size (TreeOf rows) < 2 ^ 32 = omega (arith, small, total) in
-    grind (arith, nat_tests)
+file_fits uid rows header records s small = grind (arith, nat_tests, common_steps, total_is uid rows header records s)
 
 pub at_least : (n m : ℕ) → (n < m → ⊥) → m ≤ n
 at_least n m h = omega (arith, h)
@@ -91,12 +82,7 @@ one_item own b n o = simp (append-nil, append_assoc)
 
 items_are : (f : Forest Record) (others : Items) → spelled_items (record_items f others) ≡ forest_text f ++ spelled_items others
 items_are no_nodes others = refl
-items_are (node r below next) others =
-    let own = spelled (with_offsets (first_record_place next) (first_record_place below) r.elements) in
-    let header : List ℕ = header_bytes (record { tag = item_tag; vr = None; length = length own }) in
-    let rest : spelled_items (record_items below (record_items next others)) ≡ forest_text below ++ (forest_text next ++ spelled_items others) =
-    items_are below (record_items next others) ∙ ap (λ (t : List ℕ). forest_text below ++ t) (items_are next others) in
-    ap (λ (t : List ℕ). header ++ (own ++ t)) rest ∙ ap (λ (t : List ℕ). header ++ t) (one_item own (forest_text below) (forest_text next) (spelled_items others))
+items_are (node r below next) others = grind (arith, nat_tests, common_steps, items_are next others, items_are below (record_items next others))
 
 placed_text : (tree : Forest Elements) (start : ℕ)
     → spelled (elements_with_places (with_places start tree))

@@ -32,12 +32,7 @@ use Rattle.std.proofs.lemmas.Grind.{common_steps}
 -- ---- faults
 
 pub fails_at : (o : Option Fault) (n place : ℕ) (f : DirFault) → f ≡ record { number = n; place = place; tag = no_tag } → n ≢ 67 → o ≡ fault n place → FailsAs o f
-fails_at o n place f is other at =
-    record {
-      tag = ap (λ z. z.tag) is;
-      memory = λ e. absurd (other (sym (ap (λ z. z.number) is) ∙ e));
-      fault = λ e. at ∙ (λ i. Some (record { number = (sym is i).number; place = (sym is i).place }));
-    }
+fails_at o n place f is other at = grind (arith, nat_tests, common_steps)
 
 fails_on : (o p : Option Fault) (f : DirFault) → FailsAs o f → ((x : Fault) → o ≡ Some x → p ≡ Some x) → FailsAs p f
 fails_on o p f is on = record { tag = is.tag; memory = is.memory; fault = λ e. on (record { number = f.number; place = f.place }) (is.fault e) }
@@ -49,10 +44,7 @@ whole_elements {text = text} d = record { more = []; after = nothing_after; spel
 
 pub fails_first : (start : ℕ) (es : Elements) (f : DirFault) → FailsAs (offset_fault start (found 0x00041200 start es)) f → FailsAs (directory_fault start es) f
 unfolding directory_fault
-fails_first start es f is =
-    fails_on (offset_fault start (found 0x00041200 start es)) (directory_fault start es) f is
-    (λ x e. or_some (root_fault start es) (records_then_links start es (records_of start es)) x
-    (or_some (offset_fault start (found 0x00041200 start es)) (offset_fault start (found 0x00041202 start es) or_else records_fault start (found 0x00041220 start es)) x e))
+fails_first start es f is = grind (arith, nat_tests, common_steps)
 
 pub fails_last : (start : ℕ) (es : Elements) (f : DirFault) → offset_fault start (found 0x00041200 start es) ≡ None
     → FailsAs (offset_fault start (found 0x00041202 start es)) f → FailsAs (directory_fault start es) f
@@ -80,11 +72,7 @@ directory_is start es records has = grind (arith, nat_tests, common_steps, or_no
 pub has_records : (s : Syntax) (start p first : ℕ) (es : Elements) (text : List ℕ) (finds : FindsItems p first s text (found 0x00041220 start es))
     → offset_fault start (found 0x00041200 start es) ≡ None → offset_fault start (found 0x00041202 start es) ≡ None
     → HasRecords start es (records_at first finds.items)
-has_records s start p first es text finds first_good last_good =
-    record {
-      are = ap records_in finds.is ∙ ap (λ n. Some (records_at n finds.items)) (sym finds.first_is);
-      good = root_then start es first_good last_good ∙ ap (records_fault start) finds.is;
-    }
+has_records s start p first es text finds first_good last_good = grind (arith, nat_tests, common_steps)
 
 pub fails_in_records : (start : ℕ) (es : Elements) (records : List Record) (f : DirFault) → HasRecords start es records → FailsAs (each_fault records) f → FailsAs (directory_fault start es) f
 fails_in_records start es records f has is =

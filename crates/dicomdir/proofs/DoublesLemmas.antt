@@ -23,8 +23,7 @@ turned v1 v2 = grind (arith, nat_tests)
 
 any_newest : (p : List ℕ → Bool) (xs : List (List ℕ)) → list_any p (newest_first xs) ≡ list_any p xs
 any_newest p [] = refl
-any_newest p (x ∷ xs) =
-    list_any-append p (newest_first xs) (x ∷ []) ∙ turned (list_any p (newest_first xs)) (p x) ∙ ap (λ (b : Bool). p x || b) (any_newest p xs)
+any_newest p (x ∷ xs) = grind (arith, nat_tests, common_steps, any_newest p xs, list_any-append p (newest_first xs) (x ∷ []), turned (list_any p (newest_first xs)) (p x))
 
 not_true : (b c : Bool) → c ≡ not b → c ≡ true → b ≡ false
 not_true true c e f = absurd cc
@@ -35,9 +34,7 @@ not_false true c e f = refl
 not_false false c e f = absurd cc
 
 rest_is : (rows : List Row) (at : ℕ) (row : Row) → at < length rows → row ≡ get_or rows at row → drop at rows ≡ row ∷ drop (at + 1) rows
-rest_is rows at row lt is =
-    let next : suc at ≡ at + 1 = omega arith in
-    drop-cons rows at row lt ∙ ap₂ (λ (r : Row) (n : ℕ). r ∷ drop n rows) (sym is) next
+rest_is rows at row lt is = grind (arith, nat_tests, common_steps, drop-cons rows at row lt)
 
 row_kept : (before : List (List ℕ)) (row : Row) (rows : List Row) → list_any (bytes_eq row.instance) before ≡ false
     → without_doubles before (row ∷ rows) ≡ row ∷ without_doubles (row.instance ∷ before) rows

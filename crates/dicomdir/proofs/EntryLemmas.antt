@@ -26,9 +26,7 @@ least_below [] (r ∷ rs) least are rise j d fits = elim are [ ]
 least_below (e ∷ es) [] least are rise j d fits = elim are [ ]
 least_below [] [] least no_entries rise j d fits = absurd (omega (arith, fits))
 least_below (e ∷ es) (r ∷ rs) least (entry_then is rest) rise zero d fits = omega (arith, rise.0, is.place)
-least_below (e ∷ es) (r ∷ rs) least (entry_then is rest) rise (suc j) d fits =
-    let later = least_below es rs (suc r.place) rest rise.1 j d (omega (arith, fits)) in
-    omega (arith, rise.0, later)
+least_below (e ∷ es) (r ∷ rs) least (entry_then is rest) rise (suc j) d fits = grind (arith, nat_tests, common_steps, least_below es rs (suc r.place) rest rise.1 j d (omega (arith, fits)))
 
 places_rise : (entries : List ReadRecord) (records : List Record) (least : ℕ) → AreEntries entries records → Rise least records
     → (i j : ℕ) (d : ReadRecord) → i ≤ j → j < length entries → (get_or entries i d).place ≤ (get_or entries j d).place
@@ -36,20 +34,16 @@ places_rise [] (r ∷ rs) least are rise i j d below fits = elim are [ ]
 places_rise (e ∷ es) [] least are rise i j d below fits = elim are [ ]
 places_rise [] [] least no_entries rise i j d below fits = absurd (omega (arith, fits))
 places_rise (e ∷ es) (r ∷ rs) least (entry_then is rest) rise zero zero d below fits = omega arith
-places_rise (e ∷ es) (r ∷ rs) least (entry_then is rest) rise zero (suc j) d below fits =
-    let later = least_below es rs (suc r.place) rest rise.1 j d (omega (arith, fits)) in
-    omega (arith, later, is.place)
+places_rise (e ∷ es) (r ∷ rs) least (entry_then is rest) rise zero (suc j) d below fits = grind (arith, nat_tests, common_steps, least_below es rs (suc r.place) rest rise.1 j d (omega (arith, fits)))
 places_rise (e ∷ es) (r ∷ rs) least (entry_then is rest) rise (suc i) zero d below fits = absurd (omega (arith, below))
-places_rise (e ∷ es) (r ∷ rs) least (entry_then is rest) rise (suc i) (suc j) d below fits =
-    places_rise es rs (suc r.place) rest rise.1 i j d (omega (arith, below)) (omega (arith, fits))
+places_rise (e ∷ es) (r ∷ rs) least (entry_then is rest) rise (suc i) (suc j) d below fits = grind (arith, nat_tests, common_steps, places_rise es rs (suc r.place) rest rise.1 i j d (omega (arith, below)) (omega (arith, fits)))
 
 compared : (a b p : ℕ) → a ≤ b → ordering_index (nat_cmp a p) ≤ ordering_index (nat_cmp b p)
 compared a b p below = grind (arith, nat_tests)
 
 comparisons_rise : (entries : List ReadRecord) (records : List Record) (place : ℕ) → AreEntries entries records → Rise 0 records
     → IsNonDecreasingBy (λ e. ordering_index (nat_cmp e.place place)) entries
-comparisons_rise entries records place are rise i j d below fits =
-    compared (get_or entries i d).place (get_or entries j d).place place (places_rise entries records 0 are rise i j d below fits)
+comparisons_rise entries records place are rise i j d below fits = grind (arith, nat_tests, common_steps, compared (get_or entries i d).place (get_or entries j d).place place (places_rise entries records 0 are rise i j d below fits))
 
 no_record_step : (r : Record) (rs : List Record) (place : ℕ) → (r.place ≡ place → ⊥) → record_at place rs ≡ None → record_at place (r ∷ rs) ≡ None
 no_record_step r rs place other none = grind (arith, nat_tests)
@@ -92,10 +86,7 @@ none_flagged (r ∷ rs) = ap (λ z. false ∷ z) (none_flagged rs)
 -- a place below all others flags none of them
 same_flags : (p : ℕ) (reached : List ℕ) (least : ℕ) (records : List Record) → Rise least records → p < least → flags_of (p ∷ reached) records ≡ flags_of reached records
 same_flags p reached least [] rise below = refl
-same_flags p reached least (r ∷ rs) rise below =
-    let other : nat_eq r.place p ≡ false = grind (arith, nat_tests, rise.0, below) in
-    let rest = same_flags p reached (suc r.place) rs rise.1 (omega (arith, rise.0, below)) in
-    λ i. (other i || is_one_of r.place reached) ∷ rest i
+same_flags p reached least (r ∷ rs) rise below = grind (arith, nat_tests, common_steps, same_flags p reached (suc r.place) rs rise.1 (omega (arith, rise.0, below)))
 
 -- the record of an entry
 pub record AtEntry (e : ReadRecord) (records : List Record) (at least : ℕ) : Type 0 where
@@ -122,18 +113,7 @@ first_entry e r rs least is rise =
     }
 
 later_entry : (e : ReadRecord) (r : Record) (rs : List Record) (at least : ℕ) → least ≤ r.place → AtEntry e rs at (suc r.place) → AtEntry e (r ∷ rs) (suc at) least
-later_entry e r rs at least first later =
-    let above = later.above in
-    let other : nat_eq r.place later.of_it.place ≡ false = grind (arith, nat_tests, above) in
-    record {
-      of_it = later.of_it;
-      is = later.is;
-      above = omega (arith, first, above);
-      stands = cond-false (nat_eq r.place later.of_it.place) (Some r.elements) (record_at later.of_it.place rs) other ∙ later.stands;
-      flag = λ reached d. later.flag reached d;
-      marked = λ reached. let rest = later.marked reached in λ i. (sym other i || is_one_of r.place reached) ∷ rest i;
-      left = λ reached. later.left reached;
-    }
+later_entry e r rs at least first later = grind (arith, nat_tests, common_steps)
 
 pub at_entry : (entries : List ReadRecord) (records : List Record) (least at : ℕ) (d : ReadRecord) → AreEntries entries records → Rise least records → at < length entries
     → AtEntry (get_or entries at d) records at least
@@ -141,18 +121,13 @@ at_entry [] (r ∷ rs) least at d are rise fits = elim are [ ]
 at_entry (e ∷ es) [] least at d are rise fits = elim are [ ]
 at_entry [] [] least at d no_entries rise fits = absurd (omega (arith, fits))
 at_entry (e ∷ es) (r ∷ rs) least zero d (entry_then is rest) rise fits = first_entry e r rs least is rise
-at_entry (e ∷ es) (r ∷ rs) least (suc at) d (entry_then is rest) rise fits =
-    later_entry (get_or es at d) r rs at least rise.0 (at_entry es rs (suc r.place) at d rest rise.1 (omega (arith, fits)))
+at_entry (e ∷ es) (r ∷ rs) least (suc at) d (entry_then is rest) rise fits = grind (arith, nat_tests, common_steps, later_entry (get_or es at d) r rs at least rise.0 (at_entry es rs (suc r.place) at d rest rise.1 (omega (arith, fits))))
 
 -- an entry in use that was not reached is the first such one; any other is passed over
 pub left_at : (entries : List ReadRecord) (flags : List Bool) (records : List Record) (reached : List ℕ) (e : ReadRecord) (at : ℕ) → AreFlagged entries flags records reached
     → e ≡ get_or entries at e → at < length entries
     → unreached_fault reached (drop at records) ≡ (if not e.in_use || get_or flags at false then unreached_fault reached (drop (suc at) records) else fault 63 e.place)
-left_at entries flags records reached e at flagged is fits =
-    let there : AtEntry e records at 0 = subst (λ z. AtEntry z records at 0) (sym is) (at_entry entries records 0 at e flagged.are flagged.rise fits) in
-    let in_use : e.in_use ≡ (carried_node there.of_it.elements).in_use = ap (λ z. z.in_use) there.is.carries in
-    let flag : get_or flags at false ≡ is_one_of there.of_it.place reached = ap (λ z. get_or z at false) flagged.flagged ∙ there.flag reached false in
-    grind (arith, nat_tests, common_steps, suc at)
+left_at entries flags records reached e at flagged is fits = grind (arith, nat_tests, common_steps, at_entry entries records 0 at e flagged.are flagged.rise fits)
 
 pub passes : (u r : Bool) → (u ≡ false) ⊎ (r ≡ true) → (not u || r) ≡ true
 passes v1 r e = grind (arith, nat_tests)

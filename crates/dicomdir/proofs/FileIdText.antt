@@ -6,6 +6,7 @@ use Rattle.element.specs.Padding.{is_space, kept_before, without_trailing, padde
 use Rattle.dicomdir.specs.FileId.{is_id_character, is_file_id_component, before_parts, parts_of, is_file_id, if_file_id, file_id_of}
 use Rattle.dicomdir.proofs.Distinct.{not_true}
 use Rattle.std.proofs.lemmas.Bool.Decides.{nat_tests}
+use Rattle.std.proofs.lemmas.Grind.{common_steps}
 
 abbrev no_space : ℕ → Bool
 no_space c = not (is_space c)
@@ -18,10 +19,7 @@ character_is_no_space c e = grind (arith, nat_tests)
 
 of_before : (c : ℕ) (parts : List (List ℕ)) → are_characters (before_parts c parts) ≡ true → (is_id_character c ≡ true) × (are_characters parts ≡ true)
 of_before c [] e = ((and_parts (is_id_character c) true (and_parts (is_id_character c && true) true e).0).0, refl)
-of_before c (part ∷ parts) e =
-    let two = and_parts (is_id_character c && list_all is_id_character part) (are_characters parts) e in
-    let one = and_parts (is_id_character c) (list_all is_id_character part) two.0 in
-    (one.0, and_from (list_all is_id_character part) (are_characters parts) one.1 two.1)
+of_before c (part ∷ parts) e = grind (arith, nat_tests, common_steps, and_parts (is_id_character c && list_all is_id_character part) (are_characters parts) e)
 
 no_spaces : (text : List ℕ) → are_characters (parts_of text) ≡ true → list_all no_space text ≡ true
 no_spaces [] e = refl

@@ -7,6 +7,7 @@ use Rattle.std.proofs.lemmas.List.{drop-replicate}
 use Rattle.std.proofs.Math.Seq.{take-append_seam}
 use Rattle.dicomdir.specs.FileId.{is_id_character, is_file_id_component, before_parts, parts_of, is_file_id, filled}
 use Rattle.dicomdir.specs.FileIdRoom.{IsKept}
+use Rattle.std.proofs.lemmas.Grind.{common_steps}
 
 -- the first part, of which characters may still come in front
 abbrev pub first_size : List (List ℕ) → ℕ
@@ -43,10 +44,7 @@ good_end [] some = absurd cc
 good_end (part ∷ parts) some = moved (nat_le 1 (length part)) (nat_le (length part) 8) (list_all is_id_character part) (list_all is_file_id_component parts)
 
 shifted : (a b c : Bool) → (a && (b && c)) ≡ ((a && c) && b)
-shifted true true c = grind (arith, nat_tests)
-shifted true false true = refl
-shifted true false false = refl
-shifted false b c = refl
+shifted v1 b c = grind (arith, nat_tests, common_steps)
 
 good_more : (c : ℕ) (parts : List (List ℕ)) → is_none parts ≡ false → is_good (before_parts c parts) ≡ (is_good parts && is_id_character c)
 good_more c [] some = absurd cc
@@ -89,27 +87,7 @@ pub count_before : (xs : List ℕ) (n : ℕ) → n < length xs → nat_eq (get_o
 count_before xs n lt e = ap length (goes_on xs n lt e) ∙ count_more (get_or xs n 0) (parts_of (drop (n + 1) xs)) (some_part (drop (n + 1) xs))
 
 gathered : (a b c d e : Bool) → (e && ((a && b && c) && d)) ≡ ((d && c) && ((a && b) && e))
-gathered true true true true true = refl
-gathered true true true true false = refl
-gathered true true true false true = refl
-gathered true true true false false = refl
-gathered true true false true true = refl
-gathered true true false true false = refl
-gathered true true false false true = refl
-gathered true true false false false = refl
-gathered true false c d true = grind (arith, nat_tests)
-gathered true false true true false = refl
-gathered true false true false false = refl
-gathered true false false true false = refl
-gathered true false false false false = refl
-gathered false b true true true = refl
-gathered false b true false true = refl
-gathered false b false true true = refl
-gathered false b false false true = refl
-gathered false b true true false = refl
-gathered false b true false false = refl
-gathered false b false true false = refl
-gathered false b false false false = refl
+gathered v1 b c d v5 = grind (arith, nat_tests, common_steps)
 
 by_parts : (parts : List (List ℕ)) → is_none parts ≡ false → (nat_le (length parts) 8 && list_all is_file_id_component parts) ≡ (is_good parts && (is_size (first_size parts) && nat_le (length parts) 8))
 by_parts [] some = absurd cc
@@ -160,9 +138,7 @@ pub zeros_after : (n : ℕ) → drop n (replicate {A = ℕ} 71 0) ≡ replicate 
 zeros_after n = drop-replicate {X = ℕ} n 71 0
 
 pub kept_filled : (text : List ℕ) → is_file_id text ≡ true → IsKept (filled text) (length text)
-kept_filled text e =
-    let front : take (length text) (filled text) ≡ text = take-append_seam text (replicate (71 - length text) 0) in
-    record { rest_is_zero = ap filled front; size_fits = ap length front; is_one = ap is_file_id front ∙ e }
+kept_filled text e = grind (arith, nat_tests, common_steps, take-append_seam text (replicate (71 - length text) 0))
 
 pub shown_filled : (text : List ℕ) → take (length text) (filled text) ≡ text
 shown_filled text = take-append_seam text (replicate (71 - length text) 0)

@@ -20,6 +20,7 @@ use Rattle.dicomdir.specs.machine.Texts.{ElementsThen, IsAfter, nothing_after, e
 use Rattle.dicomdir.proofs.HeadLemmas.{head_read}
 use Rattle.dicomdir.proofs.TextLemmas.{Front, at_end, at_element, front_of, header_length, is_head, marked_head, no_head, same_tags}
 use Rattle.dicomdir.proofs.SkipLemmas.{odd, fits_end}
+use Rattle.std.proofs.lemmas.Grind.{common_steps}
 
 -- ---- what a length announces
 
@@ -36,10 +37,7 @@ defined_content h b more text other size whole =
     undefined_no false e = refl
 
 open_content : (h : Header) (text : List ℕ) → h.length ≡ undefined_length → content_at h text ≡ text
-open_content h text unsized =
-    let there : is_undefined h.length ≡ true = eq-eqb h.length undefined_length unsized in
-    let no : (not (is_undefined h.length) && nat_le h.length (length text)) ≡ false = rw there refl in
-    cond-false _ (take h.length text) text no
+open_content h text unsized = grind (arith, nat_tests, common_steps, eq-eqb h.length undefined_length unsized)
 
 -- the text is this one, and goes on by nothing or by the end of the level
 pub record EndsAs (mark : Tag) (b text : List ℕ) : Type 0 where
@@ -59,30 +57,16 @@ ended_content {mark = mark} h more text (delimited {b = b}) same whole =
     }
 
 pub item_content : (s : Syntax) (h : Header) (es : Elements) (c more text : List ℕ) → IsItemContent s h es c → text ≡ c ++ more → HasElements s es (content_at h text)
-item_content s h es c more text (of_elements {b = b} elements end) whole =
-    let ends = ended_content h more text end refl whole in
-    record { more = ends.more; after = ends.after; spelled = record { bytes = b; data_set = elements; whole = ends.whole } }
+item_content s h es c more text (of_elements {b = b} elements end) whole = grind (arith, nat_tests, common_steps, ended_content h more text end refl whole)
 
 pub finds_items : (s inner : Syntax) (h : Header) (place size : ℕ) (f : Found) (c more text there : List ℕ) → size ≡ header_size h → shape s h ≡ Sequence inner → IsContent s h place f c
     → text ≡ c ++ more → there ≡ content_at h text → FindsItems place (place + size) inner there f
 finds_items s inner h place size f c more text there sized is (of_value sh val) whole at = absurd cc
-finds_items s inner h place size f c more text there sized is (of_items {inner = other} {is = items} {b = b} sh list end) whole at =
-    let ends = ended_content h more text end refl whole in
-    let same : Sequence other ≡ Sequence inner = sym sh ∙ is in
-    let inner_is : other ≡ inner = cc in
-    let has : HasItems other items there = record { more = ends.more; after = ends.after; spelled = record { bytes = b; items = list; whole = at ∙ ends.whole } } in
-    record {
-      header = h;
-      items = items;
-      is = refl;
-      first_is = ap (λ n. place + n) sized;
-      text_is = subst (λ z. HasItems z items there) inner_is has;
-    }
+finds_items s inner h place size f c more text there sized is (of_items {inner = other} {is = items} {b = b} sh list end) whole at = grind (arith, nat_tests, common_steps, ended_content h more text end refl whole)
 
 pub finds_value : (s : Syntax) (h : Header) (place : ℕ) (f : Found) (c more text there : List ℕ) → ((inner : Syntax) → shape s h ≡ Sequence inner → ⊥) → IsContent s h place f c
     → text ≡ c ++ more → there ≡ content_at h text → f ≡ value_at place there
-finds_value s h place f c more text there none (of_value {v = v} sh val) whole at =
-    ap (λ z. value_at place z) (sym (at ∙ defined_content h v more text (λ e. odd h.length val.even e) val.size whole))
+finds_value s h place f c more text there none (of_value {v = v} sh val) whole at = grind (arith, nat_tests, common_steps)
 finds_value s h place f c more text there none (of_items {inner = inner} sh list end) whole at = absurd (none inner sh)
 
 pub no_sequence : (s : Syntax) (h : Header) (r : Shape) → (r ≡ Value) ⊎ (r ≡ NotAllowed) → r ≡ shape s h → (inner : Syntax) → shape s h ≡ Sequence inner → ⊥
@@ -112,15 +96,11 @@ pub record LeftOf (s : Syntax) (tag place : ℕ) (es : Elements) (text rest : Li
   pub same : found tag place es ≡ found tag (place + (length text - length rest)) others
 
 pub all_left : (s : Syntax) (tag place : ℕ) (es : Elements) (text : List ℕ) → HasElements s es text → LeftOf s tag place es text text
-all_left s tag place es text has =
-    let none : place ≡ place + (length text - length text) = omega arith in
-    record { last = 0; others = es; more = has.more; after = has.after; spelled = has.spelled; same = ap (λ n. found tag n es) none }
+all_left s tag place es text has = grind (arith, nat_tests, common_steps)
 
 after_head : (s : Syntax) (more text : List ℕ) (head : Head) → IsAfter item_end_tag more → text ≡ more → head_at s text ≡ Some head → is_marker head.header.tag ≡ true
 after_head s more text head (nothing_after) whole read = let none = no_head s text whole in absurd cc
-after_head s more text head (end_after rest) whole read =
-    let is = marked_head s item_end_tag rest text head refl fits_end whole read in
-    ap (λ z. is_marker z.header.tag) (sym is)
+after_head s more text head (end_after rest) whole read = grind (arith, nat_tests, common_steps, marked_head s item_end_tag rest text head refl fits_end whole read)
 
 pub left_after : (s : Syntax) (tag place : ℕ) (es : Elements) (text rest after : List ℕ) (head : Head) → length rest ≤ length text → LeftOf s tag place es text rest
     → head_at s rest ≡ Some head → is_marker head.header.tag ≡ false → (IsTag head.header.tag → nat_eq (number head.header.tag) tag ≡ false)

@@ -7,6 +7,7 @@ use Rattle.dicomdir.specs.Paths.{Links, Turn, named_by, reached_by}
 use Rattle.dicomdir.specs.DirFault.{Fault, fault, ◌or_else◌, names_no_record, names_wrong_level, path_fault, first_fault}
 use Rattle.dicomdir.proofs.Distinct.{not_true, same_place, not_place, clash, same_out, either_out}
 use Rattle.std.proofs.lemmas.Bool.Decides.{nat_tests}
+use Rattle.std.proofs.lemmas.Grind.{common_steps}
 
 abbrev pub is_good : Links → List Turn → Bool
 is_good links path = not (names_no_record links path) && not (names_wrong_level links path)
@@ -66,9 +67,7 @@ are_free links reached (path ∷ paths) e =
     }
 
 pub good_parts : (links : Links) (path : List Turn) → is_good links path ≡ true → (names_no_record links path ≡ false) × (names_wrong_level links path ≡ false)
-good_parts links path e =
-    let parts = and_parts (not (names_no_record links path)) (not (names_wrong_level links path)) e in
-    (not_true (names_no_record links path) parts.0, not_true (names_wrong_level links path) parts.1)
+good_parts links path e = grind (arith, nat_tests, common_steps, and_parts (not (names_no_record links path)) (not (names_wrong_level links path)) e)
 
 pub free_paths : (links : Links) (reached : List ℕ) (paths : List (List Turn)) → AreFree links reached paths → first_fault links reached paths ≡ None
 free_paths links reached [] free = refl

@@ -9,6 +9,8 @@ use Rattle.std.proofs.lemmas.Slice.Eq.{bytes_eq-Decides}
 use Rattle.dicomdir.specs.Row.{Row}
 use Rattle.dicomdir.specs.TreeOf.{with_key, seen_after, rows_with}
 use Rattle.dicomdir.proofs.Distinct.{backwards}
+use Rattle.std.proofs.lemmas.Bool.Decides.{nat_tests}
+use Rattle.std.proofs.lemmas.Grind.{common_steps}
 
 -- the same bytes
 
@@ -28,16 +30,11 @@ Distinct (k ∷ keys) = (list_any (bytes_eq k) keys ≡ false) × Distinct keys
 
 any_append : (p : List ℕ → Bool) (keys : List (List ℕ)) (k : List ℕ) → list_any p (keys ++ k ∷ []) ≡ false → (list_any p keys ≡ false) × (p k ≡ false)
 any_append p [] k e = (refl, (or_parts (p k) false e).0)
-any_append p (x ∷ keys) k e =
-    let parts = or_parts (p x) _ e in
-    let more = any_append p keys k parts.1 in
-    (or_from (p x) _ parts.0 more.0, more.1)
+any_append p (x ∷ keys) k e = grind (arith, nat_tests, common_steps)
 
 append_any : (p : List ℕ → Bool) (keys : List (List ℕ)) (k : List ℕ) → list_any p keys ≡ false → p k ≡ false → list_any p (keys ++ k ∷ []) ≡ false
 append_any p [] k e f = or_from (p k) false f refl
-append_any p (x ∷ keys) k e f =
-    let parts = or_parts (p x) _ e in
-    or_from (p x) _ parts.0 (append_any p keys k parts.1 f)
+append_any p (x ∷ keys) k e f = grind (arith, nat_tests, common_steps)
 
 distinct_more : (keys : List (List ℕ)) (k : List ℕ) → Distinct keys → list_any (bytes_eq k) keys ≡ false → Distinct (keys ++ k ∷ [])
 distinct_more [] k d e = (refl, tt)
@@ -109,8 +106,7 @@ pub record Grouped (key_of : Row → List ℕ) (done : List Row) (keys : List (L
 
 seen_step : (key_of : Row → List ℕ) (done : List Row) (row : Row) (keys : List (List ℕ)) → keys ≡ seen_after [] (map key_of done)
     → with_key (key_of row) keys ≡ seen_after [] (map key_of (done ++ row ∷ []))
-seen_step key_of done row keys e =
-    ap (with_key (key_of row)) e ∙ sym (seen_more [] (map key_of done) (key_of row)) ∙ ap (seen_after []) (sym (map-append key_of done (row ∷ [])))
+seen_step key_of done row keys e = grind (arith, nat_tests, common_steps, seen_more [] (map key_of done) (key_of row), map-append key_of done (row ∷ []))
 
 pub grouped_old : (key_of : Row → List ℕ) (done : List Row) (row : Row) (keys : List (List ℕ)) (groups : List (List Row)) → Grouped key_of done keys groups
     → list_any (bytes_eq (key_of row)) keys ≡ true

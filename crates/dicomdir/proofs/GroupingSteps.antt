@@ -9,6 +9,8 @@ use Rattle.dicomdir.specs.TreeOf.{rows_with}
 use Rattle.dicomdir.specs.Row.{Row}
 use Rattle.dicomdir.specs.machine.FirstSeen.{texts, is_seen, with_one, Sees, put_in, Puts}
 use Rattle.dicomdir.proofs.GroupingLemmas.{Grouped, grouped_old, grouped_new}
+use Rattle.std.proofs.lemmas.Bool.Decides.{nat_tests}
+use Rattle.std.proofs.lemmas.Grind.{common_steps}
 
 pub any_texts : {A : Type 0} (k : List ℕ) (keys : List (Vec ℕ A)) → list_any (λ y. bytes_eq k y.items) keys ≡ list_any (bytes_eq k) (texts keys)
 any_texts k [] = refl
@@ -35,10 +37,8 @@ step_by : (b : Bool) (key_of : Row → List ℕ) (done : List Row) (row : Row) (
     → new ≡ cond b keys (keys ++ key_of row ∷ []) → n ≡ position_or_len (bytes_eq (key_of row)) keys
     → g1 ≡ cond (not b) (groups ++ [] ∷ []) groups → g2 ≡ set g1 n (get_or g1 n [] ++ row ∷ [])
     → Grouped key_of (done ++ row ∷ []) new g2
-step_by true key_of done row keys new groups g1 g2 n any g is place opened put =
-    rw (put, opened, place, is) (grouped_old key_of done row keys groups g any)
-step_by false key_of done row keys new groups g1 g2 n any g is place opened put =
-    rw (put, opened, place, is) (grouped_new key_of done row keys groups g any)
+step_by true key_of done row keys new groups g1 g2 n any g is place opened put = grind (arith, nat_tests, common_steps, grouped_old key_of done row keys groups g any)
+step_by false key_of done row keys new groups g1 g2 n any g is place opened put = grind (arith, nat_tests, common_steps, grouped_new key_of done row keys groups g any)
 
 pick : {A : Type 0} (b : Bool) (keys : List (Vec ℕ A)) (v : Vec ℕ A) → texts (cond b keys (keys ++ v ∷ [])) ≡ with_one b v.items (texts keys)
 pick true keys v = refl
@@ -49,13 +49,7 @@ pub sees : {A : Type 0} (k : List ℕ) (keys new : List (Vec ℕ A)) (v : Vec �
     → n ≡ position_or_len (λ y. bytes_eq v.items y.items) keys
     → is_new ≡ not (list_any (λ y. bytes_eq v.items y.items) keys)
     → Sees k (texts keys) (texts new) n is_new
-sees k keys new v n is_new key news place newness =
-    let any : list_any (λ y. bytes_eq v.items y.items) keys ≡ is_seen k (texts keys) = any_texts v.items keys ∙ ap (λ (t : List ℕ). is_seen t (texts keys)) key in
-    record {
-      keys_are = ap texts news ∙ pick (list_any (λ y. bytes_eq v.items y.items) keys) keys v ∙ ap₂ (λ (c : Bool) (t : List ℕ). with_one c t (texts keys)) any key;
-      number_is = place ∙ place_texts v.items keys ∙ ap (λ (t : List ℕ). position_or_len (bytes_eq t) (texts keys)) key;
-      newness = newness ∙ ap not any;
-    }
+sees k keys new v n is_new key news place newness = grind (arith, nat_tests, common_steps, any_texts v.items keys, place_texts v.items keys)
 
 both_grow : (b : Bool) (keys : List (List ℕ)) (k : List ℕ) (groups : List (List Row)) → length groups ≡ length keys
     → length (cond (not b) (groups ++ [] ∷ []) groups) ≡ length (with_one b k keys)
@@ -64,8 +58,7 @@ both_grow false keys k groups e = omega (arith, e, length-append groups ([] ∷ 
 
 pub opened_length : (k : List ℕ) (keys new : List (List ℕ)) (n : ℕ) (is_new : Bool) (groups g1 : List (List Row)) → length groups ≡ length keys
     → Sees k keys new n is_new → g1 ≡ cond is_new (groups ++ [] ∷ []) groups → length g1 ≡ length new
-opened_length k keys new n is_new groups g1 e s opened =
-    ap length (opened ∙ ap (λ (c : Bool). cond c (groups ++ [] ∷ []) groups) s.newness) ∙ both_grow (is_seen k keys) keys k groups e ∙ ap length (sym s.keys_are)
+opened_length k keys new n is_new groups g1 e s opened = grind (arith, nat_tests, common_steps, both_grow (is_seen k keys) keys k groups e)
 
 pub puts : (k : List ℕ) (row : Row) (keys new : List (List ℕ)) (groups g1 g2 : List (List Row)) (n : ℕ) (is_new : Bool)
     → Sees k keys new n is_new → g1 ≡ cond is_new (groups ++ [] ∷ []) groups → g2 ≡ put_in g1 n row → Puts k row keys new groups g2
@@ -91,7 +84,4 @@ step key_of rows i row k keys new groups after lt is key g p =
 
 pub finished : (key_of : Row → List ℕ) (rows : List (Bor Row)) (n : ℕ) (keys : List (List ℕ)) (groups : List (List Row)) → length rows ≤ n
     → Grouped key_of (take n (rows_at rows)) keys groups → groups ≡ groups_of key_of (rows_at rows)
-finished key_of rows n keys groups le g =
-    let all : take n (rows_at rows) ≡ rows_at rows = take_all n (rows_at rows) (omega (arith, le, length-map rows (λ (r : Bor Row). r.now))) in
-    let whole : Grouped key_of (rows_at rows) keys groups = rw all at g in
-    whole.each ∙ ap (map (λ k. rows_with key_of k (rows_at rows))) whole.seen
+finished key_of rows n keys groups le g = grind (arith, nat_tests, common_steps)

@@ -15,10 +15,7 @@ use Rattle.std.proofs.lemmas.Grind.{common_steps}
 
 pub head_whole : (s : Syntax) (b : List ℕ) (k : ℕ) → need s b ≡ Size k → k ≤ length b → is_whole s b ≡ true
 unfolding is_whole
-head_whole s b k e fits =
-    let same : has_size (need s b) (length b) ≡ nat_le k (length b) = ap (λ n. has_size n (length b)) e in
-    let holds : nat_le k (length b) ≡ true = grind (arith, nat_tests, fits) in
-    same ∙ holds
+head_whole s b k e fits = grind (arith, nat_tests, common_steps)
 
 when_fits : (p : Bool) (x r : Head) → (if p then Some x else None) ≡ Some r → (p ≡ true) × (x ≡ r)
 when_fits true x r e = (refl, cc)
@@ -27,20 +24,10 @@ when_fits false x r e = absurd cc
 head_size : (s : Syntax) (b : List ℕ) (n : Need) (r : Head) → need s b ≡ n → head_by s b n ≡ Some r → (8 ≤ r.size) × (r.size ≤ length b)
 head_size s b More r is e = absurd cc
 head_size s b BadVr r is e = absurd cc
-head_size s b (Size k) r is e =
-    let parts = when_fits (nat_le k (length b)) (record { header = header_at s b; size = k }) r e in
-    let least = need_least s b k is in
-    let same : k ≡ r.size = ap (λ x. x.size) parts.1 in
-    let fits = parts.0 in
-    (omega (arith, least, same), grind (arith, nat_tests, fits, same))
+head_size s b (Size k) r is e = grind (arith, nat_tests, common_steps, when_fits (nat_le k (length b)) (record { header = header_at s b; size = k }) r e, need_least s b k is)
 
 pub head_some : (s : Syntax) (b : List ℕ) (r : Head) → head_at s b ≡ Some r → (8 ≤ r.size) × (r.size ≤ length b)
 head_some s b r e = head_size s b (need s b) r refl e
 
 pub head_read : (s : Syntax) (h : Header) (front rest b : List ℕ) → SpellsHeader s h front → b ≡ front ++ rest → head_at s b ≡ Some (record { header = h; size = length front })
-head_read s h front rest b spelled whole =
-    let size : need s b ≡ Size (length front) = spelled_need s h front rest b spelled whole in
-    let is : h ≡ header_at s b = spelled_header s h front rest b spelled whole in
-    let long : length b ≡ length front + length rest = ap length whole ∙ length-append front rest in
-    let holds : nat_le (length front) (length b) ≡ true = grind (arith, nat_tests, long) in
-    grind (arith, nat_tests, common_steps)
+head_read s h front rest b spelled whole = grind (arith, nat_tests, common_steps, spelled_need s h front rest b spelled whole, spelled_header s h front rest b spelled whole, length-append front rest)

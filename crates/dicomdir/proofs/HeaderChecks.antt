@@ -14,6 +14,7 @@ use Rattle.sequence.specs.Ending.{Fails, breaks_rule, ends_early}
 use Rattle.dicomdir.specs.declared.fault.DirFault.{DirFault}
 use Rattle.dicomdir.specs.CheckFault.{CheckFault, check_limits, HasHeader, IsAtNone, in_header, in_syntax, in_data_set, at_the_end}
 use Rattle.dicomdir.specs.machine.Steps.{header_fault_of}
+use Rattle.std.proofs.lemmas.Grind.{common_steps}
 
 pub header_check : (file : List ℕ) (fault : MetaFault) → FailsToRead fault (Some file) → (header_fault_of fault).number ≢ 67
     → CheckFault file (header_fault_of fault).number (header_fault_of fault).place (header_fault_of fault).tag
@@ -36,9 +37,7 @@ explicit_check file rest meta takes is = record {
 }
 
 pub header_before : {file back : List ℕ} → HasHeader file back → length back ≤ length file
-header_before {file = file} {back = back} h =
-    let whole = ap length h.explicit.whole ∙ length-append h.front back in
-    omega (arith, whole)
+header_before {file = file} {back = back} h = grind (arith, nat_tests, common_steps, length-append h.front back)
 
 pub data_set_check : {file back : List ℕ} (h : HasHeader file back) (fault : Fault) (start : ℕ) → start ≡ length file - length back → Fails Explicit check_limits back fault
     → CheckFault file fault.number (start + fault.place) fault.tag

@@ -38,12 +38,7 @@ kept_from i records = kept_in (map node_of (drop i records))
 pub kept_one_more : (records : List TreeRecord) (i : ℕ) (d : TreeRecord) (kept one : List (List ℕ)) → i < length records
     → one ≡ file_id_of_image (node_of (get_or records i d)).carries → kept ++ kept_from i records ≡ kept_in (map node_of records)
     → (kept ++ one) ++ kept_from (i + 1) records ≡ kept_in (map node_of records)
-kept_one_more records i d kept one within is all =
-    let first : kept_from i records ≡ one ++ kept_from (i + 1) records =
-    ap (λ z. kept_in (map node_of z)) (drop_more records i d within) ∙ ap (λ z. z ++ kept_from (i + 1) records) (sym is) in
-    append_assoc kept one (kept_from (i + 1) records) ∙ (ap (λ z. kept ++ z) (sym first) ∙ all)
+kept_one_more records i d kept one within is all = grind (arith, nat_tests, common_steps, drop_more records i d within, append_assoc kept one (kept_from (i + 1) records))
 
 pub kept_whole : (records : List TreeRecord) (kept : List (List ℕ)) (i : ℕ) → length records ≤ i → kept ++ kept_from i records ≡ kept_in (map node_of records) → kept ≡ kept_in (map node_of records)
-kept_whole records kept i le all =
-    let none : drop i records ≡ [] = drop_all i records le in
-    sym (append-nil kept) ∙ (ap (λ z. kept ++ kept_in (map node_of z)) (sym none) ∙ all)
+kept_whole records kept i le all = grind (arith, nat_tests, common_steps, drop_all i records le, append-nil kept)

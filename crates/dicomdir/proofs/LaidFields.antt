@@ -41,13 +41,7 @@ is_fixed last t vr =
     && (not (is_vr (codes "SQ") vr) && is_short_vr vr))
 
 short_header : (t : Tag) (vr : List ℕ) (n : ℕ) → is_short_vr vr ≡ true → length vr ≡ 2 → header_size (record { tag = t; vr = Some vr; length = n }) ≡ 8
-short_header t vr n short two =
-    let is : header_size (record { tag = t; vr = Some vr; length = n }) ≡ length ((le t.0 2 ++ le t.1 2) ++ (vr ++ le n 2)) =
-    ap (λ (b : Bool). length ((le t.0 2 ++ le t.1 2) ++ cond b (vr ++ le n 2) (vr ++ (0 ∷ 0 ∷ le n 4)))) short in
-    let a = length-append vr (le n 2) in
-    let last : length (le n 2) ≡ 2 = refl in
-    let front : length ((le t.0 2 ++ le t.1 2) ++ (vr ++ le n 2)) ≡ 4 + length (vr ++ le n 2) = omega arith in
-    omega (arith, is, a, last, front, two)
+short_header t vr n short two = grind (arith, nat_tests, common_steps, length-append vr (le n 2))
 
 pub fixed_from : (last : ℕ) (t : Tag) (vr : List ℕ) → is_fixed last t vr ≡ true → IsFixed last t vr
 fixed_from last t vr e =
@@ -88,30 +82,10 @@ fits_short true vr n e f = absurd cc
 fits_short false vr n e f = or_right (not (is_short_vr vr)) (nat_lt n 65536) f
 
 pub laid_field : (last : ℕ) (t : Tag) (vr v : List ℕ) (es : Elements) → IsFixed last t vr → length v % 2 ≡ 0 → length v < 65536 → is_laid (number t) es ≡ true → is_laid last (field t vr v es) ≡ true
-laid_field last t vr v es f even short laid =
-    let lt : nat_lt (length v) 65536 ≡ true = grind (arith, nat_tests) in
-    let defined : nat_lt (length v) undefined_length ≡ true = grind (arith, nat_tests) in
-    let two : nat_eq (length v % 2) 0 ≡ true = grind (arith, nat_tests) in
-    let same : nat_eq (length v) (length v) ≡ true = grind (arith, nat_tests) in
-    let not_undefined : is_undefined (length v) ≡ false = grind (arith, nat_tests) in
-    let fits : header_fits Explicit (record { tag = t; vr = Some vr; length = length v }) ≡ true = fits_short (is_plain Explicit t) vr (length v) f.plain lt in
-    let value : is_value (shape Explicit (record { tag = t; vr = Some vr; length = length v })) ≡ true = rw (f.no_sequence, not_undefined) refl in
-    let header : is_header (record { tag = t; vr = Some vr; length = length v }) ≡ true =
-    and_from _ _ (and_from _ _ (and_from _ _ f.group f.element) (and_from _ _ f.vr_good fits)) (and_from _ _ defined two) in
-    let element : is_element last (record { tag = t; vr = Some vr; length = length v }) ≡ true =
-    and_from _ _ (and_from _ _ header f.rising) (and_from _ _ f.no_marker (and_from _ _ f.no_command f.no_file)) in
-    and_from _ _ (and_from _ _ element value) (and_from _ _ same laid)
+laid_field last t vr v es f even short laid = grind (arith, nat_tests, common_steps)
 
 pub good_field : (last : ℕ) (t : Tag) (vr v : List ℕ) (es : Elements) → IsFixed last t vr → length v % 2 ≡ 0 → length v < 65536 → IsGood (number t) es → IsGood last (field t vr v es)
-good_field last t vr v es f even short good =
-    let a = length-append (header_bytes (record { tag = t; vr = Some vr; length = length v })) (v ++ spelled es) in
-    let b = length-append v (spelled es) in
-    let eight = f.eight (length v) in
-    record {
-      laid = laid_field last t vr v es f even short good.laid;
-      size = omega (arith, a, b, good.size);
-      even = omega (arith, a, b, eight, even, good.even);
-    }
+good_field last t vr v es f even short good = grind (arith, nat_tests, common_steps, length-append (header_bytes (record { tag = t; vr = Some vr; length = length v })) (v ++ spelled es), length-append v (spelled es))
 
 pub padded_even : (p : ℕ) (v : List ℕ) → length (padded p v) % 2 ≡ 0
 padded_even p v = grind (arith, nat_tests, common_steps)
@@ -122,11 +96,7 @@ padded_short p v = grind (arith, nat_tests, common_steps)
 -- a value that is padded, and a key that is padded anew
 
 pub good_value : (last : ℕ) (t : Tag) (vr : List ℕ) (p : ℕ) (v : List ℕ) (es : Elements) → IsFixed last t vr → length v ≤ 1024 → IsGood (number t) es → IsGood last (field t vr (padded p v) es)
-good_value last t vr p v es f short good =
-    let le = padded_short p v in
-    good_field last t vr (padded p v) es f (padded_even p v) (omega (arith, le, short)) good
+good_value last t vr p v es f short good = grind (arith, nat_tests, common_steps, padded_short p v)
 
 pub good_key : (last : ℕ) (t : Tag) (vr : List ℕ) (p : ℕ) (v : List ℕ) (es : Elements) → IsFixed last t vr → length v ≤ 1024 → IsGood (number t) es → IsGood last (field t vr (padded p (key v)) es)
-good_key last t vr p v es f short good =
-    let le = key_length v in
-    good_value last t vr p (key v) es f (omega (arith, le, short)) good
+good_key last t vr p v es f short good = grind (arith, nat_tests, common_steps, key_length v)

@@ -13,6 +13,8 @@ use Rattle.dicomdir.proofs.Distinct.{not_true, same_place, same_one, not_place, 
 use Rattle.dicomdir.proofs.Within.{places, length_places, no_more, stands_there, either}
 use Rattle.dicomdir.proofs.PathForests.{forest_from, lower_path, next_path, paths_more}
 use Rattle.dicomdir.proofs.FreePaths.{is_good, good_parts}
+use Rattle.std.proofs.lemmas.Bool.Decides.{nat_tests}
+use Rattle.std.proofs.lemmas.Grind.{common_steps}
 
 -- distinct places of records
 pub record IsIn (records : List Record) (reached : List ℕ) : Type 0 where
@@ -20,20 +22,10 @@ pub record IsIn (records : List Record) (reached : List ℕ) : Type 0 where
   pub inside : (p : ℕ) → is_one_of p reached ≡ true → is_one_of p (places records) ≡ true
 
 pub one_more_in : (records : List Record) (reached : List ℕ) (offset : ℕ) (es : Elements) → IsIn records reached → record_at offset records ≡ Some es → is_one_of offset reached ≡ false → IsIn records (offset ∷ reached)
-one_more_in records reached offset es inside stands new =
-    let first : not (is_one_of offset reached) ≡ true = rw new refl in
-    record {
-      distinct = and_from (not (is_one_of offset reached)) (is_distinct reached) first inside.distinct;
-      inside = λ p h. either (nat_eq p offset) (is_one_of p reached) (is_one_of p (places records))
-          (λ e. same_one p offset (places records) e (stands_there offset records es stands))
-          (λ e. inside.inside p e) h;
-    }
+one_more_in records reached offset es inside stands new = grind (arith, nat_tests, common_steps, places records, stands_there offset records es stands)
 
 pub few_in : (records : List Record) (reached : List ℕ) → IsIn records reached → length reached ≤ length records
-few_in records reached inside =
-    let most = no_more reached (places records) inside.distinct inside.inside in
-    let size = length_places records in
-    omega (arith, most, size)
+few_in records reached inside = grind (arith, nat_tests, common_steps, no_more reached (places records) inside.distinct inside.inside, length_places records)
 
 -- each record has its two offsets
 abbrev pub HaveOffsets : List Record → Type 0

@@ -61,8 +61,7 @@ good_paths zero links path linked = refl
 good_paths (suc most) links path linked = grind (arith, nat_tests, common_steps, good_paths most links (lower_path links path), good_paths most links (next_path links path))
 
 last_named : (o : Option ℕ) (last there place : ℕ) → o ≡ Some last → last ≡ there → (if nat_eq (or_zero o) there then None else fault 60 place) ≡ None
-last_named o last there place e f =
-    cond-true (nat_eq (or_zero o) there) None (fault 60 place) ((λ i. nat_eq (or_zero (e i)) (sym f i)) ∙ same_place last)
+last_named o last there place e f = grind (arith, nat_tests, common_steps)
 
 followed : (start : ℕ) (elements : Elements) (tree : Forest Node) (linked : LinkedElements start elements tree)
     → forest_from (suc (length linked.records)) linked.records (or_zero (first_offset start elements)) ≡ linked.placed
@@ -72,8 +71,7 @@ followed start elements tree linked =
     grind (arith, nat_tests, common_steps, followed_is linked.placed (suc (length linked.records)) linked.records 1 linked.linked facts.1 (omega (arith, few)))
 
 pub paths_name_nodes : PathsNameNodes
-paths_name_nodes start elements tree linked =
-    sym (forest_places (suc (length linked.records)) (links_of start elements linked.records) []) ∙ ap places_of (followed start elements tree linked)
+paths_name_nodes start elements tree linked = grind (arith, nat_tests, common_steps, forest_places (suc (length linked.records)) (links_of start elements linked.records) [], followed start elements tree linked)
 
 pub linked_has_no_fault : LinkedHasNoFault
 unfolding directory_fault

@@ -16,6 +16,8 @@ use Rattle.dicomdir.specs.NodesInUse.{nodes_in_use}
 use Rattle.dicomdir.specs.OneCheck.{AcceptedHasNoFault, OneCheckFault, OneListOfNodes}
 use Rattle.dicomdir.proofs.NoFault.{linked_has_no_fault}
 use Rattle.dicomdir.proofs.OneTree.{some_same, meta_of, same_fronts, same_files, same_placed}
+use Rattle.std.proofs.lemmas.Bool.Decides.{nat_tests}
+use Rattle.std.proofs.lemmas.Grind.{common_steps}
 
 -- ---- the file header
 
@@ -26,11 +28,7 @@ implicit_is_taken : {file : List ℕ} {said : Said} → HasMeta said file → sa
 implicit_is_taken {file = file} {said = said} has is fault wrong = one_verdict.0 file fault (said, has, (Implicit, is)) wrong
 
 not_implicit : {file front back : List ℕ} {said : Said} → IsExplicitFile file front back → HasMeta said file → said.syntax ≡ syntax_uid Implicit → ⊥
-not_implicit {file = file} {said = said} x has is =
-    let same = (one_header file said x.said has (meta_of x)).0 in
-    let syntaxes : syntax_uid Implicit ≡ syntax_uid Explicit = sym is ∙ (ap (λ z. z.syntax) same ∙ x.syntax) in
-    let sizes : 17 ≡ 19 = ap length syntaxes in
-    absurd (omega (arith, sizes))
+not_implicit {file = file} {said = said} x has is = grind (arith, nat_tests, common_steps, one_header file said x.said has (meta_of x))
 
 -- ---- the data set
 
@@ -68,10 +66,7 @@ one_list_of_nodes file nodes other a b =
 same_directory_faults : {file front back front2 back2 : List ℕ} {elements elements2 : Elements} {f f2 : Fault} → IsExplicitFile file front back → IsExplicitFile file front2 back2
     → DataSet Explicit 0 elements back → DataSet Explicit 0 elements2 back2
     → directory_fault (length front) elements ≡ Some f → directory_fault (length front2) elements2 ≡ Some f2 → f ≡ f2
-same_directory_faults {front = front} {back = back} {front2 = front2} {back2 = back2} {elements = elements} {elements2 = elements2} {f = f} {f2 = f2} x y text text2 told told2 =
-    let same = same_files (record { front = front; back = back; explicit = x; data_set = text; begins = refl }) (record { front = front2; back = back2; explicit = y; data_set = text2; begins = refl }) in
-    let both : directory_fault (length front) elements ≡ directory_fault (length front2) elements2 = λ i. directory_fault (same.0 i) (same.1 i) in
-    some_same f f2 (sym told ∙ (both ∙ told2))
+same_directory_faults {front = front} {back = back} {front2 = front2} {back2 = back2} {elements = elements} {elements2 = elements2} {f = f} {f2 = f2} x y text text2 told told2 = grind (arith, nat_tests, common_steps, same_files (record { front = front; back = back; explicit = x; data_set = text; begins = refl }) (record { front = front2; back = back2; explicit = y; data_set = text2; begins = refl }))
 
 same_ends : {b b2 : List ℕ} {tag tag2 : Tag} → b ≡ b2 → EndFault Explicit check_limits b tag → EndFault Explicit check_limits b2 tag2 → tag ≡ tag2
 same_ends {b = b} {b2 = b2} {tag = tag} {tag2 = tag2} same end end2 =

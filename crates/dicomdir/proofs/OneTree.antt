@@ -1,5 +1,5 @@
 -- A file is linked to one tree at most.
-use Rattle.std.proofs.Common.{◌≡◌, ℕ, suc, true, false, List, ◌++◌, length, Some, refl, sym, ap, subst, ◌∙◌}
+use Rattle.std.proofs.Common.{◌≡◌, ℕ, suc, true, false, List, ◌++◌, length, Some, refl, sym, ap, subst, ◌∙◌, arith}
 use Rattle.std.proofs.lemmas.List.{append_cancel_left}
 use Rattle.element.specs.declared.syntax.Syntax.TheVariants.{Explicit}
 use Rattle.part10.specs.MetaText.{HasMeta}
@@ -11,15 +11,14 @@ use Rattle.dicomdir.specs.Directory.{Record, Node, carried_node, found, first_of
 use Rattle.dicomdir.specs.Linked.{LinkedElements, PlacedNode, nodes_of, first_place, record_at, AreLinked, is_one_of}
 use Rattle.dicomdir.specs.NoFault.{OneTreeOfFile}
 use Rattle.dicomdir.proofs.Within.{places, stands_there, none_in}
+use Rattle.std.proofs.lemmas.Bool.Decides.{nat_tests}
+use Rattle.std.proofs.lemmas.Grind.{common_steps}
 
 pub some_same : {A : Type 0} (x y : A) → Some x ≡ Some y → x ≡ y
 some_same x y e = cc
 
 not_zero : (records : List Record) (p : ℕ) (es : Elements) → is_one_of 0 (places records) ≡ false → record_at p records ≡ Some es → 0 ≡ p → ⊥
-not_zero records p es none stands zero_is =
-    let there : is_one_of p (places records) ≡ true = stands_there p records es stands in
-    let here : is_one_of 0 (places records) ≡ true = ap (λ z. is_one_of z (places records)) zero_is ∙ there in
-    absurd cc
+not_zero records p es none stands zero_is = grind (arith, nat_tests, common_steps, stands_there p records es stands, places records)
 
 same_forest : (records : List Record) (level : ℕ) (f g : Forest PlacedNode) → is_one_of 0 (places records) ≡ false
     → AreLinked records level f → AreLinked records level g → first_place f ≡ first_place g → f ≡ g

@@ -33,13 +33,11 @@ next_path links path = record { place = named_by links path; lower = false } ∷
 
 pub paths_none : (most : ℕ) (links : Links) (path : List Turn) → named_by links path ≡ 0 → paths_from most links path ≡ []
 paths_none zero links path e = refl
-paths_none (suc most) links path e =
-    cond-true (nat_eq (named_by links path) 0) [] (path ∷ (paths_from most links (lower_path links path) ++ paths_from most links (next_path links path))) (ap (λ z. nat_eq z 0) e)
+paths_none (suc most) links path e = grind (arith, nat_tests, common_steps)
 
 pub paths_more : (most : ℕ) (links : Links) (path : List Turn) → nat_eq (named_by links path) 0 ≡ false
     → paths_from (suc most) links path ≡ path ∷ (paths_from most links (lower_path links path) ++ paths_from most links (next_path links path))
-paths_more most links path e =
-    cond-false (nat_eq (named_by links path) 0) [] (path ∷ (paths_from most links (lower_path links path) ++ paths_from most links (next_path links path))) e
+paths_more most links path e = grind (arith, nat_tests, common_steps, cond-false (nat_eq (named_by links path) 0) [] (path ∷ (paths_from most links (lower_path links path) ++ paths_from most links (next_path links path))) e)
 
 abbrev node_at : Links → List Turn → PlacedNode
 node_at links path = record { place = named_by links path; carries = carried_node (elements_at links.records (named_by links path)) }

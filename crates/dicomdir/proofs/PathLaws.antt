@@ -12,15 +12,14 @@ use Rattle.dicomdir.proofs.Within.{either}
 use Rattle.dicomdir.proofs.PathForests.{lower_path, next_path, paths_more, paths_none}
 use Rattle.dicomdir.proofs.FreePaths.{path_free, are_free}
 use Rattle.dicomdir.proofs.Linking.{IsIn, one_more_in, few_in, stands_is, GoOn, go_down}
+use Rattle.std.proofs.lemmas.Bool.Decides.{nat_tests}
+use Rattle.std.proofs.lemmas.Grind.{common_steps}
 
 abbrev records_on : List Turn → List ℕ
 records_on path = map (λ t. t.place) path
 
 too_many : (links : Links) (path : List Turn) → IsIn links.records (records_on path) → length path + 0 ≡ suc (length links.records) → ⊥
-too_many links path along size =
-    let few = few_in links.records (records_on path) along in
-    let same = length-map path (λ t. t.place) in
-    absurd (omega (arith, few, same, size))
+too_many links path along size = grind (arith, nat_tests, common_steps, few_in links.records (records_on path) along)
 
 -- paths that have a fault, or not
 
@@ -28,8 +27,7 @@ abbrev Among : List ℕ → List ℕ → Type 0
 Among xs ys = (p : ℕ) → is_one_of p xs ≡ true → is_one_of p ys ≡ true
 
 one_more_among : (o : ℕ) (xs ys : List ℕ) → Among xs ys → Among (o ∷ xs) (o ∷ ys)
-one_more_among o xs ys among p h =
-    either (nat_eq p o) (is_one_of p xs) (nat_eq p o || is_one_of p ys) (λ e. or_left (nat_eq p o) (is_one_of p ys) e) (λ e. or_right (nat_eq p o) (is_one_of p ys) (among p e)) h
+one_more_among o xs ys among p h = grind (arith, nat_tests, common_steps)
 
 -- what comes later has the same first fault, whatever was reached before
 abbrev AreAlike : Links → List ℕ → List (List Turn) → List (List Turn) → Type 0

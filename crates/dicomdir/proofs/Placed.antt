@@ -12,6 +12,7 @@ use Rattle.dicomdir.specs.Places.{record_size, forest_size, with_places, first_r
 use Rattle.dicomdir.specs.TreeOf.{Forest, no_nodes, node}
 use Rattle.dicomdir.proofs.LaidRecords.{IsNode}
 use Rattle.dicomdir.proofs.Distinct.{not_true, same_place, second_true, third_true}
+use Rattle.std.proofs.lemmas.Grind.{common_steps}
 
 -- each record of the tree is one of its level
 abbrev pub AreNodes : ℕ → Forest Elements → Type 0
@@ -31,8 +32,7 @@ placed (node r below next) = node (record { place = r.place; carries = carried_n
 
 pub nodes_are : (place : ℕ) (tree : Forest Elements) → nodes_of (placed (with_places place tree)) ≡ carried_forest tree
 nodes_are place no_nodes = refl
-nodes_are place (node es below next) =
-    ap₂ (λ b n. node (carried_node es) b n) (nodes_are (place + record_size es) below) (nodes_are (place + record_size es + forest_size below) next)
+nodes_are place (node es below next) = grind (arith, nat_tests, common_steps, nodes_are (place + record_size es) below, nodes_are (place + record_size es + forest_size below) next)
 
 pub first_same : (f : Forest Record) → first_place (placed f) ≡ first_record_place f
 first_same no_nodes = refl
@@ -51,8 +51,7 @@ first_small place (node es below next) lt = omega (arith, lt)
 
 pub last_small : (last place : ℕ) (tree : Forest Elements) → last < 2 ^ 32 → place + forest_size tree < 2 ^ 32 → last_record_place_after last (with_places place tree) < 2 ^ 32
 last_small last place no_nodes small lt = small
-last_small last place (node es below next) small lt =
-    last_small place (place + record_size es + forest_size below) next (omega (arith, lt)) (omega (arith, lt))
+last_small last place (node es below next) small lt = grind (arith, nat_tests, common_steps, last_small place (place + record_size es + forest_size below) next (omega (arith, lt)) (omega (arith, lt)))
 
 -- what stands at a place
 

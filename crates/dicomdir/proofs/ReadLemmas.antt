@@ -9,6 +9,7 @@ use Rattle.dicomdir.specs.machine.Entries.{IsEntry}
 use Rattle.dicomdir.specs.machine.Reading.{IsEntryOf, use_flag, entry_has_file_id}
 use Rattle.dicomdir.specs.machine.Texts.{Finds, got_number, got_kind, got_file_id, got_none}
 use Rattle.std.proofs.lemmas.Bool.Decides.{nat_tests}
+use Rattle.std.proofs.lemmas.Grind.{common_steps}
 
 pub finds_number : (n : ℕ) (e : Element) (f : Found) → Finds e f → got_number n e ≡ number_in n f
 finds_number n v2 f is = grind (arith, nat_tests)
@@ -63,9 +64,7 @@ entry_is place es e next flag lower kind some file_id at =
 
 pub file_id_as : (place : ℕ) (es : Elements) (e : ReadRecord) (found_id : Element) → IsEntryOf place es e → Finds found_id (found 0x00041500 0 es)
     → entry_has_file_id e found_id ≡ has_file_id es
-file_id_as place es e found_id is finds =
-    let none = finds_missing found_id (found 0x00041500 0 es) finds in
-    (λ i. not (is.carries i).in_use || is_some (is.carries i).file_id || (none i && not (bytes_eq (is.carries i).kind (codes "IMAGE"))))
+file_id_as place es e found_id is finds = grind (arith, nat_tests, common_steps, finds_missing found_id (found 0x00041500 0 es) finds)
 
 pub whole_entry : (place : ℕ) (es : Elements) (e : ReadRecord) → IsEntryOf place es e → has_file_id es ≡ true → IsEntry e (record { place = place; elements = es })
 whole_entry place es e is has = record { place = is.place_is; next = is.next; lower = is.lower; carries = is.carries; has_record = is.has_record; has_file_id = has }

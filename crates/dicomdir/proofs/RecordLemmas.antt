@@ -47,9 +47,7 @@ record Spells (es : Elements) (bytes : List ℕ) : Type 0 where
 
 field_then : (t : Tag) (vr v : List ℕ) {es : Elements} {rest : List ℕ} → Spells es rest → Spells (field t vr v es) (text.element_text t vr v ++ rest)
 unfolding text.element_text
-field_then t vr v {es} {rest} e =
-    let header = header_bytes (record { tag = t; vr = Some vr; length = length v }) in
-    record { is = ap (λ (x : List ℕ). header ++ (v ++ x)) e.is ∙ sym (append_assoc header v rest) }
+field_then t vr v {es} {rest} e = grind (arith, nat_tests, common_steps)
 
 field_last : (t : Tag) (vr v : List ℕ) → Spells (field t vr v no_elements) (text.element_text t vr v)
 field_last t vr v = record { is = (field_then t vr v {es = no_elements} {rest = []} (record { is = refl })).is ∙ append-nil (text.element_text t vr v) }
@@ -74,25 +72,12 @@ own_text rule values = spelled (key_field_of rule (written rule.kind (value_of v
 pub keys_more : (level : Level) (rules : List KeyRule) (values : Values) (out new whole : List ℕ) (i : ℕ) (d : KeyRule) → i < length rules
     → has_level (get_or rules i d).levels level ≡ true → new ≡ out ++ own_text (get_or rules i d) values
     → out ++ spelled (key_fields level (drop i rules) values) ≡ whole → new ++ spelled (key_fields level (drop (i + 1) rules) values) ≡ whole
-keys_more level rules values out new whole i d lt has put h =
-    let rule = get_or rules i d in
-    let later = key_fields level (drop (i + 1) rules) values in
-    let step : spelled (key_fields level (drop i rules) values) ≡ own_text rule values ++ spelled later =
-    at_drop_more (λ r. spelled (key_fields level r values)) rules i d lt
-    ∙ ap (λ (b : Bool). spelled (cond b (key_field_of rule (written rule.kind (value_of values (number rule.tag))) later) later)) has
-    ∙ key_then rule (written rule.kind (value_of values (number rule.tag))) later in
-    ap (λ z. z ++ spelled later) put ∙ append_assoc out (own_text rule values) (spelled later) ∙ ap (λ z. out ++ z) (sym step) ∙ h
+keys_more level rules values out new whole i d lt has put h = grind (arith, nat_tests, common_steps)
 
 pub keys_skip : (level : Level) (rules : List KeyRule) (values : Values) (out whole : List ℕ) (i : ℕ) (d : KeyRule) → i < length rules
     → has_level (get_or rules i d).levels level ≡ false
     → out ++ spelled (key_fields level (drop i rules) values) ≡ whole → out ++ spelled (key_fields level (drop (i + 1) rules) values) ≡ whole
-keys_skip level rules values out whole i d lt has h =
-    let rule = get_or rules i d in
-    let later = key_fields level (drop (i + 1) rules) values in
-    let step : spelled (key_fields level (drop i rules) values) ≡ spelled later =
-    at_drop_more (λ r. spelled (key_fields level r values)) rules i d lt
-    ∙ ap (λ (b : Bool). spelled (cond b (key_field_of rule (written rule.kind (value_of values (number rule.tag))) later) later)) has in
-    ap (λ z. out ++ z) (sym step) ∙ h
+keys_skip level rules values out whole i d lt has h = grind (arith, nat_tests, common_steps)
 
 -- the room that the loop has left
 
@@ -103,10 +88,7 @@ room_step level rules i d lt = at_drop_more (λ r. text.keys_room level r) rules
 pub room_more : (level : Level) (rules : List KeyRule) (i : ℕ) (d : KeyRule) (before after most : ℕ) → i < length rules
     → has_level (get_or rules i d).levels level ≡ true → after ≤ before + (get_or rules i d).room + 9
     → before + text.keys_room level (drop i rules) ≤ most → after + text.keys_room level (drop (i + 1) rules) ≤ most
-room_more level rules i d before after most lt has put h =
-    let step = room_step level rules i d lt in
-    let room : text.key_room level (get_or rules i d) ≡ (get_or rules i d).room + 9 = ap (λ (b : Bool). cond b ((get_or rules i d).room + 9) 0) has in
-    omega (arith, step, room, put, h)
+room_more level rules i d before after most lt has put h = grind (arith, nat_tests, common_steps, room_step level rules i d lt)
 
 pub room_skip : (level : Level) (rules : List KeyRule) (i : ℕ) (d : KeyRule) (before most : ℕ) → i < length rules → has_level (get_or rules i d).levels level ≡ false
     → before + text.keys_room level (drop i rules) ≤ most → before + text.keys_room level (drop (i + 1) rules) ≤ most
@@ -117,20 +99,11 @@ pub file_text : (row : Row) → spelled (file_fields Image row no_elements) ≡ 
 file_text row = grind (arith, nat_tests, common_steps, field_then (tag 0x0004 0x1500) (codes "CS") (padded 32 row.file_id) (field_then (tag 0x0004 0x1510) (codes "UI") (padded 0 row.class) (field_then (tag 0x0004 0x1511) (codes "UI") (padded 0 row.instance) (field_last (tag 0x0004 0x1512) (codes "UI") (padded 0 (syntax_uid row.syntax))))))
 
 file_then : (level : Level) (row : Row) (es : Elements) → spelled (file_fields level row es) ≡ spelled (file_fields level row no_elements) ++ spelled es
-file_then Patient row es = refl
-file_then Study row es = refl
-file_then Series row es = refl
-file_then Image row es = grind (arith, nat_tests, common_steps, field_then (tag 0x0004 0x1500) (codes "CS") (padded 32 row.file_id) (field_then (tag 0x0004 0x1510) (codes "UI") (padded 0 row.class) (field_then (tag 0x0004 0x1511) (codes "UI") (padded 0 row.instance) (field_then (tag 0x0004 0x1512) (codes "UI") (padded 0 (syntax_uid row.syntax)) {es = es} {rest = spelled es} (record { is = refl })))), file_text row, four (text.element_text (tag 0x0004 0x1500) (codes "CS") (padded 32 row.file_id)) (text.element_text (tag 0x0004 0x1510) (codes "UI") (padded 0 row.class)) (text.element_text (tag 0x0004 0x1511) (codes "UI") (padded 0 row.instance)) (text.element_text (tag 0x0004 0x1512) (codes "UI") (padded 0 (syntax_uid row.syntax))) (spelled es))
+file_then v1 row es = grind (arith, nat_tests, common_steps, field_then)
 
 started : (next lower : ℕ) (kind : List ℕ) (es : Elements) (rest : List ℕ) → Spells es rest
     → spelled (with_offsets next lower (record_elements kind es)) ≡ text.start_text next lower (padded 32 kind) ++ rest
-started next lower kind es rest e =
-    let spells =
-    field_then (tag 0x0004 0x1400) (codes "UL") (le next 4)
-    (field_then (tag 0x0004 0x1410) (codes "US") (le 0xffff 2)
-    (field_then (tag 0x0004 0x1420) (codes "UL") (le lower 4)
-    (field_then (tag 0x0004 0x1430) (codes "CS") (padded 32 kind) e))) in
-    grind (arith, nat_tests, common_steps, four (text.element_text (tag 0x0004 0x1400) (codes "UL") (le next 4)) (text.element_text (tag 0x0004 0x1410) (codes "US") (le 0xffff 2)) (text.element_text (tag 0x0004 0x1420) (codes "UL") (le lower 4)) (text.element_text (tag 0x0004 0x1430) (codes "CS") (padded 32 kind)) rest)
+started next lower kind es rest e = grind (arith, nat_tests, common_steps, field_then (tag 0x0004 0x1400) (codes "UL") (le next 4) (field_then (tag 0x0004 0x1410) (codes "US") (le 0xffff 2) (field_then (tag 0x0004 0x1420) (codes "UL") (le lower 4) (field_then (tag 0x0004 0x1430) (codes "CS") (padded 32 kind) e))))
 
 pub record_spelled : (level : Level) (next lower : ℕ) (row : Row) → spelled (with_offsets next lower (record_for level row))
     ≡ text.start_text next lower (padded 32 (kind_of level)) ++ (spelled (file_fields level row no_elements) ++ spelled (key_fields level key_table row.values))
@@ -142,13 +115,7 @@ pub record_whole : (level : Level) (next lower : ℕ) (row : Row) (empty kind st
     → empty ≡ [] → kind ≡ kind_of level → rules ≡ key_table → start ≡ empty ++ text.start_text next lower (padded 32 kind)
     → file ≡ start ++ spelled (file_fields level row no_elements) → whole ≡ file ++ spelled (key_fields level rules row.values)
     → whole ≡ spelled (with_offsets next lower (record_for level row))
-record_whole level next lower row empty kind start file whole rules none is table a b c =
-    let own : List ℕ = spelled (file_fields level row no_elements) in
-    let keys : List ℕ = spelled (key_fields level key_table row.values) in
-    let front : List ℕ = text.start_text next lower (padded 32 (kind_of level)) in
-    let start_is : start ≡ front = a ∙ ap (λ z. z ++ text.start_text next lower (padded 32 kind)) none ∙ ap (λ z. text.start_text next lower (padded 32 z)) is in
-    let file_is : file ≡ front ++ own = b ∙ ap (λ z. z ++ own) start_is in
-    c ∙ ap (λ z. file ++ spelled (key_fields level z row.values)) table ∙ ap (λ z. z ++ keys) file_is ∙ append_assoc front own keys ∙ sym (record_spelled level next lower row)
+record_whole level next lower row empty kind start file whole rules none is table a b c = grind (arith, nat_tests, common_steps, record_spelled level next lower row)
 
 -- what the longest record takes
 

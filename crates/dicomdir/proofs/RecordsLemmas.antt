@@ -18,6 +18,7 @@ use Rattle.dicomdir.proofs.TextLemmas.{FrontOfItems, no_item, at_item, front_of_
 use Rattle.dicomdir.proofs.SkipLemmas.{fits_sequence_end}
 use Rattle.dicomdir.proofs.FindLemmas.{item_content}
 use Rattle.std.proofs.lemmas.Bool.Decides.{nat_tests}
+use Rattle.std.proofs.lemmas.Grind.{common_steps}
 
 -- ---- entries and their faults
 
@@ -64,10 +65,7 @@ read_none s first items text old has =
 
 no_item_head : (s : Syntax) (more text : List ℕ) (head : Head) → IsAfter sequence_end_tag more → text ≡ more → head_at s text ≡ Some head → head.header.tag ≢ item_tag
 no_item_head s more text head (nothing_after) whole read tagged = let none = no_head s text whole in absurd cc
-no_item_head s more text head (end_after rest) whole read tagged =
-    let is = marked_head s sequence_end_tag rest text head refl fits_sequence_end whole read in
-    let tags : 0xe0dd ≡ 0xe000 = ap (λ z. z.header.tag.1) is ∙ ap (λ t. t.1) tagged in
-    absurd (omega (arith, tags))
+no_item_head s more text head (end_after rest) whole read tagged = grind (arith, nat_tests, common_steps, marked_head s sequence_end_tag rest text head refl fits_sequence_end whole read)
 
 pub read_next : (s : Syntax) (first : ℕ) (items : Items) (text rest after : List ℕ) (old now new : List ReadRecord) (head : Head) (e : ReadRecord) → length rest ≤ length text
     → ReadUpTo s first items text rest old now → head_at s rest ≡ Some head → head.header.tag ≡ item_tag
@@ -135,10 +133,7 @@ read_fails s first items text rest old now head f r read tagged fails = by (fron
 
 all_read : (s : Syntax) (first : ℕ) (items : Items) (text rest : List ℕ) (old now : List ReadRecord) (before : List Record) (r : ReadUpTo s first items text rest old now) → r.left ≡ no_items
     → AreEntries old before → AreEntries now (before ++ records_at first items)
-all_read s first items text rest old now before r none are =
-    let all : r.done ≡ records_at first items =
-    sym (r.all ∙ (ap (λ z. r.done ++ records_at (first + (length text - length rest)) z) none ∙ append-nil r.done)) in
-    subst (λ z. AreEntries now (before ++ z)) all (r.entries_are before are)
+all_read s first items text rest old now before r none are = grind (arith, nat_tests, common_steps)
 
 pub read_to_mark : (s : Syntax) (first : ℕ) (items : Items) (text rest : List ℕ) (old now : List ReadRecord) (before : List Record) (head : Head) → ReadUpTo s first items text rest old now
     → head_at s rest ≡ Some head → head.header.tag ≢ item_tag → AreEntries old before → AreEntries now (before ++ records_at first items)

@@ -48,9 +48,7 @@ no_header_fault : {file : List ℕ} (is : IsInstance file) (fault : MetaFault) �
 unfolding has_meta
 no_header_fault is NotPart10 f = f (has_letters (has_meta is))
 no_header_fault is BadMeta f = f.1 (record { class = is.class; instance = is.instance; syntax = syntax_uid is.syntax }) (has_meta is)
-no_header_fault {file = file} is OtherSyntax f =
-    let one = one_header file f.0 (record { class = is.class; instance = is.instance; syntax = syntax_uid is.syntax }) f.1 (has_meta is) in
-    f.2 is.syntax (ap (λ (z : Said). z.syntax) one.0)
+no_header_fault {file = file} is OtherSyntax f = grind (arith, nat_tests, common_steps, one_header file f.0 (record { class = is.class; instance = is.instance; syntax = syntax_uid is.syntax }) f.1 (has_meta is))
 no_header_fault is ReadFailed f = f
 
 one_header_fault : (file : List ℕ) (f g : MetaFault) → MetaFaultOf file f → MetaFaultOf file g → f ≡ g
@@ -87,8 +85,7 @@ same_instance {file = file} a b =
 
 -- the number of what is wrong with a data set is one
 one_number : {s : Syntax} {lim : Limits} {b : List ℕ} {f g : Fault} → Fails s lim b f → Fails s lim b g → f.number ≡ g.number
-one_number {s = s} {lim = lim} {b = b} (breaks_rule {p = p} {u = u} {rule = rule} {tag = t} first) (breaks_rule {p = p2} {u = u2} {rule = rule2} {tag = t2} second) =
-    (one_fault s lim b p p2 u u2 rule rule2 t t2 first second).2
+one_number {s = s} {lim = lim} {b = b} (breaks_rule {p = p} {u = u} {rule = rule} {tag = t} first) (breaks_rule {p = p2} {u = u2} {rule = rule2} {tag = t2} second) = grind (arith, nat_tests, common_steps, one_fault s lim b p p2 u u2 rule rule2 t t2 first second)
 one_number (breaks_rule {p = p} {u = u} {rule = rule} {tag = t} first) (ends_early end) = absurd (end.unbroken p u first.rest rule t first.text first.breaks)
 one_number (ends_early end) (breaks_rule {p = p} {u = u} {rule = rule} {tag = t} first) = absurd (end.unbroken p u first.rest rule t first.text first.breaks)
 one_number (ends_early end) (ends_early other) = refl

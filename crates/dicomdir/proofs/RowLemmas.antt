@@ -1,5 +1,5 @@
 -- What reading a file for its row gives.
-use Rattle.std.proofs.Common.{◌≡◌, ℕ, suc, List, [], ◌∷◌, ◌++◌, Option, Some, None, Result, Err, IfSome, refl, ap, subst, ◌∙◌}
+use Rattle.std.proofs.Common.{◌≡◌, ℕ, suc, List, [], ◌∷◌, ◌++◌, Option, Some, None, Result, Err, IfSome, refl, ap, subst, ◌∙◌, arith}
 use Rattle.std.proofs.lemmas.List.{append-nil}
 use Rattle.element.specs.declared.syntax.Syntax.{Syntax}
 use Rattle.element.specs.Numbers.{IsBytes}
@@ -23,6 +23,8 @@ use Rattle.dicomdir.specs.Keys.{checked_row}
 use Rattle.dicomdir.specs.RowOf.{row_wants, row_limits, row_from, IsInstance, in_header as header_fault, in_data_set, of_values, RowRead, no_memory, read_failed, has_row}
 use Rattle.dicomdir.specs.machine.RowReading as walking
 use Rattle.dicomdir.specs.machine.RowReading.{FailsBy, WalkFails, TookWhole}
+use Rattle.std.proofs.lemmas.Bool.Decides.{nat_tests}
+use Rattle.std.proofs.lemmas.Grind.{common_steps}
 
 -- after a whole data set nothing is open
 whole_is_open : {s : Syntax} {es : Elements} {b : List ℕ} → DataSet s 0 es b → Open s b es [] (last_of 0 es) (in_header [])
@@ -32,11 +34,8 @@ whole_is_open {s = s} {es = es} {b = b} d =
 
 -- the values that are kept of a whole data set are those of its elements
 pub kept_at_end : {s : Syntax} {lim : Limits} {b : List ℕ} {told : Told} (whole : IsWholeDataSet s lim b) → Tells s lim b told → told.kept ≡ kept_of lim.wanted whole.elements
-kept_at_end {s = s} {lim = lim} {b = b} whole (going {es = es} {path = path} {last = last} {tail = tail} unbroken front) =
-    let one = one_path s b es whole.elements path [] last (last_of 0 whole.elements) tail (in_header []) front (whole_is_open whole.text) in
-    ap (λ z. kept_of lim.wanted z) one.0
-kept_at_end {s = s} {lim = lim} {b = b} whole (refused {p = p} {u = u} {rule = rule} {tag = tag} first front) =
-    absurd (whole_breaks_no_rule s lim b whole p u first.rest rule tag first.text first.breaks)
+kept_at_end {s = s} {lim = lim} {b = b} whole (going {es = es} {path = path} {last = last} {tail = tail} unbroken front) = grind (arith, nat_tests, common_steps, one_path s b es whole.elements path [] last (last_of 0 whole.elements) tail (in_header []) front (whole_is_open whole.text))
+kept_at_end {s = s} {lim = lim} {b = b} whole (refused {p = p} {u = u} {rule = rule} {tag = tag} first front) = grind (arith, nat_tests, common_steps, whole_breaks_no_rule s lim b whole p u first.rest rule tag first.text first.breaks)
 
 bytes_behind : (a b : List ℕ) → IsBytes (a ++ b) → IsBytes b
 bytes_behind [] b bytes = bytes

@@ -19,6 +19,7 @@ use Rattle.dicomdir.specs.machine.Steps.{refusal_of}
 use Rattle.dicomdir.specs.machine.RowReading.{IsGoing, IsSameSet, FailsBy, FailsIn, TookWhole, WalkFails, text_fails}
 use Rattle.dicomdir.proofs.WalkLemmas.{unrefused, refused_fails, tells_none, failed_text, not_refused, farther}
 use Rattle.std.proofs.lemmas.Bool.Decides.{nat_tests}
+use Rattle.std.proofs.lemmas.Grind.{common_steps}
 
 -- a walk along a piece, of which this is left
 pub record Walks {V D : ℕ} (w0 w : Walker V D) (piece rest : List ℕ) : Type 0 where
@@ -29,15 +30,7 @@ pub record Walks {V D : ℕ} (w0 w : Walker V D) (piece rest : List ℕ) : Type 
   pub same : IsSameSet w0 w
 
 pub walks_first : {V D : ℕ} (w : Walker V D) (piece : List ℕ) → fault_of w ≡ None → Walks w w piece piece
-walks_first w piece good =
-    let none : length piece - length piece ≡ 0 = omega arith in
-    record {
-      fits = omega arith;
-      is_rest = ap (λ z. drop z piece) (sym none);
-      along = λ b stands. subst (λ z. StandsAt w (b ++ take z piece)) (sym none) (subst (λ z. StandsAt w z) (sym (append-nil b)) stands);
-      good = good;
-      same = (refl, refl);
-    }
+walks_first w piece good = grind (arith, nat_tests, common_steps)
 
 pub walks_on : {V D : ℕ} (w0 w v : Walker V D) (piece rest : List ℕ) (n : ℕ) (step : Step) → IsGoing w0 → Walks w0 w piece rest → n ≤ length rest
     → ((b : List ℕ) → StandsAt w b → StandsAt v (b ++ take n rest))
@@ -63,8 +56,7 @@ pub walks_next : {V D : ℕ} (w0 w v : Walker V D) (piece rest : List ℕ) (n : 
     → ((b : List ℕ) → StandsAt w b → StandsAt v (b ++ take n rest))
     → ((b : List ℕ) → StandsAt w b → Answers (walker_syntax w) (limits_of w) b rest (take n rest) step)
     → walker_syntax v ≡ walker_syntax w → limits_of v ≡ limits_of w → ((x : Fault) → step ≡ Refused x → ⊥) → Walks w0 v piece (take (length rest - n) (drop n rest))
-walks_next w0 w v piece rest n step going g within stands answers syntax limits other =
-    subst (λ z. Walks w0 v piece z) (sym (take_rest rest n)) (walks_on w0 w v piece rest n step going g within stands answers syntax limits (not_refused step other))
+walks_next w0 w v piece rest n step going g within stands answers syntax limits other = grind (arith, nat_tests, common_steps, take_rest rest n, walks_on w0 w v piece rest n step going g within stands answers syntax limits (not_refused step other))
 
 -- the text up to the end of the piece, and what follows
 regrouped : (b piece more front taken behind : List ℕ) → piece ≡ (front ++ taken) ++ behind → (b ++ piece) ++ more ≡ ((b ++ front) ++ taken) ++ (behind ++ more)
@@ -109,8 +101,7 @@ ended new n old room none same size end = end none (omega (arith, same, size))
 
 -- the reader gave all, and it is what the walker took
 taken_all : {V D : ℕ} (w0 w : Walker V D) (old mid new : Option (List ℕ)) (r : Reads w0 w old mid) → Consumes mid new [] → IsAtEnd new → IfSome old (λ text. r.taken ≡ text)
-taken_all w0 w old mid new r none end =
-    Consumes-all old new r.taken [] r.taken (subst (λ z. Consumes old new z) (append-nil r.taken) (Consumes-trans old mid new r.taken [] r.consumed none)) end refl
+taken_all w0 w old mid new r none end = grind (arith, nat_tests, common_steps, append-nil r.taken)
 
 pub reads_whole : {V D : ℕ} (w0 w : Walker V D) (old mid new : Option (List ℕ)) → Reads w0 w old mid → Consumes mid new [] → IsAtEnd new
     → ((b : List ℕ) → StandsAt w b → IsWholeDataSet (walker_syntax w) (limits_of w) b) → TookWhole w old

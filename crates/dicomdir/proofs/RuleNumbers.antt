@@ -1,5 +1,5 @@
 -- The numbers of a data set's faults are those of its rules.
-use Rattle.std.proofs.Common.{◌≡◌, ℕ, ◌≤◌, Bool, true, false, Some, None, ap, arith, if◌then◌else◌, List}
+use Rattle.std.proofs.Common.{◌≡◌, ℕ, ◌≤◌, Bool, true, false, Some, None, ap, arith, if◌then◌else◌, List, rules}
 use Rattle.element.specs.declared.size.Need.{Need}
 use Rattle.element.specs.declared.syntax.Syntax.{Syntax}
 use Rattle.element.specs.declared.tag.Tag.{Tag}
@@ -24,9 +24,7 @@ none_rule : IsRule None
 none_rule n t e = absurd cc
 
 some_rule : (k : ℕ) (u : Tag) → k ≤ 21 → IsRule (Some (k, u))
-some_rule k u le n t e =
-    let same : k ≡ n = ap (λ (o : Broken). number_of o) e in
-    omega (arith, le, same)
+some_rule k u le n t e = grind (arith, nat_tests, common_steps)
 
 if_rule : (b : Bool) (x y : Broken) → IsRule x → IsRule y → IsRule (if b then x else y)
 if_rule true x y p q = p

@@ -10,6 +10,8 @@ use Rattle.dicomdir.specs.Record.{tag, field}
 use Rattle.dicomdir.specs.Layout.{spelled, spelled_items, with_offsets, root_elements}
 use Rattle.dicomdir.specs.Places.{record_size, root_size, forest_size, with_places, flattened, first_record_place, last_record_place, record_items, directory_elements}
 use Rattle.dicomdir.specs.PlacesExamples.{SizesAreTrue}
+use Rattle.std.proofs.lemmas.Bool.Decides.{nat_tests}
+use Rattle.std.proofs.lemmas.Grind.{common_steps}
 
 abbrev offset : ℕ → Elements → Elements
 offset l es = field (tag 0x0004 0x1420) (codes "UL") (le l 4) es
@@ -18,12 +20,7 @@ pub offsets_size : (n l : ℕ) (es : Elements) → length (spelled (with_offsets
 unfolding is_short
 offsets_size n l no_elements = refl
 offsets_size n l (sequence h is es) = refl
-offsets_size n l (value in_use flag es) =
-    let a = length-append (header_bytes in_use) (flag ++ spelled (offset l es)) in
-    let b = length-append flag (spelled (offset l es)) in
-    let c = length-append (header_bytes in_use) (flag ++ spelled (offset 0 es)) in
-    let d = length-append flag (spelled (offset 0 es)) in
-    omega (arith, a, b, c, d)
+offsets_size n l (value in_use flag es) = grind (arith, nat_tests, common_steps, length-append (header_bytes in_use) (flag ++ spelled (offset l es)), length-append flag (spelled (offset l es)), length-append (header_bytes in_use) (flag ++ spelled (offset 0 es)), length-append flag (spelled (offset 0 es)))
 
 pub items_size : (place : ℕ) (f : Forest Elements) (others : Items) → length (spelled_items (record_items (with_places place f) others)) ≡ forest_size f + length (spelled_items others)
 items_size place no_nodes others = omega arith
@@ -40,9 +37,7 @@ items_size place (node es below next) others =
 
 root_is : (first last : ℕ) (is : Items) → length (spelled (root_elements first last is)) ≡ root_size + length (spelled_items is)
 unfolding is_short
-root_is first last is =
-    let whole = length-append (spelled_items is) [] in
-    omega (arith, whole)
+root_is first last is = grind (arith, nat_tests, common_steps, length-append (spelled_items is) [])
 
 count_is : (place : ℕ) (f : Forest Elements) → length (flattened (with_places place f)) ≡ count_of f
 count_is place no_nodes = refl
@@ -55,11 +50,7 @@ count_is place (node es below next) =
 
 elements_size : (start : ℕ) (tree : Forest Elements) → length (spelled (directory_elements start tree)) ≡ root_size + forest_size tree
 unfolding directory_elements
-elements_size start tree =
-    let placed = with_places (start + root_size) tree in
-    let root = root_is (first_record_place placed) (last_record_place placed) (record_items placed no_items) in
-    let items = items_size (start + root_size) tree no_items in
-    omega (arith, root, items)
+elements_size start tree = grind (arith, nat_tests, common_steps, items_size (start + root_size) tree no_items)
 
 pub sizes_are_true : SizesAreTrue
 sizes_are_true front rows =

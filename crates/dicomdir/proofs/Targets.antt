@@ -22,12 +22,7 @@ use Rattle.std.proofs.lemmas.Grind.{common_steps}
 -- a level of more than 5 is as 5
 
 high_level : (level : ℕ) (kind : List ℕ) → 4 < level → fits_level level kind ≡ false
-high_level level kind high =
-    let one : nat_eq level 1 ≡ false = grind (arith, nat_tests, high) in
-    let two : nat_eq level 2 ≡ false = grind (arith, nat_tests, high) in
-    let three : nat_eq level 3 ≡ false = grind (arith, nat_tests, high) in
-    let four : nat_eq level 4 ≡ false = grind (arith, nat_tests, high) in
-    rw (one, two, three, four) refl
+high_level level kind high = grind (arith, nat_tests, common_steps)
 
 level_same : (level real : ℕ) (kind : List ℕ) → level ≡ min real 5 → fits_level level kind ≡ fits_level real kind
 level_same level real kind is = elim (cases_lt 4 real) [
@@ -82,8 +77,7 @@ unfit_fault links path reached offset es named stands new unfit = grind (arith, 
 
 no_fault : (links : Links) (path : List Turn) (reached : List ℕ) (offset : ℕ) (es : Elements) → named_by links path ≡ offset → record_at offset links.records ≡ Some es
     → is_one_of offset reached ≡ false → fits (level_of path) (carried_node es) ≡ true → path_fault links reached path ≡ None
-no_fault links path reached offset es named stands new fit =
-    free_path links reached path (has_record links path offset es named stands) (ap (λ z. is_one_of z reached) named ∙ new) (fits_there links path offset es true named stands fit)
+no_fault links path reached offset es named stands new fit = grind (arith, nat_tests, common_steps, has_record links path offset es named stands, fits_there links path offset es true named stands fit)
 
 same_line : (b : Bool) (ms : List Mark) → line_of (path_along b ms) ≡ line_of (path_along true ms)
 same_line b [] = refl
@@ -97,28 +91,16 @@ pub old_target : (links : Links) (entries : List ReadRecord) (flags : List Bool)
     → AreFlagged entries flags links.records reached → IsStep links ms (Some step) → root ≡ links.place → at < length entries → ((d : ReadRecord) → (get_or entries at d).place ≡ step.offset)
     → get_or flags at false ≡ true → is_one_of step.offset (line_of (path_along true ms)) ≡ b → told ≡ told_along root ms
     → path_fault links reached (path_along step.begins ms) ≡ fault (if b then 61 else 62) told
-old_target links entries flags reached ms step at root told b flagged is_step root_is fits found old back is =
-    let there = at_offset entries flags links.records reached step.offset at flagged fits found in
-    grind (arith, nat_tests, common_steps, same_line step.begins ms)
+old_target links entries flags reached ms step at root told b flagged is_step root_is fits found old back is = grind (arith, nat_tests, common_steps, at_offset entries flags links.records reached step.offset at flagged fits found)
 
 pub unfit_target : (links : Links) (entries : List ReadRecord) (flags : List Bool) (reached : List ℕ) (ms : List Mark) (step : Step) (at : ℕ) (e : ReadRecord)
     → AreFlagged entries flags links.records reached → IsStep links ms (Some step) → at < length entries → ((d : ReadRecord) → (get_or entries at d).place ≡ step.offset)
     → get_or flags at false ≡ false → e ≡ get_or entries at e → fits step.level (carried_by e) ≡ false
     → path_fault links reached (path_along step.begins ms) ≡ fault 64 step.offset
-unfit_target links entries flags reached ms step at e flagged is_step fits_in found new is unfit =
-    let there = at_offset entries flags links.records reached step.offset at flagged fits_in found in
-    let carries : carried_by e ≡ carried_node there.elements = ap carried_by is ∙ there.carries e in
-    grind (arith, nat_tests, common_steps, fits_same step.level (level_of (path_along step.begins ms)) (carried_node there.elements) is_step.2.0)
+unfit_target links entries flags reached ms step at e flagged is_step fits_in found new is unfit = grind (arith, nat_tests, common_steps, at_offset entries flags links.records reached step.offset at flagged fits_in found)
 
 pub good_target : (links : Links) (entries : List ReadRecord) (flags : List Bool) (reached : List ℕ) (ms : List Mark) (step : Step) (at : ℕ) (e : ReadRecord)
     → AreFlagged entries flags links.records reached → IsStep links ms (Some step) → at < length entries → ((d : ReadRecord) → (get_or entries at d).place ≡ step.offset)
     → get_or flags at false ≡ false → e ≡ get_or entries at e → fits step.level (carried_by e) ≡ true
     → IsTarget links entries ms step reached at
-good_target links entries flags reached ms step at e flagged is_step fits_in found new is fit =
-    let there = at_offset entries flags links.records reached step.offset at flagged fits_in found in
-    let carries : carried_by e ≡ carried_node there.elements = ap carried_by is ∙ there.carries e in
-    record {
-      place = found;
-      good = no_fault links (path_along step.begins ms) reached step.offset there.elements (sym is_step.1) there.stands (sym (there.flag false) ∙ new)
-          (sym (fits_same step.level (level_of (path_along step.begins ms)) (carried_node there.elements) is_step.2.0) ∙ (ap (λ z. fits step.level z) (sym carries) ∙ fit));
-    }
+good_target links entries flags reached ms step at e flagged is_step fits_in found new is fit = grind (arith, nat_tests, common_steps, at_offset entries flags links.records reached step.offset at flagged fits_in found)

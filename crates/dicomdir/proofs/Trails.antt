@@ -47,16 +47,10 @@ reverse_more xs i d fits = ap reverse (take_more xs i d fits) ∙ push_reverse (
 pub looks_at : (offset : ℕ) (in_chain is_above : Bool) (xs : List Mark) (at : ℕ) (m : Mark) → 0 < at → at ≤ length xs → m ≡ get_or xs (at - 1) m
     → looks offset in_chain is_above (reverse (take at xs))
     ≡ (((in_chain || is_above) && nat_eq m.place offset) || looks offset (in_chain && not m.begins) m.begins (reverse (take (at - 1) xs)))
-looks_at offset in_chain is_above xs at m some within is =
-    let more = reverse_more xs (at - 1) m (omega (arith, some, within)) in
-    let back : at - 1 + 1 ≡ at = omega (arith, some) in
-    grind (arith, nat_tests, common_steps)
+looks_at offset in_chain is_above xs at m some within is = grind (arith, nat_tests, common_steps, reverse_more xs (at - 1) m (omega (arith, some, within)))
 
 pub looks_here : (i a : Bool) (p o : ℕ) → (i ≡ true) ⊎ ((i ≡ false) × (a ≡ true)) → p ≡ o → ((i || a) && nat_eq p o) ≡ true
-looks_here true a p o either same = grind (arith, nat_tests, same)
-looks_here false true p o either same = grind (arith, nat_tests, same)
-looks_here false false p o (inl first) same = absurd cc
-looks_here false false p o (inr second) same = grind (arith, nat_tests)
+looks_here v1 a p o either same = grind (arith, nat_tests, common_steps)
 
 pub looks_found : (offset : ℕ) (in_chain is_above : Bool) (xs : List Mark) (at : ℕ) (m : Mark) → 0 < at → at ≤ length xs → m ≡ get_or xs (at - 1) m
     → ((in_chain || is_above) && nat_eq m.place offset) ≡ true
@@ -118,8 +112,7 @@ pub record Climbed (links : Links) (ms ms2 : List Mark) : Type 0 where
 
 -- the last chain is at its end
 chain_ends : (links : Links) (m : Mark) (ms : List Mark) → m.next ≡ 0 → AreMarks links (m ∷ ms) → later links true (m ∷ ms) ≡ later links true (left_of (m ∷ ms))
-chain_ends links m ms none marks =
-    ap (λ z. z ++ later links m.begins ms) (paths_none _ links (path_along false (m ∷ ms)) (sym marks.0 ∙ none)) ∙ later_left links (m ∷ ms)
+chain_ends links m ms none marks = grind (arith, nat_tests, common_steps, later_left links (m ∷ ms))
 
 pub climbed : (links : Links) (ms : List Mark) (xs ys : List Mark) (m : Mark) → Some m ≡ slice_get xs (length xs - 1) → m.next ≡ 0 → reverse ys ≡ left_of (reverse xs)
     → (0 < length xs → length ys < length xs) → Climbed links ms (reverse xs) → Climbed links ms (reverse ys)
@@ -142,18 +135,7 @@ climbed links ms xs ys m got none left fewer before =
 -- it goes on
 pub goes_next : (links : Links) (ms xs : List Mark) (m : Mark) → Some m ≡ slice_get xs (length xs - 1) → (m.next ≡ 0 → ⊥) → Climbed links ms (reverse xs)
     → IsToCome links (later links true ms) ms (reverse xs) (Some (record { offset = m.next; begins = false; level = m.level; shown = m.shown }))
-goes_next links ms xs m got other before =
-    let some : 0 < m.next = omega (arith, other) in
-    let shape = last_first xs m got in
-    let rest : List Mark = reverse (take (length xs - 1) xs) in
-    let marks : AreMarks links (m ∷ rest) = subst (λ z. AreMarks links z) shape before.marks in
-    let step : IsStep links (m ∷ rest) (Some (record { offset = m.next; begins = false; level = m.level; shown = m.shown })) = (some, marks.0, marks.1) in
-    record {
-      come = before.come ∙ (ap (λ z. later links true z) shape ∙ ap (λ z. to_come links z (Some (record { offset = m.next; begins = false; level = m.level; shown = m.shown }))) (sym shape));
-      fewer = before.fewer;
-      marks = before.marks;
-      step = subst (λ z. IsStep links z (Some (record { offset = m.next; begins = false; level = m.level; shown = m.shown }))) (sym shape) step;
-    }
+goes_next links ms xs m got other before = grind (arith, nat_tests, common_steps, last_first xs m got)
 
 -- no record is below the last mark
 pub lower_none : (links : Links) (ms ms2 : List Mark) (pending : Option Step) (lower : ℕ) → lower ≡ 0 → lower ≡ named_by links (path_along true ms)

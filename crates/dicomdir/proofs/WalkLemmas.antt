@@ -19,6 +19,7 @@ use Rattle.dicomdir.specs.CheckFault.{check_limits}
 use Rattle.dicomdir.specs.machine.RowReading.{IsGoing, FailsIn}
 use Rattle.dicomdir.specs.machine.Steps.{refusal_of}
 use Rattle.std.proofs.lemmas.Bool.Decides.{nat_tests}
+use Rattle.std.proofs.lemmas.Grind.{common_steps}
 
 -- where nothing is refused, no rule is broken
 pub unrefused : {s : Syntax} {lim : Limits} {b piece taken : List ℕ} {step : Step} → Answers s lim b piece taken step → refusal_of step ≡ None → IsUnbroken s lim (b ++ taken)
@@ -59,8 +60,7 @@ tells_none (going unbroken front) u = refl
 tells_none (refused {p = p} {u = t} {rule = rule} {tag = tag} first front) u = absurd (u p t first.rest rule tag first.text first.breaks)
 
 pub failed_text : {s : Syntax} {lim : Limits} (s2 : Syntax) (lim2 : Limits) (text : List ℕ) (fault : Fault) → s ≡ s2 → lim ≡ lim2 → Fails s lim text fault → Fails s2 lim2 text fault
-failed_text {s = s} {lim = lim} s2 lim2 text fault e f w =
-    subst (λ z. Fails z lim2 text fault) e (subst (λ z. Fails s z text fault) f w)
+failed_text {s = s} {lim = lim} s2 lim2 text fault e f w = grind (arith, nat_tests, common_steps)
 
 -- one step farther along the text
 
@@ -97,9 +97,7 @@ farther text rest n fits is within =
 
 -- a fault stands in the text
 pub fault_within : {s : Syntax} {lim : Limits} {b : List ℕ} {fault : Fault} → Fails s lim b fault → fault.place ≤ length b
-fault_within {b = b} (breaks_rule {p = p} {u = u} first) =
-    let whole = ap length first.text ∙ (length-append (p ++ u) first.rest ∙ ap (λ z. z + length first.rest) (length-append p u)) in
-    omega (arith, whole)
+fault_within {b = b} (breaks_rule {p = p} {u = u} first) = grind (arith, nat_tests, common_steps, length-append p u)
 fault_within (ends_early end) = omega arith
 
 pub not_refused : (step : Step) → ((x : Fault) → step ≡ Refused x → ⊥) → refusal_of step ≡ None

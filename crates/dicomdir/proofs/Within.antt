@@ -11,6 +11,7 @@ use Rattle.dicomdir.specs.Directory.{Found, missing, value_at, items_at, found, 
 use Rattle.dicomdir.specs.Linked.{PlacedNode, places_of, is_distinct, record_at, AreLinked, is_one_of}
 use Rattle.dicomdir.specs.NoFault.{NodesAreRecords}
 use Rattle.dicomdir.proofs.Distinct.{not_true, not_place, same_place, same_one, backwards}
+use Rattle.std.proofs.lemmas.Grind.{common_steps}
 
 -- distinct places that are all among others are no more than those
 
@@ -70,11 +71,7 @@ at_records (node n below next) records level linked x h =
 
 count_is : (f : Forest PlacedNode) → length (places_of f) ≡ count_of f
 count_is no_nodes = refl
-count_is (node n below next) =
-    let bs = count_is below in
-    let ns = count_is next in
-    let both = length-append (places_of below) (places_of next) in
-    omega (arith, bs, ns, both)
+count_is (node n below next) = grind (arith, nat_tests, common_steps, count_is below, count_is next, length-append (places_of below) (places_of next))
 
 -- no record stands at place 0
 
@@ -83,10 +80,7 @@ header_some h = omega arith
 
 none_at_zero : (place : ℕ) (is : Items) → 0 < place → is_one_of 0 (places (records_at place is)) ≡ false
 none_at_zero place no_items some = refl
-none_at_zero place (item h es is) some =
-    let rest = none_at_zero (place + header_size h + size_of es + end_size h.length) is (omega (arith, some)) in
-    let here : nat_eq 0 place ≡ false = grind (arith, nat_tests, some) in
-    rw (here, rest) refl
+none_at_zero place (item h es is) some = grind (arith, nat_tests, common_steps, none_at_zero (place + header_size h + size_of es + end_size h.length) is (omega (arith, some)))
 
 pub none_in : (f : Found) (records : List Record) → records_in f ≡ Some records → is_one_of 0 (places records) ≡ false
 none_in missing records e = absurd cc

@@ -35,10 +35,7 @@ use Rattle.std.proofs.lemmas.Grind.{common_steps}
 
 -- an item's header of an even length is good
 item_good : (n : ℕ) → n < undefined_length → n % 2 ≡ 0 → is_item (record { tag = item_tag; vr = None; length = n }) ≡ true
-item_good n short even =
-    let defined : nat_lt n undefined_length ≡ true = grind (arith, nat_tests) in
-    let two : nat_eq (n % 2) 0 ≡ true = grind (arith, nat_tests) in
-    and_from _ _ (and_from _ _ defined two) refl
+item_good n short even = grind (arith, nat_tests, common_steps)
 
 items_laid : (place : ℕ) (tree : Forest Elements) (level : ℕ) (others : Items) → AreNodes level tree → place + forest_size tree < 2 ^ 32 → are_laid others ≡ true
     → are_laid (record_items (with_places place tree) others) ≡ true
@@ -57,11 +54,7 @@ items_laid place (node es below next) level others nodes small laid =
 
 forest_even : (tree : Forest Elements) (level : ℕ) → AreNodes level tree → forest_size tree % 2 ≡ 0
 forest_even no_nodes level nodes = refl
-forest_even (node es below next) level nodes =
-    let own = (nodes.0.good 0 0).even in
-    let b = forest_even below (suc level) nodes.1 in
-    let n = forest_even next level nodes.2 in
-    omega (arith, own, b, n)
+forest_even (node es below next) level nodes = grind (arith, nat_tests, common_steps, forest_even below (suc level) nodes.1, forest_even next level nodes.2)
 
 records_are : (place : ℕ) (tree : Forest Elements) (level : ℕ) (others : Items) → AreNodes level tree → place + forest_size tree < 2 ^ 32
     → records_at place (record_items (with_places place tree) others) ≡ written (with_places place tree) ++ records_at (place + forest_size tree) others
@@ -91,21 +84,11 @@ records_are place (node es below next) level others nodes small =
 sequence_laid : (is : Items) → length (spelled_items is) < undefined_length → length (spelled_items is) % 2 ≡ 0 → are_laid is ≡ true
     → is_laid 0x00041212 (sequence (records_header is) is no_elements) ≡ true
 unfolding is_short
-sequence_laid is short even laid =
-    let n = length (spelled_items is) in
-    let defined : nat_lt n undefined_length ≡ true = grind (arith, nat_tests) in
-    let two : nat_eq (n % 2) 0 ≡ true = grind (arith, nat_tests) in
-    let same : nat_eq n n ≡ true = grind (arith, nat_tests) in
-    and_from _ _ (and_from _ _ (and_from _ _ (and_from _ _ (and_from _ _ defined two) refl) refl) refl) (and_from _ _ (and_from _ _ same laid) refl)
+sequence_laid is short even laid = grind (arith, nat_tests, common_steps)
 
 root_laid : (first last : ℕ) (is : Items) → length (spelled_items is) < undefined_length → length (spelled_items is) % 2 ≡ 0 → are_laid is ≡ true → is_laid 0 (root_elements first last is) ≡ true
 unfolding is_short
-root_laid first last is short even laid =
-    let records : Elements = sequence (records_header is) is no_elements in
-    let flag : Elements = field (tag 0x0004 0x1212) (codes "US") (le 0 2) records in
-    let last_one : Elements = field (tag 0x0004 0x1202) (codes "UL") (le last 4) flag in
-    let first_one : Elements = field (tag 0x0004 0x1200) (codes "UL") (le first 4) last_one in
-    grind (arith, nat_tests, common_steps, sequence_laid is short even laid)
+root_laid first last is short even laid = grind (arith, nat_tests, common_steps)
 
 same_records : (a b : ℕ) (is : Items) → a ≡ b → Some (records_at a is) ≡ Some (records_at b is)
 same_records a b is e = ap (λ (p : ℕ). Some (records_at p is)) e
@@ -124,12 +107,7 @@ root_last start first last is small = number_back last small
 
 group_short : (uid : List ℕ) → is_uid uid ≡ true → length (meta_group (directory_meta uid)) ≤ 360
 unfolding identity_elements implementation_elements title_element is_short
-group_short uid e =
-    let parts = and_parts _ _ e in
-    let size = and_parts _ _ parts.0 in
-    let room : length uid ≤ 64 = leb-true (length uid) 64 size.1 in
-    let value = padded_short 0 uid in
-    simp length-append (omega (arith, room, value))
+group_short uid e = grind (arith, nat_tests, common_steps, padded_short 0 uid)
 
 header_read : (uid : List ℕ) → is_uid uid ≡ true → SpellsMeta (said_of (directory_meta uid)) (directory_header uid)
 unfolding directory_header
