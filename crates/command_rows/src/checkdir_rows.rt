@@ -1,6 +1,6 @@
 //! What `checkdir` prints of a directory: a worked example, and every front of it.
 use crate::devices::{Device, Gives};
-use commands::{ProgramError, checkdir_over};
+use commands::{Failure, ProgramError, checkdir_over};
 use fixtures::refusing::Refusing;
 use inspection::Outcome;
 use std::alloc::{AllocError, Global};
@@ -85,7 +85,12 @@ fn records_are_listed(rt: HostRuntime) -> Result<(), Fail> {
     assert!(rt; bytes.len() == 788);
     assert!(rt; lists(alloc, bytes, Gives::All)?);
     assert!(rt; lists(alloc, bytes, Gives::One)?);
-    assert!(rt; matches!(lists(alloc, bytes, Gives::Torn), Err(ProgramError::Read(_))));
+    assert!(rt;
+        matches!(
+            lists(alloc, bytes, Gives::Torn),
+            Err(ProgramError::System(Failure::Read, _))
+        )
+    );
     Ok(())
 }
 

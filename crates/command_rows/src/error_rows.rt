@@ -1,6 +1,6 @@
 //! The text of each error of the program: what failed, and what to do about it.
 use arguments::WordsError;
-use commands::ProgramError;
+use commands::{Failure, ProgramError};
 use std::alloc::{AllocError, Global};
 use std::io;
 use std::io::ErrorKind;
@@ -30,63 +30,63 @@ fn are_printed(alloc: Global, rows: &[Row]) -> Result<bool, Fail> {
 fn failed_devices_have_their_texts(rt: HostRuntime) -> Result<(), Fail> {
     let rows = [
         Row(
-            ProgramError::Arguments(failed()),
+            ProgramError::System(Failure::Arguments, failed()),
             "the command line can't be read: timed out; start the program again",
         ),
         Row(
-            ProgramError::Open(failed()),
+            ProgramError::System(Failure::Open, failed()),
             "the file can't be opened: timed out; check its name, and that you may read it",
         ),
         Row(
-            ProgramError::Read(failed()),
+            ProgramError::System(Failure::Read, failed()),
             "the file can't be read: timed out; give a file, and copy it first if its disk fails",
         ),
         Row(
-            ProgramError::Folder(failed()),
+            ProgramError::System(Failure::Folder, failed()),
             "the folder can't be opened: timed out; check that it is a folder, and that you may read it and write into it",
         ),
         Row(
-            ProgramError::MissingFolder(failed()),
+            ProgramError::System(Failure::MissingFolder, failed()),
             "the folder can't be opened: timed out; create it, or check its name",
         ),
         Row(
-            ProgramError::BusyFolder(failed()),
+            ProgramError::System(Failure::BusyFolder, failed()),
             "the folder can't be opened: timed out; end the other program that receives into it",
         ),
         Row(
-            ProgramError::UnwrittenFolder(failed()),
+            ProgramError::System(Failure::UnwrittenFolder, failed()),
             "the folder can't be written into: timed out; check that you may, and that its disk is not read-only or full",
         ),
         Row(
-            ProgramError::UnreadDirectory(failed()),
+            ProgramError::System(Failure::UnreadDirectory, failed()),
             "the folder's DICOMDIR can't be looked at: timed out; check that you may read it, or write over it with --replace",
         ),
         Row(
-            ProgramError::Random(failed()),
+            ProgramError::System(Failure::Random, failed()),
             "no UID can be made: timed out; give one with --uid",
         ),
         Row(
-            ProgramError::NoDirectory(failed()),
+            ProgramError::System(Failure::NoDirectory, failed()),
             "the folder's DICOMDIR can't be read: timed out; run index without --keep",
         ),
         Row(
-            ProgramError::Directory(failed()),
+            ProgramError::System(Failure::Directory, failed()),
             "the directory can't be written: timed out; check that the disk has room, and that you may write into the folder",
         ),
         Row(
-            ProgramError::Write(failed()),
+            ProgramError::System(Failure::Write, failed()),
             "the output can't be written: timed out; check that its disk has room",
         ),
         Row(
-            ProgramError::Serve(failed()),
+            ProgramError::System(Failure::Serve, failed()),
             "associations can't be served any more: timed out; start the program again",
         ),
         Row(
-            ProgramError::Listen(failed()),
+            ProgramError::System(Failure::Listen, failed()),
             "can't be listened on: timed out; choose another port, or end what uses it",
         ),
         Row(
-            ProgramError::Address(failed()),
+            ProgramError::System(Failure::Address, failed()),
             "can't be listened on: timed out; --bind takes an IP address of this machine, or 0.0.0.0 for all of them, and no name",
         ),
     ];
@@ -105,9 +105,12 @@ fn errors_are_about_what_is_wrong(rt: HostRuntime) -> Result<(), Fail> {
         ErrorKind::OutOfMemory,
     ] {
         let is_told = match ProgramError::of_folder(io::Error::from(kind)) {
-            ProgramError::MissingFolder(error) => error.kind() == ErrorKind::NotFound,
-            ProgramError::BusyFolder(error) => error.kind() == ErrorKind::WouldBlock,
-            ProgramError::Folder(error) => error.kind() == ErrorKind::PermissionDenied,
+            ProgramError::System(Failure::MissingFolder, error) => error.kind()
+                == ErrorKind::NotFound,
+            ProgramError::System(Failure::BusyFolder, error) => error.kind()
+                == ErrorKind::WouldBlock,
+            ProgramError::System(Failure::Folder, error) => error.kind()
+                == ErrorKind::PermissionDenied,
             ProgramError::Memory(_) => kind == ErrorKind::OutOfMemory,
             _ => false,
         };
@@ -115,11 +118,11 @@ fn errors_are_about_what_is_wrong(rt: HostRuntime) -> Result<(), Fail> {
     }
     for kind in [ErrorKind::AddrNotAvailable, ErrorKind::Unsupported] {
         let told = ProgramError::of_listening(io::Error::from(kind));
-        assert!(rt; matches!(told, ProgramError::Address(_)));
+        assert!(rt; matches!(told, ProgramError::System(Failure::Address, _)));
     }
     for kind in [ErrorKind::AddrInUse, ErrorKind::PermissionDenied] {
         let told = ProgramError::of_listening(io::Error::from(kind));
-        assert!(rt; matches!(told, ProgramError::Listen(_)));
+        assert!(rt; matches!(told, ProgramError::System(Failure::Listen, _)));
     }
     Ok(())
 }

@@ -1,7 +1,7 @@
 //! What `index` leaves in a folder where a call of the disk fails, or where memory runs out.
 use crate::index_rows::{FIRST, SECOND, WITHOUT_STUDY_ID, file, put_images, replacing, settings};
 use crate::recorded::{Call, Recorded, Stage, Watched};
-use commands::{Index, ProgramError, index_dir};
+use commands::{Failure, Index, ProgramError, index_dir};
 use fixtures::folders::{count, holds};
 use fixtures::refusing::Refusing;
 use inspection::Outcome;
@@ -38,7 +38,7 @@ fn is_put(rt: &HostRuntime, row: Failing) -> Result<bool, Fail> {
     let mut out = Vec::new(rt.alloc());
     let is_due = match index_dir(&recorded, &replacing("failing")?, &mut out) {
         Ok(outcome) => fails.is_none() && outcome == Outcome::Good,
-        Err(ProgramError::Directory(_)) => fails.is_some(),
+        Err(ProgramError::System(Failure::Directory, _)) => fails.is_some(),
         Err(_) => false,
     };
     let is_old = holds(rt, "failing", "DICOMDIR", b"as it was")?;

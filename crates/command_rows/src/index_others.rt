@@ -1,6 +1,6 @@
 //! `index` over a folder whose directory another implementation wrote, and with a new UID.
 use crate::index_rows::{FIRST, put_images, replacing, settings};
-use commands::{ProgramError, index_dir};
+use commands::{Failure, ProgramError, index_dir};
 use fixtures::folders::holds;
 use inspection::Outcome;
 use std::fs;
@@ -57,7 +57,12 @@ fn a_directory_that_is_not_read_stays(rt: HostRuntime) -> Result<(), Fail> {
     fs::create_dir(&rt, "unlooked/DICOMDIR")?;
     let mut out = Vec::new(rt.alloc());
     let indexed = index_dir(&rt, &settings("unlooked", false)?, &mut out);
-    assert!(rt; matches!(indexed, Err(ProgramError::UnreadDirectory(_))));
+    assert!(rt;
+        matches!(
+            indexed,
+            Err(ProgramError::System(Failure::UnreadDirectory, _))
+        )
+    );
     Ok(())
 }
 

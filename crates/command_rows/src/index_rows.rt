@@ -1,7 +1,7 @@
 //! What `index` prints of a folder, and the directory that it leaves there.
 use crate::devices::Broken;
 use crate::files::header;
-use commands::{Index, ProgramError, checkdir_over, index_dir};
+use commands::{Failure, Index, ProgramError, checkdir_over, index_dir};
 use element::{Syntax, Uid};
 use fixtures::folders::{fresh, holds};
 use inspection::Outcome;
@@ -367,7 +367,12 @@ fn a_directory_that_is_not_written(rt: HostRuntime) -> Result<(), Fail> {
     assert!(rt; prints(&rt, "unwritten", false, b"records 4\nimages 1 left out 0\n")?);
     fs::remove_file(&rt, "unwritten/I0000001")?;
     fs::create_dir(&rt, "unwritten/DIRDRAFT")?;
-    assert!(rt; matches!(failure(&rt, "unwritten")?, Some(ProgramError::Directory(_))));
+    assert!(rt;
+        matches!(
+            failure(&rt, "unwritten")?,
+            Some(ProgramError::System(Failure::Directory, _))
+        )
+    );
     assert!(rt; has_size(&rt, "unwritten/DICOMDIR", 788)?);
     Ok(())
 }
@@ -381,7 +386,7 @@ fn the_output_fails(rt: HostRuntime) -> Result<(), Fail> {
     ];
     put_images(&rt, "unread", &images)?;
     let outcome = index_dir(&rt, &settings("unread", false)?, &mut Broken);
-    assert!(rt; matches!(outcome, Err(ProgramError::Write(_))));
+    assert!(rt; matches!(outcome, Err(ProgramError::System(Failure::Write, _))));
     assert!(rt; has_size(&rt, "unread/DICOMDIR", 788)?);
     Ok(())
 }
@@ -397,7 +402,7 @@ fn an_empty_folder(rt: HostRuntime) -> Result<(), Fail> {
     assert!(rt;
         matches!(
             failure(&rt, "no_such_folder")?,
-            Some(ProgramError::MissingFolder(_))
+            Some(ProgramError::System(Failure::MissingFolder, _))
         )
     );
     Ok(())

@@ -1,7 +1,7 @@
 //! What no contract says of a replay: that each failure is told, and as which one.
 use crate::devices::{Broken, Device, Gives};
 use crate::files::config;
-use commands::{ProgramError, replay_over};
+use commands::{Failure, ProgramError, replay_over};
 use engine::Standing;
 use fixtures::bytes::joined;
 use fixtures::echo;
@@ -29,7 +29,7 @@ fn a_failed_read_is_told(rt: HostRuntime) -> Result<(), Fail> {
         gives: Gives::Torn,
     };
     let answer = replay_over(alloc, &mut input, CUT, &config(), &mut filing, &mut out);
-    assert!(rt; matches!(answer, Err(ProgramError::Read(_))));
+    assert!(rt; matches!(answer, Err(ProgramError::System(Failure::Read, _))));
     assert!(rt; out.is_empty());
     Ok(())
 }
@@ -47,7 +47,7 @@ fn a_failed_write_is_told(rt: HostRuntime) -> Result<(), Fail> {
         &mut filing,
         &mut Broken,
     );
-    assert!(rt; matches!(answer, Err(ProgramError::Write(_))));
+    assert!(rt; matches!(answer, Err(ProgramError::System(Failure::Write, _))));
     Ok(())
 }
 

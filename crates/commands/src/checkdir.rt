@@ -1,5 +1,6 @@
 //! `dcmbox checkdir`: the records of a directory, or its first fault.
 use crate::error::ProgramError;
+use crate::failure::Failure;
 use crate::faults::write_dir_fault;
 use crate::texts::PathText;
 use crate::whole::read_whole;
@@ -38,7 +39,7 @@ pub fn tell_fault<O: Write>(fault: DirFault, out: &mut O) -> Result<Outcome, Pro
     }
     match write_dir_fault(fault, out) {
         Ok(()) => Ok(Outcome::Faulty),
-        Err(error) => Err(ProgramError::Write(error)),
+        Err(error) => Err(ProgramError::of_output(error)),
     }
 }
 
@@ -51,7 +52,7 @@ fn list_records<A: Allocator + Copy, O: Write>(
     match check(alloc, bytes) {
         Ok(tree) => match write_tree(&tree, out) {
             Ok(()) => Ok(Outcome::Good),
-            Err(error) => Err(ProgramError::Write(error)),
+            Err(error) => Err(ProgramError::of_output(error)),
         },
         Err(fault) => tell_fault(fault, out),
     }
@@ -66,6 +67,6 @@ pub fn checkdir_over<A: Allocator + Copy, R: Read, O: Write>(
     input: &mut R,
     out: &mut O,
 ) -> Result<Outcome, ProgramError> {
-    let bytes = read_whole(alloc, input)?;
+    let bytes = read_whole(alloc, input, Failure::Read)?;
     list_records(alloc, bytes.as_slice(), out)
 }

@@ -1,5 +1,6 @@
 //! The folder that received files go to.
 use crate::error::ProgramError;
+use crate::failure::Failure;
 use crate::options::Layout;
 use part10::{Filing, FolderFiling, FolderWriter};
 use std::fs::File;
@@ -46,9 +47,9 @@ pub fn try_draft<R: Files<File = File> + Alloc + Clone + Drop>(
         filing.discard();
         return Ok(());
     }
-    let error = filing.notes()?.take_error();
-    Err(ProgramError::UnwrittenFolder(match error {
+    let error = match filing.notes()?.take_error() {
         Some(error) => error,
         None => Error::from(ErrorKind::Other),
-    }))
+    };
+    Err(ProgramError::System(Failure::UnwrittenFolder, error))
 }

@@ -2,6 +2,7 @@
 use crate::checkdir::tell_fault;
 use crate::contents::{Contents, Skipped, read_rows, tell_skipped};
 use crate::error::ProgramError;
+use crate::failure::Failure;
 use crate::names::received_files;
 use crate::new_uid::new_uid;
 use crate::options::Index;
@@ -12,7 +13,7 @@ use dicomdir::{Built, DirFault, FileId, build, check, kept_of, write_dir};
 use dictionary::IMPLEMENTATION_CLASS_UID;
 use element::Uid;
 use inspection::{Outcome, implementation_of};
-use std::alloc::{AllocError, Allocator};
+use std::alloc::Allocator;
 use std::fs::OpenFile;
 use std::io::{BufWriter, ErrorKind, Read, Write};
 use std::rt::Files;
@@ -27,17 +28,6 @@ const HEADER_ROOM: u64 = 4096;
 /// The name of a directory that is not written whole yet.
 const DRAFT: &str = "DIRDRAFT";
 
-/// Reads the folder's directory, which is open.
-fn read_present<A: Allocator + Copy, R: Read>(
-    alloc: A,
-    file: &mut R,
-) -> Result<Vec<u8, A>, ProgramError> {
-    match read_whole(alloc, file) {
-        Err(ProgramError::Read(error)) => Err(ProgramError::NoDirectory(error)),
-        result => result,
-    }
-}
-
 /// Reads the folder's directory whole.
 fn present_directory<R: Files + Alloc>(rt: &R, dir: &str) -> Result<Vec<u8, R::A>, ProgramError>
 where
@@ -45,8 +35,8 @@ where
 {
     let path = format!(in rt.alloc(); "{dir}/{DIRECTORY}")?;
     match fs::open(rt, path.as_str()) {
-        Ok(mut file) => read_present(rt.alloc(), &mut file),
-        Err(error) => Err(ProgramError::NoDirectory(error)),
+        Ok(mut file) => read_whole(rt.alloc(), &mut file, Failure::NoDirectory),
+        Err(error) => Err(ProgramError::System(Failure::NoDirectory, error)),
     }
 }
 
@@ -110,10 +100,7 @@ fn spare_others<R: Files + Alloc>(rt: &R, dir: &str) -> Result<(), ProgramError>
     match beginning {
         Ok(bytes) if is_own(bytes.as_slice()) => Ok(()),
         Ok(_) => Err(ProgramError::OtherDirectory),
-        Err(error) if error.kind() == ErrorKind::OutOfMemory => {
-            Err(ProgramError::Memory(AllocError))
-        }
-        Err(error) => Err(ProgramError::UnreadDirectory(error)),
+        Err(error) => Err(ProgramError::of(Failure::UnreadDirectory, error)),
     }
 }
 
@@ -176,11 +163,11 @@ where
     let draft = format!(in rt.alloc(); "{dir}/{DRAFT}")?;
     let path = format!(in rt.alloc(); "{dir}/{DIRECTORY}")?;
     match replace(rt, draft.as_str(), path.as_str(), built) {
-        Ok(()) => sync(rt, dir).map_err(ProgramError::Directory),
-        Err(error) if error.kind() == ErrorKind::OutOfMemory => {
-            Err(ProgramError::Memory(AllocError))
-        }
-        Err(error) => Err(ProgramError::Directory(error)),
+        Ok(()) => match sync(rt, dir) {
+            Ok(()) => Ok(()),
+            Err(error) => Err(ProgramError::System(Failure::Directory, error)),
+        },
+        Err(error) => Err(ProgramError::of(Failure::Directory, error)),
     }
 }
 
@@ -220,7 +207,7 @@ where
     put_directory(rt, dir, built)?;
     match tell_built(built, skipped, out) {
         Ok(()) => Ok(Outcome::Good),
-        Err(error) => Err(ProgramError::Write(error)),
+        Err(error) => Err(ProgramError::of_output(error)),
     }
 }
 
@@ -247,7 +234,7 @@ where
     match build(rt.alloc(), contents.rows.as_slice(), uid) {
         Ok(built) => put_and_tell(rt, settings.dir, &built, skipped, out),
         Err(fault) => {
-            tell_skipped(skipped, out).map_err(ProgramError::Write)?;
+            tell_skipped(skipped, out).map_err(ProgramError::of_output)?;
             tell_fault(fault, out)
         }
     }
@@ -288,7 +275,7 @@ where
 /// Writes the directory of a folder, and prints what it left out. What was written before an error is
 /// printed, too.
 pub fn index(rt: &HostRuntime, settings: &Index) -> Result<Outcome, ProgramError> {
-    let mut out = BufWriter::new(rt.alloc(), io::writer(rt)).map_err(ProgramError::Write)?;
+    let mut out = BufWriter::new(rt.alloc(), io::writer(rt)).map_err(ProgramError::of_output)?;
     let outcome = index_dir(rt, settings, &mut out);
     flushed(outcome, &mut out)
 }

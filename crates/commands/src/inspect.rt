@@ -1,6 +1,7 @@
 //! The commands that read files and print what is in them.
 use crate::checkdir::checkdir_over;
 use crate::error::ProgramError;
+use crate::failure::Failure;
 use crate::json_text::write_file_name;
 use crate::outcome::flushed;
 use element::Uid;
@@ -115,10 +116,10 @@ fn unopened<O: Write>(
             return error;
         }
         if let Err(error) = writeln!(out, "\"result\":\"unread\"}}") {
-            return ProgramError::Write(error);
+            return ProgramError::of_output(error);
         }
     }
-    ProgramError::Open(error)
+    ProgramError::System(Failure::Open, error)
 }
 
 /// Writes what is asked for of a file, or of standard input, for which `-` stands.
@@ -143,7 +144,7 @@ pub fn inspect(
     file: &str,
     inspection: Inspection<'_>,
 ) -> Result<Outcome, ProgramError> {
-    let mut out = BufWriter::new(rt.alloc(), io::writer(rt)).map_err(ProgramError::Write)?;
+    let mut out = BufWriter::new(rt.alloc(), io::writer(rt)).map_err(ProgramError::of_output)?;
     let outcome = match inspect_file(rt, inspection, file, &mut out) {
         Ok(inspected) => Ok(inspection.outcome(&inspected)),
         Err(error) => Err(error),

@@ -11,5 +11,5 @@ pub fn write_file_name<O: Write>(
     out: &mut O,
 ) -> Result<(), ProgramError> {
     let name = Value::try_from_str(alloc, file)?.to_string(alloc)?;
-    write!(out, "{{\"file\":{name},").map_err(ProgramError::Write)
+    write!(out, "{{\"file\":{name},").map_err(ProgramError::of_output)
 }

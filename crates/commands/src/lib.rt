@@ -6,6 +6,7 @@ mod checkdir;
 mod contents;
 mod counter;
 mod error;
+mod failure;
 mod faults;
 mod folder;
 mod hexadecimal;
@@ -30,6 +31,7 @@ mod whole;
 
 pub use checkdir::checkdir_over;
 pub use error::ProgramError;
+pub use failure::Failure;
 pub use folder::open_folder;
 pub use index::index_dir;
 pub use options::{AtOnce, Index, Layout, Per, Replay, Serve};

@@ -1,5 +1,6 @@
 //! New unique identifiers.
 use crate::error::ProgramError;
+use crate::failure::Failure;
 use element::Uid;
 use std::io::{ErrorKind, Read};
 use std::rt::Files;
@@ -22,11 +23,14 @@ fn random_bits<R: Files>(rt: &R) -> io::Result<[u8; 16]> {
 ///
 /// Fails if the system gives no random bytes.
 pub fn new_uid<R: Files + Alloc>(rt: &R) -> Result<Uid, ProgramError> {
-    let bits = random_bits(rt).map_err(ProgramError::Random)?;
+    let bits = match random_bits(rt) {
+        Ok(bits) => bits,
+        Err(error) => return Err(ProgramError::System(Failure::Random, error)),
+    };
     let number = Builder::from_random_bytes(bits).into_uuid().as_u128();
     let text = format!(in rt.alloc(); "2.25.{number}")?;
     match Uid::read(text.as_bytes()) {
         Some(uid) => Ok(uid),
-        None => Err(ProgramError::Random(io::Error::from(ErrorKind::InvalidData))),
+        None => Err(ProgramError::System(Failure::Random, io::Error::from(ErrorKind::InvalidData))),
     }
 }

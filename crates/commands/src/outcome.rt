@@ -11,7 +11,7 @@ pub fn flushed<T: Drop, O: Write>(
 ) -> Result<T, ProgramError> {
     match (outcome, out.flush()) {
         (Ok(outcome), Ok(())) => Ok(outcome),
-        (Ok(_), Err(error)) => Err(ProgramError::Write(error)),
+        (Ok(_), Err(error)) => Err(ProgramError::of_output(error)),
         (Err(error), _) => Err(error),
     }
 }

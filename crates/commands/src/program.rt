@@ -1,5 +1,6 @@
 //! The program: it reads its arguments, does what they say, and reports what went wrong.
 use crate::error::ProgramError;
+use crate::failure::Failure;
 use crate::perform::perform;
 use arguments::{Job, WordsError, read_words};
 use inspection::Outcome;
@@ -27,11 +28,11 @@ fn only<'a>(files: &[&'a str]) -> &'a str {
 
 /// Returns what an error is about: a file, a folder or a port.
 fn subject<'a>(job: &Job<'a>, error: &ProgramError) -> &'a str {
-    match (job, error) {
-        (Job::Serve(arguments), ProgramError::Listen(_)) => arguments.port,
-        (Job::Serve(arguments), ProgramError::Address(_)) => arguments.bind,
-        (Job::Serve(arguments), error) if error.is_of_folder() => arguments.out,
-        (Job::Replay(arguments), error) if error.is_of_folder() => arguments.out,
+    match (job, error.failure()) {
+        (Job::Serve(arguments), Some(Failure::Listen)) => arguments.port,
+        (Job::Serve(arguments), Some(Failure::Address)) => arguments.bind,
+        (Job::Serve(arguments), Some(failure)) if failure.is_of_folder() => arguments.out,
+        (Job::Replay(arguments), Some(failure)) if failure.is_of_folder() => arguments.out,
         (Job::Replay(arguments), _) => arguments.file,
         (Job::Show(arguments), _) => only(arguments.files.as_slice()),
         (Job::Check(arguments), _) => only(arguments.files.as_slice()),
@@ -68,11 +69,14 @@ fn report(rt: &HostRuntime, subject: &str, error: &ProgramError) -> ExitCode {
             let _ = eprint!(rt; "{text}");
             ExitCode::from(REFUSED)
         }
-        ProgramError::Arguments(error) if error.kind() == ErrorKind::InvalidData => {
-            let _ = eprintln!(rt; "error: an argument is not UTF-8");
-            ExitCode::from(REFUSED)
+        ProgramError::System(Failure::Arguments, error) if error.kind() == ErrorKind::InvalidData =>
+            {
+                let _ = eprintln!(rt; "error: an argument is not UTF-8");
+                ExitCode::from(REFUSED)
+            }
+        ProgramError::System(Failure::Write, error) if error.kind() == ErrorKind::BrokenPipe => {
+            ExitCode::SUCCESS
         }
-        ProgramError::Write(error) if error.kind() == ErrorKind::BrokenPipe => ExitCode::SUCCESS,
         _ => fail(rt, subject, error),
     }
 }
@@ -80,10 +84,15 @@ fn report(rt: &HostRuntime, subject: &str, error: &ProgramError) -> ExitCode {
 /// Returns the program's arguments.
 fn owned_words(rt: &HostRuntime) -> Result<Vec<String, Global>, ProgramError> {
     let mut owned = Vec::new(rt.alloc());
-    for word in env::args(rt).map_err(ProgramError::Arguments)? {
-        owned.push(word)?;
+    match env::args(rt) {
+        Ok(words) => {
+            for word in words {
+                owned.push(word)?;
+            }
+            Ok(owned)
+        }
+        Err(error) => Err(ProgramError::System(Failure::Arguments, error)),
     }
-    Ok(owned)
 }
 
 /// Returns the arguments as borrowed texts.

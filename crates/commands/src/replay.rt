@@ -2,6 +2,7 @@
 ghost use Rattle.std.specs.Prelude.{◌<◌};
 
 use crate::error::ProgramError;
+use crate::failure::Failure;
 use crate::folder::open_folder;
 use crate::hexadecimal;
 use crate::limits::{COMMAND, DEPTH, REQUEST, VALUES};
@@ -54,7 +55,7 @@ fn replay_inputs<A: Allocator + Copy, F: Filing, O: Write>(
     if wire.failed() {
         return Err(ProgramError::Wire);
     }
-    hexadecimal::write_lines(wire.sent(), out).map_err(ProgramError::Write)?;
+    hexadecimal::write_lines(wire.sent(), out).map_err(ProgramError::of_output)?;
     Ok(report)
 }
 
@@ -88,7 +89,7 @@ pub fn replay_over<A: Allocator + Copy, R: Read, F: Filing, O: Write>(
 ) -> Result<Report, ProgramError>
     requires { 0 < cut }
 {
-    let recording = read_whole(alloc, input)?;
+    let recording = read_whole(alloc, input, Failure::Read)?;
     replay_recording(alloc, recording.as_slice(), cut, config, filing, out)
 }
 
@@ -102,7 +103,7 @@ fn write_replay<O: Write>(
 ) -> Result<(), ProgramError> {
     let report = replay_over(alloc, input, settings.cut, &settings.config, filing, out)?;
     let (standing, held, files) = (report.standing, report.held, filing.committed());
-    writeln!(out, "{standing} held {held} files {files}").map_err(ProgramError::Write)
+    writeln!(out, "{standing} held {held} files {files}").map_err(ProgramError::of_output)
 }
 
 /// Prints what the recording's association sent, and how it ended.
@@ -112,14 +113,17 @@ fn print_replay(
     input: &mut File,
     filing: &mut FolderFiling<HostRuntime>,
 ) -> Result<(), ProgramError> {
-    let mut out = BufWriter::new(rt.alloc(), io::writer(rt)).map_err(ProgramError::Write)?;
+    let mut out = BufWriter::new(rt.alloc(), io::writer(rt)).map_err(ProgramError::of_output)?;
     write_replay(rt.alloc(), settings, input, filing, &mut out)?;
-    out.flush().map_err(ProgramError::Write)
+    out.flush().map_err(ProgramError::of_output)
 }
 
 /// Runs the recording of a file, and prints what was sent and how it ended.
 pub fn replay(rt: &HostRuntime, settings: &Replay) -> Result<(), ProgramError> {
-    let mut input = fs::open(rt, settings.file).map_err(ProgramError::Open)?;
+    let mut input = match fs::open(rt, settings.file) {
+        Ok(input) => input,
+        Err(error) => return Err(ProgramError::System(Failure::Open, error)),
+    };
     let mut filing = open_folder(*rt, settings.out, settings.layout, true)?;
     print_replay(rt, settings, &mut input, &mut filing)
 }

@@ -4,6 +4,7 @@ ghost use Rattle.negotiate.specs.Settings.{settings_of};
 ghost use Rattle.connection.specs.Served.{Came, CameOf};
 
 use crate::error::ProgramError;
+use crate::failure::Failure;
 use crate::options::Serve;
 use connection::{Connected, Exchange, Terms, exchange_over};
 use journal::{ConnectionFailed, Journal, Listening, NotAccepted, Served, Stopped, Teller};
@@ -132,7 +133,7 @@ pub fn serve<
     S: Files<File = File> + Alloc + Clone + Drop,
 >(rt: &R, settings: &Serve, filing: &mut FolderFiling<S>) -> Result<(), ProgramError> {
     let listener = listen(rt, settings)?;
-    let address = listener.local_addr().map_err(ProgramError::Listen)?;
+    let address = listener.local_addr().map_err(ProgramError::of_listening)?;
     let teller = Teller::new(rt, settings.form);
     teller.tell(&Listening(address));
     serve_each(rt, &listener, settings, filing);
@@ -161,5 +162,8 @@ pub fn serve_several<
         once: settings.once,
         form: settings.form,
     };
-    serve_many(rt, listener, terms, files, folder).map_err(ProgramError::Serve)
+    match serve_many(rt, listener, terms, files, folder) {
+        Ok(()) => Ok(()),
+        Err(error) => Err(ProgramError::System(Failure::Serve, error)),
+    }
 }

@@ -1,6 +1,7 @@
 //! Several files that are inspected, one after the other, and the folders that they are in.
 use crate::counter::Counter;
 use crate::error::ProgramError;
+use crate::failure::Failure;
 use crate::inspect::{Inspection, inspect, inspect_file};
 use crate::outcome::flushed;
 use crate::tally::Tally;
@@ -31,7 +32,7 @@ struct Inspector<'a, O: Write + Drop> {
 impl<O: Write + Drop> Inspector<'_, O> {
     /// Counts what can't be read, and tells of it on standard error; any other error is returned.
     fn tell_unread(&mut self, path: &str, error: ProgramError) -> Result<(), ProgramError> {
-        if !error.is_of_input() {
+        if !error.failure().is_some_and(Failure::is_of_input) {
             return Err(error);
         }
         self.tally.add_unread();
@@ -46,7 +47,7 @@ impl<O: Write + Drop> Inspector<'_, O> {
             return Ok(());
         }
         let name = Printable(file.as_bytes());
-        writeln!(self.out, "file {name}").map_err(ProgramError::Write)
+        writeln!(self.out, "file {name}").map_err(ProgramError::of_output)
     }
 
     /// Writes the name of a file and what is asked for of it.
@@ -80,7 +81,7 @@ impl<O: Write + Drop> Inspector<'_, O> {
             Ok(found) if found.is_dir() => self.open_folder(path, visits),
             Ok(found) if found.is_file() => self.inspect(path),
             Ok(_) => Ok(()),
-            Err(error) => self.tell_unread(path, ProgramError::Open(error)),
+            Err(error) => self.tell_unread(path, ProgramError::System(Failure::Open, error)),
         }
     }
 
@@ -120,7 +121,7 @@ impl<O: Write + Drop> Inspector<'_, O> {
             return Ok(());
         }
         let tally = self.tally;
-        writeln!(self.out, "{tally}").map_err(ProgramError::Write)
+        writeln!(self.out, "{tally}").map_err(ProgramError::of_output)
     }
 }
 
@@ -130,7 +131,7 @@ fn inspect_several<'a>(
     files: Files<'_>,
     inspection: Inspection<'a>,
 ) -> Result<Tally, ProgramError> {
-    let out = BufWriter::new(rt.alloc(), io::writer(rt)).map_err(ProgramError::Write)?;
+    let out = BufWriter::new(rt.alloc(), io::writer(rt)).map_err(ProgramError::of_output)?;
     let mut inspector = Inspector {
         rt,
         inspection,
