@@ -1,11 +1,16 @@
-//! The command line of DCMBOX: its commands, and what the arguments ask for.
+//! The command line of DCMBOX: its commands, what the arguments ask for, and what their values mean.
 #![tactic(auto)]
 
 mod argument;
+mod at_once;
 mod command;
+mod options;
+mod settings;
 mod values;
 mod words;
 
+pub use options::{AtOnce, Index, Layout, Per, Replay, Serve};
+pub use settings::{index_settings, replay_settings, serve_settings};
 pub use values::{
     CheckArguments, FileArguments, IndexArguments, MOST_VALUES, ReplayArguments, ServeArguments,
     ShowArguments,

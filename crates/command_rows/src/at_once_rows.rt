@@ -1,6 +1,6 @@
 //! How many associations `serve` serves at once for a command line, how long, and how that is ended.
 use crate::settings_rows::{refuses, serve_for};
-use commands::AtOnce;
+use arguments::AtOnce;
 use std::alloc::Global;
 use std::test::Fail;
 

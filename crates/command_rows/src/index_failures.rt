@@ -1,7 +1,8 @@
 //! What `index` leaves in a folder where a call of the disk fails, or where memory runs out.
 use crate::index_rows::{FIRST, SECOND, WITHOUT_STUDY_ID, file, put_images, replacing, settings};
 use crate::recorded::{Call, Recorded, Stage, Watched};
-use commands::{Failure, Index, ProgramError, index_dir};
+use arguments::Index;
+use commands::{Failure, ProgramError, index_dir};
 use fixtures::folders::{count, holds};
 use fixtures::refusing::Refusing;
 use inspection::Outcome;

@@ -1,7 +1,8 @@
 //! What `index` prints of a folder, and the directory that it leaves there.
 use crate::devices::Broken;
 use crate::files::header;
-use commands::{Failure, Index, ProgramError, checkdir_over, index_dir};
+use arguments::Index;
+use commands::{Failure, ProgramError, checkdir_over, index_dir};
 use element::{Syntax, Uid};
 use fixtures::folders::{fresh, holds};
 use inspection::Outcome;

@@ -1,6 +1,7 @@
 //! Associations over TCP in one process: the log, and what a peer can't do to the box.
 use crate::files::config;
-use commands::{AtOnce, Layout, Serve, open_folder, serve_one};
+use arguments::{AtOnce, Layout, Serve};
+use commands::{open_folder, serve_one};
 use connection::Timeouts;
 use fixtures::bytes::joined;
 use fixtures::echo;

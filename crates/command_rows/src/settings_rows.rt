@@ -1,7 +1,9 @@
 //! What the commands do for a command line: each setting is its argument or its default, and which
 //! arguments are refused, with which text.
-use arguments::{Job, WordsError, read_words};
-use commands::{Index, Layout, Replay, Serve, index_settings, replay_settings, serve_settings};
+use arguments::{
+    Index, Job, Layout, Replay, Serve, WordsError, index_settings, read_words, replay_settings,
+    serve_settings,
+};
 use element::AeTitle;
 use journal::Form;
 use log::Level;

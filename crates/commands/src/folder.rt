@@ -1,7 +1,7 @@
 //! The folder that received files go to.
 use crate::error::ProgramError;
 use crate::failure::Failure;
-use crate::options::Layout;
+use arguments::Layout;
 use part10::{Filing, FolderFiling, FolderWriter};
 use std::fs::File;
 use std::io::{Error, ErrorKind};

@@ -1,7 +1,6 @@
 //! The commands of DCMBOX: what the program does, prints and returns for its arguments.
 #![tactic(auto)]
 
-mod at_once;
 mod checkdir;
 mod contents;
 mod counter;
@@ -16,13 +15,11 @@ mod json_text;
 mod limits;
 mod names;
 mod new_uid;
-mod options;
 mod outcome;
 mod perform;
 mod program;
 mod replay;
 mod serve;
-mod settings;
 mod several;
 mod tally;
 mod texts;
@@ -34,8 +31,6 @@ pub use error::ProgramError;
 pub use failure::Failure;
 pub use folder::open_folder;
 pub use index::index_dir;
-pub use options::{AtOnce, Index, Layout, Per, Replay, Serve};
 pub use program::run_program;
 pub use replay::replay_over;
 pub use serve::serve_one;
-pub use settings::{index_settings, replay_settings, serve_settings};

@@ -1,4 +1,3 @@
 //! The limits to which the program holds an association and a file.
 
 pub use connection::{COMMAND, DEPTH, PIECE, REQUEST, VALUES};
-pub use inspection::MOST_DATA;

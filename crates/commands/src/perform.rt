@@ -3,13 +3,12 @@ use crate::error::ProgramError;
 use crate::folder::{open_folder, open_writer, try_draft};
 use crate::index::index;
 use crate::inspect::{Inspection, inspect};
-use crate::options::Serve;
 use crate::replay::replay;
 use crate::serve::{serve, serve_several};
-use crate::settings::{index_settings, replay_settings, serve_settings};
 use crate::several::{Files, inspect_files};
 use arguments::{
-    CheckArguments, IndexArguments, Job, ReplayArguments, ServeArguments, ShowArguments, WordsError,
+    CheckArguments, IndexArguments, Job, ReplayArguments, Serve, ServeArguments, ShowArguments,
+    WordsError, index_settings, replay_settings, serve_settings,
 };
 use element::{Tag, Uid, Vr, check_value};
 use inspection::{CheckOptions, Outcome, OutputForm, ShowOptions, tag_named};

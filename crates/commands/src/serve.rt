@@ -5,7 +5,7 @@ ghost use Rattle.connection.specs.Served.{Came, CameOf};
 
 use crate::error::ProgramError;
 use crate::failure::Failure;
-use crate::options::Serve;
+use arguments::Serve;
 use connection::{Connected, Exchange, Terms, exchange_over};
 use journal::{ConnectionFailed, Journal, Listening, NotAccepted, Served, Stopped, Teller};
 use log::Log;

@@ -27,7 +27,6 @@ pub use check::{check_over, check_with};
 pub use error::InspectionError;
 pub use front::FileFront;
 pub use judgement::Judgement;
-pub use limits::MOST_DATA;
 pub use named_tag::tag_named;
 pub use options::{CheckOptions, OutputForm, ShowOptions};
 pub use origin::{implementation_of, other_syntax_of};

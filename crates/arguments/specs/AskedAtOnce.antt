@@ -3,8 +3,8 @@ use Rattle.std.specs.Prelude.{◌≡◌, ℕ, ◌+◌, ◌*◌, ◌/◌, ◌%◌
 use Rattle.std.specs.Duration.{as_nanos}
 use Rattle.std.specs.declared.time.Duration.{Duration}
 use Rattle.arguments.specs.declared.values.ServeArguments.{ServeArguments}
-use Rattle.commands.specs.declared.options.AtOnce.{AtOnce}
-use Rattle.commands.specs.Asked.{Spells, SpellsTime}
+use Rattle.arguments.specs.declared.options.AtOnce.{AtOnce}
+use Rattle.arguments.specs.Asked.{Spells, SpellsTime}
 
 -- a time that a text spells in seconds, of none to a day
 abbrev pub SpellsGrace : List ℕ → Duration → Type 0

@@ -13,11 +13,11 @@ use Rattle.arguments.specs.declared.values.ReplayArguments.{ReplayArguments}
 use Rattle.arguments.specs.declared.values.ServeArguments.{ServeArguments}
 use Rattle.journal.specs.declared.form.Form.{Form}
 use Rattle.journal.specs.declared.form.Form.TheVariants.{Text, Json}
-use Rattle.commands.specs.declared.options.Layout.{Layout}
-use Rattle.commands.specs.declared.options.Layout.TheVariants.{Flat, Levels}
-use Rattle.commands.specs.declared.options.Index.{Index}
-use Rattle.commands.specs.declared.options.Replay.{Replay}
-use Rattle.commands.specs.declared.options.Serve.{Serve}
+use Rattle.arguments.specs.declared.options.Layout.{Layout}
+use Rattle.arguments.specs.declared.options.Layout.TheVariants.{Flat, Levels}
+use Rattle.arguments.specs.declared.options.Index.{Index}
+use Rattle.arguments.specs.declared.options.Replay.{Replay}
+use Rattle.arguments.specs.declared.options.Serve.{Serve}
 
 -- the number that a text of decimal digits spells, which a `+` may lead; it stands between two bounds
 pub record Spells (least most : ℕ) (text : List ℕ) (number : ℕ) : Type 0 where

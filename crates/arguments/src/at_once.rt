@@ -1,11 +1,12 @@
 //! What the values of arguments mean of associations that are served at once.
 ghost use Rattle.std.specs.Prelude.{◌≡◌, IfOk, option_map};
-ghost use Rattle.commands.specs.AskedAtOnce.{IsAtOnce, IsLongest, IsPerPeer, SpellsGrace};
-ghost use Rattle.commands.specs.Asked.{Spells};
+ghost use Rattle.arguments.specs.AskedAtOnce.{IsAtOnce, IsLongest, IsPerPeer, SpellsGrace};
+ghost use Rattle.arguments.specs.Asked.{Spells};
 
 use crate::options::AtOnce;
 use crate::settings::{number, seconds};
-use arguments::{ServeArguments, WordsError};
+use crate::values::ServeArguments;
+use crate::words::WordsError;
 use std::alloc::Global;
 use std::time::Duration;
 

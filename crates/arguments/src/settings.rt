@@ -3,13 +3,13 @@ ghost use Rattle.std.specs.Prelude.{◌≡◌, ◌≤◌, ◌^◌, ◌++◌, IfO
 ghost use Rattle.element.specs.Title.{title_of_text};
 ghost use Rattle.element.specs.Uid.{uid_of};
 ghost use Rattle.negotiate.specs.Settings.{registered, settings_of};
-ghost use Rattle.commands.specs.Asked.{Spells, SpellsTime, IsLevel, IsForm, IsLayout, IsDirectoryUid, IsServed, IsReplayed, IsIndexed};
-ghost use Rattle.commands.specs.AskedAtOnce.{IsAtOnce};
+ghost use Rattle.arguments.specs.Asked.{Spells, SpellsTime, IsLevel, IsForm, IsLayout, IsDirectoryUid, IsServed, IsReplayed, IsIndexed};
+ghost use Rattle.arguments.specs.AskedAtOnce.{IsAtOnce};
 
 use crate::at_once::at_once_of;
-use crate::limits::MOST_DATA;
 use crate::options::{Index, Layout, Per, Replay, Serve};
-use arguments::{IndexArguments, MOST_VALUES, ReplayArguments, ServeArguments, WordsError};
+use crate::values::{IndexArguments, MOST_VALUES, ReplayArguments, ServeArguments};
+use crate::words::WordsError;
 use arrayvec::ArrayVec;
 use connection::Timeouts;
 use element::{AeTitle, Uid};
@@ -18,6 +18,9 @@ use log::Level;
 use negotiate::Config;
 use std::alloc::Global;
 use std::time::Duration;
+
+/// The longest data set that can be asked for, in bytes: 2^48.
+const MOST_DATA: u64 = 281_474_976_710_656;
 
 /// Reads a number from `least` to `most`, as Rust's number reader does.
 pub(crate) fn number(

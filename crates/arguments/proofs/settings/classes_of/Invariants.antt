@@ -1,6 +1,6 @@
 use Rattle.std.proofs.Common.{◌≡◌, Some, length, map, take}
 use Rattle.element.specs.Uid.{uid_of}
-use Rattle.commands.proofs.settings.classes_of.Given as goal
+use Rattle.arguments.proofs.settings.classes_of.Given as goal
 
 abbrev pub invariant-loop-class : goal.invariant-loop-class
 invariant-loop-class l = (length l.uids.items ≡ l.class-index)
