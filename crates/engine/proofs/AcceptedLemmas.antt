@@ -39,6 +39,7 @@ use Rattle.engine.proofs.PendsLemmas.{moved_left, moved_stays}
 use Rattle.engine.proofs.HeadedLemmas.{Opened, Between, OfPdu, OfPdv, opens_at, IsHeadedAt, AreHeadedAt, timeline_headed}
 use Rattle.engine.proofs.HeadLemmas.{head_stays, head_too_long}
 use Rattle.engine.proofs.DueLemmas.{stays_invalid, stays_aborts, stays_closed, stays_expired, stays_abort}
+use Rattle.engine.proofs.PhaseLemmas.{never_both}
 
 -- ---- what is known of the contexts of a message and of a value that has begun
 
@@ -91,10 +92,6 @@ event_sound p o e stays h = by (is_left (table p.state e).1) refl
     by : (l : Bool) → is_left (table p.state e).1 ≡ l → Sound (moved (table p.state e).1 p) o
     by true l = subst (λ (q : Progress). Sound q o) (sym (moved_left (table p.state e).1 p l)) (left_sound (table p.state e).1 p o l)
     by false l = subst (λ (q : Progress). Sound q o) (sym (moved_stays (table p.state e).1 p l ∙ ap (λ (st : State). record p { state = st }) (stays l))) h
-
-pub never_both : (b : Bool) → b && false ≡ false
-never_both true = refl
-never_both false = refl
 
 refused_sound : (p : Progress) (o later : Opened) → Sound p o → Sound (record p { refused = true }) later
 refused_sound p o later h = record { message = h.message; quiet = h.quiet; head = uncounted_head (record p { refused = true }) later (never_both (is_established p.state)) }
@@ -228,7 +225,7 @@ request_quiet s p body q = by (request_fault body)
     by None = answered_quiet s (items.request_record body) (keeping s body p) (judged s (items.request_record body)) q
     by (Some f) = done_quiet [] 6 p event.Invalid q
 
-established_is : (st : State) → is_established st ≡ true → Sta6 ≡ st
+pub established_is : (st : State) → is_established st ≡ true → Sta6 ≡ st
 established_is Sta1 e = absurd cc
 established_is Sta2 e = absurd cc
 established_is Sta3 e = absurd cc

@@ -33,6 +33,7 @@ use Rattle.engine.specs.Stores.{limits, wanted}
 use Rattle.engine.specs.Timeline.{Entry, entries_of}
 use Rattle.engine.proofs.HeadedLemmas.{Opened, Between, OfPdu, OfPdv, IsBegun, HoldsOfParts, AreHeadedAt, open_at_end, timeline_headed, timeline_begun}
 use Rattle.engine.proofs.RoomLemmas.{Fits, HasRoom, set_of, same_context, fragment_fits, absorbed_fits, story_fits}
+use Rattle.engine.proofs.HeldLemmas.{unfinished_none}
 
 pub bytes_parts : HoldsOfParts IsBytes
 bytes_parts = record { takes = takes; drops = λ n xs h i. rw get_or-drop (h (n + i)) }
@@ -56,14 +57,10 @@ few xs = by (nat_lt (length xs) 6) refl
 few_heads : (r : Reached) → unfinished r.rest + unfinished (begun_pdv r) ≤ 5
 few_heads r = by (nat_lt (length r.rest) 6) refl
   where
-    none : (b : Bool) → unfinished (if b then [] else []) ≡ 0
-    none true = refl
-    none false = refl
-
     by : (b : Bool) → nat_lt (length r.rest) 6 ≡ b → (if b then length r.rest else 0) + unfinished (begun_pdv r) ≤ 5
     by true e =
         let lt = ltb-true (length r.rest) 6 e in
-        let no_pdv : unfinished (begun_pdv r) ≡ 0 = ap (λ (x : Spot). unfinished (if takes_pdvs r.progress then begun_in x else [])) (spot_opening r.rest lt) ∙ none (takes_pdvs r.progress) in
+        let no_pdv : unfinished (begun_pdv r) ≡ 0 = ap (λ (x : Spot). unfinished (if takes_pdvs r.progress then begun_in x else [])) (spot_opening r.rest lt) ∙ unfinished_none (takes_pdvs r.progress) in
         omega (arith, lt, no_pdv)
     by false e = omega (arith, few (begun_pdv r))
 
@@ -155,9 +152,6 @@ module _ (limit : Rooms) (o : Opened) where
 set_within : (syntax : Syntax) (lim : Limits) (set : List ℕ) (n : ℕ) → IsBytes set → IsHeldOfSet syntax lim set n → n ≤ 12 + rooms lim.wanted + 16 * lim.depth
 set_within syntax lim set n bytes (unbroken whole front) = held_has_a_bound syntax lim set _ bytes (going whole front)
 set_within syntax lim set n bytes (faulty fault front) = held_has_a_bound syntax lim set _ bytes (walk.refused fault front)
-
-same_set : (id id2 : ℕ) (command command2 set set2 : List ℕ) → InSet id command set ≡ InSet id2 command2 set2 → set ≡ set2
-same_set id id2 command command2 set set2 e = cc
 
 data_within : (limit : Rooms) (s : Settings) (request : Requested) (come : Begun) (n : ℕ) → 140 ≤ limit.values → IsBytes (set_of come) → IsHeldOfMessage limit s request come n → n ≤ limit.values + 16 * limit.depth
 data_within limit s request come n least bytes (walked store held) =

@@ -31,7 +31,7 @@ use Rattle.engine.specs.StoredData.{Stored, Nothing, Walking, HasWalked, walked,
 use Rattle.engine.specs.machine.Storing.{BeginsStore, GoesOn}
 use Rattle.engine.specs.machine.Does.{Does}
 use Rattle.engine.proofs.StoreLemmas.{Carried, none_carried, meta_by, due_file}
-use Rattle.engine.proofs.DueLemmas.{if_nothing, line_same, line_gained, filed_nothing}
+use Rattle.engine.proofs.DueLemmas.{if_nothing, line_same, line_gained, filed_nothing, sent_nothing}
 use Rattle.engine.proofs.MessageLemmas.{entry_of, pdv_taken, pdv_comes, verdict_by, taken_state}
 use Rattle.engine.specs.Fair.{MayFail}
 use Rattle.std.specs.Io.KnownBytes.{append_known}
@@ -170,17 +170,13 @@ does_due rooms s p begun room k j z l so sn later h taken goes shows due x =
 
 -- ---- and go on
 
-known_same : (known : Option (List ℕ)) → known ≡ append_known known []
-known_same None = refl
-known_same (Some xs) = ap (λ (x : List ℕ). Some x) (sym (append-nil xs))
-
 pub appends_none : (rooms : Rooms) (s : Settings) (p : Progress) (k : Kept) (begun : List ℕ) (d : Devices) → Pends k d.store p [] begun → Appends rooms s p k [] begun d d
 appends_none rooms s p k begun d h = record {
   failed = false;
   last = λ e. absurd cc;
   pends = h;
   gains = record {
-    line = ap (λ (y : Option (List ℕ)). record { sent = y; failures = d.line.failures }) (known_same d.line.sent) ∙ ap (λ (n : ℕ). record { sent = append_known d.line.sent []; failures = n }) (omega arith);
+    line = ap (λ (y : Option (List ℕ)). record { sent = y; failures = d.line.failures }) (sent_nothing d.line.sent) ∙ ap (λ (n : ℕ). record { sent = append_known d.line.sent []; failures = n }) (omega arith);
     files = filed_nothing (files_in d.store);
     count = omega arith;
   };
@@ -204,7 +200,7 @@ does_append rooms s p begun part k j z l so sn h taken six shows g =
       pends = pends_joined k sn (absorb x.failed p) j z (begun ++ part) (aside_absorbed k p x.failed (aside_of k so p begun h)) (subst (λ (xs : List ℕ). ShowsMessage k.room j p.message xs) (sym counts) shows) c
           (λ n e. by n store (either_failed x.failed p.filing_failed e));
       gains = record {
-        line = ap (λ (y : Option (List ℕ)). record { sent = y; failures = l.failures }) (known_same l.sent) ∙ ap (λ (n : ℕ). record { sent = append_known l.sent []; failures = n }) (omega arith);
+        line = ap (λ (y : Option (List ℕ)). record { sent = y; failures = l.failures }) (sent_nothing l.sent) ∙ ap (λ (n : ℕ). record { sent = append_known l.sent []; failures = n }) (omega arith);
         files = x.files ∙ filed_nothing (files_in so);
         count = omega (arith, x.count);
       };

@@ -22,7 +22,7 @@ cut_absorbed : (f : Bool) (w : Option ℕ) (p : Progress) (g : Advance) → cut 
 cut_absorbed f None p g = refl
 cut_absorbed f (Some k) p g = refl
 
-message_absorbed : (f : Bool) (p : Progress) (e : Entry) → message_at (absorb f p) e ≡ message_at p e
+pub message_absorbed : (f : Bool) (p : Progress) (e : Entry) → message_at (absorb f p) e ≡ message_at p e
 message_absorbed f p (At (Head kind n)) = refl
 message_absorbed f p (At (PdvHead n context control)) = refl
 message_absorbed f p (At (Pdv context control fragment)) = refl

@@ -26,7 +26,7 @@ use Rattle.engine.specs.machine.Does.{Does}
 
 -- ---- the devices
 
-sent_nothing : (known : Option (List ℕ)) → known ≡ append_known known []
+pub sent_nothing : (known : Option (List ℕ)) → known ≡ append_known known []
 sent_nothing None = refl
 sent_nothing (Some xs) = ap (λ (x : List ℕ). Some x) (sym (append-nil xs))
 

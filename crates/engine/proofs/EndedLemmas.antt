@@ -12,7 +12,7 @@ use Rattle.negotiate.specs.Settings.{Settings}
 use Rattle.negotiate.specs.declared.proposals.Context.{Context}
 use Rattle.negotiate.specs.Contexts.{context_of}
 use Rattle.part10.specs.File.{File}
-use Rattle.part10.specs.Store.{Shelf, Store, committed, told_after, without_draft}
+use Rattle.part10.specs.Store.{Shelf, Store, committed, told_after}
 use Rattle.dimse.specs.declared.detail.Detail.{Detail}
 use Rattle.dimse.specs.declared.fault.DimseFault.{DimseFault}
 use Rattle.dimse.specs.Command.{CommandRecord, is_request}
@@ -38,10 +38,11 @@ use Rattle.engine.specs.StoredData.{Stored, Nothing, Walking, HasWalked, Walks, 
 use Rattle.engine.specs.machine.Storing.{BeginsStore, Begins, Drops, EndsDraft, commit_failed, dropped, EndsStore}
 use Rattle.engine.specs.machine.DoesDue.{ComesTo, Unfiled, is_left}
 use Rattle.engine.specs.machine.Does.{Does}
-use Rattle.engine.proofs.StoreLemmas.{none_carried, no_store, meta_by, file_due, undrafted, drafted, drops_unfiled}
+use Rattle.engine.proofs.StoreLemmas.{none_carried, meta_by, file_due, undrafted, drafted, drops_unfiled, files_kept}
 use Rattle.engine.proofs.PendsLemmas.{settled_failed}
 use Rattle.engine.proofs.DueLemmas.{if_nothing, line_same, line_gained, files_cut, filed_nothing}
 use Rattle.engine.proofs.MessageLemmas.{entry_of, pdv_taken, pdv_comes, verdict_by}
+use Rattle.engine.proofs.ShownLemmas.{no_store}
 
 -- ---- replies
 
@@ -157,10 +158,6 @@ told_put : (told : Option Shelf) (file : List ℕ) → TellsDraft told file → 
 told_put None file h = refl
 told_put (Some shelf) file h = ap (λ (xs : List ℕ). Some (shelf.files ++ xs ∷ [])) h
 
-told_kept : (told : Option Shelf) → option_map (λ (shelf : Shelf). shelf.files) (told_after without_draft told) ≡ option_map (λ (shelf : Shelf). shelf.files) told
-told_kept None = refl
-told_kept (Some shelf) = refl
-
 -- the store is judged, and this came of its draft
 pub record StoreEnds (depth most : ℕ) (request : Requested) (m : Message) (come : Begun) (c : CommandRecord) (before : Bool) (f : Finding) (old new : Store) : Type 0 where
   pub failed_then : Bool
@@ -223,7 +220,7 @@ module _ (depth most : ℕ) (request : Requested) (m : Message) (come : Begun) (
     by _ eq (commit_failed d step) =
         let due = drafted request come before old drafting h d in
         let bad = subst (λ (b : Bool). Verdict depth most store.context c m.set (b || before) f) (sym eq) judged in
-        (λ x. (due.1.unfailed, store), kept_files (failed_store bad) (ap files_in step ∙ told_kept old.told), ap (λ (x : Store). x.failures) step)
+        (λ x. (due.1.unfailed, store), kept_files (failed_store bad) (ap files_in step ∙ files_kept old.told), ap (λ (x : Store). x.failures) step)
     by _ eq (dropped n step) =
         let u = drops_unfiled drafting old new step in
         (λ x. absurd cc, kept_files n u.files, u.count ∙ omega arith)

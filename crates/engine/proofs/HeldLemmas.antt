@@ -46,7 +46,7 @@ heads_open r b n m e is first second =
 
 -- ---- heads
 
-unfinished_none : (t : Bool) → unfinished (if t then [] else []) ≡ 0
+pub unfinished_none : (t : Bool) → unfinished (if t then [] else []) ≡ 0
 unfinished_none true = refl
 unfinished_none false = refl
 

@@ -15,7 +15,7 @@ use Rattle.engine.specs.Held.{is_ended, of_request, of_accepted, of_command}
 use Rattle.engine.specs.Kept.{Kept, Pends, counted_pdv, body_in, held_by}
 use Rattle.engine.specs.StoredData.{Stored, held_in}
 use Rattle.part10.specs.Store.{Store}
-use Rattle.engine.proofs.ShownLemmas.{ended_unestablished, ended_stored}
+use Rattle.engine.proofs.ShownLemmas.{ended_unestablished, ended_stored, ended_pdv}
 
 command_size : (m : Begun) → length (command_bytes m) ≡ of_command m
 command_size NoMessage = refl
@@ -40,14 +40,6 @@ kept_of_request Sta8 r one table body xs rest e f = refl
 kept_of_request Sta13 r one table body xs rest e f = refl
 
 -- after the end
-ended_counted : (st : State) (r : Bool) (xs : List ℕ) → is_ended st ≡ true → (if is_established st && not r then xs else []) ≡ []
-ended_counted Sta1 r xs e = refl
-ended_counted Sta2 r xs e = absurd cc
-ended_counted Sta3 r xs e = absurd cc
-ended_counted Sta6 r xs e = absurd cc
-ended_counted Sta8 r xs e = absurd cc
-ended_counted Sta13 r xs e = absurd cc
-
 nothing_kept : (st : State) (r : Bool) (table : ℕ) (xs : List ℕ) → is_ended st ≡ true
     → (if is_established st then 20 + 4 * table else 0) + length (if is_due st && not r then xs else []) ≡ 0
 nothing_kept Sta1 r table xs e = refl
@@ -78,7 +70,7 @@ module _ (k : Kept) (store : Store) (p : Progress) (rest : List ℕ) (h : Pends 
   pub held_ended : is_ended p.state ≡ true → held_by k ≡ 0
   held_ended e =
       let none = h.none_left (ended_unestablished p.state e) in
-      let quiet = ended_counted p.state p.refused (begun_in (spot rest)) e in
+      let quiet = ended_pdv p.state p.refused (begun_in (spot rest)) e in
       let command = command_kept k store p (body_in (frame_kind rest) (drop 6 rest)) (begun_in (spot rest)) h
       ∙ ap (λ (xs : List ℕ). of_command (joining.with_pdv xs p.message)) quiet ∙ ap of_command none in
       let of_state = ap (λ (st : State). (if is_established st then 20 + 4 * length k.table else 0) + length k.body + length k.join.command + held_in k.storing) h.state_is in

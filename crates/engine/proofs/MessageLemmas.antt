@@ -33,11 +33,12 @@ use Rattle.engine.specs.Held.{is_ended}
 use Rattle.engine.specs.Kept.{Kept, Pends, counted_body, counted_pdv}
 use Rattle.engine.specs.machine.Messages.{with_join, Aside, HasCome}
 use Rattle.engine.specs.StoredData.{Stored}
-use Rattle.engine.proofs.StoreLemmas.{Carried, so_far, carried, no_store, no_store_yet, long_pdv, store_fragment, head_carried}
+use Rattle.engine.proofs.StoreLemmas.{Carried, so_far, carried, no_store_yet, long_pdv, store_fragment, head_carried}
 use Rattle.engine.specs.Devices.{Devices}
 use Rattle.engine.specs.machine.DoesDue.{DoesDue}
 use Rattle.engine.proofs.PendsLemmas.{tries_from}
 use Rattle.engine.proofs.DueLemmas.{taken_when, if_nothing, none_counted_pdv, tries_nothing}
+use Rattle.engine.proofs.ShownLemmas.{no_store}
 
 -- ---- where PDVs count
 
@@ -171,7 +172,7 @@ by_brought p f (Goes later) = nothing (going_on later p)
 by_brought p f (Ends m) = replied p f m (command_in m.command)
 by_brought p f (Refuses fault) = user_aborts p
 
-brought_is : (p : Progress) (f : Finding) (b : Brought) →
+pub brought_is : (p : Progress) (f : Finding) (b : Brought) →
     ◌≡◌ {A = Advance} (elim b [ Goes begun ↦ nothing (going_on begun p) | Ends m ↦ replied p f m (command_in m.command) | Refuses fault ↦ user_aborts p ]) (by_brought p f b)
 brought_is p f (Goes later) = refl
 brought_is p f (Ends m) = refl

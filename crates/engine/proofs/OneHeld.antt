@@ -19,7 +19,7 @@ use Rattle.engine.specs.Held.{IsHeldOfSet, unbroken, faulty, IsHeldOfMessage, wa
 use Rattle.engine.specs.Reached.{message_so_far}
 use Rattle.engine.specs.HeldLaws.{HeldIsOne}
 
-no_fault : {s : Syntax} {lim : Limits} {b p u : List ℕ} {rule : ℕ} {tag : Tag} → IsUnbroken s lim b → FirstFault s lim b p u rule tag → ⊥
+pub no_fault : {s : Syntax} {lim : Limits} {b p u : List ℕ} {rule : ℕ} {tag : Tag} → IsUnbroken s lim b → FirstFault s lim b p u rule tag → ⊥
 no_fault {p = p} {u = u} {rule = rule} {tag = tag} whole f = whole p u f.rest rule tag f.text f.breaks
 
 -- of the data of one store

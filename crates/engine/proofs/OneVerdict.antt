@@ -5,7 +5,7 @@ use Rattle.element.specs.declared.tag.Tag.{Tag}
 use Rattle.sequence.specs.Open.{in_header, last_of}
 use Rattle.sequence.specs.Rules.{Limits}
 use Rattle.sequence.specs.Wanted.{Values, KeepsWanted, kept_of}
-use Rattle.sequence.specs.FirstFault.{IsUnbroken, FirstFault, EndFault, tag_of_tail}
+use Rattle.sequence.specs.FirstFault.{FirstFault, EndFault, tag_of_tail}
 use Rattle.sequence.proofs.Public.{one_path}
 use Rattle.sequence.proofs.Public.{one_fault}
 use Rattle.dimse.specs.Command.{CommandRecord}
@@ -17,11 +17,9 @@ use Rattle.engine.specs.Stores.{IsOfContext, NamesUid, NamesInstance, Verdict, o
 use Rattle.engine.specs.StoreLaws.{AVerdictIsOne}
 use Rattle.engine.specs.machine.Verdicts.{no_resources, of_fault}
 use Rattle.engine.proofs.VerdictLemmas.{IsFine, Ends, ends_broken, ends_short, ends_fine, whole_front, every_end, of_context_or_not, names_or_not, instance_or_not, finding_on_names, found_on}
+use Rattle.engine.proofs.OneHeld.{no_fault}
 
 -- ---- the kinds of ends exclude one another
-
-no_fault : {s : Syntax} {lim : Limits} {b p u : List ℕ} {rule : ℕ} {tag : Tag} → IsUnbroken s lim b → FirstFault s lim b p u rule tag → ⊥
-no_fault {p = p} {u = u} {rule = rule} {tag = tag} unbroken f = unbroken p u f.rest rule tag f.text f.breaks
 
 -- ---- a rule that is broken
 

@@ -1,7 +1,6 @@
 -- A byte completes four marks at most, and a piece has an association send no more than its marks do.
 use Rattle.std.proofs.Common.{◌≡◌, ◌⊎◌, ◌&&◌, Option, Some, None, Result, Ok, Err, ℕ, ◌+◌, ◌-◌, ◌*◌, ◌<◌, ◌≤◌, Bool, true, false, List, [], ◌∷◌, ◌++◌, length, drop, map, nat_eq, nat_lt, refl, ap, arith, if◌then◌else◌, inl, inr}
 use Rattle.std.proofs.lemmas.Bool.{cases_lt}
-use Rattle.std.proofs.lemmas.Bool.Decides.{nat_tests}
 use Rattle.std.proofs.lemmas.List.{append-nil, length-append, length-map, length-take}
 use Rattle.std.proofs.lemmas.Nat.{mul-le}
 use Rattle.byteorder.specs.Endian.{big_number}
@@ -47,6 +46,7 @@ use Rattle.engine.specs.Run.{Rooms, released, at_end, at_mark, at_entry, cut, gi
 use Rattle.engine.specs.Timeline.{At, Shut, TimedOut, Aborted, Entry, Finding, Happened, entries}
 use Rattle.engine.specs.OutputLaws.{FewMarks, AnswersHave, BoundedOutput, answer_length, FewBytesButAnswers, AnswersAreShort, StoriesAnswerShortly, OutputOfAPiece}
 use Rattle.engine.proofs.SettledLemmas.{more}
+use Rattle.engine.proofs.StoreLemmas.{is_long}
 
 -- ---- one byte
 
@@ -67,12 +67,9 @@ in_body true is_data d f e = absurd cc
 in_body false true d f e = never_opening d e
 in_body false false d f e = absurd cc
 
-long : (n : ℕ) → 6 ≤ n → nat_lt n 6 ≡ false
-long n le = grind (arith, nat_tests)
-
 headed : (r : List ℕ) → 6 ≤ length r → spot r ≡ Opening → ⊥
 unfolding spot
-headed r le e = in_body (nat_lt (length r) 6) (nat_eq (frame_kind r) 4) (data_spot (frame_length r) (drop 6 r)) (long (length r) le) e
+headed r le e = in_body (nat_lt (length r) 6) (nat_eq (frame_kind r) 4) (data_spot (frame_length r) (drop 6 r)) (is_long (length r) le) e
 
 module _ (r : List ℕ) (b : ℕ) (rest : IsRest r) where
   abbrev c : List ℕ

@@ -7,11 +7,9 @@ use Rattle.pdu.specs.Spot.{Opening, spot}
 use Rattle.pdu.proofs.Public.{new_then, new_rest, rest_rest, new_nothing, rest_alone}
 use Rattle.pdu.proofs.Public.{spot_opening}
 use Rattle.negotiate.specs.Settings.{Settings}
-use Rattle.part10.specs.Store.{Store}
 use Rattle.engine.specs.Timeline.{At}
 use Rattle.engine.specs.Progress.{Progress, absorb}
 use Rattle.engine.specs.Devices.{Devices}
-use Rattle.engine.specs.Drafts.{Drafts}
 use Rattle.engine.specs.Run.{Rooms, progress_of}
 use Rattle.engine.specs.Reached.{begun_in}
 use Rattle.engine.specs.Held.{is_ended}
@@ -26,10 +24,6 @@ empty_rest = λ le. absurd (omega arith)
 
 pub spot_none : spot [] ≡ Opening
 spot_none = spot_opening [] (omega arith)
-
--- a draft, by one call and by another
-pub drafts_then : (a b c : Bool) (old now new : Store) → Drafts a old b now → Drafts b now c new → Drafts a old c new
-drafts_then a b c old now new x y = record { there = y.there; own = λ mine. y.own (x.own mine) }
 
 module _ (rooms : Rooms) (s : Settings) where
   -- nothing was taken

@@ -23,7 +23,8 @@ use Rattle.engine.specs.Kept.{Kept, Pends, IsUnagreed, counted_body, counted_pdv
 use Rattle.engine.specs.machine.Capacity.{BodyFits, FragmentFits}
 use Rattle.engine.specs.FrameFields.{IsUncounted}
 use Rattle.engine.specs.machine.DoesDue.{DoesDue, step_text, is_left, IsLeft, with_state, ComesTo, Stays}
-use Rattle.engine.proofs.StoreLemmas.{Carried, so_far, no_store, none_carried}
+use Rattle.engine.proofs.StoreLemmas.{Carried, so_far, none_carried}
+use Rattle.engine.proofs.ShownLemmas.{no_store}
 
 -- ---- the association is left
 

@@ -15,6 +15,7 @@ use Rattle.engine.specs.declared.provider.Provider.{Provider}
 use Rattle.engine.specs.Phases.{state_in, request_in, stored_in, taken_in}
 use Rattle.engine.specs.StoredData.{Nothing}
 use Rattle.engine.specs.Progress.{is_due, is_established}
+use Rattle.engine.specs.Held.{is_ended}
 use Rattle.engine.specs.Kept.{Kept, IsUnagreed, kept_in, takes_pdvs_in, takes_body_in}
 use Rattle.engine.specs.machine.DoesDue.{IsLeft, is_left, state_after}
 
@@ -50,6 +51,12 @@ unawaited (Established peer message) other = refl
 unawaited AwaitingClose other = refl
 unawaited Ended other = refl
 
+pub unended : {A C V D : ℕ} → (phase : Phase A C V D) → (phase ≡ Ended → ⊥) → is_ended (state_in phase) ≡ false
+unended (AwaitingRequest body) other = refl
+unended (Established peer message) other = refl
+unended AwaitingClose other = refl
+unended Ended other = absurd (other refl)
+
 -- while a request is due
 pub awaiting_stored : {A C V D : ℕ} → (phase : Phase A C V D) → state_in phase ≡ Sta2 → stored_in phase ≡ Nothing
 awaiting_stored (AwaitingRequest body) due = refl
@@ -69,21 +76,21 @@ state_kept (Ok u) next state l stays = sym (stays l)
 state_kept (Err f) next state l stays = let x : is_left Sta1 ≡ false = l in absurd cc
 
 -- nothing of a PDU that was refused counts
-if_false : (t : Bool) → t && false ≡ false
-if_false true = refl
-if_false false = refl
+pub never_both : (t : Bool) → t && false ≡ false
+never_both true = refl
+never_both false = refl
 
 pub refused_pdvs : (k : Kept) → k.refused ≡ true → takes_pdvs_in k ≡ false
-refused_pdvs k r = ap (λ (b : Bool). is_established k.state && not b) r ∙ if_false (is_established k.state)
+refused_pdvs k r = ap (λ (b : Bool). is_established k.state && not b) r ∙ never_both (is_established k.state)
 
 pub refused_body : (k : Kept) (kind : ℕ) → k.refused ≡ true → takes_body_in k kind ≡ false
-refused_body k kind r = ap (λ (b : Bool). is_due k.state && (not b && nat_eq kind 1)) r ∙ if_false (is_due k.state)
+refused_body k kind r = ap (λ (b : Bool). is_due k.state && (not b && nat_eq kind 1)) r ∙ never_both (is_due k.state)
 
 pub other_body : (k : Kept) (kind : ℕ) → (kind ≡ 1 → ⊥) → takes_body_in k kind ≡ false
 other_body k kind other = by (nat_eq kind 1) refl where
   by : (t : Bool) → nat_eq kind 1 ≡ t → takes_body_in k kind ≡ false
   by true is = absurd (other (grind (arith, nat_tests)))
-  by false is = ap (λ (b : Bool). is_due k.state && (not k.refused && b)) is ∙ ap (λ (b : Bool). is_due k.state && b) (if_false (not k.refused)) ∙ if_false (is_due k.state)
+  by false is = ap (λ (b : Bool). is_due k.state && (not k.refused && b)) is ∙ ap (λ (b : Bool). is_due k.state && b) (never_both (not k.refused)) ∙ never_both (is_due k.state)
 
 pub taken_body : (refused : Bool) (kind : ℕ) → refused ≡ false → kind ≡ 1 → not refused && nat_eq kind 1 ≡ true
 taken_body refused kind r e = rw (r, e) refl

@@ -1,6 +1,6 @@
 -- A portion of a piece has an association send few bytes: it completes four marks at most, or marks that send nothing and one
 -- end.
-use Rattle.std.proofs.Common.{◌≡◌, ◌⊎◌, ℕ, zero, suc, ◌+◌, ◌-◌, ◌*◌, ◌<◌, ◌≤◌, Bool, false, List, [], ◌∷◌, ◌++◌, length, take, drop, map, Option, Some, None, refl, sym, ap, subst, ◌∙◌, arith, inl, inr, if◌then◌else◌}
+use Rattle.std.proofs.Common.{◌≡◌, ◌⊎◌, ℕ, zero, suc, ◌+◌, ◌-◌, ◌*◌, ◌<◌, ◌≤◌, Bool, false, List, [], ◌∷◌, ◌++◌, length, take, drop, map, Option, Some, None, refl, sym, ap, subst, ◌∙◌, arith, inl, inr}
 use Rattle.std.proofs.Math.Nat.{min-le_left, min-le_right}
 use Rattle.std.proofs.lemmas.Bool.{cases_lt}
 use Rattle.std.proofs.lemmas.List.{append-nil, append_cancel_left, length-append, length-drop, length-map, length-take, map-append, take-append-drop}
@@ -29,20 +29,20 @@ use Rattle.engine.specs.Held.{is_ended}
 use Rattle.engine.specs.Inputs.{Received, Bytes, Close, Expiry, UserAbort, stream_of}
 use Rattle.engine.specs.Kept.{takes_pdvs_in}
 use Rattle.engine.specs.OutputLaws.{AnswersHave, IsOfBytes, SendsFew, EntriesOfMore, IsSilent, SilentSendsNothing, AbortsShortly}
-use Rattle.engine.specs.Progress.{Progress, Advance, at_start, absorb, nothing, is_established}
+use Rattle.engine.specs.Progress.{Progress, Advance, at_start, absorb, nothing}
 use Rattle.engine.specs.Reached.{reached, takes_pdvs}
 use Rattle.engine.specs.Run.{Rooms, at_entry, cut, gives, progress_of, sent_of}
 use Rattle.engine.specs.Stands.{Stands}
 use Rattle.engine.specs.Timeline as timeline
 use Rattle.engine.specs.Timeline.{Entry, Shut, TimedOut, Aborted, Finding, Happened, entries, entries_of}
 use Rattle.engine.proofs.BoundLemmas.{bytes_parts}
-use Rattle.engine.proofs.DueLemmas.{taken_when}
 use Rattle.engine.proofs.HeadedLemmas.{Opened, Between, opens_at, AreHeadedAt, timeline_headed}
 use Rattle.engine.proofs.MovedLemmas.{stream_then}
 use Rattle.engine.proofs.OutputLemmas.{cut_few, few_bytes_but_answers, few_marks, sent_few, stories_answer_shortly}
 use Rattle.engine.proofs.SettledLemmas.{more}
 use Rattle.engine.proofs.ShownLemmas.{takes_shown}
 use Rattle.engine.proofs.TimelineLemmas.{entries_append}
+use Rattle.engine.proofs.SkipLemmas.{dropped_by}
 
 -- ---- less than what is to come of a part completes no mark
 
@@ -117,15 +117,12 @@ piece_of_bytes inputs piece h =
 -- ---- marks within a frame of which nothing counts
 
 module _ (rooms : Rooms) (s : Settings) where
-  uncounted : (p : Progress) (g : Advance) → takes_pdvs p ≡ false → (if p.refused then nothing p else (if is_established p.state then g else nothing p)) ≡ nothing p
-  uncounted p g t = taken_when (is_established p.state) p.refused g (nothing p) ∙ ap (λ (y : Bool). if y then g else nothing p) t
-
   inner_nothing : (p : Progress) (finding : Finding) (m : Mark) → IsInner m → takes_pdvs p ≡ false → at_entry rooms s p finding (timeline.At m) ≡ nothing p
   inner_nothing p finding (Head kind n) i t = absurd i
-  inner_nothing p finding (PdvHead n context control) i t = uncounted p _ t
-  inner_nothing p finding (Pdv context control fragment) i t = uncounted p _ t
-  inner_nothing p finding BadPdv i t = uncounted p _ t
-  inner_nothing p finding Leftover i t = uncounted p _ t
+  inner_nothing p finding (PdvHead n context control) i t = dropped_by p _ t
+  inner_nothing p finding (Pdv context control fragment) i t = dropped_by p _ t
+  inner_nothing p finding BadPdv i t = dropped_by p _ t
+  inner_nothing p finding Leftover i t = dropped_by p _ t
   inner_nothing p finding (End kind body) i t = absurd i
 
   take_nothing : (k : ℕ) (xs : List ℕ) → xs ≡ [] → take k xs ≡ []

@@ -31,9 +31,10 @@ use Rattle.engine.specs.Run.{released}
 use Rattle.engine.specs.Kept.{Kept, Pends, Agreed, counted_pdv}
 use Rattle.engine.specs.StoredData.{Nothing}
 use Rattle.engine.specs.machine.DoesDue.{DoesDue, ComesTo, step_text, is_left, rejected_state, rejected_text}
-use Rattle.engine.proofs.StoreLemmas.{so_far, no_store, none_carried}
+use Rattle.engine.proofs.StoreLemmas.{so_far, none_carried}
 use Rattle.engine.proofs.PendsLemmas.{pends_left, settled_failed}
 use Rattle.engine.proofs.DueLemmas.{none_counted_pdv, if_nothing}
+use Rattle.engine.proofs.ShownLemmas.{no_store}
 
 -- ---- which of them it is
 

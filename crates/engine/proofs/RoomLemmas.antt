@@ -41,12 +41,13 @@ use Rattle.engine.specs.Requests.{declined, answered, at_request, keeping}
 use Rattle.engine.specs.Run.{Rooms, at_end, at_entry, cut, gives, progress_of, released}
 use Rattle.engine.specs.Timeline.{Entry, At, Shut, TimedOut, Aborted, Finding, Happened, entries_of}
 use Rattle.engine.specs.machine.DoesDue.{is_left, Stays}
-use Rattle.engine.proofs.AcceptedLemmas.{by_value, by_context, by_head, by_fault, never_both}
+use Rattle.engine.proofs.AcceptedLemmas.{by_value, by_context, by_head, by_fault, established_is}
 use Rattle.engine.proofs.DueLemmas.{stays_invalid, stays_aborts, stays_closed, stays_expired, stays_abort}
 use Rattle.engine.proofs.HeadedLemmas.{Opened, Between, OfPdu, OfPdv, opens_at, IsHeadedAt, AreHeadedAt, open_at_end}
 use Rattle.engine.proofs.HeadLemmas.{head_stays, head_too_long}
 use Rattle.engine.proofs.PendsLemmas.{moved_left, moved_stays}
 use Rattle.engine.proofs.RowsLemmas.{few_rows}
+use Rattle.engine.proofs.PhaseLemmas.{never_both}
 
 -- the bytes of a data set that have come
 abbrev pub set_of : Begun → List ℕ
@@ -279,14 +280,6 @@ module _ (rooms : Rooms) where
 
     released_fits : is_established p.state ≡ true → Fits rooms (released p).next Between
     released_fits e = subst (λ (st : State). Fits rooms (released (record p { state = st })).next Between) (established_is p.state e) (left_fits Sta13 (record p { state = Sta8 }) Between refl)
-      where
-        established_is : (st : State) → is_established st ≡ true → Sta6 ≡ st
-        established_is Sta1 e = absurd cc
-        established_is Sta2 e = absurd cc
-        established_is Sta3 e = absurd cc
-        established_is Sta6 e = refl
-        established_is Sta8 e = absurd cc
-        established_is Sta13 e = absurd cc
 
     both_of : (a b : Bool) → a && b ≡ true → (a ≡ true) × (b ≡ true)
     both_of true b e = (refl, e)

@@ -34,7 +34,8 @@ use Rattle.engine.proofs.CutLemmas.{cuts_do_not_show}
 use Rattle.engine.proofs.OneVerdict.{same_finding}
 use Rattle.engine.proofs.OneHeld.{held_is_one}
 use Rattle.engine.proofs.StoryLemmas.{sent_then, files_then}
-use Rattle.engine.proofs.StoreLawLemmas.{no_good_image_is_refused, by_brought, brought_is, entry_at}
+use Rattle.engine.proofs.StoreLawLemmas.{no_good_image_is_refused, entry_at}
+use Rattle.engine.proofs.MessageLemmas.{by_brought, brought_is}
 
 -- an entry of a fair story is fair where the entries before it have led
 fair_at : (rooms : Rooms) (s : Settings) (p : Progress) (before : List Happened) (h : Happened) (after : List Happened) → AreFair rooms s p (before ++ h ∷ after) → IsFair rooms s (progress_of rooms s p before) h

@@ -17,7 +17,7 @@ use Rattle.engine.specs.StoredData.{Stored, Nothing, Walks, not_walked, walked, 
 
 -- ---- where no message has begun
 
-no_store : (request : Requested) (m : Begun) → m ≡ NoMessage → InStore request m → ⊥
+pub no_store : (request : Requested) (m : Begun) → m ≡ NoMessage → InStore request m → ⊥
 no_store request m none store = let wrong : NoMessage ≡ InSet store.id store.command store.set = sym none ∙ store.begun in cc
 
 pub none_stored : {depth most : ℕ} {request : Requested} {m : Begun} {stored : Stored} → m ≡ NoMessage → Walks depth most request m stored → stored ≡ Nothing
@@ -44,7 +44,7 @@ ended_body Sta6 r xs e = absurd cc
 ended_body Sta8 r xs e = absurd cc
 ended_body Sta13 r xs e = absurd cc
 
-ended_pdv : (st : State) (r : Bool) (xs : List ℕ) → is_ended st ≡ true → (if is_established st && not r then xs else []) ≡ []
+pub ended_pdv : (st : State) (r : Bool) (xs : List ℕ) → is_ended st ≡ true → (if is_established st && not r then xs else []) ≡ []
 ended_pdv Sta1 r xs e = refl
 ended_pdv Sta2 r xs e = absurd cc
 ended_pdv Sta3 r xs e = absurd cc

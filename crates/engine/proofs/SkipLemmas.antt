@@ -228,10 +228,10 @@ stands_passed q k n r still h =
 
 -- ---- marks within a frame give nothing
 
-module _ (rooms : Rooms) (set : Settings) where
-  dropped_by : (p : Progress) (g : Advance) → takes_pdvs p ≡ false → (if p.refused then nothing p else (if is_established p.state then g else nothing p)) ≡ nothing p
-  dropped_by p g t = taken_when (is_established p.state) p.refused g (nothing p) ∙ ap (λ (y : Bool). if y then g else nothing p) t
+pub dropped_by : (p : Progress) (g : Advance) → takes_pdvs p ≡ false → (if p.refused then nothing p else (if is_established p.state then g else nothing p)) ≡ nothing p
+dropped_by p g t = taken_when (is_established p.state) p.refused g (nothing p) ∙ ap (λ (y : Bool). if y then g else nothing p) t
 
+module _ (rooms : Rooms) (set : Settings) where
   no_message : (p : Progress) (m : Option Message) → takes_pdvs p ≡ false → IsVerdict rooms set p good (if takes_pdvs p then m else None)
   no_message p m t = subst (λ (o : Option Message). IsVerdict rooms set p good o) (sym (ap (λ (x : Bool). if x then m else None) t)) tt
 

@@ -8,18 +8,18 @@ use Rattle.acceptor.specs.declared.event.Event.{Event}
 use Rattle.acceptor.specs.declared.event.Event.TheVariants as event
 use Rattle.acceptor.specs.Table.{table}
 use Rattle.pdu.specs.Marks.{Mark, Head, PdvHead, Pdv, BadPdv, Leftover, End}
-use Rattle.pdu.specs.Texts.{reject_text}
 use Rattle.negotiate.specs.Settings.{Settings}
 use Rattle.dimse.specs.Messages.{Begun, NoMessage}
 use Rattle.engine.specs.Requested.{Requested, no_request}
 use Rattle.engine.specs.Timeline.{Entry, At, Shut, TimedOut, Aborted, Happened, entries_of, Finding, good, Outcome}
-use Rattle.engine.specs.Progress.{Progress, Advance, nothing, done, refusing}
-use Rattle.engine.specs.Heads.{HeadEvent, NoEvent, AtOnce, TooLong, event_of, is_known, has_four_bytes, is_abort, request_length, data_length}
+use Rattle.engine.specs.Progress.{Progress, Advance, nothing, done}
+use Rattle.engine.specs.Heads.{HeadEvent, NoEvent, AtOnce, event_of, is_known, has_four_bytes, is_abort, request_length, data_length}
 use Rattle.engine.specs.Held.{is_ended}
 use Rattle.engine.specs.Requests.{at_request}
 use Rattle.engine.specs.Run.{Rooms, released, at_entry, gives, progress_of, sent_of, files_of, wire_failures, filing_failures}
 use Rattle.engine.specs.Laws.{NothingAfterTheEnd}
 use Rattle.engine.specs.Fair.{IsFair, AreFair, message_at}
+use Rattle.engine.proofs.AcceptedLemmas.{by_head}
 
 -- in Sta1, with all else as it may be
 abbrev at_end_with : Requested → Begun → Bool → Bool → Progress
@@ -43,7 +43,7 @@ idle_event false false false false false true g = refl
 idle_event false false false false false false true = refl
 idle_event false false false false false false false = refl
 
--- a head brings nothing, or an event that does nothing
+-- a head by_head nothing, or an event that does nothing
 pub data BringsNothing : HeadEvent → Type 0 where
   no_event : BringsNothing NoEvent
   at_once : (reason : ℕ) → BringsNothing (AtOnce event.Invalid reason)
@@ -56,16 +56,8 @@ idle_head true b c d r1 r2 other h = at_once 1
 idle_head false true c d r1 r2 other h = at_once 6
 idle_head false false c d r1 r2 other h = h
 
--- what a head brings, at its sixth byte
-abbrev brings : Progress → HeadEvent → Advance
-brings p h = elim h [
-  | NoEvent ↦ nothing p
-  | AtOnce e reason ↦ refusing (done [] reason p e)
-  | TooLong ↦ refusing (done (reject_text 2 3 2) 0 p (event.Request false))
-]
-
 module _ (rq : Requested) (m : Begun) (f : Bool) where
-  head_still : (b : Bool) {h : HeadEvent} → BringsNothing h → IsStill (at_end_with rq m f b) (brings (at_end_with rq m f false) h)
+  head_still : (b : Bool) {h : HeadEvent} → BringsNothing h → IsStill (at_end_with rq m f b) (by_head (at_end_with rq m f false) h)
   head_still b no_event = record { next = at_end_with rq m f false; is = refl; state = refl; message = inl refl }
   head_still b (at_once reason) = record { next = at_end_with no_request NoMessage false true; is = refl; state = refl; message = inr refl }
 

@@ -17,27 +17,18 @@ use Rattle.sequence.specs.Open.{last_of, in_header}
 use Rattle.sequence.proofs.Public.{whole_breaks_no_rule}
 use Rattle.engine.specs.Timeline.{Entry, At, Shut, TimedOut, Aborted, Finding, Happened, good}
 use Rattle.engine.specs.Progress.{Progress, absorb, is_established, Advance, nothing}
-use Rattle.engine.specs.Replies.{file_in, file_put, echo_status, finding_on, replied, going_on, user_aborts, at_pdv}
+use Rattle.engine.specs.Replies.{file_in, file_put, echo_status, finding_on, replied, at_pdv}
 use Rattle.engine.specs.Stores.{Verdict, filed, limits}
 use Rattle.engine.specs.StoreLaws.{EndsAt, IsGoodImage, file_of, NoGoodImageIsRefused, FiledByItself}
 use Rattle.engine.specs.Run.{Rooms, at_entry, gives, cut}
 use Rattle.engine.specs.Fair.{IsVerdict, message_at}
 use Rattle.engine.proofs.VerdictLemmas.{ends_fine, whole_front}
 use Rattle.engine.proofs.OneVerdict.{same_verdict}
+use Rattle.engine.proofs.MessageLemmas.{by_brought, brought_is}
+use Rattle.engine.proofs.DoesLemmas.{message_absorbed}
+use Rattle.engine.proofs.DueLemmas.{files_cut}
 
 -- ---- the entry where a message ends
-
--- what a PDV brings to the message comes to this
-abbrev pub by_brought : Progress → Finding → Brought → Advance
-by_brought p finding (Goes later) = nothing (going_on later p)
-by_brought p finding (Ends m) = replied p finding m (command_in m.command)
-by_brought p finding (Refuses fault) = user_aborts p
-
-pub brought_is : (p : Progress) (finding : Finding) (b : Brought) →
-    ◌≡◌ {A = Advance} (elim b [ Goes begun ↦ nothing (going_on begun p) | Ends m ↦ replied p finding m (command_in m.command) | Refuses fault ↦ user_aborts p ]) (by_brought p finding b)
-brought_is p finding (Goes later) = refl
-brought_is p finding (Ends m) = refl
-brought_is p finding (Refuses fault) = refl
 
 replied_by : (p : Progress) (finding : Finding) (m : Message) (b : Brought) → message_by b ≡ Some m → by_brought p finding b ≡ replied p finding m (command_in m.command)
 replied_by p finding m (Goes begun) k = absurd cc
@@ -79,29 +70,13 @@ entry_at rooms s p finding Shut m ends = absurd cc
 entry_at rooms s p finding TimedOut m ends = absurd cc
 entry_at rooms s p finding Aborted m ends = absurd cc
 
--- a failed filing call changes nothing of a message
-absorbed_message : (failed : Bool) (p : Progress) (e : Entry) → message_at (absorb failed p) e ≡ message_at p e
-absorbed_message failed p (At (Pdv context control fragment)) = refl
-absorbed_message failed p (At (Head kind n)) = refl
-absorbed_message failed p (At (PdvHead n context control)) = refl
-absorbed_message failed p (At BadPdv) = refl
-absorbed_message failed p (At Leftover) = refl
-absorbed_message failed p (At (End kind body)) = refl
-absorbed_message failed p Shut = refl
-absorbed_message failed p TimedOut = refl
-absorbed_message failed p Aborted = refl
-
 -- ---- a store
 
 -- what it brings
 stored_at : (rooms : Rooms) (s : Settings) (p : Progress) (h : Happened) (m : Message) (command : CommandRecord) (context : Context) → EndsAt p h m command context
     → at_entry rooms s (absorb h.1.filing p) h.1.finding h.0 ≡ replied (absorb h.1.filing p) h.1.finding m (Ok command)
 stored_at rooms s p h m command context ends =
-    entry_at rooms s (absorb h.1.filing p) h.1.finding h.0 m (absorbed_message h.1.filing p h.0 ∙ ends.ended) ∙ ap (replied (absorb h.1.filing p) h.1.finding m) ends.spelled
-
-cut_files : (wire : Option ℕ) (p : Progress) (g : Advance) → (cut wire p g).files ≡ g.files
-cut_files None p g = refl
-cut_files (Some k) p g = refl
+    entry_at rooms s (absorb h.1.filing p) h.1.finding h.0 m (message_absorbed h.1.filing p h.0 ∙ ends.ended) ∙ ap (replied (absorb h.1.filing p) h.1.finding m) ends.spelled
 
 success_files : (r : RequestRecord) (id : ℕ) (command : CommandRecord) (set : List ℕ) (finding : Finding) (context : Context) → command.field ≡ 1 → finding.status ≡ success → context_of r id ≡ Some context
     → file_put r id command set finding ≡ file_of command context.syntax r.calling set ∷ []
@@ -113,7 +88,7 @@ success_files r id command set finding context store good_status accepted =
 filed_at : (rooms : Rooms) (s : Settings) (p : Progress) (h : Happened) (m : Message) (command : CommandRecord) (context : Context) → EndsAt p h m command context → h.1.finding.status ≡ success
     → (gives rooms s p h).files ≡ file_of command context.syntax (request_record p.request).calling m.set ∷ []
 filed_at rooms s p h m command context ends good_status =
-    cut_files h.1.wire p (at_entry rooms s (absorb h.1.filing p) h.1.finding h.0)
+    files_cut h.1.wire p (at_entry rooms s (absorb h.1.filing p) h.1.finding h.0)
     ∙ ap (λ (g : Advance). g.files) (stored_at rooms s p h m command context ends)
     ∙ success_files (request_record p.request) m.context command m.set h.1.finding context ends.store good_status ends.accepted
 
@@ -149,7 +124,7 @@ none_cut wire p g e = ap (λ (w : Option ℕ). (cut w p g).sent) e
 
 pub no_good_image_is_refused : NoGoodImageIsRefused
 no_good_image_is_refused rooms s p h m command context ends image calm fair =
-    let verdict : IsVerdict rooms s (absorb h.1.filing p) h.1.finding (Some m) = subst (IsVerdict rooms s (absorb h.1.filing p) h.1.finding) (absorbed_message h.1.filing p h.0 ∙ ends.ended) fair.verdict in
+    let verdict : IsVerdict rooms s (absorb h.1.filing p) h.1.finding (Some m) = subst (IsVerdict rooms s (absorb h.1.filing p) h.1.finding) (message_absorbed h.1.filing p h.0 ∙ ends.ended) fair.verdict in
     let is = good_finding rooms.depth s.max_data context command m.set (h.1.filing || p.filing_failed) h.1.finding (ap (λ (z : Bool). z || p.filing_failed) calm.filing ∙ calm.before) image (verdict command context ends.spelled ends.store ends.accepted) in (
       is,
       filed_at rooms s p h m command context ends (ap (λ (f : Finding). f.status) is),

@@ -27,6 +27,7 @@ use Rattle.engine.specs.machine.Messages.{Proceeds}
 use Rattle.engine.specs.StoredData.{Stored, Nothing, Walking, Walks, not_walked, walked, drafting_in}
 use Rattle.engine.specs.machine.Storing.{Drops, Grows, GoesOn}
 use Rattle.engine.specs.machine.DoesDue.{Unfiled}
+use Rattle.engine.proofs.ShownLemmas.{no_store}
 
 -- ---- what is walked and the draft, together
 
@@ -39,9 +40,6 @@ so_far p begun = with_pdv (counted_pdv p begun) p.message
 
 pub carried : (k : Kept) (store : Store) (p : Progress) (body begun : List ℕ) → Pends k store p body begun → Carried k.depth k.most k.storing store p.request (so_far p begun) p.filing_failed
 carried k store p body begun h = (h.walks, h.draft)
-
-pub no_store : (request : Requested) (m : Begun) → m ≡ NoMessage → InStore request m → ⊥
-no_store request m e store = let x : NoMessage ≡ InSet store.id store.command store.set = sym e ∙ store.begun in cc
 
 pub no_store_yet : (request : Requested) (m : Begun) (id : ℕ) (command : List ℕ) → m ≡ InCommand id command → InStore request m → ⊥
 no_store_yet request m id command e store = let x : InCommand id command ≡ InSet store.id store.command store.set = sym e ∙ store.begun in cc
@@ -108,10 +106,11 @@ goes_drafts part (Walking walker d) (Walking after e) old new (keeps, g) = grows
 
 -- ---- a part of a fragment more
 
+pub is_long : (n : ℕ) → 6 ≤ n → nat_lt n 6 ≡ false
+is_long n le = grind (arith, nat_tests)
+
 pub long_pdv : (begun : List ℕ) (m : Begun) → 6 ≤ length begun → with_pdv begun m ≡ with_fragment (get_or begun 4 0) (drop 6 begun) m
-long_pdv begun m le = ap (λ (t : Bool). if t then m else with_fragment (get_or begun 4 0) (drop 6 begun) m) (is_long (length begun) le) where
-  is_long : (n : ℕ) → 6 ≤ n → nat_lt n 6 ≡ false
-  is_long n le = grind (arith, nat_tests)
+long_pdv begun m le = ap (λ (t : Bool). if t then m else with_fragment (get_or begun 4 0) (drop 6 begun) m) (is_long (length begun) le)
 
 fragment_then : (context : ℕ) (a b : List ℕ) (m : Begun) → with_fragment context (a ++ b) m ≡ with_fragment context b (with_fragment context a m)
 fragment_then context a b NoMessage = refl

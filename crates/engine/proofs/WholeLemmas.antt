@@ -18,7 +18,7 @@ use Rattle.engine.specs.Kept.{Kept, Pends, counted_body, body_in}
 use Rattle.engine.specs.machine.DoesDue.{DoesDue}
 use Rattle.engine.proofs.ShownLemmas.{pends_ended}
 use Rattle.engine.proofs.StoreLemmas.{unfiled_same}
-use Rattle.engine.proofs.DueLemmas.{none_counted_body, line_same, not_counted}
+use Rattle.engine.proofs.DueLemmas.{none_counted_body, line_same, not_counted, tries_nothing}
 use Rattle.engine.proofs.RequestLemmas.{LeavesOrStands, request_comes}
 
 -- by which type it is
@@ -67,36 +67,8 @@ refused_end rooms s p kind body e = ap (λ (t : Bool). if t then nothing p else 
 pub taken_end : (rooms : Rooms) (s : Settings) (p : Progress) (kind : ℕ) (body : List ℕ) → p.refused ≡ false → at_entry rooms s p good (At (End kind body)) ≡ at_end s p kind body
 taken_end rooms s p kind body e = ap (λ (t : Bool). if t then nothing p else at_end s p kind body) e
 
-pub whole_request : (s : Settings) (p : Progress) (kind : ℕ) (body : List ℕ) → kind ≡ 1 → p.state ≡ Sta2 → at_end s p kind body ≡ at_request s p body
-whole_request s p kind body e due = ap (λ (n : ℕ). at_end s p n body) e ∙ ap (λ (y : State). if is_due y then at_request s p body else nothing p) due
-
-pub whole_release : (s : Settings) (p : Progress) (kind : ℕ) (body : List ℕ) → kind ≡ 5 → p.state ≡ Sta6 → at_end s p kind body ≡ released p
-whole_release s p kind body e six = ap (λ (n : ℕ). at_end s p n body) e ∙ ap (λ (y : State). if is_established y then released p else nothing p) six
-
 pub whole_abort : (s : Settings) (p : Progress) (kind : ℕ) (body : List ℕ) → kind ≡ 7 → at_end s p kind body ≡ done [] 0 p event.Abort
 whole_abort s p kind body e = ap (λ (n : ℕ). at_end s p n body) e
-
-not_due : (st : State) → (st ≡ Sta2 → ⊥) → is_due st ≡ false
-not_due Sta1 h = refl
-not_due Sta2 h = absurd (h refl)
-not_due Sta3 h = refl
-not_due Sta6 h = refl
-not_due Sta8 h = refl
-not_due Sta13 h = refl
-
-not_established : (st : State) → (st ≡ Sta6 → ⊥) → is_established st ≡ false
-not_established Sta1 h = refl
-not_established Sta2 h = refl
-not_established Sta3 h = refl
-not_established Sta6 h = absurd (h refl)
-not_established Sta8 h = refl
-not_established Sta13 h = refl
-
-pub whole_undue : (s : Settings) (p : Progress) (kind : ℕ) (body : List ℕ) → kind ≡ 1 → (p.state ≡ Sta2 → ⊥) → at_end s p kind body ≡ nothing p
-whole_undue s p kind body e h = ap (λ (n : ℕ). at_end s p n body) e ∙ ap (λ (t : Bool). if t then at_request s p body else nothing p) (not_due p.state h)
-
-pub whole_unestablished : (s : Settings) (p : Progress) (kind : ℕ) (body : List ℕ) → kind ≡ 5 → (p.state ≡ Sta6 → ⊥) → at_end s p kind body ≡ nothing p
-whole_unestablished s p kind body e h = ap (λ (n : ℕ). at_end s p n body) e ∙ ap (λ (t : Bool). if t then released p else nothing p) (not_established p.state h)
 
 other_kind : (n m : ℕ) → (n ≡ m → ⊥) → nat_eq n m ≡ false
 other_kind n m h = grind (arith, nat_tests)
@@ -195,21 +167,23 @@ end_files_by s p body false false one five = request_files one (is_due p.state) 
 pub end_files : (rooms : Rooms) (s : Settings) (p : Progress) (kind : ℕ) (body : List ℕ) → (at_entry rooms s p good (At (End kind body))).files ≡ []
 end_files rooms s p kind body = end_files_by s p body p.refused (nat_eq kind 7) (nat_eq kind 1) (nat_eq kind 5)
 
--- ---- which PDUs the code refuses
+-- ---- a PDU that counts
 
-not_ended : (st : State) → (st ≡ Sta1 → ⊥) → is_ended st ≡ false
-not_ended Sta1 h = absurd (h refl)
-not_ended Sta2 h = refl
-not_ended Sta3 h = refl
-not_ended Sta6 h = refl
-not_ended Sta8 h = refl
-not_ended Sta13 h = refl
-
-pub refused_shown : (k : Kept) (store : Store) (p : Progress) (body begun : List ℕ) → Pends k store p body begun → (k.state ≡ Sta1 → ⊥) → k.refused ≡ p.refused
-refused_shown k store p body begun h n = h.refused_is (ap is_ended (sym h.state_is) ∙ not_ended k.state n)
-
-pub state_shown : (k : Kept) (store : Store) (p : Progress) (body begun : List ℕ) (st : State) → Pends k store p body begun → (k.state ≡ st → ⊥) → p.state ≡ st → ⊥
-state_shown k store p body begun st h n e = n (h.state_is ∙ e)
+pub refused_shown : (k : Kept) (store : Store) (p : Progress) (body begun : List ℕ) → Pends k store p body begun → is_ended k.state ≡ false → k.refused ≡ p.refused
+refused_shown k store p body begun h lives = h.refused_is (ap is_ended (sym h.state_is) ∙ lives)
 
 pub tries_as : (p : Progress) (g d : Advance) (k : Kept) (body begun : List ℕ) (old new : Devices) → d ≡ g → DoesDue p g k body begun old new → DoesDue p d k body begun old new
 tries_as p g d k body begun old new e t = subst (λ (x : Advance). DoesDue p x k body begun old new) (sym e) t
+
+pub tries_taken : (rooms : Rooms) (s : Settings) (p : Progress) (kind : ℕ) (body xs : List ℕ) (k n : Kept) (old new : Devices) → Pends k old.store p xs [] → is_ended k.state ≡ false → k.refused ≡ false
+    → (p.refused ≡ false → DoesDue p (at_end s p kind body) n xs [] old new) → DoesDue p (at_entry rooms s p good (At (End kind body))) n xs [] old new
+tries_taken rooms s p kind body xs k n old new h lives taken t =
+    let r : p.refused ≡ false = sym (refused_shown k _ p xs [] h lives) ∙ taken in
+    tries_as p (at_end s p kind body) (at_entry rooms s p good (At (End kind body))) n xs [] old new (taken_end rooms s p kind body r) (t r)
+
+-- an association request and a release request do something where they are due
+pub tries_where : (t : Bool) (p : Progress) (g : Advance) (k : Kept) (body begun : List ℕ) (old new : Devices) → t ≡ true → DoesDue p g k body begun old new → DoesDue p (if t then g else nothing p) k body begun old new
+tries_where t p g k body begun old new e d = rw e d
+
+pub tries_nowhere : (t : Bool) (p : Progress) (g : Advance) (k : Kept) (body begun : List ℕ) (d : Devices) → t ≡ false → Pends k d.store p body begun → DoesDue p (if t then g else nothing p) k body begun d d
+tries_nowhere t p g k body begun d e h = rw e (tries_nothing p k body begun d h)

@@ -58,12 +58,7 @@ fn event_of(kind: u8) -> Event
 fn is_abort(action: Action) -> bool
     ensures { result ≡ spelling.is_abort action }
 {
-    match action {
-        Action::Aa1 => true,
-        Action::Aa7 => true,
-        Action::Aa8 => true,
-        _ => false,
-    }
+    matches!(action, Action::Aa1 | Action::Aa7 | Action::Aa8)
 }
 
 /// Returns the event of a PDU that the state answers by an abort, whatever its body.
@@ -96,9 +91,7 @@ fn request_length(room: usize, length: u32) -> HeadEvent
 fn data_length(most: u32, length: u32) -> HeadEvent
     ensures { brings result ≡ spelling.data_length most length }
 {
-    if length > most {
-        HeadEvent::AtOnce(Event::Invalid, INVALID_PARAMETER)
-    } else if length < PDV_HEAD {
+    if length > most || length < PDV_HEAD {
         HeadEvent::AtOnce(Event::Invalid, INVALID_PARAMETER)
     } else {
         HeadEvent::Nothing

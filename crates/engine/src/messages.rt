@@ -3,6 +3,7 @@
 ghost use Rattle.std.specs.Prelude.{◌≡◌, ◌≤◌, ◌+◌, ◌-◌, ◌^◌, ◌++◌, [], List, ℕ, length, drop, get_or, false, Ok};
 ghost use Rattle.pdu.specs.Heads.{pdv_head_of};
 ghost use Rattle.pdu.specs.Marks.{Pdv, head_mark, pdv_size};
+ghost use Rattle.pdu.specs.Sent.{Line};
 ghost use Rattle.dimse.specs.Command.{CommandRecord};
 ghost use Rattle.dimse.specs.Reading.{command_in};
 ghost use Rattle.dimse.specs.Messages as messages;
@@ -20,6 +21,14 @@ use negotiate::Config;
 use part10::Filing;
 use pdu::{PdvHead, Wire, WireFailed};
 
+/// Where a message came: the presentation context with this ID, of this peer.
+#[derive(Clone, Copy)]
+struct Origin<'a> {
+    peer: &'a Peer,
+    config: &'a Config,
+    context: u8,
+}
+
 impl<const C: usize, const V: usize, const D: usize> Message<C, V, D> {
     ghost use Rattle.std.specs.Prelude.{true};
     ghost use Rattle.negotiate.specs.Settings.{settings_of};
@@ -33,7 +42,7 @@ impl<const C: usize, const V: usize, const D: usize> Message<C, V, D> {
 
     /// A command that announces a data set is whole: where its class is that of its context, the data
     /// are walked and go to a draft.
-    fn begin<F: Filing>(&mut self, peer: &Peer, config: &Config, context: u8, filing: &mut F)
+    fn begin<F: Filing>(&mut self, origin: Origin, filing: &mut F)
         requires draft { IsThere (drafting_in (stored_of self.old.storing)) (F.store filing.old) }
         requires least_kept { 140 ≤ V }
         requires greatest_kept { V ≤ 2 ^ 24 }
@@ -41,9 +50,9 @@ impl<const C: usize, const V: usize, const D: usize> Message<C, V, D> {
         requires greatest_levels { D ≤ 2 ^ 24 }
         ensures join { self.new.join ≡ self.old.join }
         ensures drafts { Drafts (drafting_in (stored_of self.old.storing)) (F.store filing.old) (drafting_in (stored_of self.new.storing)) (F.store filing.new) }
-        ensures proceeds { (request : Requested) → IsPeerOf peer.now (settings_of config.now).further (request_record request) → stored_of self.old.storing ≡ Nothing
+        ensures proceeds { (request : Requested) → IsPeerOf origin.entry.peer.now (settings_of origin.entry.config.now).further (request_record request) → stored_of self.old.storing ≡ Nothing
             → ((c : CommandRecord) → command_in self.old.join.command ≡ Ok c → c.with_data ≡ true)
-            → Proceeds D config.now.max_data request (messages.InSet context self.old.join.command []) false (stored_of self.new.storing) (F.store filing.old) (F.store filing.new) }
+            → Proceeds D origin.entry.config.now.max_data request (messages.InSet origin.entry.context self.old.join.command []) false (stored_of self.new.storing) (F.store filing.old) (F.store filing.new) }
     {
         let Ok(command) = read_command(self.join.command()) else {
             return;
@@ -51,38 +60,40 @@ impl<const C: usize, const V: usize, const D: usize> Message<C, V, D> {
         if !command.with_data() {
             return;
         }
-        let Some(accepted) = peer.context(config, context) else {
+        let Some(accepted) = origin.peer.context(origin.config, origin.context) else {
             return;
         };
         if is_of_context(&accepted, &command) {
-            let caller = AeTitle(peer.caller);
-            self.storing = begin_store(&accepted, &command, caller, config.max_data, filing);
+            let caller = AeTitle(origin.peer.caller);
+            let max_data = origin.config.max_data;
+            self.storing = begin_store(&accepted, &command, caller, max_data, filing);
         }
     }
 
-    /// Judges a message in this context whose data are whole, and sends the reply to its command.
+    /// Judges a message whose data are whole, and sends the reply to its command.
     fn reply<W: Wire, F: Filing>(
         &mut self,
-        peer: &Peer,
-        config: &Config,
-        context: u8,
+        origin: Origin,
         wire: &mut W,
         filing: &mut F,
     ) -> Result<(), WireFailed>
         requires draft { IsThere (drafting_in (stored_of self.old.storing)) (F.store filing.old) }
         ensures join { self.new.join ≡ self.old.join }
         ensures drafts { Drafts (drafting_in (stored_of self.old.storing)) (F.store filing.old) (drafting_in (stored_of self.new.storing)) (F.store filing.new) }
-        ensures ended { (A : ℕ) (p : Progress) (m : messages.Message) (come : messages.Begun) → IsPeerOf peer.now (settings_of config.now).further (request_record p.request) → HasCome m come
-            → self.old.join.command ≡ m.command → context ≡ m.context → Walks D config.now.max_data p.request come (stored_of self.old.storing)
+        ensures ended { (A : ℕ) (p : Progress) (m : messages.Message) (come : messages.Begun) → IsPeerOf origin.entry.peer.now (settings_of origin.entry.config.now).further (request_record p.request) → HasCome m come
+            → self.old.join.command ≡ m.command → origin.entry.context ≡ m.context → Walks D origin.entry.config.now.max_data p.request come (stored_of self.old.storing)
             → IsDraft p.request come p.filing_failed (F.store filing.old) (drafting_in (stored_of self.old.storing))
-            → Ended (rooms_of A C V D) (settings_of config.now) p m come result (W.line wire.old) (W.line wire.new) (F.store filing.old) (F.store filing.new) }
+            → Ended (rooms_of A C V D) (settings_of origin.entry.config.now) p m come result (W.line wire.old) (W.line wire.new) (F.store filing.old) (F.store filing.new) }
     {
         let Ok(command) = read_command(self.join.command()) else {
             return Ok(());
         };
+        let context = origin.context;
+        let max_length = origin.peer.max_length;
         if command.field() == Command::C_ECHO {
-            let status = echo_status(peer.context(config, context), &command);
-            return write_response(&command, status, None, context, peer.max_length, wire);
+            let accepted = origin.peer.context(origin.config, context);
+            let status = echo_status(accepted, &command);
+            return write_response(&command, status, None, context, max_length, wire);
         }
         let ended = self.storing.end(&command, filing);
         write_response(
@@ -90,7 +101,7 @@ impl<const C: usize, const V: usize, const D: usize> Message<C, V, D> {
             ended.status,
             ended.detail,
             context,
-            peer.max_length,
+            max_length,
             wire,
         )
     }
@@ -140,17 +151,16 @@ impl<const A: usize, const C: usize, const V: usize, const D: usize> Provider<A,
     }
 
     /// A part of the fragment of a PDV.
-    pub(crate) fn on_data<W: Wire, F: Filing>(&mut self, part: &[u8], wire: &mut W, filing: &mut F)
+    pub(crate) fn on_data<F: Filing>(&mut self, part: &[u8], filing: &mut F)
         requires draft { IsThere (drafting_in (kept_of self.old).storing) (F.store filing.old) }
         requires fits { FragmentFits (kept_of self.old) (length part.now) }
         ensures settings { settings_in self.new ≡ settings_in self.old }
         ensures drafts { Drafts (drafting_in (kept_of self.old).storing) (F.store filing.old) (drafting_in (kept_of self.new).storing) (F.store filing.new) }
         ensures fits { (m : ℕ) → FragmentFits (kept_of self.old) (length part.now + m) → FragmentFits (kept_of self.new) m }
-        ensures appends { (p : Progress) (begun : List ℕ) → 6 ≤ length begun → Pends (kept_of self.old) (F.store filing.old) p [] begun
+        ensures appends { (line : Line) (p : Progress) (begun : List ℕ) → 6 ≤ length begun → Pends (kept_of self.old) (F.store filing.old) p [] begun
             → Appends (rooms_of A C V D) (settings_in self.old) p (kept_of self.new) [] (begun ++ part.now)
-            (devices (W.line wire.old) (F.store filing.old)) (devices (W.line wire.new) (F.store filing.new)) }
+            (devices line (F.store filing.old)) (devices line (F.store filing.new)) }
     {
-        let _ = wire;
         if self.refused {
             return;
         }
@@ -173,16 +183,20 @@ impl<const A: usize, const C: usize, const V: usize, const D: usize> Provider<A,
             return;
         }
         if let Phase::Established { peer, message } = &mut self.phase {
-            let context = message.join.context();
+            let origin = Origin {
+                peer,
+                config: &self.config,
+                context: message.join.context(),
+            };
             match message.join.end() {
                 Ok(Joined::More) => {}
                 Ok(Joined::Message) => {
-                    let sent = message.reply(peer, &self.config, context, wire, filing);
+                    let sent = message.reply(origin, wire, filing);
                     message.join.clear();
                     message.storing.leave(filing);
                     self.settle(State::Sta6, sent, filing);
                 }
-                Ok(Joined::DataDue) => message.begin(peer, &self.config, context, filing),
+                Ok(Joined::DataDue) => message.begin(origin, filing),
                 Err(_) => self.refuse(Event::UserAborts, Answering::Nothing, wire, filing),
             }
         }

@@ -98,7 +98,8 @@ fn answer_request<W: Wire>(
 
 impl<const A: usize, const C: usize, const V: usize, const D: usize> Provider<A, C, V, D> {
     ghost use Rattle.pdu.specs.Marks.{End};
-    ghost use Rattle.engine.specs.Progress.{Progress};
+    ghost use Rattle.std.specs.Prelude.{if◌then◌else◌};
+    ghost use Rattle.engine.specs.Progress.{Progress, nothing, is_due, is_established};
     ghost use Rattle.engine.specs.Run.{at_entry, released, rooms_of};
     ghost use Rattle.engine.specs.Timeline.{At, good};
     ghost use Rattle.engine.specs.Devices.{devices};
@@ -136,26 +137,20 @@ impl<const A: usize, const C: usize, const V: usize, const D: usize> Provider<A,
         }
     }
 
-    /// Returns what has come of the body of a request.
-    fn body(&self) -> &[u8]
-        ensures { result.now ≡ (kept_of self.now).body }
-    {
-        match &self.phase {
-            Phase::AwaitingRequest { body } => body.as_slice(),
-            _ => &[],
-        }
-    }
-
-    /// The association request is whole: it is read, judged and answered, and then given up.
+    /// An association request is whole: where one is due, it is read, judged and answered, and then
+    /// given up.
     fn on_request<W: Wire, F: Filing>(&mut self, wire: &mut W, filing: &mut F)
         requires draft { IsThere (drafting_in (kept_of self.old).storing) (F.store filing.old) }
-        requires due { (kept_of self.old).state ≡ Sta2 }
         ensures settings { settings_in self.new ≡ settings_in self.old }
         ensures drafts { Drafts (drafting_in (kept_of self.old).storing) (F.store filing.old) (drafting_in (kept_of self.new).storing) (F.store filing.new) }
         ensures tries { (p : Progress) (body : List ℕ) → Pends (kept_of self.old) (F.store filing.old) p body [] → p.refused ≡ false
-            → DoesDue p (at_request (settings_in self.old) p body) (kept_of self.new) body [] (devices (W.line wire.old) (F.store filing.old)) (devices (W.line wire.new) (F.store filing.new)) }
+            → DoesDue p (if is_due p.state then at_request (settings_in self.old) p body else nothing p) (kept_of self.new) body []
+            (devices (W.line wire.old) (F.store filing.old)) (devices (W.line wire.new) (F.store filing.new)) }
     {
-        let (peer, next, sent) = answer_request(&self.config, self.body(), wire);
+        let Phase::AwaitingRequest { body } = &self.phase else {
+            return;
+        };
+        let (peer, next, sent) = answer_request(&self.config, body.as_slice(), wire);
         match peer {
             Some(peer) => {
                 let message = Message {
@@ -169,21 +164,24 @@ impl<const A: usize, const C: usize, const V: usize, const D: usize> Provider<A,
         }
     }
 
-    /// A release request is whole, and the local user agrees to it at once.
+    /// A release request is whole: the local user of an established association agrees to it at once.
     fn on_release<W: Wire, F: Filing>(&mut self, wire: &mut W, filing: &mut F)
         requires draft { IsThere (drafting_in (kept_of self.old).storing) (F.store filing.old) }
-        requires due { (kept_of self.old).state ≡ Sta6 }
         ensures settings { settings_in self.new ≡ settings_in self.old }
         ensures drafts { Drafts (drafting_in (kept_of self.old).storing) (F.store filing.old) (drafting_in (kept_of self.new).storing) (F.store filing.new) }
         ensures tries { (p : Progress) (body begun : List ℕ) → Pends (kept_of self.old) (F.store filing.old) p body begun
-            → DoesDue p (released p) (kept_of self.new) body begun (devices (W.line wire.old) (F.store filing.old)) (devices (W.line wire.new) (F.store filing.new)) }
+            → DoesDue p (if is_established p.state then released p else nothing p) (kept_of self.new) body begun
+            (devices (W.line wire.old) (F.store filing.old)) (devices (W.line wire.new) (F.store filing.new)) }
     {
+        let Phase::Established { .. } = &self.phase else {
+            return;
+        };
         let (_, asked) = act(State::Sta6, Event::ReleaseRq);
         let (next, sent) = step(asked, Event::UserReleases, Answering::Nothing, wire);
         self.settle(next, sent, filing);
     }
 
-    /// A PDU is whole: a request in Sta2, a release request in Sta6 and an abort act, others do not.
+    /// A PDU is whole: a request, a release request and an abort act where they are due, others do not.
     fn on_whole<W: Wire, F: Filing>(&mut self, kind: u8, wire: &mut W, filing: &mut F)
         requires draft { IsThere (drafting_in (kept_of self.old).storing) (F.store filing.old) }
         ensures settings { settings_in self.new ≡ settings_in self.old }
@@ -191,8 +189,7 @@ impl<const A: usize, const C: usize, const V: usize, const D: usize> Provider<A,
         ensures tries { (p : Progress) (body : List ℕ) → Pends (kept_of self.old) (F.store filing.old) p (body_in kind body) []
             → DoesDue p (at_entry (rooms_of A C V D) (settings_in self.old) p good (At (End kind body))) (kept_of self.new) (body_in kind body) [] (devices (W.line wire.old) (F.store filing.old)) (devices (W.line wire.new) (F.store filing.new)) }
     {
-        let state = self.phase.state();
-        if let State::Sta1 = state {
+        if let Phase::Ended = &self.phase {
             return;
         }
         if self.refused {
@@ -200,16 +197,8 @@ impl<const A: usize, const C: usize, const V: usize, const D: usize> Provider<A,
         }
         match kind {
             pdu_type::A_ABORT => self.happens(Event::Abort, Answering::Nothing, wire, filing),
-            pdu_type::A_ASSOCIATE_RQ => {
-                if let State::Sta2 = state {
-                    self.on_request(wire, filing);
-                }
-            }
-            pdu_type::A_RELEASE_RQ => {
-                if let State::Sta6 = state {
-                    self.on_release(wire, filing);
-                }
-            }
+            pdu_type::A_ASSOCIATE_RQ => self.on_request(wire, filing),
+            pdu_type::A_RELEASE_RQ => self.on_release(wire, filing),
             _ => {}
         }
     }

@@ -18,8 +18,8 @@ returns-in_default g c = record {
   drafts = same_drafts _ _ c.requires.draft;
   proceeds = λ request peer none announced.
       let command = c.args.self.now.join.command in
-      idle_proceeds g.row.D c.args.config.now.max_data request (InSet c.args.context command []) (stored_of c.args.self.now.storing) _ none
-      (unread_store request c.args.context command c.in_default.field-0 (ap command_in (sym c.command.ensures.value) ∙ sym c.read_command.ensures.exact ∙ c.in_default.is));
+      idle_proceeds g.row.D c.args.origin.config.now.max_data request (InSet c.args.origin.context command []) (stored_of c.args.self.now.storing) _ none
+      (unread_store request c.args.origin.context command c.in_default.field-0 (ap command_in (sym c.command.ensures.value) ∙ sym c.read_command.ensures.exact ∙ c.in_default.is));
 }
 
 pub returns-then-not-with_data : goal.returns-then-not-with_data
@@ -38,9 +38,9 @@ returns-in_default-context g c = record {
   drafts = same_drafts _ _ c.requires.draft;
   proceeds = λ request peer none announced.
       let command = c.args.self.now.join.command in
-      let absent : context_of (request_record request) c.args.context ≡ None =
-      sym (peer.contexts c.args.context) ∙ sym c.context.ensures ∙ c.in_default-context.is in
-      idle_proceeds g.row.D c.args.config.now.max_data request (InSet c.args.context command []) (stored_of c.args.self.now.storing) _ none (unaccepted_store request c.args.context command absent);
+      let absent : context_of (request_record request) c.args.origin.context ≡ None =
+      sym (peer.contexts c.args.origin.context) ∙ sym c.context.ensures ∙ c.in_default-context.is in
+      idle_proceeds g.row.D c.args.origin.config.now.max_data request (InSet c.args.origin.context command []) (stored_of c.args.self.now.storing) _ none (unaccepted_store request c.args.origin.context command absent);
 }
 
 pub returns-else-is_of_context : goal.returns-else-is_of_context
@@ -50,10 +50,10 @@ returns-else-is_of_context g c = record {
   proceeds = λ request peer none announced.
       let command = c.args.self.now.join.command in
       let e : command_in command ≡ Ok c.in-Ok.command = ap command_in (sym c.command.ensures.value) ∙ sym c.read_command.ensures.exact ∙ c.in-Ok.is in
-      let accepted : context_of (request_record request) c.args.context ≡ Some c.in-Some.accepted =
-      sym (peer.contexts c.args.context) ∙ sym c.context.ensures ∙ c.in-Some.is in
-      idle_proceeds g.row.D c.args.config.now.max_data request (InSet c.args.context command []) (stored_of c.args.self.now.storing) _ none
-      (other_store request c.args.context command c.in-Ok.command c.in-Some.accepted e accepted (c.is_of_context.ensures.no c.if-is_of_context.false));
+      let accepted : context_of (request_record request) c.args.origin.context ≡ Some c.in-Some.accepted =
+      sym (peer.contexts c.args.origin.context) ∙ sym c.context.ensures ∙ c.in-Some.is in
+      idle_proceeds g.row.D c.args.origin.config.now.max_data request (InSet c.args.origin.context command []) (stored_of c.args.self.now.storing) _ none
+      (other_store request c.args.origin.context command c.in-Ok.command c.in-Some.accepted e accepted (c.is_of_context.ensures.no c.if-is_of_context.false));
 }
 
 pub returns-then-is_of_context : goal.returns-then-is_of_context
@@ -63,10 +63,10 @@ returns-then-is_of_context g c = record {
   proceeds = λ request peer none announced.
       let command = c.args.self.now.join.command in
       let e : command_in command ≡ Ok c.in-Ok.command = ap command_in (sym c.command.ensures.value) ∙ sym c.read_command.ensures.exact ∙ c.in-Ok.is in
-      let accepted : context_of (request_record request) c.args.context ≡ Some c.in-Some.accepted =
-      sym (peer.contexts c.args.context) ∙ sym c.context.ensures ∙ c.in-Some.is in
-      let store : InStore request (InSet c.args.context command []) = record {
-        id = c.args.context;
+      let accepted : context_of (request_record request) c.args.origin.context ≡ Some c.in-Some.accepted =
+      sym (peer.contexts c.args.origin.context) ∙ sym c.context.ensures ∙ c.in-Some.is in
+      let store : InStore request (InSet c.args.origin.context command []) = record {
+        id = c.args.origin.context;
         command = command;
         set = [];
         asked = c.in-Ok.command;
@@ -76,7 +76,7 @@ returns-then-is_of_context g c = record {
         accepted = accepted;
         of_context = c.is_of_context.ensures.yes c.if-is_of_context.true;
       } in
-      begun_proceeds g.row.D c.args.config.now.max_data request (InSet c.args.context command []) store _ (stored_of c.begin_store-self.result) _ _ refl
+      begun_proceeds g.row.D c.args.origin.config.now.max_data request (InSet c.args.origin.context command []) store _ (stored_of c.begin_store-self.result) _ _ refl
       (ap (λ (xs : List ℕ). head (record { class = c.in-Ok.command.class; instance = some_or_nothing c.in-Ok.command.instance; syntax = c.in-Some.accepted.syntax; calling = record { 0 = xs } })) peer.caller)
       (c.begin_store-self.ensures.begins (sym c.with_data.ensures ∙ c.if-not-with_data.false));
 }

@@ -81,7 +81,7 @@ returns-in-Ok-Message-clause-does g c = rw c.in-Established.is (λ p begun six w
     let m = got.0 in
     let come = with_pdv begun p.message in
     let same : j.command ≡ m.command = ap (λ (x : Joining). x.command) got.2 in
-    let here : c.context-context.result ≡ m.context = pdv_context g.row.C k.join p.message begun c.context-context.result six was c.context-context.ensures ∙ sym got.4 in
+    let here : c.context.result ≡ m.context = pdv_context g.row.C k.join p.message begun c.context.result six was c.context.ensures ∙ sym got.4 in
     let kept = subst (λ (xs : List ℕ). Carried k.depth k.most k.storing so p.request (with_pdv xs p.message) p.filing_failed) (counted_taken p begun taken) (carried k so p [] begun h) in
     let aside = aside_joined k p j (aside_of k so p begun h) in
     let agreed = aside.agreed (taken_state p taken) in
@@ -117,7 +117,7 @@ returns-in-Ok-DataDue-clause-does g c = rw c.in-Established.is (λ p begun six w
     let kept = subst (λ (xs : List ℕ). Carried k.depth k.most k.storing so p.request (with_pdv xs p.message) p.filing_failed) (counted_taken p begun taken) (carried k so p [] begun h) in
     let none = nothing_walked (λ st. no_store_yet p.request (with_pdv begun p.message) (get_or begun 4 0) due.command (long_pdv begun p.message six ∙ due.came) st) kept.0 in
     let command : j.command ≡ due.command = ap (λ (x : Joining). x.command) got.2.shows ∙ ap command_bytes due.later_is in
-    let same : InSet c.context-context.result j.command [] ≡ later = ap (λ (n : ℕ). InSet n j.command []) (pdv_context g.row.C k.join p.message begun c.context-context.result six was c.context-context.ensures) ∙ ap (λ (xs : List ℕ). InSet (get_or begun 4 0) xs []) command ∙ sym due.later_is in
+    let same : InSet c.context.result j.command [] ≡ later = ap (λ (n : ℕ). InSet n j.command []) (pdv_context g.row.C k.join p.message begun c.context.result six was c.context.ensures) ∙ ap (λ (xs : List ℕ). InSet (get_or begun 4 0) xs []) command ∙ sym due.later_is in
     let agreed = (aside_joined k p j (aside_of k so p begun h)).agreed (taken_state p taken) in
     let proceeds = c.begin.ensures.proceeds p.request agreed none (λ x e. due.announced x (ap command_in (sym command) ∙ e)) in
     subst (λ (x : Joining). Does rooms s p (At (entry_of begun)) (with_storing z (with_join x k)) [] [] (devices (g.W.Wire.line c.args.wire.now) so) (devices (g.W.Wire.line c.args.wire.now) (g.F.Filing.store c.begin.new.filing)))
