@@ -6,12 +6,10 @@ use Rattle.std.proofs.lemmas.List.Folds.{list_any-append}
 use Rattle.dicomdir.specs.Linked.{is_distinct, is_one_of}
 
 pub not_true : (b : Bool) → not b ≡ true → b ≡ false
-not_true true e = absurd cc
-not_true false e = refl
+not_true v1 e = grind (arith, nat_tests)
 
 pub second_true : (a b c : Bool) → b ≡ true → (a || (b || c)) ≡ true
-second_true true b c e = refl
-second_true false b c e = rw e refl
+second_true v1 b c e = grind (arith, nat_tests)
 
 pub third_true : (a b c : Bool) → c ≡ true → (a || (b || c)) ≡ true
 third_true v1 b c e = grind (arith, nat_tests)
@@ -36,12 +34,10 @@ pub not_place : (p x : ℕ) (xs : List ℕ) → is_one_of x xs ≡ false → is_
 not_place p x xs none h = grind (arith, nat_tests)
 
 pub clash : (b : Bool) → b ≡ true → b ≡ false → ⊥
-clash true e f = absurd cc
-clash false e f = absurd cc
+clash v1 e f = grind (arith, nat_tests)
 
 pub backwards : (a b : Bool) → (a ≡ true → b ≡ true) → b ≡ false → a ≡ false
-backwards true b f e = let g : b ≡ true = f refl in absurd cc
-backwards false b f e = refl
+backwards v1 b f e = grind (arith, nat_tests)
 
 pub same_one : (x y : ℕ) (ps : List ℕ) → nat_eq x y ≡ true → is_one_of y ps ≡ true → is_one_of x ps ≡ true
 same_one x y ps e h = let same : x ≡ y = eqb-true x y e in rw same h
@@ -50,5 +46,4 @@ pub same_out : (x y : ℕ) (ps : List ℕ) → nat_eq x y ≡ true → is_one_of
 same_out x y ps e h = let same : x ≡ y = eqb-true x y e in rw same h
 
 pub either_out : (a b c : Bool) → (a ≡ true → c ≡ false) → (b ≡ true → c ≡ false) → (a || b) ≡ true → c ≡ false
-either_out true b c f g e = f refl
-either_out false b c f g e = g e
+either_out v1 b c f g e = grind (arith, nat_tests)

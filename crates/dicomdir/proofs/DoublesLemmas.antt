@@ -26,12 +26,10 @@ any_newest p [] = refl
 any_newest p (x ∷ xs) = grind (arith, nat_tests, common_steps, any_newest p xs, list_any-append p (newest_first xs) (x ∷ []), turned (list_any p (newest_first xs)) (p x))
 
 not_true : (b c : Bool) → c ≡ not b → c ≡ true → b ≡ false
-not_true true c e f = absurd cc
-not_true false c e f = refl
+not_true v1 c e f = grind (arith, nat_tests)
 
 not_false : (b c : Bool) → c ≡ not b → c ≡ false → b ≡ true
-not_false true c e f = refl
-not_false false c e f = absurd cc
+not_false v1 c e f = grind (arith, nat_tests)
 
 rest_is : (rows : List Row) (at : ℕ) (row : Row) → at < length rows → row ≡ get_or rows at row → drop at rows ≡ row ∷ drop (at + 1) rows
 rest_is rows at row lt is = grind (arith, nat_tests, common_steps, drop-cons rows at row lt)

@@ -29,8 +29,7 @@ is_none [] = true
 is_none (part ∷ parts) = false
 
 some_before : (c : ℕ) (parts : List (List ℕ)) → is_none (before_parts c parts) ≡ false
-some_before c [] = refl
-some_before c (part ∷ parts) = refl
+some_before c v2 = grind (arith, nat_tests)
 
 some_part : (xs : List ℕ) → is_none (parts_of xs) ≡ false
 some_part [] = refl
@@ -40,23 +39,19 @@ moved : (a b c d : Bool) → (((a && b && c) && d) && true) ≡ ((d && c) && (a 
 moved v1 v2 v3 v4 = grind (arith, nat_tests)
 
 good_end : (parts : List (List ℕ)) → is_none parts ≡ false → is_good ([] ∷ parts) ≡ (is_good parts && is_size (first_size parts))
-good_end [] some = absurd cc
-good_end (part ∷ parts) some = moved (nat_le 1 (length part)) (nat_le (length part) 8) (list_all is_id_character part) (list_all is_file_id_component parts)
+good_end v1 some = grind (arith, nat_tests, moved)
 
 shifted : (a b c : Bool) → (a && (b && c)) ≡ ((a && c) && b)
 shifted v1 b c = grind (arith, nat_tests, common_steps)
 
 good_more : (c : ℕ) (parts : List (List ℕ)) → is_none parts ≡ false → is_good (before_parts c parts) ≡ (is_good parts && is_id_character c)
-good_more c [] some = absurd cc
-good_more c (part ∷ parts) some = shifted (list_all is_file_id_component parts) (is_id_character c) (list_all is_id_character part)
+good_more c v2 some = grind (arith, nat_tests, shifted)
 
 size_more : (c : ℕ) (parts : List (List ℕ)) → is_none parts ≡ false → first_size (before_parts c parts) ≡ first_size parts + 1
-size_more c [] some = absurd cc
-size_more c (part ∷ parts) some = sym (add-one (length part))
+size_more c v2 some = grind (arith, nat_tests, add-one)
 
 count_more : (c : ℕ) (parts : List (List ℕ)) → is_none parts ≡ false → length (before_parts c parts) ≡ length parts
-count_more c [] some = absurd cc
-count_more c (part ∷ parts) some = refl
+count_more c v2 some = grind (arith, nat_tests)
 
 -- the parts from one byte further in front
 
@@ -90,8 +85,7 @@ gathered : (a b c d e : Bool) → (e && ((a && b && c) && d)) ≡ ((d && c) && (
 gathered v1 b c d v5 = grind (arith, nat_tests, common_steps)
 
 by_parts : (parts : List (List ℕ)) → is_none parts ≡ false → (nat_le (length parts) 8 && list_all is_file_id_component parts) ≡ (is_good parts && (is_size (first_size parts) && nat_le (length parts) 8))
-by_parts [] some = absurd cc
-by_parts (part ∷ parts) some = gathered (nat_le 1 (length part)) (nat_le (length part) 8) (list_all is_id_character part) (list_all is_file_id_component parts) (nat_le (length (part ∷ parts)) 8)
+by_parts v1 some = grind (arith, nat_tests, gathered)
 
 pub is_file_id_by_parts : (xs : List ℕ) → is_file_id xs ≡ (is_good (parts_of xs) && (is_size (first_size (parts_of xs)) && nat_le (length (parts_of xs)) 8))
 is_file_id_by_parts xs = by_parts (parts_of xs) (some_part xs)
@@ -109,8 +103,7 @@ total [] = 0
 total (part ∷ parts) = suc (length part + total parts)
 
 total_more : (c : ℕ) (parts : List (List ℕ)) (n : ℕ) → total parts ≡ suc n → total (before_parts c parts) ≡ suc (suc n)
-total_more c [] n e = absurd cc
-total_more c (part ∷ parts) n e = omega (arith, e)
+total_more c v2 n e = grind (arith, nat_tests)
 
 total_is : (xs : List ℕ) → total (parts_of xs) ≡ suc (length xs)
 total_is [] = refl

@@ -70,8 +70,7 @@ finds_value s h place f c more text there none (of_value {v = v} sh val) whole a
 finds_value s h place f c more text there none (of_items {inner = inner} sh list end) whole at = absurd (none inner sh)
 
 pub no_sequence : (s : Syntax) (h : Header) (r : Shape) → (r ≡ Value) ⊎ (r ≡ NotAllowed) → r ≡ shape s h → (inner : Syntax) → shape s h ≡ Sequence inner → ⊥
-no_sequence s h r (inl e) same inner is = let other : Value ≡ Sequence inner = sym e ∙ (same ∙ is) in absurd cc
-no_sequence s h r (inr e) same inner is = let other : NotAllowed ≡ Sequence inner = sym e ∙ (same ∙ is) in absurd cc
+no_sequence s h r v4 same inner is = grind (arith, nat_tests)
 
 -- ---- tags
 

@@ -270,8 +270,7 @@ nodes_of_all links entries flags ms before nodes last at =
     sym at.nodes_are ∙ ap (λ z. before ++ flat_map (node_on links) z) (sym all)
 
 pub none_is : (o : Option Step) → ((s : Step) → o ≡ Some s → ⊥) → o ≡ None
-none_is None other = refl
-none_is (Some s) other = absurd (other s refl)
+none_is v1 other = grind (arith, nat_tests)
 
 pub ended : (links : Links) (entries : List ReadRecord) (flags : List Bool) (ms : List Mark) (pending : Option Step) (before nodes : List LevelNode) (last : ℕ)
     → pending ≡ None → Following links entries flags ms pending before nodes last → Following links entries flags ms None before nodes last
@@ -293,5 +292,4 @@ fault_fails root entries f tag other fault = record {
 }
 
 pub both_err : {A E : Type 0} (P Q R : E → Type 0) (r : Result A E) → IfErr r P → IfErr r Q → ((e : E) → P e → Q e → R e) → IfErr r R
-both_err P Q R (Ok x) p q f = tt
-both_err P Q R (Err e) p q f = f e p q
+both_err v1 v2 v3 v4 p q f = grind (arith, nat_tests)

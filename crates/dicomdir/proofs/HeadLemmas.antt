@@ -18,8 +18,7 @@ unfolding is_whole
 head_whole s b k e fits = grind (arith, nat_tests, common_steps)
 
 when_fits : (p : Bool) (x r : Head) → (if p then Some x else None) ≡ Some r → (p ≡ true) × (x ≡ r)
-when_fits true x r e = (refl, cc)
-when_fits false x r e = absurd cc
+when_fits v1 x r e = grind (arith, nat_tests)
 
 head_size : (s : Syntax) (b : List ℕ) (n : Need) (r : Head) → need s b ≡ n → head_by s b n ≡ Some r → (8 ≤ r.size) × (r.size ≤ length b)
 head_size s b More r is e = absurd cc

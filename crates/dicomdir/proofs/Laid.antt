@@ -67,8 +67,7 @@ sequence_shape : (s : Shape) → is_sequence s ≡ true → s ≡ Sequence Expli
 sequence_shape v1 e = grind (arith, nat_tests)
 
 named : (vr : Option (List ℕ)) → is_vr_or_none vr ≡ true → IsVrOrNone vr
-named None e = tt
-named (Some letters) e = let both = and_parts _ _ e in (both.0, eqb-true _ _ both.1)
+named v1 e = grind (arith, nat_tests)
 
 -- what the test of a header says
 record IsLaidHeader (h : Header) : Type 0 where

@@ -78,8 +78,7 @@ pub good_none : (last : ℕ) → IsGood last no_elements
 good_none last = record { laid = refl; size = refl; even = refl }
 
 fits_short : (plain : Bool) (vr : List ℕ) (n : ℕ) → plain ≡ false → nat_lt n 65536 ≡ true → fits_vr plain (Some vr) n ≡ true
-fits_short true vr n e f = absurd cc
-fits_short false vr n e f = or_right (not (is_short_vr vr)) (nat_lt n 65536) f
+fits_short v1 vr n e f = grind (arith, nat_tests, or_right)
 
 pub laid_field : (last : ℕ) (t : Tag) (vr v : List ℕ) (es : Elements) → IsFixed last t vr → length v % 2 ≡ 0 → length v < 65536 → is_laid (number t) es ≡ true → is_laid last (field t vr v es) ≡ true
 laid_field last t vr v es f even short laid = grind (arith, nat_tests, common_steps)

@@ -103,12 +103,10 @@ lays_node level row below next e0 e1 e2 e3 s0 s1 s2 s3 f1 l1 f2 l2 last others u
     }
 
 pub stops_more : (n m : ℕ) (stop : Stop) → n ≤ m → StopsFor n stop → StopsFor m stop
-stops_more n m TooLarge h s = omega (arith, h, s)
-stops_more n m OutOfMemory h s = tt
+stops_more n m v3 h s = grind (arith, nat_tests)
 
 group_size : (r : Row → Elements) (b : List Row → Forest Elements) (group : List Row) (next : Forest Elements) → forest_size next ≤ forest_size (group_node r b group next)
-group_size r b [] next = omega arith
-group_size r b (row ∷ rows) next = omega arith
+group_size r b v3 next = grind (arith, nat_tests)
 
 pub dropped_size : (r : Row → Elements) (b : List Row → Forest Elements) (n : ℕ) (groups : List (List Row)) → forest_size (groups_forest r b (drop n groups)) ≤ forest_size (groups_forest r b groups)
 dropped_size r b zero groups = omega arith
@@ -168,8 +166,7 @@ pub image_stops : {A : Type 0} (rows : List (Bor Row)) (at : ℕ) (row : Bor Row
 image_stops rows at row e0 e1 s0 s1 f l stop some le is lays stops = grind (arith, nat_tests, common_steps, rows_dropped rows (at - 1), images_dropped (rows_at rows) (at - 1), last_row rows at row some le is)
 
 pub group_more : {X : Type 0} (group : List X) (row : X) → slice_get group 0 ≡ Some row → group ≡ row ∷ drop 1 group
-group_more [] row e = absurd cc
-group_more (x ∷ group) row e = ap (λ y. y ∷ group) (let h : x ≡ row = cc in h)
+group_more v1 row e = grind (arith, nat_tests)
 
 module _ (level : Level) (groups : List (List Row)) (at : ℕ) (group : List Row) (row : Row) (some : 0 < at) (le : at ≤ length groups) (is : group ≡ get_or groups (at - 1) group) (first_row : slice_get group 0 ≡ Some row) where
   abbrev forest : List (List Row) → Forest Elements
@@ -224,8 +221,7 @@ module _ (level : Level) (groups : List (List Row)) (at : ℕ) (group : List Row
 pub empty_group : {A : Type 0} (r : Row → Elements) (b : List Row → Forest Elements) (groups : List (List Row)) (at : ℕ) (group : List Row) (e0 e1 : List (LaidRecord A)) (s0 s1 f l : ℕ)
     → 0 < at → at ≤ length groups → group ≡ get_or groups (at - 1) group → slice_get group 0 ≡ None
     → Lays (groups_forest r b (drop at groups)) e0 e1 s0 s1 f l → Lays (groups_forest r b (drop (at - 1) groups)) e0 e1 s0 s1 f l
-empty_group r b groups at [] e0 e1 s0 s1 f l some le is none lays = rw (last_row groups at [] some le is) lays
-empty_group r b groups at (row ∷ rows) e0 e1 s0 s1 f l some le is none lays = absurd cc
+empty_group r b groups at v5 e0 e1 s0 s1 f l some le is none lays = grind (arith, nat_tests, last_row)
 
 pub group_at : {A : Type 0} (groups : List (Vec (Bor Row) A)) (n : ℕ) (v : Vec (Bor Row) A) (group : List (Bor Row)) → group ≡ v.items → v ≡ get_or groups n v
     → rows_at group ≡ get_or (row_groups groups) n (rows_at group)

@@ -32,16 +32,13 @@ abbrev pub HaveOffsets : List Record → Type 0
 HaveOffsets records = (p : ℕ) (es : Elements) → record_at p records ≡ Some es → (is_some (lower_offset es) ≡ true) × (is_some (next_offset es) ≡ true)
 
 some_is : (o : Option ℕ) → is_some o ≡ true → o ≡ Some (or_zero o)
-some_is None e = absurd cc
-some_is (Some n) e = refl
+some_is v1 e = grind (arith, nat_tests)
 
 pub stands_is : (o : Option Elements) → is_none o ≡ false → o ≡ Some (elim o [ None ↦ no_elements | Some es ↦ es ])
-stands_is None e = absurd cc
-stands_is (Some found) e = refl
+stands_is v1 e = grind (arith, nat_tests)
 
 pub not_false : (b : Bool) → not b ≡ false → b ≡ true
-not_false true e = refl
-not_false false e = absurd cc
+not_false v1 e = grind (arith, nat_tests)
 
 -- paths that go on from one along distinct records, and name others
 pub record GoOn (links : Links) (path : List Turn) (paths : List (List Turn)) : Type 0 where

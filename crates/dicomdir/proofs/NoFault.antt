@@ -18,8 +18,7 @@ use Rattle.std.proofs.lemmas.Bool.Decides.{nat_tests}
 use Rattle.std.proofs.lemmas.Grind.{common_steps}
 
 sized : (b : Bool) (x n place : ℕ) → (if b then Some x else None) ≡ Some n → (if b then None else fault 68 place) ≡ None
-sized true x n place e = refl
-sized false x n place e = absurd cc
+sized v1 x n place e = grind (arith, nat_tests)
 
 offset_none : (start : ℕ) (f : Found) (n : ℕ) → number_in 4 f ≡ Some n → offset_fault start f ≡ None
 offset_none start missing n e = absurd cc

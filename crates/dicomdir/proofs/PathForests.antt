@@ -75,8 +75,7 @@ abbrev pub shown_nodes : Bool → ℕ → Forest PlacedNode → List LevelNode
 shown_nodes shown level f = if shown then nodes_in_use level f else []
 
 none_shown : (shown : Bool) (level : ℕ) → [] ≡ shown_nodes shown level no_nodes
-none_shown true level = refl
-none_shown false level = refl
+none_shown v1 level = grind (arith, nat_tests)
 
 joined : (s u : Bool) (k : LevelNode) (bs ns : List LevelNode)
     → (if s && u then k ∷ [] else []) ++ ((if s && u then bs else []) ++ (if s then ns else [])) ≡ (if s then (if u then k ∷ (bs ++ ns) else ns) else [])
@@ -90,8 +89,7 @@ forest_nodes (suc most) links path = grind (arith, nat_tests, common_steps, fore
 -- a forest that records are linked to is that one
 
 pub elements_is : (o : Option Elements) (es : Elements) → o ≡ Some es → (elim o [ None ↦ no_elements | Some es ↦ es ]) ≡ es
-elements_is None es e = absurd cc
-elements_is (Some found) es e = cc
+elements_is v1 es e = grind (arith, nat_tests)
 
 pub followed_is : (f : Forest PlacedNode) (most : ℕ) (records : List Record) (level : ℕ) → AreLinked records level f → is_one_of 0 (places_of f) ≡ false → count_of f < most
     → forest_from most records (first_place f) ≡ f

@@ -35,8 +35,7 @@ nodes_are place no_nodes = refl
 nodes_are place (node es below next) = grind (arith, nat_tests, common_steps, nodes_are (place + record_size es) below, nodes_are (place + record_size es + forest_size below) next)
 
 pub first_same : (f : Forest Record) → first_place (placed f) ≡ first_record_place f
-first_same no_nodes = refl
-first_same (node r below next) = refl
+first_same v1 = grind (arith, nat_tests)
 
 pub last_same : (place : ℕ) (f : Forest Record) → last_place_behind place (placed f) ≡ last_record_place_after place f
 last_same place no_nodes = refl

@@ -24,8 +24,7 @@ use Rattle.dicomdir.specs.RecordText as text
 use Rattle.std.proofs.lemmas.Grind.{common_steps}
 
 dropped_length : (b : Bool) (x n : ℕ) (rest : List ℕ) → length rest ≤ n → length (cond b [] (x ∷ rest)) ≤ n + 1
-dropped_length true x n rest h = omega arith
-dropped_length false x n rest h = omega (arith, h)
+dropped_length v1 x n rest h = grind (arith, nat_tests)
 
 trailing_length : (p : ℕ → Bool) (xs : List ℕ) → length (without_trailing p xs) ≤ length xs
 trailing_length p [] = omega arith
@@ -38,8 +37,7 @@ pub key_length : (v : List ℕ) → length (key v) ≤ length v
 key_length v = trailing_length is_padding v
 
 pub syntax_uid_short : (s : Syntax) → length (syntax_uid s) ≤ 64
-syntax_uid_short Implicit = omega arith
-syntax_uid_short Explicit = omega arith
+syntax_uid_short v1 = grind (arith, nat_tests)
 
 -- elements and their bytes
 record Spells (es : Elements) (bytes : List ℕ) : Type 0 where
@@ -135,8 +133,7 @@ element_table = refl
 -- the VRs with a length of two bytes are capital letters
 
 one_of : {C : Type 0} (test here rest : Bool) → (test ≡ true → here ≡ true → C) → (rest ≡ true → C) → (if test then here else rest) ≡ true → C
-one_of true here rest f g e = f refl e
-one_of false here rest f g e = g e
+one_of v1 here rest f g e = grind (arith, nat_tests)
 
 short_capital : (a b : ℕ) → is_short a b ≡ true → (is_capital a && is_capital b) ≡ true
 unfolding is_short

@@ -134,8 +134,7 @@ one_fits ws n t room w v others fit r rest e = grind (arith, nat_tests)
 
 some_fits : (ws : List Want) (n t room : ℕ) (w v : List ℕ) (others : Values) (b : Bool) → ((r : ℕ) → room_of ws n ≡ Some r → length w ≤ r) → room_of ws t ≡ Some room
     → (value_of others t ≡ Some v → length v ≤ room) → value_of (cond b ((n, w) ∷ others) others) t ≡ Some v → length v ≤ room
-some_fits ws n t room w v others true fit r rest e = one_fits ws n t room w v others fit r rest e
-some_fits ws n t room w v others false fit r rest e = rest e
+some_fits ws n t room w v others v8 fit r rest e = grind (arith, nat_tests, one_fits)
 
 kept_fits : (ws : List Want) (es : Elements) (t room : ℕ) (v : List ℕ) → FitRooms ws es → room_of ws t ≡ Some room → value_of (kept_of ws es) t ≡ Some v → length v ≤ room
 kept_fits ws no_elements t room v fit r e = absurd cc
@@ -162,8 +161,7 @@ abbrev has_room : List Want → KeyRule → Bool
 has_room ws rule = nat_eq (unwrap_or (room_of ws (number rule.tag)) 0) rule.room && is_some (room_of ws (number rule.tag))
 
 never : (b : Bool) → (b && false) ≡ true → ⊥
-never true e = absurd cc
-never false e = absurd cc
+never v1 e = grind (arith, nat_tests)
 
 room_is : (ws : List Want) (rule : KeyRule) → has_room ws rule ≡ true → room_of ws (number rule.tag) ≡ Some rule.room
 room_is ws rule e = grind (arith, nat_tests)

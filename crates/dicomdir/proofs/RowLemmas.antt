@@ -75,8 +75,7 @@ refused_data_set w meta (Some file) (Some back) file_id reason takes syntax limi
     has_row (in_data_set (instance_of meta file back takes) told.0 fails (ap (λ z. Err z) told.2))
 
 pub out_of_memory : (old : Option (List ℕ)) (file_id : List ℕ) (reason : Skip) → reason ≡ skip.OutOfMemory → Read old file_id (Err reason)
-out_of_memory None file_id reason e = tt
-out_of_memory (Some file) file_id reason e = λ _. no_memory (ap (λ z. Err z) e)
+out_of_memory v1 file_id reason e = grind (arith, nat_tests)
 
 pub whole_file : {V D : ℕ} (w : Walker V D) (meta : Meta) (old mid : Option (List ℕ)) (file_id : List ℕ) (result : Result Row Skip) → TakesMeta (said_of meta) old mid
     → walker_syntax w ≡ meta.syntax → limits_of w ≡ row_limits → TookWhole w mid

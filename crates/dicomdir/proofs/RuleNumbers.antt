@@ -27,16 +27,13 @@ some_rule : (k : ℕ) (u : Tag) → k ≤ 21 → IsRule (Some (k, u))
 some_rule k u le n t e = grind (arith, nat_tests, common_steps)
 
 if_rule : (b : Bool) (x y : Broken) → IsRule x → IsRule y → IsRule (if b then x else y)
-if_rule true x y p q = p
-if_rule false x y p q = q
+if_rule v1 x y p q = grind (arith, nat_tests)
 
 when_rule : (b : Bool) (x : Broken) → IsRule x → IsRule (when b x)
-when_rule true x p = p
-when_rule false x p = none_rule
+when_rule v1 x p = grind (arith, nat_tests)
 
 or_rule : (x y : Broken) → IsRule x → IsRule y → IsRule (x or_else y)
-or_rule None y p q = q
-or_rule (Some x) y p q = p
+or_rule v1 y p q = grind (arith, nat_tests)
 
 tag_rule : (spot : Spot) (t : Tag) → IsRule (broken_tag spot t)
 unfolding broken_tag

@@ -14,6 +14,7 @@ use Rattle.dicomdir.specs.machine.Heads.{head_at}
 use Rattle.dicomdir.specs.machine.Texts.{ElementsThen, ItemsThen, IsContent, of_value, of_items, IsItemContent, of_elements}
 use Rattle.dicomdir.proofs.HeadLemmas.{head_read}
 use Rattle.dicomdir.proofs.TextLemmas.{Front, at_end, at_element, front_of, FrontOfItems, no_item, at_item, front_of_items, mark_head, marked_head, is_head}
+use Rattle.std.proofs.lemmas.Bool.Decides.{nat_tests}
 
 -- ---- a defined length
 
@@ -36,8 +37,7 @@ item_drop s h es c rest text other (of_elements elements end) whole = ended_drop
 -- ---- an undefined one
 
 pub is_delimited : {mark : Tag} {n : ℕ} {b c : List ℕ} → Ended mark n b c → n ≡ undefined_length → c ≡ b ++ delimitation mark
-is_delimited (counted n defined even size) e = absurd (defined e)
-is_delimited (delimited) e = refl
+is_delimited v1 e = grind (arith, nat_tests)
 
 pub delimited_text : {mark : Tag} {n : ℕ} {b c : List ℕ} (rest text : List ℕ) → Ended mark n b c → n ≡ undefined_length → text ≡ c ++ rest → text ≡ b ++ (delimitation mark ++ rest)
 delimited_text {mark = mark} {b = b} rest text end e whole = whole ∙ (ap (λ z. z ++ rest) (is_delimited end e) ∙ append_assoc b (delimitation mark) rest)

@@ -55,8 +55,7 @@ at_offset_by entries flags records reached offset at d flagged fits found =
 
 pub at_offset : (entries : List ReadRecord) (flags : List Bool) (records : List Record) (reached : List ℕ) (offset at : ℕ) → AreFlagged entries flags records reached
     → at < length entries → ((d : ReadRecord) → (get_or entries at d).place ≡ offset) → AtOffset entries flags records reached offset at
-at_offset [] flags records reached offset at flagged fits found = absurd (omega (arith, fits))
-at_offset (e ∷ es) flags records reached offset at flagged fits found = at_offset_by (e ∷ es) flags records reached offset at e flagged fits found
+at_offset v1 flags records reached offset at flagged fits found = grind (arith, nat_tests, at_offset_by)
 
 -- the fault of an offset
 
@@ -84,8 +83,7 @@ same_line b [] = refl
 same_line b (m ∷ ms) = refl
 
 told_is : (links : Links) (b : Bool) (ms : List Mark) (root : ℕ) → root ≡ links.place → told_at links (path_along b ms) ≡ told_along root ms
-told_is links b [] root is = sym is
-told_is links b (m ∷ ms) root is = refl
+told_is links b v3 root is = grind (arith, nat_tests)
 
 pub old_target : (links : Links) (entries : List ReadRecord) (flags : List Bool) (reached : List ℕ) (ms : List Mark) (step : Step) (at root told : ℕ) (b : Bool)
     → AreFlagged entries flags links.records reached → IsStep links ms (Some step) → root ≡ links.place → at < length entries → ((d : ReadRecord) → (get_or entries at d).place ≡ step.offset)

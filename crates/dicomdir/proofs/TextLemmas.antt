@@ -160,8 +160,7 @@ front_of_items more text (item_then {h = h} {hb = hb} {es = es} {eb = eb} {cb = 
 -- ---- the header there
 
 marker_plain : (s : Syntax) (t : Tag) → is_marker t ≡ true → is_plain s t ≡ true
-marker_plain Implicit t e = refl
-marker_plain Explicit t e = e
+marker_plain v1 t e = grind (arith, nat_tests)
 
 pub mark_head : (s : Syntax) (mark : Tag) (rest text : List ℕ) → is_marker mark ≡ true → IsTag mark → text ≡ delimitation mark ++ rest
     → head_at s text ≡ Some (record { header = record { tag = mark; vr = None; length = 0 }; size = 8 })

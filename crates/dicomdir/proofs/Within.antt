@@ -53,8 +53,7 @@ stands_there p [] es e = absurd cc
 stands_there p (r ∷ records) es e = grind (arith, nat_tests, stands_there p records es)
 
 pub either : (a b c : Bool) → (a ≡ true → c ≡ true) → (b ≡ true → c ≡ true) → (a || b) ≡ true → c ≡ true
-either true b c f g e = f refl
-either false b c f g e = g e
+either v1 b c f g e = grind (arith, nat_tests)
 
 at_records : (f : Forest PlacedNode) (records : List Record) (level : ℕ) → AreLinked records level f
     → (x : ℕ) → is_one_of x (places_of f) ≡ true → is_one_of x (places records) ≡ true

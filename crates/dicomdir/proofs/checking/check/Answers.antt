@@ -1,9 +1,11 @@
-use Rattle.std.proofs.Common.{refl, ◌-◌, length}
+use Rattle.std.proofs.Common.{refl, ◌-◌, length, arith}
 use Rattle.std.proofs.lemmas.Result.{IfOk-weaker, IfErr-weaker}
 use Rattle.dicomdir.specs.TreeNodes.{tree_nodes}
 use Rattle.dicomdir.proofs.CheckLemmas.{file_fails, file_nodes}
 use Rattle.dicomdir.proofs.HeaderChecks.{data_set_check}
 use Rattle.dicomdir.proofs.checking.check.Goals as goal
+use Rattle.std.proofs.lemmas.Bool.Decides.{nat_tests}
+use Rattle.std.proofs.lemmas.Grind.{common_steps}
 
 pub returns-clause-nodes : goal.returns-clause-nodes
 returns-clause-nodes g c =
@@ -16,10 +18,7 @@ returns-clause-fault g c =
     IfErr-weaker c.check_elements.result _ _ (λ f fails other. file_fails c.in-Ok.ensures.read _ whole f refl (fails whole.elements whole.text) other) c.check_elements.ensures.fails
 
 pub returns-clause-memory : goal.returns-clause-memory
-returns-clause-memory g c =
-    let whole = c.in_default.ensures.good refl in
-    IfErr-weaker c.check_elements.result _ _ (λ f fails none. let told = fails whole.elements whole.text in (told.memory none, told.tag)) c.check_elements.ensures.fails
+returns-clause-memory g c = grind (arith, nat_tests, common_steps)
 
 pub returns-in-Err-walk-clause-fault : goal.returns-in-Err-walk-clause-fault
-returns-in-Err-walk-clause-fault g c other =
-    data_set_check c.in-Ok.ensures.read c.in-Err-walk.fault (length c.args.bytes.now - length c.in-Ok.text.now) refl c.in-Err-walk.ensures.fails
+returns-in-Err-walk-clause-fault g c other = grind (arith, nat_tests, common_steps, data_set_check c.in-Ok.ensures.read c.in-Err-walk.fault (length c.args.bytes.now - length c.in-Ok.text.now) refl c.in-Err-walk.ensures.fails)
