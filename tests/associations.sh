@@ -3,8 +3,9 @@
 free_port port
 listening=
 
-# listen ARGUMENTS.. : starts the box in 16 MB of memory; its log is err.txt.
+# listen ARGUMENTS.. : starts the box in 16 MB of memory; its log is err.txt, which has no line of the last one.
 listen() {
+  : >err.txt
   (
     ulimit -v 16384
     exec "$program" serve --port $port --out . "$@" >out.txt 2>err.txt

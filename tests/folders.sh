@@ -52,6 +52,7 @@ else
 fi
 umount fixed 2>/dev/null
 mkdir untouched
+: >err.txt
 "$program" serve --port 0 --out untouched 2>err.txt &
 box=$!
 for _ in $(seq 100); do

@@ -129,6 +129,7 @@ does_what_it_is_told --at-once 4
 # A folder that is renamed while the box runs, and another one under its name: the box stores nothing into it, another
 # program does, and the box leaves its files alone.
 mkdir renamed
+: >err.txt
 "$program" serve --timeout 2 --port $port --out renamed >out.txt 2>err.txt &
 listening=$!
 logged 'listening on'
