@@ -1,8 +1,8 @@
 -- The file that is built has the size and the text of the definitions.
-use Rattle.std.proofs.Common.{◌≡◌, ℕ, ◌+◌, ◌^◌, ◌<◌, ◌≤◌, true, false, List, [], ◌++◌, length, Some, None, refl, sym, ap, ap₂, codes, ◌∙◌, append_assoc, arith}
+use Rattle.std.proofs.Common.{◌≡◌, ℕ, ◌+◌, ◌^◌, ◌<◌, ◌≤◌, true, false, List, [], ◌++◌, length, Some, refl, sym, ap, ap₂, codes, ◌∙◌, append_assoc, arith}
 use Rattle.std.proofs.lemmas.Bool.Decides.{nat_tests}
 use Rattle.std.proofs.lemmas.List.{append-nil}
-use Rattle.element.specs.Header.{header_bytes, item_tag}
+use Rattle.element.specs.Header.{header_bytes}
 use Rattle.element.specs.Numbers.{le}
 use Rattle.element.specs.Vr.{is_short}
 use Rattle.sequence.specs.Tree.{Elements, Items, no_items}
@@ -11,7 +11,7 @@ use Rattle.dicomdir.specs.declared.level.Level.TheVariants.{Patient}
 use Rattle.dicomdir.specs.Built.{directory_header, directory_file, file_is_too_large}
 use Rattle.dicomdir.specs.Directory.{Record}
 use Rattle.dicomdir.specs.Laying.{place_from_end, laid_text, forest_text, Lays}
-use Rattle.dicomdir.specs.Layout.{spelled, spelled_items, with_offsets, root_elements}
+use Rattle.dicomdir.specs.Layout.{spelled, spelled_items, root_elements}
 use Rattle.dicomdir.specs.Levels.{forest_for}
 use Rattle.dicomdir.specs.Places.{root_size, forest_size, with_places, first_record_place, last_record_place, record_items, elements_with_places, directory_elements, directory_of}
 use Rattle.dicomdir.specs.Row.{Row, without_doubles}

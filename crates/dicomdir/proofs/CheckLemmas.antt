@@ -13,7 +13,7 @@ use Rattle.dicomdir.specs.declared.links.Root.{Root}
 use Rattle.dicomdir.specs.declared.records.ReadRecord.{ReadRecord}
 use Rattle.dicomdir.specs.declared.tree.TreeRecord.{TreeRecord}
 use Rattle.dicomdir.specs.CheckFault.{check_limits, CheckFault, HasHeader, in_directory}
-use Rattle.dicomdir.specs.Directory.{found, Record, records_at, records_in, records_of, or_zero}
+use Rattle.dicomdir.specs.Directory.{found, Record, records_at, records_of, or_zero}
 use Rattle.dicomdir.specs.DirFault.{Fault, fault, ◌or_else◌, offset_fault, records_fault, root_fault, each_fault, links_of, links_fault, records_then_links, directory_fault}
 use Rattle.dicomdir.specs.Paths.{paths_of}
 use Rattle.dicomdir.specs.machine.Trail.{node_on}

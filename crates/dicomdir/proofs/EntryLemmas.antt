@@ -1,10 +1,10 @@
 -- Entries of records, whose places rise: a search among them, and the flags of those that were reached.
-use Rattle.std.proofs.Common.{◌≡◌, ℕ, zero, suc, ◌<◌, ◌≤◌, Bool, true, false, ◌||◌, List, [], ◌∷◌, length, set, drop, replicate, get_or, not, Some, None, Less, Equal, Greater, refl, sym, ap, subst, ◌∙◌, arith, nat_eq, ◌⊎◌, inl, inr, if◌then◌else◌}
+use Rattle.std.proofs.Common.{◌≡◌, ℕ, zero, suc, ◌<◌, ◌≤◌, Bool, true, false, ◌||◌, List, [], ◌∷◌, length, set, drop, replicate, get_or, not, Some, None, Less, Equal, Greater, refl, sym, ap, ◌∙◌, arith, nat_eq, ◌⊎◌, inl, inr, if◌then◌else◌}
 use Rattle.std.specs.List.{HoldsAt, AllWithin}
 use Rattle.std.specs.List.Sorted.{IsNonDecreasingBy, IsPartitionPoint}
 use Rattle.std.specs.Ordering.{nat_cmp, ordering_index}
 use Rattle.std.proofs.lemmas.Cmp.{ranked}
-use Rattle.std.proofs.lemmas.Bool.{cases_lt, cond-true, cond-false}
+use Rattle.std.proofs.lemmas.Bool.{cases_lt, cond-true}
 use Rattle.std.proofs.lemmas.Bool.Decides.{nat_tests}
 use Rattle.dicomdir.specs.declared.records.ReadRecord.{ReadRecord}
 use Rattle.dicomdir.specs.Directory.{Record, carried_node}

@@ -1,6 +1,6 @@
 -- Finding an element under its tag.
-use Rattle.std.proofs.Common.{◌≡◌, ◌≢◌, ℕ, ◌+◌, ◌-◌, ◌≤◌, ◌<◌, Bool, true, false, not, ◌&&◌, List, [], ◌++◌, length, take, drop, Some, None, ◌⊎◌, inl, inr, refl, sym, ap, subst, ◌∙◌, arith, append_assoc, length-append, eqb-true, eq-eqb, nat_eq, nat_le}
-use Rattle.std.proofs.lemmas.Bool.{cond-true, cond-false}
+use Rattle.std.proofs.Common.{◌≡◌, ◌≢◌, ℕ, ◌+◌, ◌-◌, ◌≤◌, ◌<◌, Bool, true, false, not, ◌&&◌, List, [], ◌++◌, length, take, drop, Some, None, ◌⊎◌, refl, sym, ap, subst, ◌∙◌, arith, append_assoc, length-append, eqb-true, eq-eqb, nat_eq, nat_le}
+use Rattle.std.proofs.lemmas.Bool.{cond-true}
 use Rattle.std.proofs.lemmas.Bool.Decides.{nat_tests}
 use Rattle.std.proofs.lemmas.List.{append-nil}
 use Rattle.std.proofs.Math.Seq.{take-append_seam}
@@ -16,10 +16,10 @@ use Rattle.sequence.specs.Tree.{Elements, no_elements, delimitation, Ended, coun
 use Rattle.dicomdir.specs.declared.found.Head.{Head}
 use Rattle.dicomdir.specs.Directory.{Found, missing, value_at, found, header_size}
 use Rattle.dicomdir.specs.machine.Heads.{head_at}
-use Rattle.dicomdir.specs.machine.Texts.{ElementsThen, IsAfter, nothing_after, end_after, HasElements, HasItems, IsContent, of_value, of_items, IsItemContent, of_elements, content_at, FindsItems}
+use Rattle.dicomdir.specs.machine.Texts.{ElementsThen, IsAfter, nothing_after, end_after, HasElements, IsContent, of_value, of_items, IsItemContent, of_elements, content_at, FindsItems}
 use Rattle.dicomdir.proofs.HeadLemmas.{head_read}
 use Rattle.dicomdir.proofs.TextLemmas.{Front, at_end, at_element, front_of, header_length, is_head, marked_head, no_head, same_tags}
-use Rattle.dicomdir.proofs.SkipLemmas.{odd, fits_end}
+use Rattle.dicomdir.proofs.SkipLemmas.{fits_end}
 use Rattle.std.proofs.lemmas.Grind.{common_steps}
 
 -- ---- what a length announces

@@ -1,12 +1,12 @@
 -- A header at the front of a text is read as it is spelled.
-use Rattle.std.proofs.Common.{◌≡◌, ℕ, ◌≤◌, ◌+◌, Bool, true, false, List, ◌++◌, length, Some, None, refl, ap, ◌∙◌, arith, nat_le, if◌then◌else◌}
+use Rattle.std.proofs.Common.{◌≡◌, ℕ, ◌≤◌, Bool, true, List, ◌++◌, length, Some, None, refl, arith, nat_le, if◌then◌else◌}
 use Rattle.std.proofs.lemmas.List.{length-append}
 use Rattle.std.proofs.lemmas.Bool.Decides.{nat_tests}
 use Rattle.element.specs.declared.syntax.Syntax.{Syntax}
 use Rattle.element.specs.declared.header.Header.{Header}
 use Rattle.element.specs.declared.size.Need.{Need}
 use Rattle.element.specs.declared.size.Need.TheVariants.{More, Size, BadVr}
-use Rattle.element.specs.Header.{need, is_whole, has_size, header_at, SpellsHeader}
+use Rattle.element.specs.Header.{need, is_whole, header_at, SpellsHeader}
 use Rattle.element.proofs.Public.{spelled_need, spelled_header}
 use Rattle.sequence.proofs.Public.{need_least}
 use Rattle.dicomdir.specs.declared.found.Head.{Head}

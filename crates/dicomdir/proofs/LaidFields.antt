@@ -1,22 +1,22 @@
 -- Elements that are written with a VR whose length takes two bytes, and with even values, are laid down as the standard has it.
-use Rattle.std.proofs.Common.{◌≡◌, ℕ, ◌+◌, ◌%◌, ◌<◌, ◌≤◌, Bool, true, false, not, cond, ◌&&◌, List, ◌∷◌, ◌++◌, length, get_or, Some, refl, ap, arith, codes, eqb-true, nat_eq, nat_lt}
-use Rattle.std.proofs.lemmas.Bool.{and_from, and_parts, or_right}
+use Rattle.std.proofs.Common.{◌≡◌, ℕ, ◌+◌, ◌%◌, ◌<◌, ◌≤◌, Bool, true, false, not, ◌&&◌, List, ◌++◌, length, get_or, Some, refl, arith, codes, eqb-true, nat_eq, nat_lt}
+use Rattle.std.proofs.lemmas.Bool.{and_parts, or_right}
 use Rattle.std.proofs.lemmas.Bool.Decides.{nat_tests}
 use Rattle.std.proofs.lemmas.List.{length-append}
 use Rattle.element.specs.declared.tag.Tag.{Tag}
 use Rattle.element.specs.declared.syntax.Syntax.TheVariants.{Explicit}
-use Rattle.element.specs.Header.{number, is_marker, is_plain, header_bytes, header_fits, fits_vr}
+use Rattle.element.specs.Header.{number, is_marker, is_plain, header_bytes, fits_vr}
 use Rattle.element.specs.Padding.{padded}
 use Rattle.element.specs.Numbers.{le}
 use Rattle.element.specs.Vr.{is_capital, is_short_vr}
-use Rattle.sequence.specs.Shape.{shape, is_vr, undefined_length, is_undefined}
+use Rattle.sequence.specs.Shape.{is_vr}
 use Rattle.sequence.specs.Tree.{Elements, no_elements}
 use Rattle.dicomdir.specs.Directory.{header_size, size_of}
 use Rattle.dicomdir.specs.Layout.{spelled}
 use Rattle.dicomdir.specs.Record.{field}
 use Rattle.dicomdir.specs.Row.{key}
 use Rattle.dicomdir.proofs.Distinct.{not_true}
-use Rattle.dicomdir.proofs.Laid.{is_laid, is_vr_or_none, is_header, is_element, is_value}
+use Rattle.dicomdir.proofs.Laid.{is_laid, is_vr_or_none}
 use Rattle.dicomdir.proofs.RecordLemmas.{key_length}
 use Rattle.std.proofs.lemmas.Grind.{common_steps}
 

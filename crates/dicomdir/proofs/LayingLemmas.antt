@@ -1,5 +1,5 @@
 -- Records that are laid down last record first have the text, the places and the size of the tree.
-use Rattle.std.proofs.Common.{◌≡◌, ℕ, zero, suc, ◌+◌, ◌-◌, ◌≤◌, ◌<◌, Bool, false, cond, List, [], ◌∷◌, ◌++◌, length, map, drop, get_or, nat_eq, refl, sym, ap, ap₂, subst, slice_get, Some, None, Vec, drop-cons, ◌∙◌, append_assoc, arith}
+use Rattle.std.proofs.Common.{◌≡◌, ℕ, zero, suc, ◌+◌, ◌-◌, ◌≤◌, ◌<◌, Bool, false, cond, List, [], ◌∷◌, ◌++◌, length, map, drop, get_or, nat_eq, refl, sym, ap, subst, slice_get, Some, None, Vec, ◌∙◌, append_assoc, arith}
 use Rattle.std.proofs.lemmas.List.{append-nil, length-append}
 use Rattle.std.proofs.lemmas.Bool.Decides.{nat_tests}
 use Rattle.sequence.specs.Tree.{Elements, no_items}
@@ -7,7 +7,6 @@ use Rattle.dicomdir.specs.declared.level.Level.{Level}
 use Rattle.dicomdir.specs.declared.level.Level.TheVariants.{Patient, Study, Series, Image}
 use Rattle.dicomdir.specs.declared.build_plan.LaidRecord.{LaidRecord}
 use Rattle.dicomdir.specs.declared.build_plan.Stop.{Stop}
-use Rattle.dicomdir.specs.declared.build_plan.Stop.TheVariants.{TooLarge, OutOfMemory}
 use Rattle.std.specs.Borrow.{Bor}
 use Rattle.dicomdir.specs.Grouping.{groups_of, rows_at, row_groups}
 use Rattle.dicomdir.specs.Laying.{StopsFor, place_from_end, entry_text, laid_text, forest_text, has_none, Adds, groups_forest, Lays}

@@ -1,7 +1,7 @@
 -- Where no path has a fault, the records are linked to the forest that following their offsets goes through.
 use Rattle.std.proofs.Common.{◌≡◌, ℕ, zero, suc, ◌+◌, ◌≤◌, Bool, true, false, not, ◌||◌, List, ◌∷◌, ◌++◌, length, map, Option, Some, None, is_some, is_none, refl, sym, ap, subst, ◌∙◌, arith, eqb-true, nat_eq}
 use Rattle.std.specs.List.{list_all}
-use Rattle.std.proofs.lemmas.Bool.{and_parts, and_from, or_right, or_left, or_from, cond-true, cond-false}
+use Rattle.std.proofs.lemmas.Bool.{and_parts, or_right, or_left, or_from, cond-true, cond-false}
 use Rattle.std.proofs.lemmas.List.{length-map, map-append}
 use Rattle.std.proofs.lemmas.List.Folds.{list_any-append, list_all-append}
 use Rattle.sequence.specs.Tree.{Elements, no_elements}
@@ -9,8 +9,8 @@ use Rattle.dicomdir.specs.TreeOf.{Forest, no_nodes, node}
 use Rattle.dicomdir.specs.Directory.{Record, carried_node, lower_offset, next_offset, or_zero}
 use Rattle.dicomdir.specs.Linked.{PlacedNode, first_place, is_distinct, record_at, fits, AreLinked, is_one_of, elements_at}
 use Rattle.dicomdir.specs.Paths.{Links, Turn, named_by, level_of, paths_from, reached_by}
-use Rattle.dicomdir.proofs.Distinct.{not_true, same_place, same_one, not_place, split_distinct}
-use Rattle.dicomdir.proofs.Within.{places, length_places, no_more, stands_there, either}
+use Rattle.dicomdir.proofs.Distinct.{not_true, same_place, not_place, split_distinct}
+use Rattle.dicomdir.proofs.Within.{places, length_places, no_more, stands_there}
 use Rattle.dicomdir.proofs.PathForests.{forest_from, lower_path, next_path, paths_more}
 use Rattle.dicomdir.proofs.FreePaths.{is_good, good_parts}
 use Rattle.std.proofs.lemmas.Bool.Decides.{nat_tests}

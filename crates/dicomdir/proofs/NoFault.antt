@@ -10,7 +10,6 @@ use Rattle.dicomdir.specs.Paths.{Links, Turn, named_by, level_of, paths_from, pa
 use Rattle.dicomdir.specs.DirFault.{fault, offset_fault, records_fault, root_fault, record_fault, each_fault, unreached_fault, last_fault, links_of, links_fault, records_then_links, directory_fault, ◌or_else◌}
 use Rattle.dicomdir.specs.NoFault.{LinkedHasNoFault}
 use Rattle.dicomdir.specs.PathLaws.{PathsNameNodes}
-use Rattle.dicomdir.proofs.Distinct.{same_place}
 use Rattle.dicomdir.proofs.Within.{nodes_are_records}
 use Rattle.dicomdir.proofs.PathForests.{forest_from, lower_path, next_path, forest_places, forest_last, followed_is}
 use Rattle.dicomdir.proofs.FreePaths.{is_good, AreFree, free_paths, two_none}

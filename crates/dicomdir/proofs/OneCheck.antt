@@ -15,7 +15,7 @@ use Rattle.dicomdir.specs.DirFault.{Fault, directory_fault}
 use Rattle.dicomdir.specs.NodesInUse.{nodes_in_use}
 use Rattle.dicomdir.specs.OneCheck.{AcceptedHasNoFault, OneCheckFault, OneListOfNodes}
 use Rattle.dicomdir.proofs.NoFault.{linked_has_no_fault}
-use Rattle.dicomdir.proofs.OneTree.{some_same, meta_of, same_fronts, same_files, same_placed}
+use Rattle.dicomdir.proofs.OneTree.{meta_of, same_fronts, same_files, same_placed}
 use Rattle.std.proofs.lemmas.Bool.Decides.{nat_tests}
 use Rattle.std.proofs.lemmas.Grind.{common_steps}
 

@@ -1,5 +1,5 @@
 -- A file is linked to one tree at most.
-use Rattle.std.proofs.Common.{◌≡◌, ℕ, suc, true, false, List, ◌++◌, length, Some, refl, sym, ap, subst, ◌∙◌, arith}
+use Rattle.std.proofs.Common.{◌≡◌, ℕ, suc, false, List, ◌++◌, length, Some, refl, sym, ap, subst, ◌∙◌, arith}
 use Rattle.std.proofs.lemmas.List.{append_cancel_left}
 use Rattle.element.specs.declared.syntax.Syntax.TheVariants.{Explicit}
 use Rattle.part10.specs.MetaText.{HasMeta}

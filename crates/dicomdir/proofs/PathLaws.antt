@@ -1,14 +1,13 @@
 -- Longer paths change nothing, and what paths name computes.
-use Rattle.std.proofs.Common.{◌≡◌, ℕ, zero, suc, ◌+◌, Bool, true, false, List, [], ◌∷◌, ◌++◌, length, map, Option, Some, None, refl, sym, ap, subst, ◌∙◌, arith, eqb-true, nat_eq, ◌||◌}
-use Rattle.std.proofs.lemmas.Bool.{or_right, or_left, false_from_ne_true}
-use Rattle.std.proofs.lemmas.List.{length-map, append-nil, append_assoc}
+use Rattle.std.proofs.Common.{◌≡◌, ℕ, zero, suc, ◌+◌, Bool, true, false, List, [], ◌∷◌, ◌++◌, length, map, Option, Some, None, refl, sym, ap, subst, ◌∙◌, arith, eqb-true, nat_eq}
+use Rattle.std.proofs.lemmas.Bool.{or_right, false_from_ne_true}
+use Rattle.std.proofs.lemmas.List.{append-nil, append_assoc}
 use Rattle.element.specs.Vr.{is_short}
 use Rattle.dicomdir.specs.Linked.{is_one_of, record_at, elements_at}
 use Rattle.dicomdir.specs.Paths.{Links, Turn, named_by, paths_from, paths_of}
 use Rattle.dicomdir.specs.DirFault.{Fault, ◌or_else◌, path_fault, first_fault, directory_fault}
 use Rattle.dicomdir.specs.PathLaws.{LongerPathsChangeNothing, PathsNameRecords}
 use Rattle.dicomdir.proofs.Distinct.{clash}
-use Rattle.dicomdir.proofs.Within.{either}
 use Rattle.dicomdir.proofs.PathForests.{lower_path, next_path, paths_more, paths_none}
 use Rattle.dicomdir.proofs.FreePaths.{path_free, are_free}
 use Rattle.dicomdir.proofs.Linking.{IsIn, one_more_in, few_in, stands_is, GoOn, go_down}

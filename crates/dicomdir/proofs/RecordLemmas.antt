@@ -1,12 +1,11 @@
 -- The bytes of a record are those of its elements, one after the other.
-use Rattle.std.proofs.Common.{◌≡◌, ℕ, ◌≤◌, ◌<◌, ◌+◌, Bool, true, false, ◌&&◌, cond, if◌then◌else◌, nat_eq, List, [], ◌∷◌, ◌++◌, length, get_or, drop, Option, Some, None, codes, refl, sym, ap, ◌∙◌, append_assoc, arith, rules}
+use Rattle.std.proofs.Common.{◌≡◌, ℕ, ◌≤◌, ◌<◌, ◌+◌, Bool, true, false, ◌&&◌, cond, if◌then◌else◌, nat_eq, List, [], ◌∷◌, ◌++◌, length, get_or, drop, Option, Some, None, codes, refl, ◌∙◌, append_assoc, arith, rules}
 use Rattle.std.proofs.lemmas.Bool.Decides.{nat_tests}
 use Rattle.std.specs.List.{list_all}
 use Rattle.std.proofs.lemmas.List.{append-nil, at_drop_more}
 use Rattle.element.specs.declared.tag.Tag.{Tag}
 use Rattle.element.specs.declared.syntax.Syntax.{Syntax}
-use Rattle.element.specs.declared.syntax.Syntax.TheVariants.{Implicit, Explicit}
-use Rattle.element.specs.Header.{number, header_bytes}
+use Rattle.element.specs.Header.{number}
 use Rattle.element.specs.Numbers.{le}
 use Rattle.element.specs.Padding.{is_empty, without_trailing, is_padding, padded}
 use Rattle.element.specs.Vr.{is_capital, is_short, is_short_vr, vr_of}
@@ -15,7 +14,7 @@ use Rattle.sequence.specs.Tree.{Elements, no_elements}
 use Rattle.sequence.specs.Wanted.{Values, value_of}
 use Rattle.dicomdir.specs.declared.key_table.KeyRule.{KeyRule}
 use Rattle.dicomdir.specs.declared.level.Level.{Level}
-use Rattle.dicomdir.specs.declared.level.Level.TheVariants.{Patient, Study, Series, Image}
+use Rattle.dicomdir.specs.declared.level.Level.TheVariants.{Image}
 use Rattle.dicomdir.specs.KeyTable.{has_level, key_table}
 use Rattle.dicomdir.specs.Layout.{spelled, with_offsets}
 use Rattle.dicomdir.specs.Record.{tag, field, record_elements, padding_for, key_field, key_field_of, written, key_fields, kind_of, file_fields, record_for}

@@ -20,7 +20,7 @@ use Rattle.dicomdir.specs.declared.skip.Skip.{Skip}
 use Rattle.dicomdir.specs.declared.skip.Skip.TheVariants as skip
 use Rattle.dicomdir.specs.Row.{Row}
 use Rattle.dicomdir.specs.Keys.{checked_row}
-use Rattle.dicomdir.specs.RowOf.{row_wants, row_limits, row_from, IsInstance, in_header as header_fault, in_data_set, of_values, RowRead, no_memory, read_failed, has_row}
+use Rattle.dicomdir.specs.RowOf.{row_wants, row_limits, row_from, IsInstance, in_header as header_fault, in_data_set, of_values, RowRead, read_failed, has_row}
 use Rattle.dicomdir.specs.machine.RowReading as walking
 use Rattle.dicomdir.specs.machine.RowReading.{FailsBy, WalkFails, TookWhole}
 use Rattle.std.proofs.lemmas.Bool.Decides.{nat_tests}

@@ -8,7 +8,7 @@ use Rattle.sequence.specs.Tree.{Elements, no_elements, value, sequence, Items, n
 use Rattle.dicomdir.specs.TreeOf.{Forest, no_nodes, node, count_of, TreeOf}
 use Rattle.dicomdir.specs.Record.{tag, field}
 use Rattle.dicomdir.specs.Layout.{spelled, spelled_items, with_offsets, root_elements}
-use Rattle.dicomdir.specs.Places.{record_size, root_size, forest_size, with_places, flattened, first_record_place, last_record_place, record_items, directory_elements}
+use Rattle.dicomdir.specs.Places.{record_size, root_size, forest_size, with_places, flattened, first_record_place, record_items, directory_elements}
 use Rattle.dicomdir.specs.PlacesExamples.{SizesAreTrue}
 use Rattle.std.proofs.lemmas.Bool.Decides.{nat_tests}
 use Rattle.std.proofs.lemmas.Grind.{common_steps}

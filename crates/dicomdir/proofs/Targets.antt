@@ -1,5 +1,5 @@
 -- The record that an offset leads to, and the fault of that offset.
-use Rattle.std.proofs.Common.{◌≡◌, ℕ, ◌<◌, min, Bool, true, false, not, ◌||◌, List, [], ◌∷◌, length, get_or, Some, None, is_none, inl, inr, refl, sym, ap, ◌∙◌, arith, nat_eq, if◌then◌else◌}
+use Rattle.std.proofs.Common.{◌≡◌, ℕ, ◌<◌, min, Bool, true, false, not, ◌||◌, List, [], ◌∷◌, length, get_or, Some, None, is_none, inl, inr, refl, sym, ap, ◌∙◌, arith, if◌then◌else◌}
 use Rattle.std.proofs.lemmas.Bool.{cases_lt}
 use Rattle.std.proofs.lemmas.Bool.Decides.{nat_tests}
 use Rattle.std.proofs.lemmas.List.{get_or_default}
@@ -14,7 +14,6 @@ use Rattle.dicomdir.specs.Paths.{Links, Turn, named_by, told_at, level_of, line_
 use Rattle.dicomdir.specs.DirFault.{fault, names_no_record, names_wrong_level, path_fault}
 use Rattle.dicomdir.specs.machine.Trail.{path_along, told_along, IsStep}
 use Rattle.dicomdir.specs.machine.Turns.{AreFlagged, IsTarget}
-use Rattle.dicomdir.proofs.FreePaths.{free_path}
 use Rattle.dicomdir.proofs.PathForests.{elements_is}
 use Rattle.dicomdir.proofs.EntryLemmas.{at_entry}
 use Rattle.std.proofs.lemmas.Grind.{common_steps}

@@ -1,12 +1,12 @@
 -- The trail: what leads back, and the paths that are to come as chains end.
-use Rattle.std.proofs.Common.{◌≡◌, ℕ, zero, suc, ◌<◌, ◌≤◌, ◌-◌, ◌+◌, Bool, true, false, not, ◌&&◌, ◌||◌, List, [], ◌∷◌, ◌++◌, length, reverse, take, get_or, slice_get, Option, Some, ◌⊎◌, inl, inr, refl, sym, ap, subst, ◌∙◌, arith, nat_eq}
+use Rattle.std.proofs.Common.{◌≡◌, ℕ, zero, suc, ◌<◌, ◌≤◌, ◌-◌, ◌+◌, Bool, true, false, not, ◌&&◌, ◌||◌, List, [], ◌∷◌, ◌++◌, length, reverse, take, get_or, slice_get, Option, Some, ◌⊎◌, refl, sym, ap, subst, ◌∙◌, arith, nat_eq}
 use Rattle.std.proofs.lemmas.Bool.Decides.{nat_tests}
 use Rattle.std.proofs.lemmas.List.{reverse-append, append-nil, take_all, take_more, length-reverse}
 use Rattle.dicomdir.specs.declared.links.Mark.{Mark}
 use Rattle.dicomdir.specs.declared.links.Step.{Step}
 use Rattle.dicomdir.specs.Linked.{is_one_of}
 use Rattle.dicomdir.specs.Paths.{Links, Turn, named_by, paths_from, paths_of, above, before, line_of}
-use Rattle.dicomdir.specs.machine.Trail.{path_along, left_of, paths_on, later, to_come, AreMarks, IsStep}
+use Rattle.dicomdir.specs.machine.Trail.{path_along, left_of, paths_on, later, AreMarks}
 use Rattle.dicomdir.specs.machine.Turns.{IsToCome}
 use Rattle.dicomdir.proofs.PathForests.{paths_none}
 use Rattle.std.proofs.lemmas.Grind.{common_steps}

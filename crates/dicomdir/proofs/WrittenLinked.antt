@@ -1,11 +1,9 @@
 -- The directory that is written of rows is linked to their tree, and has no fault.
 use Rattle.element.specs.Header.{item_tag}
-use Rattle.std.proofs.Common.{◌≡◌, ℕ, suc, ◌+◌, ◌%◌, ◌^◌, ◌<◌, ◌≤◌, true, false, List, ◌∷◌, ◌++◌, length, Some, None, refl, sym, ap, ◌∙◌, append_assoc, arith, codes, nat_eq, nat_lt}
-use Rattle.std.proofs.lemmas.Bool.{and_from, and_parts, leb-true}
+use Rattle.std.proofs.Common.{◌≡◌, ℕ, suc, ◌+◌, ◌%◌, ◌^◌, ◌<◌, ◌≤◌, true, false, List, ◌∷◌, ◌++◌, length, Some, None, refl, sym, ap, ◌∙◌, append_assoc, arith, nat_eq}
 use Rattle.std.proofs.lemmas.Bool.Decides.{nat_tests}
-use Rattle.std.proofs.lemmas.List.{append-nil, length-append}
+use Rattle.std.proofs.lemmas.List.{append-nil}
 use Rattle.std.specs.List.{AllByRecursion}
-use Rattle.element.specs.Numbers.{le}
 use Rattle.element.specs.Uid.{is_uid}
 use Rattle.element.specs.Vr.{is_short}
 use Rattle.part10.specs.File.{meta_group, identity_elements, implementation_elements, title_element}
@@ -19,7 +17,6 @@ use Rattle.dicomdir.specs.Keys.{IsRow}
 use Rattle.dicomdir.specs.Layout.{spelled, spelled_items, with_offsets, records_header, root_elements}
 use Rattle.dicomdir.specs.Linked.{Linked, LinkedElements, IsAllReached, carried_forest, places_of}
 use Rattle.dicomdir.specs.Places.{record_size, root_size, forest_size, with_places, first_record_place, last_record_place, record_items, elements_with_places}
-use Rattle.dicomdir.specs.Record.{tag, field}
 use Rattle.dicomdir.specs.Row.{Row}
 use Rattle.dicomdir.specs.TreeOf.{Forest, no_nodes, node, TreeOf}
 use Rattle.dicomdir.specs.WrittenIsLinked.{IsDirectoryOf, WrittenIsLinked}

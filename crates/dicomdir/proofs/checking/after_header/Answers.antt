@@ -1,5 +1,4 @@
-use Rattle.std.proofs.Common.{sym, subst, arith}
-use Rattle.dicomdir.specs.CheckFault.{CheckFault}
+use Rattle.std.proofs.Common.{arith}
 use Rattle.dicomdir.proofs.HeaderChecks.{implicit_check}
 use Rattle.dicomdir.proofs.checking.after_header.Goals as goal
 use Rattle.std.proofs.lemmas.Bool.Decides.{nat_tests}

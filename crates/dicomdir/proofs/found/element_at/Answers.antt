@@ -1,5 +1,5 @@
 use Rattle.std.proofs.Common.{◌∙◌, sym, arith}
-use Rattle.dicomdir.proofs.FindLemmas.{finds_items, finds_value, no_sequence}
+use Rattle.dicomdir.proofs.FindLemmas.{finds_items, no_sequence}
 use Rattle.dicomdir.proofs.found.element_at.Goals as goal
 use Rattle.std.proofs.lemmas.Bool.Decides.{nat_tests}
 use Rattle.std.proofs.lemmas.Grind.{common_steps}

@@ -1,4 +1,4 @@
-use Rattle.std.proofs.Common.{reverse, Some, true, false, sym, ap, ◌∙◌, arith}
+use Rattle.std.proofs.Common.{reverse, true, false, sym, arith}
 use Rattle.dicomdir.proofs.Targets.{old_target, unfit_target, good_target}
 use Rattle.dicomdir.proofs.links.target.Goals as goal
 use Rattle.std.proofs.lemmas.Bool.Decides.{nat_tests}

@@ -1,7 +1,6 @@
-use Rattle.std.proofs.Common.{◌∙◌, refl, sym, ap, arith}
-use Rattle.dicomdir.specs.machine.Reading.{use_flag}
+use Rattle.std.proofs.Common.{arith}
 use Rattle.dicomdir.specs.Directory.{found}
-use Rattle.dicomdir.proofs.ReadLemmas.{finds_number, finds_kind, finds_file_id, not_empty, entry_is}
+use Rattle.dicomdir.proofs.ReadLemmas.{finds_number, finds_kind, finds_file_id, not_empty}
 use Rattle.dicomdir.proofs.records.entry_of.Goals as goal
 use Rattle.std.proofs.lemmas.Bool.Decides.{nat_tests}
 use Rattle.std.proofs.lemmas.Grind.{common_steps}

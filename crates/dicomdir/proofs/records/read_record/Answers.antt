@@ -1,7 +1,5 @@
-use Rattle.std.proofs.Common.{refl, sym, ◌∙◌, arith}
-use Rattle.dicomdir.specs.DirFault.{record_fault}
-use Rattle.dicomdir.proofs.CheckLemmas.{fails_at}
-use Rattle.dicomdir.proofs.ReadLemmas.{file_id_as, whole_entry}
+use Rattle.std.proofs.Common.{arith}
+use Rattle.dicomdir.proofs.ReadLemmas.{file_id_as}
 use Rattle.dicomdir.proofs.records.read_record.Goals as goal
 use Rattle.std.proofs.lemmas.Bool.Decides.{nat_tests}
 use Rattle.std.proofs.lemmas.Grind.{common_steps}

@@ -1,8 +1,6 @@
-use Rattle.std.proofs.Common.{refl, arith}
-use Rattle.dicomdir.proofs.RowWalking.{reads_first, reads_fails, reads_whole, reads_short, none_read, ended}
+use Rattle.std.proofs.Common.{refl}
+use Rattle.dicomdir.proofs.RowWalking.{reads_first, reads_fails}
 use Rattle.dicomdir.proofs.row_reading.walk.Goals as goal
-use Rattle.std.proofs.lemmas.Bool.Decides.{nat_tests}
-use Rattle.std.proofs.lemmas.Grind.{common_steps}
 
 pub loop-init : goal.loop-init
 loop-init g c = record {
