@@ -17,8 +17,5 @@ returns-clause-fault g c =
     let whole = c.in_default.ensures.good refl in
     IfErr-weaker c.check_elements.result _ _ (λ f fails other. file_fails c.in-Ok.ensures.read _ whole f refl (fails whole.elements whole.text) other) c.check_elements.ensures.fails
 
-pub returns-clause-memory : goal.returns-clause-memory
-returns-clause-memory g c = grind (arith, nat_tests, common_steps)
-
 pub returns-in-Err-walk-clause-fault : goal.returns-in-Err-walk-clause-fault
 returns-in-Err-walk-clause-fault g c other = grind (arith, nat_tests, common_steps, data_set_check c.in-Ok.ensures.read c.in-Err-walk.fault (length c.args.bytes.now - length c.in-Ok.text.now) refl c.in-Err-walk.ensures.fails)

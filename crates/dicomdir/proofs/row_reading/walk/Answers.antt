@@ -11,9 +11,3 @@ loop-init g c = record {
 pub returns-in-Err-walk_piece-clause-fails : goal.returns-in-Err-walk_piece-clause-fails
 returns-in-Err-walk_piece-clause-fails g c =
     reads_fails c.args.walker.now c.loop.walker _ _ _ _ _ c.loop.invariant.reads c.in-Ok.ensures.took c.in-Err-walk_piece.ensures.fails
-
-pub returns-in-Ok-finish-clause-whole : goal.returns-in-Ok-finish-clause-whole
-returns-in-Ok-finish-clause-whole g c = grind (arith, nat_tests, common_steps)
-
-pub returns-in-Err-clause-fails : goal.returns-in-Err-clause-fails
-returns-in-Err-clause-fails g c = grind (arith, nat_tests, common_steps)
