@@ -77,9 +77,6 @@ root_elements_are : (first last : ℕ) (is : Items) → spelled (root_elements f
 unfolding root_text element_text is_short
 root_elements_are first last is = rw (append-nil (spelled_items is)) refl
 
-one_item : (own b n o : List ℕ) → own ++ (b ++ (n ++ o)) ≡ ((own ++ []) ++ (b ++ n)) ++ o
-one_item own b n o = simp (append-nil, append_assoc)
-
 items_are : (f : Forest Record) (others : Items) → spelled_items (record_items f others) ≡ forest_text f ++ spelled_items others
 items_are no_nodes others = refl
 items_are (node r below next) others = grind (arith, nat_tests, common_steps, items_are next others, items_are below (record_items next others))

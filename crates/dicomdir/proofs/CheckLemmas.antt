@@ -51,10 +51,6 @@ pub fails_last : (start : ℕ) (es : Elements) (f : DirFault) → offset_fault s
 unfolding directory_fault
 fails_last start es f first is = grind (arith, nat_tests, common_steps)
 
-root_then : (start : ℕ) (es : Elements) → offset_fault start (found 0x00041200 start es) ≡ None → offset_fault start (found 0x00041202 start es) ≡ None
-    → root_fault start es ≡ records_fault start (found 0x00041220 start es)
-root_then start es first last = grind (arith, nat_tests, common_steps, or_none (offset_fault start (found 0x00041200 start es)) (offset_fault start (found 0x00041202 start es) or_else records_fault start (found 0x00041220 start es)) first, or_none (offset_fault start (found 0x00041202 start es)) (records_fault start (found 0x00041220 start es)) last)
-
 pub fails_without_records : (start : ℕ) (es : Elements) (f : DirFault) → offset_fault start (found 0x00041200 start es) ≡ None → offset_fault start (found 0x00041202 start es) ≡ None
     → FailsAs (records_fault start (found 0x00041220 start es)) f → FailsAs (directory_fault start es) f
 unfolding directory_fault

@@ -50,30 +50,6 @@ one_double : (at : ℕ) (before : List (List ℕ)) (row : Row) (rows : List Row)
     → doubles_after at before (row ∷ rows) ≡ at ∷ doubles_after (suc at) before rows
 one_double at before row rows e = ap (λ (b : Bool). cond b (at ∷ doubles_after (suc at) before rows) (doubles_after (suc at) (row.instance ∷ before) rows)) e
 
--- a row that is kept, and one that is left out
-
-module _ (at : ℕ) (row : Row) (k : List ℕ) (keys new : List (List ℕ)) (n : ℕ) (is_new : Bool) (key : k ≡ row.instance) (s : Sees k keys new n is_new) (rows after : List Row) (doubles more : List ℕ) where
-  sees_row : Sees row.instance keys new n is_new
-  sees_row = subst (λ z. Sees z keys new n is_new) key s
-
-  pub takes_new : is_new ≡ true → after ≡ rows ++ row ∷ [] → TakesRow at row keys new rows after doubles doubles
-  takes_new e put =
-      let none = not_true (is_seen row.instance keys) is_new sees_row.newness e in
-      record {
-        keys_are = sees_row.keys_are;
-        rows_are = put ∙ sym (ap (λ (b : Bool). cond b rows (rows ++ row ∷ [])) none);
-        doubles_are = sym (ap (λ (b : Bool). cond b (doubles ++ at ∷ []) doubles) none);
-      }
-
-  pub takes_double : is_new ≡ false → more ≡ doubles ++ at ∷ [] → TakesRow at row keys new rows rows doubles more
-  takes_double e put =
-      let one = not_false (is_seen row.instance keys) is_new sees_row.newness e in
-      record {
-        keys_are = sees_row.keys_are;
-        rows_are = sym (ap (λ (b : Bool). cond b rows (rows ++ row ∷ [])) one);
-        doubles_are = put ∙ sym (ap (λ (b : Bool). cond b (doubles ++ at ∷ []) doubles) one);
-      }
-
 -- the rows that are kept so far and the doubles, with those of the rest, are all
 pub record Leaves (rows : List Row) (at : ℕ) (before : List (List ℕ)) (kept : List Row) (doubles : List ℕ) : Type 0 where
   pub rows_are : kept ++ without_doubles before (drop at rows) ≡ without_doubles [] rows

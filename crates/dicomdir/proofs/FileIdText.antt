@@ -14,13 +14,6 @@ no_space c = not (is_space c)
 abbrev are_characters : List (List ℕ) → Bool
 are_characters parts = list_all (list_all is_id_character) parts
 
-character_is_no_space : (c : ℕ) → is_id_character c ≡ true → no_space c ≡ true
-character_is_no_space c e = grind (arith, nat_tests)
-
-of_before : (c : ℕ) (parts : List (List ℕ)) → are_characters (before_parts c parts) ≡ true → (is_id_character c ≡ true) × (are_characters parts ≡ true)
-of_before c [] e = ((and_parts (is_id_character c) true (and_parts (is_id_character c && true) true e).0).0, refl)
-of_before c (part ∷ parts) e = grind (arith, nat_tests, common_steps, and_parts (is_id_character c && list_all is_id_character part) (are_characters parts) e)
-
 no_spaces : (text : List ℕ) → are_characters (parts_of text) ≡ true → list_all no_space text ≡ true
 no_spaces [] e = refl
 no_spaces (c ∷ text) e = grind (arith, nat_tests, no_spaces text)

@@ -28,9 +28,6 @@ abbrev is_none : List (List ℕ) → Bool
 is_none [] = true
 is_none (part ∷ parts) = false
 
-some_before : (c : ℕ) (parts : List (List ℕ)) → is_none (before_parts c parts) ≡ false
-some_before c v2 = grind (arith, nat_tests)
-
 some_part : (xs : List ℕ) → is_none (parts_of xs) ≡ false
 some_part [] = refl
 some_part (x ∷ xs) = grind (arith, nat_tests)
@@ -101,9 +98,6 @@ refused_at_front xs at size z f e = sym (refused_by_size xs (ap is_size (ap (λ 
 abbrev total : List (List ℕ) → ℕ
 total [] = 0
 total (part ∷ parts) = suc (length part + total parts)
-
-total_more : (c : ℕ) (parts : List (List ℕ)) (n : ℕ) → total parts ≡ suc n → total (before_parts c parts) ≡ suc (suc n)
-total_more c v2 n e = grind (arith, nat_tests)
 
 total_is : (xs : List ℕ) → total (parts_of xs) ≡ suc (length xs)
 total_is [] = refl

@@ -64,11 +64,6 @@ pub finds_items : (s inner : Syntax) (h : Header) (place size : ℕ) (f : Found)
 finds_items s inner h place size f c more text there sized is (of_value sh val) whole at = absurd cc
 finds_items s inner h place size f c more text there sized is (of_items {inner = other} {is = items} {b = b} sh list end) whole at = grind (arith, nat_tests, common_steps, ended_content h more text end refl whole)
 
-pub finds_value : (s : Syntax) (h : Header) (place : ℕ) (f : Found) (c more text there : List ℕ) → ((inner : Syntax) → shape s h ≡ Sequence inner → ⊥) → IsContent s h place f c
-    → text ≡ c ++ more → there ≡ content_at h text → f ≡ value_at place there
-finds_value s h place f c more text there none (of_value {v = v} sh val) whole at = grind (arith, nat_tests, common_steps)
-finds_value s h place f c more text there none (of_items {inner = inner} sh list end) whole at = absurd (none inner sh)
-
 pub no_sequence : (s : Syntax) (h : Header) (r : Shape) → (r ≡ Value) ⊎ (r ≡ NotAllowed) → r ≡ shape s h → (inner : Syntax) → shape s h ≡ Sequence inner → ⊥
 no_sequence s h r v4 same inner is = grind (arith, nat_tests)
 

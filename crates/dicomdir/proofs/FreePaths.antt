@@ -38,10 +38,6 @@ pub free_path : (links : Links) (reached : List ℕ) (path : List Turn) → name
     → path_fault links reached path ≡ None
 free_path links reached path a b c = rw (a, b, c) refl
 
-pub wrong_path : (links : Links) (reached : List ℕ) (path : List Turn) → names_no_record links path ≡ false → is_one_of (named_by links path) reached ≡ false → names_wrong_level links path ≡ true
-    → path_fault links reached path ≡ fault 64 (named_by links path)
-wrong_path links reached path a b c = rw (a, b, c) refl
-
 pub are_free : (links : Links) (reached : List ℕ) (paths : List (List Turn)) → first_fault links reached paths ≡ None → AreFree links reached paths
 are_free links reached [] e = record { distinct = refl; apart = λ p h. absurd cc; good = refl }
 are_free links reached (path ∷ paths) e =

@@ -40,35 +40,12 @@ step_by : (b : Bool) (key_of : Row → List ℕ) (done : List Row) (row : Row) (
 step_by true key_of done row keys new groups g1 g2 n any g is place opened put = grind (arith, nat_tests, common_steps, grouped_old key_of done row keys groups g any)
 step_by false key_of done row keys new groups g1 g2 n any g is place opened put = grind (arith, nat_tests, common_steps, grouped_new key_of done row keys groups g any)
 
-pick : {A : Type 0} (b : Bool) (keys : List (Vec ℕ A)) (v : Vec ℕ A) → texts (cond b keys (keys ++ v ∷ [])) ≡ with_one b v.items (texts keys)
-pick true keys v = refl
-pick false keys v = map-append (λ x. x.items) keys (v ∷ [])
-
 pub sees : {A : Type 0} (k : List ℕ) (keys new : List (Vec ℕ A)) (v : Vec ℕ A) (n : ℕ) (is_new : Bool) → v.items ≡ k
     → new ≡ cond (list_any (λ y. bytes_eq v.items y.items) keys) keys (keys ++ v ∷ [])
     → n ≡ position_or_len (λ y. bytes_eq v.items y.items) keys
     → is_new ≡ not (list_any (λ y. bytes_eq v.items y.items) keys)
     → Sees k (texts keys) (texts new) n is_new
 sees k keys new v n is_new key news place newness = grind (arith, nat_tests, common_steps, any_texts v.items keys, place_texts v.items keys)
-
-both_grow : (b : Bool) (keys : List (List ℕ)) (k : List ℕ) (groups : List (List Row)) → length groups ≡ length keys
-    → length (cond (not b) (groups ++ [] ∷ []) groups) ≡ length (with_one b k keys)
-both_grow true keys k groups e = e
-both_grow false keys k groups e = omega (arith, e, length-append groups ([] ∷ []), length-append keys (k ∷ []))
-
-pub opened_length : (k : List ℕ) (keys new : List (List ℕ)) (n : ℕ) (is_new : Bool) (groups g1 : List (List Row)) → length groups ≡ length keys
-    → Sees k keys new n is_new → g1 ≡ cond is_new (groups ++ [] ∷ []) groups → length g1 ≡ length new
-opened_length k keys new n is_new groups g1 e s opened = grind (arith, nat_tests, common_steps, both_grow (is_seen k keys) keys k groups e)
-
-pub puts : (k : List ℕ) (row : Row) (keys new : List (List ℕ)) (groups g1 g2 : List (List Row)) (n : ℕ) (is_new : Bool)
-    → Sees k keys new n is_new → g1 ≡ cond is_new (groups ++ [] ∷ []) groups → g2 ≡ put_in g1 n row → Puts k row keys new groups g2
-puts k row keys new groups g1 g2 n is_new s opened put = record {
-  keys_are = s.keys_are;
-  groups_are =
-      put
-      ∙ ap (λ (g : List (List Row)). put_in g n row) opened
-      ∙ ap₂ (λ (c : Bool) (m : ℕ). put_in (cond c (groups ++ [] ∷ []) groups) m row) s.newness s.number_is;
-}
 
 pub as_many : (key_of : Row → List ℕ) (done : List Row) (keys : List (List ℕ)) (groups : List (List Row)) → Grouped key_of done keys groups → length groups ≡ length keys
 as_many key_of done keys groups g = ap length g.each ∙ length-map keys (λ k. rows_with key_of k done)

@@ -49,6 +49,3 @@ data_set_check {file = file} {back = back} h fault start from (ends_early {tag =
     let whole = ap length h.explicit.whole ∙ length-append h.front back in
     let place : length file ≡ start + length back = omega (arith, whole, from) in
     subst (λ z. CheckFault file 20 z tag) place (at_the_end h.explicit end)
-
-pub not_same : (n m : ℕ) → nat_eq n m ≡ false → n ≢ m
-not_same n m e same = let yes : nat_eq n m ≡ true = grind (arith, nat_tests, same) in absurd cc

@@ -77,18 +77,6 @@ pub record IsGood (last : ℕ) (es : Elements) : Type 0 where
 pub good_none : (last : ℕ) → IsGood last no_elements
 good_none last = record { laid = refl; size = refl; even = refl }
 
-fits_short : (plain : Bool) (vr : List ℕ) (n : ℕ) → plain ≡ false → nat_lt n 65536 ≡ true → fits_vr plain (Some vr) n ≡ true
-fits_short v1 vr n e f = grind (arith, nat_tests, or_right)
-
-pub laid_field : (last : ℕ) (t : Tag) (vr v : List ℕ) (es : Elements) → IsFixed last t vr → length v % 2 ≡ 0 → length v < 65536 → is_laid (number t) es ≡ true → is_laid last (field t vr v es) ≡ true
-laid_field last t vr v es f even short laid = grind (arith, nat_tests, common_steps)
-
-pub good_field : (last : ℕ) (t : Tag) (vr v : List ℕ) (es : Elements) → IsFixed last t vr → length v % 2 ≡ 0 → length v < 65536 → IsGood (number t) es → IsGood last (field t vr v es)
-good_field last t vr v es f even short good = grind (arith, nat_tests, common_steps, length-append (header_bytes (record { tag = t; vr = Some vr; length = length v })) (v ++ spelled es), length-append v (spelled es))
-
-pub padded_even : (p : ℕ) (v : List ℕ) → length (padded p v) % 2 ≡ 0
-padded_even p v = grind (arith, nat_tests, common_steps)
-
 pub padded_short : (p : ℕ) (v : List ℕ) → length (padded p v) ≤ length v + 1
 padded_short p v = grind (arith, nat_tests, common_steps)
 

@@ -50,9 +50,6 @@ unreached_none places (r ∷ records) e =
 
 -- the paths to the records of a linked forest name records that fit their levels
 
-good_path : (links : Links) (path : List Turn) (es : Elements) → record_at (named_by links path) links.records ≡ Some es → fits (level_of path) (carried_node es) ≡ true → is_good links path ≡ true
-good_path links path es stands fit = grind (arith, nat_tests)
-
 good_paths : (most : ℕ) (links : Links) (path : List Turn) → AreLinked links.records (level_of path) (forest_from most links.records (named_by links path))
     → list_all (is_good links) (paths_from most links path) ≡ true
 good_paths zero links path linked = refl

@@ -39,9 +39,6 @@ pub paths_more : (most : ℕ) (links : Links) (path : List Turn) → nat_eq (nam
     → paths_from (suc most) links path ≡ path ∷ (paths_from most links (lower_path links path) ++ paths_from most links (next_path links path))
 paths_more most links path e = grind (arith, nat_tests, common_steps, cond-false (nat_eq (named_by links path) 0) [] (path ∷ (paths_from most links (lower_path links path) ++ paths_from most links (next_path links path))) e)
 
-abbrev node_at : Links → List Turn → PlacedNode
-node_at links path = record { place = named_by links path; carries = carried_node (elements_at links.records (named_by links path)) }
-
 -- its places are those that the paths name
 
 pub forest_places : (most : ℕ) (links : Links) (path : List Turn) → places_of (forest_from most links.records (named_by links path)) ≡ reached_by links (paths_from most links path)
@@ -52,9 +49,6 @@ forest_places (suc most) links path = grind (arith, nat_tests, common_steps, for
 
 abbrev at_root : List Turn → Bool
 at_root path = nat_eq (level_of path) 1
-
-rooted : (x : List Turn) (xs ys : List (List Turn)) → filter at_root (x ∷ (xs ++ ys)) ≡ cond (at_root x) (x ∷ (filter at_root xs ++ filter at_root ys)) (filter at_root xs ++ filter at_root ys)
-rooted x xs ys = ap (λ z. cond (at_root x) (x ∷ z) z) (filter-append at_root xs ys)
 
 none_at_root : (most : ℕ) (links : Links) (path : List Turn) → 1 < level_of path → filter at_root (paths_from most links path) ≡ []
 none_at_root zero links path low = refl

@@ -65,6 +65,3 @@ entry_is place es e next flag lower kind some file_id at =
 pub file_id_as : (place : ℕ) (es : Elements) (e : ReadRecord) (found_id : Element) → IsEntryOf place es e → Finds found_id (found 0x00041500 0 es)
     → entry_has_file_id e found_id ≡ has_file_id es
 file_id_as place es e found_id is finds = grind (arith, nat_tests, common_steps, finds_missing found_id (found 0x00041500 0 es) finds)
-
-pub whole_entry : (place : ℕ) (es : Elements) (e : ReadRecord) → IsEntryOf place es e → has_file_id es ≡ true → IsEntry e (record { place = place; elements = es })
-whole_entry place es e is has = record { place = is.place_is; next = is.next; lower = is.lower; carries = is.carries; has_record = is.has_record; has_file_id = has }

@@ -49,17 +49,10 @@ field_then t vr v {es} {rest} e = grind (arith, nat_tests, common_steps)
 field_last : (t : Tag) (vr v : List ℕ) → Spells (field t vr v no_elements) (text.element_text t vr v)
 field_last t vr v = record { is = (field_then t vr v {es = no_elements} {rest = []} (record { is = refl })).is ∙ append-nil (text.element_text t vr v) }
 
-four : (a b c d e : List ℕ) → a ++ (b ++ (c ++ (d ++ e))) ≡ (a ++ (b ++ (c ++ d))) ++ e
-four a b c d e = simp append_assoc
-
 -- a key of a record, and those behind it
 
 pub key_text : (rule : KeyRule) (v : List ℕ) → spelled (key_field rule v no_elements) ≡ text.element_text rule.tag rule.vr (padded (padding_for rule.vr) (key v))
 key_text rule v = (field_last rule.tag rule.vr (padded (padding_for rule.vr) (key v))).is
-
-key_then : (rule : KeyRule) (o : Option (List ℕ)) (es : Elements) → spelled (key_field_of rule o es) ≡ spelled (key_field_of rule o no_elements) ++ spelled es
-key_then rule None es = refl
-key_then rule (Some v) es = grind (arith, nat_tests, common_steps, field_then rule.tag rule.vr (padded (padding_for rule.vr) (key v)) {es = es} {rest = spelled es} (record { is = refl }), key_text rule v)
 
 -- one step of the loop over the keys
 

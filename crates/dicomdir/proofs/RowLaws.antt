@@ -160,9 +160,6 @@ taken_from (rule ∷ rules) values t v e = by (λ f. taken_from rules values t v
 abbrev has_room : List Want → KeyRule → Bool
 has_room ws rule = nat_eq (unwrap_or (room_of ws (number rule.tag)) 0) rule.room && is_some (room_of ws (number rule.tag))
 
-never : (b : Bool) → (b && false) ≡ true → ⊥
-never v1 e = grind (arith, nat_tests)
-
 room_is : (ws : List Want) (rule : KeyRule) → has_room ws rule ≡ true → room_of ws (number rule.tag) ≡ Some rule.room
 room_is ws rule e = grind (arith, nat_tests)
 

@@ -92,24 +92,8 @@ reads_first w old stands = record {
   same = (refl, refl);
 }
 
--- a read at the end takes nothing
-pub none_read : (mid new : Option (List ℕ)) (n : ℕ) (room : List ℕ) → n ≡ 0 → Consumes mid new (take n room) → Consumes mid new []
-none_read mid new n room none took = subst (λ k. Consumes mid new (take k room)) none took
-
 pub ended : (new : Option (List ℕ)) (n : ℕ) (old room : List ℕ) → n ≡ 0 → length room ≡ length old → length old ≡ 4096 → (n ≡ 0 → 0 < length room → IsAtEnd new) → IsAtEnd new
 ended new n old room none same size end = end none (omega (arith, same, size))
-
--- the reader gave all, and it is what the walker took
-taken_all : {V D : ℕ} (w0 w : Walker V D) (old mid new : Option (List ℕ)) (r : Reads w0 w old mid) → Consumes mid new [] → IsAtEnd new → IfSome old (λ text. r.taken ≡ text)
-taken_all w0 w old mid new r none end = grind (arith, nat_tests, common_steps, append-nil r.taken)
-
-pub reads_whole : {V D : ℕ} (w0 w : Walker V D) (old mid new : Option (List ℕ)) → Reads w0 w old mid → Consumes mid new [] → IsAtEnd new
-    → ((b : List ℕ) → StandsAt w b → IsWholeDataSet (walker_syntax w) (limits_of w) b) → TookWhole w old
-reads_whole w0 w old mid new r none end whole = grind (arith, nat_tests, taken_all w0 w old mid new r none end)
-
-pub reads_short : {V D : ℕ} (w0 w : Walker V D) (old mid new : Option (List ℕ)) (fault : Fault) → Reads w0 w old mid → Consumes mid new [] → IsAtEnd new
-    → ((b : List ℕ) → StandsAt w b → Fails (walker_syntax w) (limits_of w) b fault) → WalkFails w0 old (skip.Fault fault.number)
-reads_short w0 w old mid new fault r none end fails = grind (arith, nat_tests, taken_all w0 w old mid new r none end)
 
 by_same : {V D : ℕ} (w0 w : Walker V D) (text : List ℕ) (reason : Skip) → IsSameSet w0 w → FailsBy (walker_syntax w) (limits_of w) text reason → FailsBy (walker_syntax w0) (limits_of w0) text reason
 by_same w0 w text reason same f = (f.0, failed_text (walker_syntax w0) (limits_of w0) text f.0 same.0 same.1 f.1, f.2)

@@ -16,10 +16,6 @@ use Rattle.std.proofs.lemmas.Grind.{common_steps}
 abbrev IsRule : Broken → Type 0
 IsRule o = (n : ℕ) (t : Tag) → o ≡ Some (n, t) → n ≤ 21
 
-abbrev number_of : Broken → ℕ
-number_of None = 0
-number_of (Some broken-rule) = broken-rule.0
-
 none_rule : IsRule None
 none_rule n t e = absurd cc
 

@@ -20,18 +20,6 @@ use Rattle.std.proofs.lemmas.Grind.{common_steps}
 
 -- a level of more than 5 is as 5
 
-high_level : (level : ℕ) (kind : List ℕ) → 4 < level → fits_level level kind ≡ false
-high_level level kind high = grind (arith, nat_tests, common_steps)
-
-level_same : (level real : ℕ) (kind : List ℕ) → level ≡ min real 5 → fits_level level kind ≡ fits_level real kind
-level_same level real kind is = elim (cases_lt 4 real) [
-  | inl high ↦ high_level level kind (omega (arith, is, high)) ∙ sym (high_level real kind high)
-  | inr low ↦ let same : level ≡ real = omega (arith, is, low) in ap (λ z. fits_level z kind) same
-]
-
-fits_same : (level real : ℕ) (n : Node) → level ≡ min real 5 → fits level n ≡ fits real n
-fits_same level real n is = ap (λ z. not n.in_use || z) (level_same level real n.kind is)
-
 -- the record at an offset where an entry was found
 
 pub record AtOffset (entries : List ReadRecord) (flags : List Bool) (records : List Record) (reached : List ℕ) (offset at : ℕ) : Type 0 where
@@ -58,10 +46,6 @@ at_offset v1 flags records reached offset at flagged fits found = grind (arith, 
 
 -- the fault of an offset
 
-reached_fault : (links : Links) (path : List Turn) (reached : List ℕ) (offset : ℕ) (es : Elements) (b : Bool) (told : ℕ) → named_by links path ≡ offset → record_at offset links.records ≡ Some es
-    → is_one_of offset reached ≡ true → is_one_of offset (line_of path) ≡ b → told_at links path ≡ told → path_fault links reached path ≡ fault (if b then 61 else 62) told
-reached_fault links path reached offset es b told named stands old back is = rw (named, stands, old, back, is) refl
-
 has_record : (links : Links) (path : List Turn) (offset : ℕ) (es : Elements) → named_by links path ≡ offset → record_at offset links.records ≡ Some es → names_no_record links path ≡ false
 has_record links path offset es named stands = ap (λ z. is_none (record_at z links.records)) named ∙ ap is_none stands
 
@@ -69,20 +53,9 @@ fits_there : (links : Links) (path : List Turn) (offset : ℕ) (es : Elements) (
     → fits (level_of path) (carried_node es) ≡ b → names_wrong_level links path ≡ not b
 fits_there links path offset es b named stands fit = grind (arith, nat_tests, common_steps, elements_is (record_at offset links.records) es stands)
 
-unfit_fault : (links : Links) (path : List Turn) (reached : List ℕ) (offset : ℕ) (es : Elements) → named_by links path ≡ offset → record_at offset links.records ≡ Some es
-    → is_one_of offset reached ≡ false → fits (level_of path) (carried_node es) ≡ false → path_fault links reached path ≡ fault 64 offset
-unfit_fault links path reached offset es named stands new unfit = grind (arith, nat_tests, common_steps, has_record links path offset es named stands, fits_there links path offset es false named stands unfit)
-
 no_fault : (links : Links) (path : List Turn) (reached : List ℕ) (offset : ℕ) (es : Elements) → named_by links path ≡ offset → record_at offset links.records ≡ Some es
     → is_one_of offset reached ≡ false → fits (level_of path) (carried_node es) ≡ true → path_fault links reached path ≡ None
 no_fault links path reached offset es named stands new fit = grind (arith, nat_tests, common_steps, has_record links path offset es named stands, fits_there links path offset es true named stands fit)
-
-same_line : (b : Bool) (ms : List Mark) → line_of (path_along b ms) ≡ line_of (path_along true ms)
-same_line b [] = refl
-same_line b (m ∷ ms) = refl
-
-told_is : (links : Links) (b : Bool) (ms : List Mark) (root : ℕ) → root ≡ links.place → told_at links (path_along b ms) ≡ told_along root ms
-told_is links b v3 root is = grind (arith, nat_tests)
 
 pub old_target : (links : Links) (entries : List ReadRecord) (flags : List Bool) (reached : List ℕ) (ms : List Mark) (step : Step) (at root told : ℕ) (b : Bool)
     → AreFlagged entries flags links.records reached → IsStep links ms (Some step) → root ≡ links.place → at < length entries → ((d : ReadRecord) → (get_or entries at d).place ≡ step.offset)

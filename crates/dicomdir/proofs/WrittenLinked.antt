@@ -78,11 +78,6 @@ records_are place (node es below next) level others nodes small =
 
 -- the root
 
-sequence_laid : (is : Items) → length (spelled_items is) < undefined_length → length (spelled_items is) % 2 ≡ 0 → are_laid is ≡ true
-    → is_laid 0x00041212 (sequence (records_header is) is no_elements) ≡ true
-unfolding is_short
-sequence_laid is short even laid = grind (arith, nat_tests, common_steps)
-
 root_laid : (first last : ℕ) (is : Items) → length (spelled_items is) < undefined_length → length (spelled_items is) % 2 ≡ 0 → are_laid is ≡ true → is_laid 0 (root_elements first last is) ≡ true
 unfolding is_short
 root_laid first last is short even laid = grind (arith, nat_tests, common_steps)
