@@ -6,7 +6,7 @@ use Rattle.std.proofs.lemmas.List.{append-nil, take_all}
 use Rattle.std.proofs.lemmas.List.Folds.{list_any-append}
 use Rattle.dicomdir.specs.Places.{doubles_of, doubles_after}
 use Rattle.dicomdir.specs.Row.{Row, without_doubles}
-use Rattle.dicomdir.specs.machine.FirstSeen.{is_seen, with_one, Sees, TakesRow}
+use Rattle.dicomdir.specs.machine.FirstSeen.{is_seen, with_one, TakesRow}
 use Rattle.std.proofs.lemmas.Bool.Decides.{nat_tests}
 use Rattle.std.proofs.lemmas.Grind.{common_steps}
 

@@ -1,12 +1,11 @@
 -- A file ID that is padded by a space is read back.
-use Rattle.std.proofs.Common.{◌≡◌, ℕ, ◌%◌, Bool, true, false, not, ◌&&◌, List, [], ◌∷◌, ◌++◌, length, Some, None, refl, ap, ◌∙◌, nat_eq, nat_le, if◌then◌else◌, arith}
+use Rattle.std.proofs.Common.{◌≡◌, ℕ, ◌%◌, Bool, true, false, not, List, [], ◌∷◌, ◌++◌, length, Some, None, refl, ap, ◌∙◌, nat_eq, nat_le, if◌then◌else◌, arith}
 use Rattle.std.specs.List.{list_all}
 use Rattle.std.proofs.lemmas.Bool.{and_parts, and_from}
 use Rattle.element.specs.Padding.{is_space, kept_before, without_trailing, padded}
-use Rattle.dicomdir.specs.FileId.{is_id_character, is_file_id_component, before_parts, parts_of, is_file_id, if_file_id, file_id_of}
+use Rattle.dicomdir.specs.FileId.{is_id_character, is_file_id_component, parts_of, is_file_id, if_file_id, file_id_of}
 use Rattle.dicomdir.proofs.Distinct.{not_true}
 use Rattle.std.proofs.lemmas.Bool.Decides.{nat_tests}
-use Rattle.std.proofs.lemmas.Grind.{common_steps}
 
 abbrev no_space : ℕ → Bool
 no_space c = not (is_space c)

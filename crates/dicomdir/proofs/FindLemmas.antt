@@ -14,7 +14,7 @@ use Rattle.sequence.specs.Rules.{same_tag}
 use Rattle.sequence.specs.Shape.{undefined_length, is_undefined, shape}
 use Rattle.sequence.specs.Tree.{Elements, no_elements, delimitation, Ended, counted, delimited}
 use Rattle.dicomdir.specs.declared.found.Head.{Head}
-use Rattle.dicomdir.specs.Directory.{Found, missing, value_at, found, header_size}
+use Rattle.dicomdir.specs.Directory.{Found, missing, found, header_size}
 use Rattle.dicomdir.specs.machine.Heads.{head_at}
 use Rattle.dicomdir.specs.machine.Texts.{ElementsThen, IsAfter, nothing_after, end_after, HasElements, IsContent, of_value, of_items, IsItemContent, of_elements, content_at, FindsItems}
 use Rattle.dicomdir.proofs.HeadLemmas.{head_read}

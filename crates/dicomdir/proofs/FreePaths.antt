@@ -4,7 +4,7 @@ use Rattle.std.specs.List.{list_all}
 use Rattle.std.proofs.lemmas.Bool.{and_parts, and_from, or_parts, or_right, or_left, or_from, false_from_ne_true}
 use Rattle.dicomdir.specs.Linked.{is_distinct, is_one_of}
 use Rattle.dicomdir.specs.Paths.{Links, Turn, named_by, reached_by}
-use Rattle.dicomdir.specs.DirFault.{Fault, fault, ◌or_else◌, names_no_record, names_wrong_level, path_fault, first_fault}
+use Rattle.dicomdir.specs.DirFault.{Fault, ◌or_else◌, names_no_record, names_wrong_level, path_fault, first_fault}
 use Rattle.dicomdir.proofs.Distinct.{not_true, same_place, not_place, clash, same_out, either_out}
 use Rattle.std.proofs.lemmas.Bool.Decides.{nat_tests}
 use Rattle.std.proofs.lemmas.Grind.{common_steps}

@@ -1,13 +1,13 @@
 -- What one more row does to the keys of a set and to the groups of rows.
-use Rattle.std.proofs.Common.{◌≡◌, ℕ, zero, suc, ◌+◌, ◌<◌, ◌≤◌, Bool, true, false, cond, not, ◌||◌, List, [], ◌∷◌, ◌++◌, take, get_or, set, length, Vec, refl, sym, ap, ap₂, subst, ◌∙◌, arith}
+use Rattle.std.proofs.Common.{◌≡◌, ℕ, zero, suc, ◌+◌, ◌<◌, ◌≤◌, Bool, true, false, cond, not, ◌||◌, List, [], ◌∷◌, ◌++◌, take, get_or, set, length, Vec, refl, sym, ap, subst, ◌∙◌, arith}
 use Rattle.std.specs.Borrow.{Bor}
 use Rattle.std.specs.List.{list_any, position_or_len}
 use Rattle.std.specs.Str.{bytes_eq}
-use Rattle.std.proofs.lemmas.List.{map-append, length-map, length-append}
+use Rattle.std.proofs.lemmas.List.{map-append, length-map}
 use Rattle.dicomdir.specs.Grouping.{rows_at, row_groups, groups_of}
 use Rattle.dicomdir.specs.TreeOf.{rows_with}
 use Rattle.dicomdir.specs.Row.{Row}
-use Rattle.dicomdir.specs.machine.FirstSeen.{texts, is_seen, with_one, Sees, put_in, Puts}
+use Rattle.dicomdir.specs.machine.FirstSeen.{texts, is_seen, Sees, Puts}
 use Rattle.dicomdir.proofs.GroupingLemmas.{Grouped, grouped_old, grouped_new}
 use Rattle.std.proofs.lemmas.Bool.Decides.{nat_tests}
 use Rattle.std.proofs.lemmas.Grind.{common_steps}

@@ -1,11 +1,11 @@
 -- Elements that are written with a VR whose length takes two bytes, and with even values, are laid down as the standard has it.
-use Rattle.std.proofs.Common.{◌≡◌, ℕ, ◌+◌, ◌%◌, ◌<◌, ◌≤◌, Bool, true, false, not, ◌&&◌, List, ◌++◌, length, get_or, Some, refl, arith, codes, eqb-true, nat_eq, nat_lt}
-use Rattle.std.proofs.lemmas.Bool.{and_parts, or_right}
+use Rattle.std.proofs.Common.{◌≡◌, ℕ, ◌+◌, ◌%◌, ◌≤◌, Bool, true, false, not, ◌&&◌, List, length, get_or, Some, refl, arith, codes, eqb-true, nat_eq, nat_lt}
+use Rattle.std.proofs.lemmas.Bool.{and_parts}
 use Rattle.std.proofs.lemmas.Bool.Decides.{nat_tests}
 use Rattle.std.proofs.lemmas.List.{length-append}
 use Rattle.element.specs.declared.tag.Tag.{Tag}
 use Rattle.element.specs.declared.syntax.Syntax.TheVariants.{Explicit}
-use Rattle.element.specs.Header.{number, is_marker, is_plain, header_bytes, fits_vr}
+use Rattle.element.specs.Header.{number, is_marker, is_plain}
 use Rattle.element.specs.Padding.{padded}
 use Rattle.element.specs.Numbers.{le}
 use Rattle.element.specs.Vr.{is_capital, is_short_vr}

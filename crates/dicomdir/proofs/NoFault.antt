@@ -5,7 +5,7 @@ use Rattle.std.proofs.lemmas.Bool.{and_parts, cond-true}
 use Rattle.sequence.specs.Tree.{Elements}
 use Rattle.dicomdir.specs.TreeOf.{Forest}
 use Rattle.dicomdir.specs.Directory.{Node, Found, first_offset, missing, value_at, items_at, found, number_in, records_in, records_of, Record, carried_node, last_offset, or_zero, has_record, has_file_id}
-use Rattle.dicomdir.specs.Linked.{LinkedElements, places_of, last_place, are_records, AreLinked, is_one_of, is_distinct, record_at, fits}
+use Rattle.dicomdir.specs.Linked.{LinkedElements, places_of, last_place, are_records, AreLinked, is_one_of, is_distinct}
 use Rattle.dicomdir.specs.Paths.{Links, Turn, named_by, level_of, paths_from, paths_of, reached_by, root_records, last_from}
 use Rattle.dicomdir.specs.DirFault.{fault, offset_fault, records_fault, root_fault, record_fault, each_fault, unreached_fault, last_fault, links_of, links_fault, records_then_links, directory_fault, ◌or_else◌}
 use Rattle.dicomdir.specs.NoFault.{LinkedHasNoFault}

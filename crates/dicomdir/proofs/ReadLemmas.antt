@@ -5,7 +5,6 @@ use Rattle.sequence.specs.Tree.{Elements}
 use Rattle.dicomdir.specs.declared.found.Element.{Element}
 use Rattle.dicomdir.specs.declared.records.ReadRecord.{ReadRecord}
 use Rattle.dicomdir.specs.Directory.{Found, found, number_in, kind_in, file_id_in, is_missing, is_in_use, is_use_flag, carried_node, next_offset, lower_offset, has_file_id, or_zero}
-use Rattle.dicomdir.specs.machine.Entries.{IsEntry}
 use Rattle.dicomdir.specs.machine.Reading.{IsEntryOf, use_flag, entry_has_file_id}
 use Rattle.dicomdir.specs.machine.Texts.{Finds, got_number, got_kind, got_file_id, got_none}
 use Rattle.std.proofs.lemmas.Bool.Decides.{nat_tests}

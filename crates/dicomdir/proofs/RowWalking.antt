@@ -1,6 +1,6 @@
 -- Walking the data set of a file for its row, piece by piece.
 use Rattle.std.proofs.Common.{◌≡◌, ℕ, ◌-◌, ◌<◌, ◌≤◌, List, [], ◌++◌, length, take, drop, Option, Some, None, IfSome, refl, sym, ap, subst, ◌∙◌, arith, append_assoc}
-use Rattle.std.proofs.lemmas.List.{append-nil, take_rest}
+use Rattle.std.proofs.lemmas.List.{take_rest}
 use Rattle.std.specs.Io.KnownBytes.{Consumes, IsAtEnd}
 use Rattle.std.proofs.KnownBytes.{Consumes-nil, Consumes-trans}
 use Rattle.element.specs.Numbers.{IsBytes}
@@ -9,14 +9,14 @@ use Rattle.sequence.specs.declared.step.Step.{Step}
 use Rattle.sequence.specs.declared.step.Step.TheVariants.{Refused}
 use Rattle.sequence.specs.declared.walker.Walker.{Walker}
 use Rattle.sequence.specs.Answering.{Answers}
-use Rattle.sequence.specs.Ending.{IsWholeDataSet, Fails}
+use Rattle.sequence.specs.Ending.{Fails}
 use Rattle.sequence.specs.FirstFault.{IsUnbroken}
 use Rattle.sequence.specs.Taken.{StandsAt, walker_syntax, limits_of, fault_of}
 use Rattle.sequence.proofs.Public.{nothing_unbroken}
 use Rattle.dicomdir.specs.declared.skip.Skip.{Skip}
 use Rattle.dicomdir.specs.declared.skip.Skip.TheVariants as skip
 use Rattle.dicomdir.specs.machine.Steps.{refusal_of}
-use Rattle.dicomdir.specs.machine.RowReading.{IsGoing, IsSameSet, FailsBy, FailsIn, TookWhole, WalkFails, text_fails}
+use Rattle.dicomdir.specs.machine.RowReading.{IsGoing, IsSameSet, FailsBy, FailsIn, WalkFails, text_fails}
 use Rattle.dicomdir.proofs.WalkLemmas.{unrefused, refused_fails, tells_none, failed_text, not_refused, farther}
 use Rattle.std.proofs.lemmas.Bool.Decides.{nat_tests}
 use Rattle.std.proofs.lemmas.Grind.{common_steps}

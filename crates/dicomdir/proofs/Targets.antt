@@ -1,24 +1,21 @@
 -- The record that an offset leads to, and the fault of that offset.
-use Rattle.std.proofs.Common.{◌≡◌, ℕ, ◌<◌, min, Bool, true, false, not, ◌||◌, List, [], ◌∷◌, length, get_or, Some, None, is_none, inl, inr, refl, sym, ap, ◌∙◌, arith, if◌then◌else◌}
-use Rattle.std.proofs.lemmas.Bool.{cases_lt}
+use Rattle.std.proofs.Common.{◌≡◌, ℕ, ◌<◌, Bool, true, false, not, List, length, get_or, Some, None, is_none, sym, ap, ◌∙◌, arith, if◌then◌else◌}
 use Rattle.std.proofs.lemmas.Bool.Decides.{nat_tests}
 use Rattle.std.proofs.lemmas.List.{get_or_default}
 use Rattle.sequence.specs.Tree.{Elements}
 use Rattle.dicomdir.specs.declared.links.Mark.{Mark}
 use Rattle.dicomdir.specs.declared.links.Step.{Step}
 use Rattle.dicomdir.specs.declared.records.ReadRecord.{ReadRecord}
-use Rattle.dicomdir.specs.Directory.{Record, Node, carried_node}
-use Rattle.dicomdir.specs.Linked.{record_at, fits, fits_level, is_one_of}
+use Rattle.dicomdir.specs.Directory.{Record, carried_node}
+use Rattle.dicomdir.specs.Linked.{record_at, fits, is_one_of}
 use Rattle.dicomdir.specs.machine.Entries.{carried_by}
-use Rattle.dicomdir.specs.Paths.{Links, Turn, named_by, told_at, level_of, line_of}
+use Rattle.dicomdir.specs.Paths.{Links, Turn, named_by, level_of, line_of}
 use Rattle.dicomdir.specs.DirFault.{fault, names_no_record, names_wrong_level, path_fault}
 use Rattle.dicomdir.specs.machine.Trail.{path_along, told_along, IsStep}
 use Rattle.dicomdir.specs.machine.Turns.{AreFlagged, IsTarget}
 use Rattle.dicomdir.proofs.PathForests.{elements_is}
 use Rattle.dicomdir.proofs.EntryLemmas.{at_entry}
 use Rattle.std.proofs.lemmas.Grind.{common_steps}
-
--- a level of more than 5 is as 5
 
 -- the record at an offset where an entry was found
 

@@ -10,11 +10,11 @@ use Rattle.part10.specs.File.{meta_group, identity_elements, implementation_elem
 use Rattle.part10.specs.MetaText.{SpellsMeta, said_of}
 use Rattle.part10.proofs.Public.{head_is_read}
 use Rattle.sequence.specs.Shape.{undefined_length, is_undefined}
-use Rattle.sequence.specs.Tree.{Elements, no_elements, sequence, Items, no_items}
+use Rattle.sequence.specs.Tree.{Elements, Items, no_items}
 use Rattle.dicomdir.specs.Built.{directory_meta, directory_header, directory_file, file_is_too_large}
 use Rattle.dicomdir.specs.Directory.{Record, size_of, end_size, records_at, first_offset, last_offset, records_of}
 use Rattle.dicomdir.specs.Keys.{IsRow}
-use Rattle.dicomdir.specs.Layout.{spelled, spelled_items, with_offsets, records_header, root_elements}
+use Rattle.dicomdir.specs.Layout.{spelled, spelled_items, with_offsets, root_elements}
 use Rattle.dicomdir.specs.Linked.{Linked, LinkedElements, IsAllReached, carried_forest, places_of}
 use Rattle.dicomdir.specs.Places.{record_size, root_size, forest_size, with_places, first_record_place, last_record_place, record_items, elements_with_places}
 use Rattle.dicomdir.specs.Row.{Row}
