@@ -40,6 +40,7 @@ use Rattle.engine.proofs.HeadedLemmas.{Opened, Between, OfPdu, OfPdv, opens_at, 
 use Rattle.engine.proofs.HeadLemmas.{head_stays, head_too_long}
 use Rattle.engine.proofs.DueLemmas.{stays_invalid, stays_aborts, stays_closed, stays_expired, stays_abort}
 use Rattle.engine.proofs.PhaseLemmas.{never_both}
+use Rattle.engine.proofs.StateLemmas.{established_is, by_left}
 
 -- ---- what is known of the contexts of a message and of a value that has begun
 
@@ -75,12 +76,7 @@ uncounted_head p (OfPdu kind n) e = tt
 uncounted_head p (OfPdv n id control) e = λ t. absurd (let wrong : true ≡ false = sym t ∙ e in cc)
 
 left_uncounted : (st : State) (p : Progress) → is_left st ≡ true → takes_pdvs (left st p) ≡ false
-left_uncounted Sta1 p l = refl
-left_uncounted Sta13 p l = refl
-left_uncounted Sta2 p l = absurd cc
-left_uncounted Sta3 p l = absurd cc
-left_uncounted Sta6 p l = absurd cc
-left_uncounted Sta8 p l = absurd cc
+left_uncounted st p l = by_left (λ (x : State). takes_pdvs (left x p) ≡ false) refl refl st l
 
 left_sound : (st : State) (p : Progress) (o : Opened) → is_left st ≡ true → Sound (left st p) o
 left_sound st p o l = record { message = tt; quiet = λ _. refl; head = uncounted_head (left st p) o (left_uncounted st p l) }
@@ -97,12 +93,7 @@ refused_sound : (p : Progress) (o later : Opened) → Sound p o → Sound (recor
 refused_sound p o later h = record { message = h.message; quiet = h.quiet; head = uncounted_head (record p { refused = true }) later (never_both (is_established p.state)) }
 
 not_due : (st : State) → is_established st ≡ true → is_due st ≡ true → ⊥
-not_due Sta1 e d = absurd cc
-not_due Sta2 e d = absurd cc
-not_due Sta3 e d = absurd cc
-not_due Sta6 e d = absurd cc
-not_due Sta8 e d = absurd cc
-not_due Sta13 e d = absurd cc
+not_due st e d = let wrong : is_due Sta6 ≡ true = ap is_due (established_is st e) ∙ d in absurd cc
 
 -- ---- what a value brings
 
@@ -224,14 +215,6 @@ request_quiet s p body q = by (request_fault body)
     by : (fault : Option PduFault) → (by_fault s p body fault).next.message ≡ NoMessage
     by None = answered_quiet s (items.request_record body) (keeping s body p) (judged s (items.request_record body)) q
     by (Some f) = done_quiet [] 6 p event.Invalid q
-
-pub established_is : (st : State) → is_established st ≡ true → Sta6 ≡ st
-established_is Sta1 e = absurd cc
-established_is Sta2 e = absurd cc
-established_is Sta3 e = absurd cc
-established_is Sta6 e = refl
-established_is Sta8 e = absurd cc
-established_is Sta13 e = absurd cc
 
 released_quiet : (p : Progress) → is_established p.state ≡ true → (released p).next.message ≡ NoMessage
 released_quiet p e =

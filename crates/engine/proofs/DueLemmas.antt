@@ -3,7 +3,7 @@ use Rattle.std.proofs.Common.{◌≡◌, ℕ, Bool, true, false, not, ◌&&◌, 
 use Rattle.std.proofs.lemmas.List.{append-nil}
 use Rattle.std.specs.Io.KnownBytes.{append_known}
 use Rattle.acceptor.specs.declared.state.State.{State}
-use Rattle.acceptor.specs.declared.state.State.TheVariants.{Sta1, Sta2, Sta3, Sta6, Sta8, Sta13}
+use Rattle.acceptor.specs.declared.state.State.TheVariants.{Sta1}
 use Rattle.acceptor.specs.declared.event.Event.TheVariants as event
 use Rattle.pdu.specs.Marks.{BadPdv, Leftover}
 use Rattle.negotiate.specs.Settings.{Settings}
@@ -23,6 +23,7 @@ use Rattle.engine.specs.StoredData.{Walks, drafting_in}
 use Rattle.engine.specs.machine.DoesDue.{DoesDue, Stays}
 use Rattle.engine.proofs.StoreLemmas.{unfiled_same}
 use Rattle.engine.specs.machine.Does.{Does}
+use Rattle.std.proofs.lemmas.Grind.{common_steps}
 
 -- ---- the devices
 
@@ -125,10 +126,7 @@ none_counted_pdv q = if_nothing (takes_pdvs q)
 -- ---- whether PDVs count
 
 pub taken_when : (e r : Bool) (a b : Advance) → (if r then b else (if e then a else b)) ≡ (if e && not r then a else b)
-taken_when true true a b = refl
-taken_when true false a b = refl
-taken_when false true a b = refl
-taken_when false false a b = refl
+taken_when e r a b = grind arith
 
 no_files : (t : Bool) (p : Progress) → (if t then invalid p else nothing p).files ≡ []
 no_files true p = refl
@@ -145,41 +143,16 @@ module _ (rooms : Rooms) (s : Settings) (p : Progress) (new : Kept) (old later :
 -- ---- events that leave the association or keep its state
 
 pub stays_invalid : (st : State) → Stays st event.Invalid
-stays_invalid Sta1 = λ h. refl
-stays_invalid Sta2 = λ h. absurd cc
-stays_invalid Sta3 = λ h. refl
-stays_invalid Sta6 = λ h. absurd cc
-stays_invalid Sta8 = λ h. refl
-stays_invalid Sta13 = λ h. absurd cc
+stays_invalid st = grind (arith, common_steps)
 
 pub stays_aborts : (st : State) → Stays st event.UserAborts
-stays_aborts Sta1 = λ h. refl
-stays_aborts Sta2 = λ h. refl
-stays_aborts Sta3 = λ h. refl
-stays_aborts Sta6 = λ h. absurd cc
-stays_aborts Sta8 = λ h. refl
-stays_aborts Sta13 = λ h. refl
+stays_aborts st = grind (arith, common_steps)
 
 pub stays_closed : (st : State) → Stays st event.Closed
-stays_closed Sta1 = λ h. refl
-stays_closed Sta2 = λ h. absurd cc
-stays_closed Sta3 = λ h. refl
-stays_closed Sta6 = λ h. absurd cc
-stays_closed Sta8 = λ h. refl
-stays_closed Sta13 = λ h. absurd cc
+stays_closed st = grind (arith, common_steps)
 
 pub stays_expired : (st : State) → Stays st event.Expired
-stays_expired Sta1 = λ h. refl
-stays_expired Sta2 = λ h. absurd cc
-stays_expired Sta3 = λ h. refl
-stays_expired Sta6 = λ h. refl
-stays_expired Sta8 = λ h. refl
-stays_expired Sta13 = λ h. absurd cc
+stays_expired st = grind (arith, common_steps)
 
 pub stays_abort : (st : State) → Stays st event.Abort
-stays_abort Sta1 = λ h. refl
-stays_abort Sta2 = λ h. absurd cc
-stays_abort Sta3 = λ h. refl
-stays_abort Sta6 = λ h. absurd cc
-stays_abort Sta8 = λ h. refl
-stays_abort Sta13 = λ h. absurd cc
+stays_abort st = grind (arith, common_steps)

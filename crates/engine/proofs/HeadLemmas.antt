@@ -1,9 +1,9 @@
 -- What the head of a PDU brings.
-use Rattle.std.proofs.Common.{◌≡◌, ℕ, ◌-◌, Bool, true, false, not, ◌&&◌, ◌||◌, [], nat_eq, nat_lt, refl, ap, sym, subst, ◌∙◌, if◌then◌else◌}
+use Rattle.std.proofs.Common.{◌≡◌, ℕ, ◌-◌, Bool, true, false, not, ◌&&◌, ◌||◌, [], nat_eq, nat_lt, refl, ap, sym, subst, ◌∙◌, if◌then◌else◌, arith}
 use Rattle.acceptor.specs.declared.state.State.{State}
 use Rattle.acceptor.specs.declared.state.State.TheVariants.{Sta1, Sta2, Sta3, Sta6, Sta8, Sta13}
 use Rattle.acceptor.specs.declared.event.Event.{Event}
-use Rattle.acceptor.specs.declared.event.Event.TheVariants.{Connected, Request, Ac, Rj, Data, ReleaseRq, ReleaseRp, Abort, Invalid, Closed, Expired, UserAccepts, UserRefuses, UserReleases, UserAborts}
+use Rattle.acceptor.specs.declared.event.Event.TheVariants.{Request, Invalid}
 use Rattle.acceptor.specs.Table.{table}
 use Rattle.pdu.specs.Marks.{Head}
 use Rattle.pdu.specs.Texts.{reject_text}
@@ -13,105 +13,11 @@ use Rattle.engine.specs.Run.{Rooms, at_entry}
 use Rattle.engine.specs.Progress.{Progress, nothing, done, refusing, is_due, is_established}
 use Rattle.engine.specs.Heads.{HeadEvent, NoEvent, AtOnce, TooLong, event_of, is_known, has_four_bytes, is_abort, out_of_place, request_length, data_length, head_event}
 use Rattle.engine.specs.machine.DoesDue.{is_left, Stays}
+use Rattle.engine.proofs.DueLemmas.{stays_invalid}
 
 -- an action that answers by an abort leaves the association
 pub abort_leaves : (st : State) (e : Event) → is_abort (table st e).0 ≡ true → is_left (table st e).1 ≡ true
-abort_leaves Sta1 Connected h = absurd cc
-abort_leaves Sta1 (Request true) h = absurd cc
-abort_leaves Sta1 (Request false) h = absurd cc
-abort_leaves Sta1 Ac h = absurd cc
-abort_leaves Sta1 Rj h = absurd cc
-abort_leaves Sta1 Data h = absurd cc
-abort_leaves Sta1 ReleaseRq h = absurd cc
-abort_leaves Sta1 ReleaseRp h = absurd cc
-abort_leaves Sta1 Abort h = absurd cc
-abort_leaves Sta1 Invalid h = absurd cc
-abort_leaves Sta1 Closed h = absurd cc
-abort_leaves Sta1 Expired h = absurd cc
-abort_leaves Sta1 UserAccepts h = absurd cc
-abort_leaves Sta1 UserRefuses h = absurd cc
-abort_leaves Sta1 UserReleases h = absurd cc
-abort_leaves Sta1 UserAborts h = absurd cc
-abort_leaves Sta2 Connected h = absurd cc
-abort_leaves Sta2 (Request true) h = absurd cc
-abort_leaves Sta2 (Request false) h = absurd cc
-abort_leaves Sta2 Ac h = refl
-abort_leaves Sta2 Rj h = refl
-abort_leaves Sta2 Data h = refl
-abort_leaves Sta2 ReleaseRq h = refl
-abort_leaves Sta2 ReleaseRp h = refl
-abort_leaves Sta2 Abort h = absurd cc
-abort_leaves Sta2 Invalid h = refl
-abort_leaves Sta2 Closed h = absurd cc
-abort_leaves Sta2 Expired h = absurd cc
-abort_leaves Sta2 UserAccepts h = absurd cc
-abort_leaves Sta2 UserRefuses h = absurd cc
-abort_leaves Sta2 UserReleases h = absurd cc
-abort_leaves Sta2 UserAborts h = absurd cc
-abort_leaves Sta3 Connected h = absurd cc
-abort_leaves Sta3 (Request true) h = absurd cc
-abort_leaves Sta3 (Request false) h = absurd cc
-abort_leaves Sta3 Ac h = absurd cc
-abort_leaves Sta3 Rj h = absurd cc
-abort_leaves Sta3 Data h = absurd cc
-abort_leaves Sta3 ReleaseRq h = absurd cc
-abort_leaves Sta3 ReleaseRp h = absurd cc
-abort_leaves Sta3 Abort h = absurd cc
-abort_leaves Sta3 Invalid h = absurd cc
-abort_leaves Sta3 Closed h = absurd cc
-abort_leaves Sta3 Expired h = absurd cc
-abort_leaves Sta3 UserAccepts h = absurd cc
-abort_leaves Sta3 UserRefuses h = absurd cc
-abort_leaves Sta3 UserReleases h = absurd cc
-abort_leaves Sta3 UserAborts h = absurd cc
-abort_leaves Sta6 Connected h = absurd cc
-abort_leaves Sta6 (Request true) h = refl
-abort_leaves Sta6 (Request false) h = refl
-abort_leaves Sta6 Ac h = refl
-abort_leaves Sta6 Rj h = refl
-abort_leaves Sta6 Data h = absurd cc
-abort_leaves Sta6 ReleaseRq h = absurd cc
-abort_leaves Sta6 ReleaseRp h = refl
-abort_leaves Sta6 Abort h = absurd cc
-abort_leaves Sta6 Invalid h = refl
-abort_leaves Sta6 Closed h = absurd cc
-abort_leaves Sta6 Expired h = absurd cc
-abort_leaves Sta6 UserAccepts h = absurd cc
-abort_leaves Sta6 UserRefuses h = absurd cc
-abort_leaves Sta6 UserReleases h = absurd cc
-abort_leaves Sta6 UserAborts h = refl
-abort_leaves Sta8 Connected h = absurd cc
-abort_leaves Sta8 (Request true) h = absurd cc
-abort_leaves Sta8 (Request false) h = absurd cc
-abort_leaves Sta8 Ac h = absurd cc
-abort_leaves Sta8 Rj h = absurd cc
-abort_leaves Sta8 Data h = absurd cc
-abort_leaves Sta8 ReleaseRq h = absurd cc
-abort_leaves Sta8 ReleaseRp h = absurd cc
-abort_leaves Sta8 Abort h = absurd cc
-abort_leaves Sta8 Invalid h = absurd cc
-abort_leaves Sta8 Closed h = absurd cc
-abort_leaves Sta8 Expired h = absurd cc
-abort_leaves Sta8 UserAccepts h = absurd cc
-abort_leaves Sta8 UserRefuses h = absurd cc
-abort_leaves Sta8 UserReleases h = absurd cc
-abort_leaves Sta8 UserAborts h = absurd cc
-abort_leaves Sta13 Connected h = absurd cc
-abort_leaves Sta13 (Request true) h = refl
-abort_leaves Sta13 (Request false) h = refl
-abort_leaves Sta13 Ac h = absurd cc
-abort_leaves Sta13 Rj h = absurd cc
-abort_leaves Sta13 Data h = absurd cc
-abort_leaves Sta13 ReleaseRq h = absurd cc
-abort_leaves Sta13 ReleaseRp h = absurd cc
-abort_leaves Sta13 Abort h = absurd cc
-abort_leaves Sta13 Invalid h = refl
-abort_leaves Sta13 Closed h = absurd cc
-abort_leaves Sta13 Expired h = absurd cc
-abort_leaves Sta13 UserAccepts h = absurd cc
-abort_leaves Sta13 UserRefuses h = absurd cc
-abort_leaves Sta13 UserReleases h = absurd cc
-abort_leaves Sta13 UserAborts h = absurd cc
+abort_leaves st e h = grind arith
 
 left_stays : (st : State) (e : Event) → is_left (table st e).1 ≡ true → Stays st e
 left_stays st e h = λ n. let x : true ≡ false = sym h ∙ n in absurd cc
@@ -122,19 +28,11 @@ either : (b : Bool) (x y : HeadEvent) (e : HeadEvent) (P : Type 0) → (b ≡ tr
 either true x y e P f g h = f refl h
 either false x y e P f g h = g refl h
 
-pub stays_at_invalid : (st : State) → Stays st Invalid
-stays_at_invalid Sta1 = λ h. refl
-stays_at_invalid Sta2 = λ h. absurd cc
-stays_at_invalid Sta3 = λ h. refl
-stays_at_invalid Sta6 = λ h. absurd cc
-stays_at_invalid Sta8 = λ h. refl
-stays_at_invalid Sta13 = λ h. absurd cc
-
 same_event : (a b : Event) (r q : ℕ) → AtOnce a r ≡ AtOnce b q → a ≡ b
 same_event a b r q h = cc
 
 invalid_stays : (st : State) (e : Event) (r q : ℕ) → AtOnce Invalid r ≡ AtOnce e q → Stays st e
-invalid_stays st e r q h = subst (λ (x : Event). Stays st x) (same_event Invalid e r q h) (stays_at_invalid st)
+invalid_stays st e r q h = subst (λ (x : Event). Stays st x) (same_event Invalid e r q h) (stays_invalid st)
 
 pub head_stays : (room most : ℕ) (st : State) (kind n : ℕ) (e : Event) (r : ℕ) → head_event room most st kind n ≡ AtOnce e r → Stays st e
 head_stays room most st kind n e r =

@@ -16,6 +16,7 @@ use Rattle.engine.specs.Kept.{Kept, Pends, counted_pdv, body_in, held_by}
 use Rattle.engine.specs.StoredData.{Stored, held_in}
 use Rattle.part10.specs.Store.{Store}
 use Rattle.engine.proofs.ShownLemmas.{ended_unestablished, ended_stored, ended_pdv}
+use Rattle.engine.proofs.StateLemmas.{ended_is}
 
 command_size : (m : Begun) → length (command_bytes m) ≡ of_command m
 command_size NoMessage = refl
@@ -42,12 +43,7 @@ kept_of_request Sta13 r one table body xs rest e f = refl
 -- after the end
 nothing_kept : (st : State) (r : Bool) (table : ℕ) (xs : List ℕ) → is_ended st ≡ true
     → (if is_established st then 20 + 4 * table else 0) + length (if is_due st && not r then xs else []) ≡ 0
-nothing_kept Sta1 r table xs e = refl
-nothing_kept Sta2 r table xs e = absurd cc
-nothing_kept Sta3 r table xs e = absurd cc
-nothing_kept Sta6 r table xs e = absurd cc
-nothing_kept Sta8 r table xs e = absurd cc
-nothing_kept Sta13 r table xs e = absurd cc
+nothing_kept st r table xs e = ap (λ (x : State). (if is_established x then 20 + 4 * table else 0) + length (if is_due x && not r then xs else [])) (ended_is st e)
 
 module _ (k : Kept) (store : Store) (p : Progress) (rest : List ℕ) (h : Pends k store p (body_in (frame_kind rest) (drop 6 rest)) (begun_in (spot rest))) where
   accepted_size : (st : State) → p.state ≡ st → (if is_established st then 20 + 4 * length k.table else 0) ≡ (if is_established st then of_accepted (request_record p.request) else 0)

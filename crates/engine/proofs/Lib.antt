@@ -17,6 +17,7 @@ pub mod ShapeLemmas
 pub mod SettledLemmas
 pub mod EventLemmas
 pub mod SkipLemmas
+pub mod StateLemmas
 pub mod StillLemmas
 pub mod PartLemmas
 pub mod MovedLemmas

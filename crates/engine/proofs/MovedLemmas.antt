@@ -37,7 +37,8 @@ use Rattle.engine.proofs.DoesLemmas.{push_entries, push_wire, push_sent, push_fi
 use Rattle.engine.proofs.ShownLemmas.{pends_ended}
 use Rattle.engine.proofs.SkipLemmas.{stands_passed}
 use Rattle.engine.proofs.PartLemmas.{empty_rest, spot_none, took_dropped}
-use Rattle.engine.proofs.StillLemmas.{calm, ended_is, stays}
+use Rattle.engine.proofs.StillLemmas.{calm, stays}
+use Rattle.engine.proofs.StateLemmas.{ended_is}
 
 -- ---- the stream
 

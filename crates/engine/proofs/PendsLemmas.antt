@@ -1,5 +1,5 @@
 -- What an event makes of the fields.
-use Rattle.std.proofs.Common.{◌≡◌, ℕ, ◌+◌, ◌<◌, ◌≤◌, Bool, true, false, not, ◌&&◌, nat_eq, List, [], length, Option, Some, None, Result, Ok, Err, OnErr, refl, ap, sym, subst, ◌∙◌, if◌then◌else◌, inl, inr}
+use Rattle.std.proofs.Common.{◌≡◌, ℕ, ◌+◌, ◌<◌, ◌≤◌, Bool, true, false, not, ◌&&◌, nat_eq, List, [], length, Option, Some, None, Result, Ok, Err, OnErr, refl, ap, sym, subst, ◌∙◌, if◌then◌else◌, inl, inr, arith}
 use Rattle.std.proofs.lemmas.Bool.{cases_Bool}
 use Rattle.acceptor.specs.declared.state.State.{State}
 use Rattle.acceptor.specs.declared.state.State.TheVariants.{Sta1, Sta2, Sta3, Sta6, Sta8, Sta13}
@@ -25,6 +25,7 @@ use Rattle.engine.specs.FrameFields.{IsUncounted}
 use Rattle.engine.specs.machine.DoesDue.{DoesDue, step_text, is_left, IsLeft, with_state, ComesTo, Stays}
 use Rattle.engine.proofs.StoreLemmas.{Carried, so_far, none_carried}
 use Rattle.engine.proofs.ShownLemmas.{no_store}
+use Rattle.engine.proofs.StateLemmas.{by_left}
 
 -- ---- the association is left
 
@@ -40,20 +41,10 @@ pends_left Sta6 p k store body begun l e r h = absurd cc
 pends_left Sta8 p k store body begun l e r h = absurd cc
 
 pub moved_left : (st : State) (p : Progress) → is_left st ≡ true → moved st p ≡ left st p
-moved_left Sta1 p l = refl
-moved_left Sta13 p l = refl
-moved_left Sta2 p l = absurd cc
-moved_left Sta3 p l = absurd cc
-moved_left Sta6 p l = absurd cc
-moved_left Sta8 p l = absurd cc
+moved_left st p l = by_left (λ (x : State). moved x p ≡ left x p) refl refl st l
 
 pub moved_stays : (st : State) (p : Progress) → is_left st ≡ false → moved st p ≡ record p { state = st }
-moved_stays Sta1 p l = absurd cc
-moved_stays Sta13 p l = absurd cc
-moved_stays Sta2 p l = refl
-moved_stays Sta3 p l = refl
-moved_stays Sta6 p l = refl
-moved_stays Sta8 p l = refl
+moved_stays st p l = grind arith
 
 pub stays_there : (st : State) → (st ≡ Sta1 → ⊥) → (st ≡ Sta13 → ⊥) → is_left st ≡ false
 stays_there Sta1 a b = absurd (a refl)
@@ -80,12 +71,7 @@ joined_left Sta6 p k begun l h = absurd cc
 joined_left Sta8 p k begun l h = absurd cc
 
 quiet_left : (st : State) (p : Progress) (begun : List ℕ) → is_left st ≡ true → so_far (left st p) begun ≡ NoMessage
-quiet_left Sta1 p begun l = refl
-quiet_left Sta13 p begun l = refl
-quiet_left Sta2 p begun l = absurd cc
-quiet_left Sta3 p begun l = absurd cc
-quiet_left Sta6 p begun l = absurd cc
-quiet_left Sta8 p begun l = absurd cc
+quiet_left st p begun l = by_left (λ (x : State). so_far (left x p) begun ≡ NoMessage) refl refl st l
 
 -- the wire failed
 pub settled_failed : (p : Progress) (st : State) (f : WireFailed) (old new : Kept) (so sn : Store) (body begun : List ℕ) → ComesTo st (Err f) old new so sn → Pends new sn (left Sta1 p) body begun
@@ -208,20 +194,10 @@ settles_fragment_fits n r old new so sn m s stays h =
     (h (sym (ap (λ (k : Kept). k.state) (not_left n r old new so sn s stays (ap is_left six))) ∙ six))
 
 left_pdvs : (st : State) (r : Bool) → is_left st ≡ true → (is_established st && not r) ≡ false
-left_pdvs Sta1 r e = refl
-left_pdvs Sta2 r e = absurd cc
-left_pdvs Sta3 r e = absurd cc
-left_pdvs Sta6 r e = absurd cc
-left_pdvs Sta8 r e = absurd cc
-left_pdvs Sta13 r e = refl
+left_pdvs st r l = by_left (λ (x : State). (is_established x && not r) ≡ false) refl refl st l
 
 left_body : (st : State) (counts : Bool) → is_left st ≡ true → (is_due st && counts) ≡ false
-left_body Sta1 counts e = refl
-left_body Sta2 counts e = absurd cc
-left_body Sta3 counts e = absurd cc
-left_body Sta6 counts e = absurd cc
-left_body Sta8 counts e = absurd cc
-left_body Sta13 counts e = refl
+left_body st counts l = by_left (λ (x : State). (is_due x && counts) ≡ false) refl refl st l
 
 -- what did not count doesn't count then
 pub settles_uncounted : (n : State) (r : Result (Unit {0}) WireFailed) (old new : Kept) (so sn : Store) (kind : ℕ) → ComesTo n r old new so sn → (is_left n ≡ false → n ≡ old.state)

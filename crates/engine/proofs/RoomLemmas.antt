@@ -41,13 +41,14 @@ use Rattle.engine.specs.Requests.{declined, answered, at_request, keeping}
 use Rattle.engine.specs.Run.{Rooms, at_end, at_entry, cut, gives, progress_of, released}
 use Rattle.engine.specs.Timeline.{Entry, At, Shut, TimedOut, Aborted, Finding, Happened, entries_of}
 use Rattle.engine.specs.machine.DoesDue.{is_left, Stays}
-use Rattle.engine.proofs.AcceptedLemmas.{by_value, by_context, by_head, by_fault, established_is}
+use Rattle.engine.proofs.AcceptedLemmas.{by_value, by_context, by_head, by_fault}
 use Rattle.engine.proofs.DueLemmas.{stays_invalid, stays_aborts, stays_closed, stays_expired, stays_abort}
 use Rattle.engine.proofs.HeadedLemmas.{Opened, Between, OfPdu, OfPdv, opens_at, IsHeadedAt, AreHeadedAt, open_at_end}
 use Rattle.engine.proofs.HeadLemmas.{head_stays, head_too_long}
 use Rattle.engine.proofs.PendsLemmas.{moved_left, moved_stays}
 use Rattle.engine.proofs.RowsLemmas.{few_rows}
 use Rattle.engine.proofs.PhaseLemmas.{never_both}
+use Rattle.engine.proofs.StateLemmas.{established_is, due_is, by_left}
 
 -- the bytes of a data set that have come
 abbrev pub set_of : Begun → List ℕ
@@ -168,24 +169,14 @@ module _ (rooms : Rooms) where
   uncounted p (OfPdu kind n) d t = λ due. absurd (let wrong : true ≡ false = sym due ∙ d in cc)
   uncounted p (OfPdv n context control) d t = λ takes. absurd (let wrong : true ≡ false = sym takes ∙ t in cc)
 
-  left_fits : (st : State) (p : Progress) (o : Opened) → is_left st ≡ true → Fits rooms (left st p) o
-  left_fits st p o l = record { command = omega arith; bytes = no_bytes; agreed = λ e. absurd (let wrong : true ≡ false = sym e ∙ unestablished st l in cc); room = uncounted (left st p) o (not_due st l) (ap (λ (b : Bool). b && not p.refused) (unestablished st l)) }
-    where
-      not_due : (st : State) → is_left st ≡ true → is_due st ≡ false
-      not_due Sta1 l = refl
-      not_due Sta13 l = refl
-      not_due Sta2 l = absurd cc
-      not_due Sta3 l = absurd cc
-      not_due Sta6 l = absurd cc
-      not_due Sta8 l = absurd cc
+  left_due : (st : State) → is_left st ≡ true → is_due st ≡ false
+  left_due = by_left (λ (x : State). is_due x ≡ false) refl refl
 
-      unestablished : (st : State) → is_left st ≡ true → is_established st ≡ false
-      unestablished Sta1 l = refl
-      unestablished Sta13 l = refl
-      unestablished Sta2 l = absurd cc
-      unestablished Sta3 l = absurd cc
-      unestablished Sta6 l = absurd cc
-      unestablished Sta8 l = absurd cc
+  left_established : (st : State) → is_left st ≡ true → is_established st ≡ false
+  left_established = by_left (λ (x : State). is_established x ≡ false) refl refl
+
+  left_fits : (st : State) (p : Progress) (o : Opened) → is_left st ≡ true → Fits rooms (left st p) o
+  left_fits st p o l = record { command = omega arith; bytes = no_bytes; agreed = λ e. absurd (let wrong : true ≡ false = sym e ∙ left_established st l in cc); room = uncounted (left st p) o (left_due st l) (ap (λ (b : Bool). b && not p.refused) (left_established st l)) }
 
   with_nothing : (p : Progress) (o : Opened) → Fits rooms p o → Fits rooms p Between
   with_nothing p o h = record { command = h.command; bytes = h.bytes; agreed = h.agreed; room = tt }
@@ -245,14 +236,6 @@ module _ (rooms : Rooms) where
 
   -- ---- a whole PDU
 
-  due_is : (st : State) → is_due st ≡ true → Sta2 ≡ st
-  due_is Sta1 e = absurd cc
-  due_is Sta2 e = refl
-  due_is Sta3 e = absurd cc
-  due_is Sta6 e = absurd cc
-  due_is Sta8 e = absurd cc
-  due_is Sta13 e = absurd cc
-
   module _ (s : Settings) (p : Progress) (o : Opened) (h : Fits rooms p o) where
     abbrev asking : State → List ℕ → Progress
     asking st body = record (keeping s body p) { state = st }
@@ -274,7 +257,7 @@ module _ (rooms : Rooms) where
       where
         by : (fault : Option PduFault) → request_fault body ≡ fault → Fits rooms (by_fault s p body fault).next Between
         by None e =
-            subst (λ (st : State). Fits rooms (answered s (items.request_record body) (asking st body) (judged s (items.request_record body))).next Between) (due_is p.state due)
+            subst (λ (st : State). Fits rooms (answered s (items.request_record body) (asking st body) (judged s (items.request_record body))).next Between) (sym (due_is p.state due))
             (answered_fits body (judged s (items.request_record body)) (small_request rooms s.further body bytes e le))
         by (Some f) e = event_fits p Between event.Invalid (stays_invalid p.state) (with_nothing p o h)
 

@@ -14,6 +14,7 @@ use Rattle.engine.specs.Progress.{Progress, is_due, is_established}
 use Rattle.engine.specs.Reached.{takes_pdvs}
 use Rattle.engine.specs.Kept.{Kept, Pends, counted_pdv, takes_pdvs_in}
 use Rattle.engine.specs.StoredData.{Stored, Nothing, Walks, not_walked, walked, drafting_in}
+use Rattle.engine.proofs.StateLemmas.{ended_is}
 
 -- ---- where no message has begun
 
@@ -37,28 +38,13 @@ quiet m n e (inl x) = x ∙ e
 quiet m n e (inr x) = x
 
 ended_body : (st : State) (r : Bool) (xs : List ℕ) → is_ended st ≡ true → (if is_due st && not r then xs else []) ≡ []
-ended_body Sta1 r xs e = refl
-ended_body Sta2 r xs e = absurd cc
-ended_body Sta3 r xs e = absurd cc
-ended_body Sta6 r xs e = absurd cc
-ended_body Sta8 r xs e = absurd cc
-ended_body Sta13 r xs e = absurd cc
+ended_body st r xs e = ap (λ (x : State). if is_due x && not r then xs else []) (ended_is st e)
 
 pub ended_pdv : (st : State) (r : Bool) (xs : List ℕ) → is_ended st ≡ true → (if is_established st && not r then xs else []) ≡ []
-ended_pdv Sta1 r xs e = refl
-ended_pdv Sta2 r xs e = absurd cc
-ended_pdv Sta3 r xs e = absurd cc
-ended_pdv Sta6 r xs e = absurd cc
-ended_pdv Sta8 r xs e = absurd cc
-ended_pdv Sta13 r xs e = absurd cc
+ended_pdv st r xs e = ap (λ (x : State). if is_established x && not r then xs else []) (ended_is st e)
 
 pub ended_unestablished : (st : State) → is_ended st ≡ true → is_established st ≡ false
-ended_unestablished Sta1 e = refl
-ended_unestablished Sta2 e = absurd cc
-ended_unestablished Sta3 e = absurd cc
-ended_unestablished Sta6 e = absurd cc
-ended_unestablished Sta8 e = absurd cc
-ended_unestablished Sta13 e = absurd cc
+ended_unestablished st e = ap is_established (ended_is st e)
 
 -- no message is so far
 ended_message : (p : Progress) (begun : List ℕ) → is_ended p.state ≡ true → p.message ≡ NoMessage → with_pdv (counted_pdv p begun) p.message ≡ NoMessage

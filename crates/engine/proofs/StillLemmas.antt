@@ -1,7 +1,7 @@
 -- Marks do nothing to an association that has ended (PS3.8 section 9.2.2: in Sta1 there is none).
 use Rattle.std.proofs.Common.{◌≡◌, ◌⊎◌, ℕ, ◌-◌, Bool, true, false, not, ◌&&◌, nat_eq, if◌then◌else◌, List, [], ◌∷◌, ◌++◌, map, None, refl, sym, ap, subst, ◌∙◌, arith, inl, inr}
 use Rattle.acceptor.specs.declared.state.State.{State}
-use Rattle.acceptor.specs.declared.state.State.TheVariants.{Sta1, Sta2, Sta3, Sta6, Sta8, Sta13}
+use Rattle.acceptor.specs.declared.state.State.TheVariants.{Sta1}
 use Rattle.acceptor.specs.declared.action.Action.{Action}
 use Rattle.acceptor.specs.declared.action.Action.TheVariants as action
 use Rattle.acceptor.specs.declared.event.Event.{Event}
@@ -14,7 +14,6 @@ use Rattle.engine.specs.Requested.{Requested, no_request}
 use Rattle.engine.specs.Timeline.{Entry, At, Shut, TimedOut, Aborted, Happened, entries_of, Finding, good, Outcome}
 use Rattle.engine.specs.Progress.{Progress, Advance, nothing, done}
 use Rattle.engine.specs.Heads.{HeadEvent, NoEvent, AtOnce, event_of, is_known, has_four_bytes, is_abort, request_length, data_length}
-use Rattle.engine.specs.Held.{is_ended}
 use Rattle.engine.specs.Requests.{at_request}
 use Rattle.engine.specs.Run.{Rooms, released, at_entry, gives, progress_of, sent_of, files_of, wire_failures, filing_failures}
 use Rattle.engine.specs.Laws.{NothingAfterTheEnd}
@@ -106,14 +105,6 @@ module _ (rq : Requested) (m : Begun) (f : Bool) where
   no_message b Shut = refl
   no_message b TimedOut = refl
   no_message b Aborted = refl
-
-pub ended_is : (q : State) → is_ended q ≡ true → q ≡ Sta1
-ended_is Sta1 e = refl
-ended_is Sta2 e = absurd cc
-ended_is Sta3 e = absurd cc
-ended_is Sta6 e = absurd cc
-ended_is Sta8 e = absurd cc
-ended_is Sta13 e = absurd cc
 
 -- nothing failed
 abbrev pub calmly : Outcome

@@ -2,7 +2,7 @@
 use Rattle.std.proofs.Common.{◌≡◌, ℕ, Bool, true, false, not, ◌&&◌, List, [], Option, Some, None, nat_eq, refl, ap, sym, subst, ◌∙◌, arith, if◌then◌else◌, ◌⊎◌, inl, inr}
 use Rattle.std.proofs.lemmas.Bool.Decides.{nat_tests}
 use Rattle.acceptor.specs.declared.state.State.{State}
-use Rattle.acceptor.specs.declared.state.State.TheVariants.{Sta1, Sta2, Sta3, Sta6, Sta8, Sta13}
+use Rattle.acceptor.specs.declared.state.State.TheVariants.{Sta1}
 use Rattle.acceptor.specs.declared.event.Event.TheVariants as event
 use Rattle.part10.specs.Store.{Store}
 use Rattle.pdu.specs.Marks.{End}
@@ -20,6 +20,7 @@ use Rattle.engine.proofs.ShownLemmas.{pends_ended}
 use Rattle.engine.proofs.StoreLemmas.{unfiled_same}
 use Rattle.engine.proofs.DueLemmas.{none_counted_body, line_same, not_counted, tries_nothing}
 use Rattle.engine.proofs.RequestLemmas.{LeavesOrStands, request_comes}
+use Rattle.engine.proofs.StateLemmas.{due_is}
 
 -- by which type it is
 abbrev by_kind : Settings → Progress → List ℕ → (seven one five : Bool) → Advance
@@ -94,16 +95,8 @@ came_to : (further : List (List ℕ)) (body : List ℕ) (p : Progress) (g first 
 came_to further body p g first xs (a, b, inl (x, is)) = ap (λ (q : Progress). counted_body q xs) is
 came_to further body p g first xs (a, b, inr (x, is)) = ap (λ (q : Progress). counted_body q xs) is
 
-is_sta2 : (st : State) → is_due st ≡ true → st ≡ Sta2
-is_sta2 Sta1 h = absurd cc
-is_sta2 Sta2 h = refl
-is_sta2 Sta3 h = absurd cc
-is_sta2 Sta6 h = absurd cc
-is_sta2 Sta8 h = absurd cc
-is_sta2 Sta13 h = absurd cc
-
 request_gone : (s : Settings) (p : Progress) (body xs : List ℕ) (due : Bool) → is_due p.state ≡ due → counted_body (if due then at_request s p body else nothing p).next xs ≡ []
-request_gone s p body xs true e = came_to s.further body p (at_request s p body) (at_request s at_start body) xs (request_comes s body p (is_sta2 p.state e))
+request_gone s p body xs true e = came_to s.further body p (at_request s p body) (at_request s at_start body) xs (request_comes s body p (due_is p.state e))
 request_gone s p body xs false e = undue_body p xs e
 
 end_gone_by : (s : Settings) (p : Progress) (kind : ℕ) (body xs : List ℕ) (r : Bool) → p.refused ≡ r → kind ≡ 1 → counted_body (if r then nothing p else at_end s p kind body).next xs ≡ []
@@ -160,7 +153,7 @@ end_files_by s p body false false one five = request_files one (is_due p.state) 
   release_files false e = refl
 
   request_files : (a d : Bool) → is_due p.state ≡ d → (f : Bool) → (if a && d then at_request s p body else (if f && is_established p.state then released p else nothing p)).files ≡ []
-  request_files true true e f = (request_comes s body p (is_sta2 p.state e)).1
+  request_files true true e f = (request_comes s body p (due_is p.state e)).1
   request_files true false e f = release_files f (is_established p.state)
   request_files false d e f = release_files f (is_established p.state)
 

@@ -29,24 +29,17 @@ Takes rooms s old new kind event.Leftover d e = (p : Progress) → Pends old d.s
 Takes rooms s old new kind (event.PduEnd whole) d e = (p : Progress) (body : List ℕ) → Pends old d.store p (body_in whole body) [] → Does rooms s p (At (End whole body)) new [] [] d e
 
 abbrev pub HasRoom : ℕ → Kept → ℕ → Event → Type 0
-HasRoom room kept kind (event.PduHead head) = Unit {0}
 HasRoom room kept kind (event.Body part) = BodyFits room kept kind (length part.now)
 HasRoom room kept kind (event.PdvHead head) = 2 ≤ head.length
 HasRoom room kept kind (event.Fragment part) = FragmentFits kept (length part.now)
-HasRoom room kept kind event.PdvEnd = Unit {0}
-HasRoom room kept kind event.BadPdv = Unit {0}
-HasRoom room kept kind event.Leftover = Unit {0}
-HasRoom room kept kind (event.PduEnd whole) = Unit {0}
+HasRoom room kept kind other = Unit {0}
 
 abbrev pub LeavesRoom : ℕ → Kept → Kept → ℕ → Event → Type 0
 LeavesRoom room old new kind (event.PduHead head) = BodyFits room new head.kind head.length
 LeavesRoom room old new kind (event.Body part) = (m : ℕ) → BodyFits room old kind (length part.now + m) → BodyFits room new kind m
 LeavesRoom room old new kind (event.PdvHead head) = FragmentFits new (head.length - 2)
 LeavesRoom room old new kind (event.Fragment part) = (m : ℕ) → FragmentFits old (length part.now + m) → FragmentFits new m
-LeavesRoom room old new kind event.PdvEnd = Unit {0}
-LeavesRoom room old new kind event.BadPdv = Unit {0}
-LeavesRoom room old new kind event.Leftover = Unit {0}
-LeavesRoom room old new kind (event.PduEnd whole) = Unit {0}
+LeavesRoom room old new kind other = Unit {0}
 
 -- an event that no byte of the stream brings, the input that tells it, and its entry
 pub data Outside : acceptor.Event → Received → Entry → Type 0 where

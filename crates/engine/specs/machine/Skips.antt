@@ -11,9 +11,5 @@ passed kept q = if takes_pdvs_in kept || takes_body_in kept (body_kind q) then q
 
 -- whether the head of a PDV is gathered
 abbrev pub in_pdv_head : Position → Bool
-in_pdv_head (position.Head bytes) = false
-in_pdv_head (position.Body kind left) = false
 in_pdv_head (position.PdvHead left bytes) = true
-in_pdv_head (position.Fragment left more) = false
-in_pdv_head (position.Leftover left) = false
-in_pdv_head (position.Skipped kind left) = false
+in_pdv_head other = false
