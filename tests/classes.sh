@@ -14,7 +14,7 @@ import sys
 statement, name, count = sys.argv[1], sys.argv[2], int(sys.argv[3])
 table = open(statement).read().split("made by tools/storage-classes")[1]
 REPORT = b"1.2.840.10008.5.1.4.1.1.88.33"
-classes = [uid.encode() for uid in re.findall(r"\| `([0-9.]+)` \|", table)][: count - 1] + [REPORT]
+classes = [uid.encode() for uid in re.findall(r"^    ([0-9.]+) ", table, re.M)][: count - 1] + [REPORT]
 
 
 def item(kind, content):
