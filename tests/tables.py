@@ -8,8 +8,7 @@ tables.py --write            writes the documents anew
 tables.py --program PROGRAM  compares the options with what the program says of itself, too
 tables.py --tree DIR         does so for another tree
 
-Between markers it makes parts of man/dcmbox.1, docs/CONFORMANCE.md and docs/TOUR.md; it makes
-packaging/dcmbox.bash whole.
+Between markers it makes parts of man/dcmbox.1 and docs/CONFORMANCE.md; it makes packaging/dcmbox.bash whole.
 """
 import json
 import pathlib
@@ -162,13 +161,6 @@ def cover():
     return table(["Product", "DCMBOX"], rows)
 
 
-def program_statuses():
-    return table(
-        ["Status", "Meaning"],
-        [[str(row["status"]), row["meaning"]] for row in TABLES["exit_statuses"]],
-    )
-
-
 # ---- the completion
 
 
@@ -257,7 +249,6 @@ PARTS = {
         "statuses of a store": store_statuses(),
         "faults of a store": store_faults(),
     },
-    "docs/TOUR.md": {"exit statuses": program_statuses()},
 }
 
 
