@@ -84,7 +84,7 @@ must-fail:
 fmt:
 	set -e; for crate in crates/*/; do (cd $$crate && rt fmt); done
 
-# Runs the gate and prints what each crate cost, as the table of docs/GATE.md.
+# Runs the gate and prints what each crate cost; docs/GATE.md has the seconds of the proofs.
 gate-table:
 	tools/gate-table
 
