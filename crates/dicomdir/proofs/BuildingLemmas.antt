@@ -1,26 +1,72 @@
--- The file that is built has the size and the text of the definitions.
-use Rattle.std.proofs.Common.{◌≡◌, ℕ, ◌+◌, ◌^◌, ◌<◌, ◌≤◌, true, false, List, [], ◌++◌, length, Some, refl, sym, ap, ap₂, codes, ◌∙◌, append_assoc, arith}
-use Rattle.std.proofs.lemmas.Bool.Decides.{nat_tests}
-use Rattle.std.proofs.lemmas.List.{append-nil}
-use Rattle.element.specs.Header.{header_bytes}
+-- The file that is built and written has the size and the text of the definitions.
+use Rattle.std.proofs.Common.{◌≡◌, ℕ, ◌+◌, [], ◌++◌, length, codes, refl, arith, ◌^◌, ◌<◌, ◌≤◌, true, false, List, Some, sym, ap, ap₂, ◌∙◌, append_assoc, suc, ◌-◌, Bool, take, get_or, Option, take-add, ltb-true, nat_lt}
+use Rattle.std.proofs.lemmas.List.{length-append, append-nil, take_all, take_at, drop_at, take-append-le}
 use Rattle.element.specs.Numbers.{le}
 use Rattle.element.specs.Vr.{is_short}
-use Rattle.sequence.specs.Tree.{Elements, Items, no_items}
+use Rattle.element.specs.Header.{header_bytes}
+use Rattle.sequence.specs.Tree.{Elements, no_elements, value, sequence, Items, no_items}
+use Rattle.dicomdir.specs.TreeOf.{Forest, no_nodes, node, count_of, TreeOf, forest_for}
+use Rattle.dicomdir.specs.Record.{tag, field, spelled, spelled_items, with_offsets, root_elements, element_text}
+use Rattle.dicomdir.specs.Places.{record_size, root_size, forest_size, with_places, flattened, first_record_place, record_items, directory_elements, last_record_place, elements_with_places, directory_of}
+use Rattle.dicomdir.specs.Examples.{SizesAreTrue}
+use Rattle.std.proofs.lemmas.Grind.{common_steps}
 use Rattle.dicomdir.specs.declared.build_plan.LaidRecord.{LaidRecord}
 use Rattle.dicomdir.specs.declared.level.Level.TheVariants.{Patient}
-use Rattle.dicomdir.specs.Built.{directory_header, directory_file, file_is_too_large}
+use Rattle.dicomdir.specs.Built.{directory_header, directory_file, file_is_too_large, AppendsFront}
 use Rattle.dicomdir.specs.Directory.{Record}
-use Rattle.dicomdir.specs.Laying.{place_from_end, laid_text, forest_text, Lays}
-use Rattle.dicomdir.specs.Layout.{spelled, spelled_items, root_elements}
-use Rattle.dicomdir.specs.Levels.{forest_for}
-use Rattle.dicomdir.specs.Places.{root_size, forest_size, with_places, first_record_place, last_record_place, record_items, elements_with_places, directory_elements, directory_of}
+use Rattle.dicomdir.specs.machine.Building.{place_from_end, laid_text, forest_text, Lays, entry_text, IsBuilt, root_text}
 use Rattle.dicomdir.specs.Row.{Row, without_doubles}
-use Rattle.dicomdir.specs.Record.{tag}
-use Rattle.dicomdir.specs.RecordText.{element_text}
-use Rattle.dicomdir.specs.TreeOf.{Forest, no_nodes, node, TreeOf}
-use Rattle.dicomdir.specs.machine.Building.{IsBuilt, root_text}
-use Rattle.dicomdir.proofs.Sizes.{items_size}
-use Rattle.std.proofs.lemmas.Grind.{common_steps}
+use Rattle.std.proofs.lemmas.Bool.{ltb-false}
+use Rattle.std.proofs.KnownBytes.{Appends-trans}
+use Rattle.std.specs.Io.KnownBytes.{Appends}
+use Rattle.dicomdir.proofs.LayingLemmas.{laid_push}
+
+abbrev offset : ℕ → Elements → Elements
+offset l es = field (tag 0x0004 0x1420) (codes "UL") (le l 4) es
+
+pub offsets_size : (n l : ℕ) (es : Elements) → length (spelled (with_offsets n l es)) ≡ length (spelled (with_offsets 0 0 es))
+unfolding is_short
+offsets_size n l no_elements = refl
+offsets_size n l (sequence h is es) = refl
+offsets_size n l (value in_use flag es) = grind (arith, common_steps, length-append (header_bytes in_use) (flag ++ spelled (offset l es)), length-append flag (spelled (offset l es)), length-append (header_bytes in_use) (flag ++ spelled (offset 0 es)), length-append flag (spelled (offset 0 es)))
+
+pub items_size : (place : ℕ) (f : Forest Elements) (others : Items) → length (spelled_items (record_items (with_places place f) others)) ≡ forest_size f + length (spelled_items others)
+items_size place no_nodes others = omega arith
+items_size place (node es below next) others =
+    let after = place + record_size es in
+    let lower = with_places after below in
+    let siblings = with_places (after + forest_size below) next in
+    let own = spelled (with_offsets (first_record_place siblings) (first_record_place lower) es) in
+    let ns = items_size (after + forest_size below) next others in
+    let bs = items_size after below (record_items siblings others) in
+    let whole = length-append own (spelled_items (record_items lower (record_items siblings others))) in
+    let same = offsets_size (first_record_place siblings) (first_record_place lower) es in
+    omega (arith, ns, bs, whole, same)
+
+root_is : (first last : ℕ) (is : Items) → length (spelled (root_elements first last is)) ≡ root_size + length (spelled_items is)
+unfolding is_short
+root_is first last is = grind (arith, common_steps, length-append (spelled_items is) [])
+
+count_is : (place : ℕ) (f : Forest Elements) → length (flattened (with_places place f)) ≡ count_of f
+count_is place no_nodes = refl
+count_is place (node es below next) =
+    let after = place + record_size es in
+    let bs = count_is after below in
+    let ns = count_is (after + forest_size below) next in
+    let both = length-append (flattened (with_places after below)) (flattened (with_places (after + forest_size below) next)) in
+    omega (arith, bs, ns, both)
+
+elements_size : (start : ℕ) (tree : Forest Elements) → length (spelled (directory_elements start tree)) ≡ root_size + forest_size tree
+unfolding directory_elements
+elements_size start tree = grind (arith, common_steps, items_size (start + root_size) tree no_items)
+
+pub sizes_are_true : SizesAreTrue
+sizes_are_true front rows =
+    let whole = length-append front (spelled (directory_elements (length front) (TreeOf rows))) in
+    let size = elements_size (length front) (TreeOf rows) in
+    (omega (arith, whole, size), count_is (length front + root_size) (TreeOf rows))
+
+-- ---- the file that is built has the size and the text of the definitions
 
 pub root_size_is : root_size ≡ 54
 unfolding is_short
@@ -36,7 +82,7 @@ same_tree kept rows e = ap (forest_for Patient) e ∙ tree_is rows
 -- records of 2^32 bytes are too large already without what stands before them
 pub records_too_large : (uid : List ℕ) (rows kept : List Row) (old : ℕ) → kept ≡ without_doubles [] rows → old ≡ 0 → 2 ^ 32 ≤ old + forest_size (forest_for Patient kept)
     → file_is_too_large uid rows ≡ true
-records_too_large uid rows kept old e none large = grind (arith, nat_tests, common_steps, same_tree kept rows e)
+records_too_large uid rows kept old e none large = grind (arith, common_steps, same_tree kept rows e)
 
 -- what was laid down, and what stands before it
 pub record Counts (uid : List ℕ) (rows : List Row) (header records : ℕ) : Type 0 where
@@ -47,10 +93,10 @@ total_is : (uid : List ℕ) (rows : List Row) (header records : ℕ) → Counts 
 total_is uid rows header records s = let root = root_size_is in let a = s.header_is in let b = s.records_are in omega (arith, a, b, root)
 
 pub file_too_large : (uid : List ℕ) (rows : List Row) (header records : ℕ) → Counts uid rows header records → 2 ^ 32 ≤ records + (header + 54) → file_is_too_large uid rows ≡ true
-file_too_large uid rows header records s large = grind (arith, nat_tests, common_steps, total_is uid rows header records s)
+file_too_large uid rows header records s large = grind (arith, common_steps, total_is uid rows header records s)
 
 pub file_fits : (uid : List ℕ) (rows : List Row) (header records : ℕ) → Counts uid rows header records → records + (header + 54) < 2 ^ 32 → file_is_too_large uid rows ≡ false
-file_fits uid rows header records s small = grind (arith, nat_tests, common_steps, total_is uid rows header records s)
+file_fits uid rows header records s small = grind (arith, common_steps, total_is uid rows header records s)
 
 pub at_least : (n m : ℕ) → (n < m → ⊥) → m ≤ n
 at_least n m h = omega (arith, h)
@@ -70,7 +116,7 @@ pub root_laid : (first last size : ℕ)
     ++ element_text (tag 0x0004 0x1212) (codes "US") (le 0 2)) ++ header_bytes (record { tag = tag 0x0004 0x1220; vr = Some (codes "SQ"); length = size })
     ≡ root_text first last size
 unfolding root_text
-root_laid first last size = grind (arith, nat_tests, common_steps, joined (element_text (tag 0x0004 0x1130) (codes "CS") []) (element_text (tag 0x0004 0x1200) (codes "UL") (le first 4)) (element_text (tag 0x0004 0x1202) (codes "UL") (le last 4)) (element_text (tag 0x0004 0x1212) (codes "US") (le 0 2)) (header_bytes (record { tag = tag 0x0004 0x1220; vr = Some (codes "SQ"); length = size })))
+root_laid first last size = grind (arith, common_steps, joined (element_text (tag 0x0004 0x1130) (codes "CS") []) (element_text (tag 0x0004 0x1200) (codes "UL") (le first 4)) (element_text (tag 0x0004 0x1202) (codes "UL") (le last 4)) (element_text (tag 0x0004 0x1212) (codes "US") (le 0 2)) (header_bytes (record { tag = tag 0x0004 0x1220; vr = Some (codes "SQ"); length = size })))
 
 -- the root's elements, and the text of the items
 root_elements_are : (first last : ℕ) (is : Items) → spelled (root_elements first last is) ≡ root_text first last (length (spelled_items is)) ++ spelled_items is
@@ -79,7 +125,7 @@ root_elements_are first last is = rw (append-nil (spelled_items is)) refl
 
 items_are : (f : Forest Record) (others : Items) → spelled_items (record_items f others) ≡ forest_text f ++ spelled_items others
 items_are no_nodes others = refl
-items_are (node r below next) others = grind (arith, nat_tests, common_steps, items_are next others, items_are below (record_items next others))
+items_are (node r below next) others = grind (arith, common_steps, items_are next others, items_are below (record_items next others))
 
 placed_text : (tree : Forest Elements) (start : ℕ)
     → spelled (elements_with_places (with_places start tree))
@@ -89,7 +135,7 @@ placed_text tree start =
     let items = spelled_items (record_items placed no_items) in
     let text : items ≡ forest_text placed = items_are placed no_items ∙ append-nil (forest_text placed) in
     let size : length items ≡ forest_size tree = let s = items_size start tree no_items in omega (arith, s) in
-    grind (arith, nat_tests, common_steps, root_elements_are (first_record_place placed) (last_record_place placed) (record_items placed no_items))
+    grind (arith, common_steps, root_elements_are (first_record_place placed) (last_record_place placed) (record_items placed no_items))
 
 pub directory_text : (front : List ℕ) (rows : List Row)
     → directory_of front rows ≡ front ++ spelled (elements_with_places (with_places (length front + root_size) (TreeOf rows)))
@@ -112,3 +158,28 @@ file_text uid rows entries records first last size doubles b =
     let root : root_text (first_record_place placed) (last_record_place placed) (forest_size (TreeOf rows)) ≡ root_text (place_from_end size first) (place_from_end size last) records =
     λ i. root_text (first_is i) (last_is i) (records_are i) in
     directory_text header rows ∙ ap (λ (t : List ℕ). header ++ t) (placed_text (TreeOf rows) start ∙ ap₂ (λ (a : List ℕ) (b : List ℕ). a ++ b) root text)
+
+-- ---- what a writer has after several texts, or after a beginning of the last one
+
+take_past : (xs ys : List ℕ) (n : ℕ) → take (length xs + n) (xs ++ ys) ≡ xs ++ take n ys
+take_past xs ys n = rw (take-add, take_at xs ys (length xs) refl, drop_at xs ys (length xs) refl) refl
+
+-- the first text, and a beginning of the second
+pub front_after : (a b c : Option (List ℕ)) (xs ys : List ℕ) → Appends a b xs → AppendsFront b c ys → AppendsFront a c (xs ++ ys)
+front_after a b c xs ys p q = (length xs + q.0, rw (take_past xs ys q.0) (Appends-trans a b c xs (take q.0 ys) p q.1))
+
+-- a beginning of the first text is one of both
+pub front_more : (a b : Option (List ℕ)) (xs ys : List ℕ) → AppendsFront a b xs → AppendsFront a b (xs ++ ys)
+front_more a b xs ys p = by (nat_lt p.0 (length xs)) refl
+  where
+    by : (t : Bool) → nat_lt p.0 (length xs) ≡ t → AppendsFront a b (xs ++ ys)
+    by true e =
+        let le : p.0 ≤ length xs = let lt = ltb-true p.0 (length xs) e in omega (arith, lt) in
+        (p.0, rw (take-append-le p.0 xs ys le) p.1)
+    by false e = (length xs, rw (take_at xs ys (length xs) refl, ← take_all p.0 xs (ltb-false p.0 (length xs) e)) p.1)
+
+pub last_entry : {A : Type 0} (total : ℕ) (entries : List (LaidRecord A)) (at : ℕ) (e : LaidRecord A) → 0 < at → at ≤ length entries → e ≡ get_or entries (at - 1) e
+    → laid_text total (take at entries) ≡ entry_text total e ++ laid_text total (take (at - 1) entries)
+last_entry total entries at e some le is =
+    let next : at ≡ suc (at - 1) = omega arith in
+    grind (arith, common_steps, laid_push total (take (at - 1) entries) e)

@@ -12,27 +12,21 @@ use Rattle.dicomdir.specs.declared.fault.DirFault.{DirFault}
 use Rattle.dicomdir.specs.declared.links.Root.{Root}
 use Rattle.dicomdir.specs.declared.records.ReadRecord.{ReadRecord}
 use Rattle.dicomdir.specs.declared.tree.TreeRecord.{TreeRecord}
-use Rattle.dicomdir.specs.CheckFault.{check_limits, CheckFault, HasHeader, in_directory}
+use Rattle.dicomdir.specs.DirFault.{check_limits, CheckFault, HasHeader, in_directory, Fault, fault, ◌or_else◌, offset_fault, records_fault, root_fault, each_fault, links_of, links_fault, records_then_links, directory_fault}
 use Rattle.dicomdir.specs.Directory.{found, Record, records_at, records_of, or_zero}
-use Rattle.dicomdir.specs.DirFault.{Fault, fault, ◌or_else◌, offset_fault, records_fault, root_fault, each_fault, links_of, links_fault, records_then_links, directory_fault}
 use Rattle.dicomdir.specs.Paths.{paths_of}
-use Rattle.dicomdir.specs.machine.Trail.{node_on}
-use Rattle.dicomdir.specs.NodesInUse.{LevelNode, nodes_in_use, HasNodes}
-use Rattle.dicomdir.specs.TreeNodes.{node_of}
-use Rattle.dicomdir.specs.machine.Entries.{AreEntries, AreRead, AreFollowed, FailsToFollow}
-use Rattle.dicomdir.specs.machine.Reading.{FailsAs, IsRootOffset, ChecksAs}
+use Rattle.dicomdir.specs.machine.Trail.{node_on, AreEntries, AreRead, AreFollowed, FailsToFollow, FailsAs, IsRootOffset, ChecksAs}
+use Rattle.dicomdir.specs.NodesInUse.{LevelNode, nodes_in_use, HasNodes, node_of}
 use Rattle.dicomdir.specs.machine.Texts.{HasElements, nothing_after, FindsItems}
 use Rattle.dicomdir.proofs.FaultFree.{sound_by}
-use Rattle.dicomdir.proofs.FreePaths.{or_some, or_none}
-use Rattle.dicomdir.proofs.PathForests.{forest_nodes}
+use Rattle.dicomdir.proofs.PathForests.{or_some, or_none, forest_nodes}
 use Rattle.dicomdir.proofs.RecordsLemmas.{entries_good, records_rise}
-use Rattle.std.proofs.lemmas.Bool.Decides.{nat_tests}
 use Rattle.std.proofs.lemmas.Grind.{common_steps}
 
 -- ---- faults
 
 pub fails_at : (o : Option Fault) (n place : ℕ) (f : DirFault) → f ≡ record { number = n; place = place; tag = no_tag } → n ≢ 67 → o ≡ fault n place → FailsAs o f
-fails_at o n place f is other at = grind (arith, nat_tests, common_steps)
+fails_at o n place f is other at = grind (arith, common_steps)
 
 fails_on : (o p : Option Fault) (f : DirFault) → FailsAs o f → ((x : Fault) → o ≡ Some x → p ≡ Some x) → FailsAs p f
 fails_on o p f is on = record { tag = is.tag; memory = is.memory; fault = λ e. on (record { number = f.number; place = f.place }) (is.fault e) }
@@ -44,17 +38,17 @@ whole_elements {text = text} d = record { more = []; after = nothing_after; spel
 
 pub fails_first : (start : ℕ) (es : Elements) (f : DirFault) → FailsAs (offset_fault start (found 0x00041200 start es)) f → FailsAs (directory_fault start es) f
 unfolding directory_fault
-fails_first start es f is = grind (arith, nat_tests, common_steps)
+fails_first start es f is = grind (arith, common_steps)
 
 pub fails_last : (start : ℕ) (es : Elements) (f : DirFault) → offset_fault start (found 0x00041200 start es) ≡ None
     → FailsAs (offset_fault start (found 0x00041202 start es)) f → FailsAs (directory_fault start es) f
 unfolding directory_fault
-fails_last start es f first is = grind (arith, nat_tests, common_steps)
+fails_last start es f first is = grind (arith, common_steps)
 
 pub fails_without_records : (start : ℕ) (es : Elements) (f : DirFault) → offset_fault start (found 0x00041200 start es) ≡ None → offset_fault start (found 0x00041202 start es) ≡ None
     → FailsAs (records_fault start (found 0x00041220 start es)) f → FailsAs (directory_fault start es) f
 unfolding directory_fault
-fails_without_records start es f first last is = grind (arith, nat_tests, common_steps)
+fails_without_records start es f first last is = grind (arith, common_steps)
 
 -- the records, where both offsets of the root are good
 pub record HasRecords (start : ℕ) (es : Elements) (records : List Record) : Type 0 where
@@ -63,12 +57,12 @@ pub record HasRecords (start : ℕ) (es : Elements) (records : List Record) : Ty
 
 directory_is : (start : ℕ) (es : Elements) (records : List Record) → HasRecords start es records → directory_fault start es ≡ (each_fault records or_else links_fault start es (links_of start es records))
 unfolding directory_fault
-directory_is start es records has = grind (arith, nat_tests, common_steps, or_none (root_fault start es) (records_then_links start es (records_of start es)) has.good)
+directory_is start es records has = grind (arith, common_steps, or_none (root_fault start es) (records_then_links start es (records_of start es)) has.good)
 
 pub has_records : (s : Syntax) (start p first : ℕ) (es : Elements) (text : List ℕ) (finds : FindsItems p first s text (found 0x00041220 start es))
     → offset_fault start (found 0x00041200 start es) ≡ None → offset_fault start (found 0x00041202 start es) ≡ None
     → HasRecords start es (records_at first finds.items)
-has_records s start p first es text finds first_good last_good = grind (arith, nat_tests, common_steps)
+has_records s start p first es text finds first_good last_good = grind (arith, common_steps)
 
 pub fails_in_records : (start : ℕ) (es : Elements) (records : List Record) (f : DirFault) → HasRecords start es records → FailsAs (each_fault records) f → FailsAs (directory_fault start es) f
 fails_in_records start es records f has is =

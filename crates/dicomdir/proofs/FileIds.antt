@@ -1,13 +1,14 @@
--- A file ID is read from its end: the parts that were seen, and the room that it needs.
-use Rattle.std.proofs.Common.{◌≡◌, ℕ, suc, ◌+◌, ◌*◌, ◌<◌, ◌≤◌, Bool, true, false, ◌&&◌, List, [], ◌∷◌, replicate, ◌-◌, length, get_or, take, drop, refl, sym, ap, ◌∙◌, add-one, drop-cons, arith, nat_eq, nat_le}
+-- A file ID is read from its end, the room that it needs, and the one that is padded.
+use Rattle.std.proofs.Common.{◌≡◌, ℕ, suc, ◌+◌, ◌*◌, ◌<◌, ◌≤◌, Bool, true, false, ◌&&◌, List, [], ◌∷◌, replicate, ◌-◌, length, get_or, take, drop, refl, sym, ap, ◌∙◌, add-one, drop-cons, arith, nat_eq, nat_le, ◌%◌, not, ◌++◌, Some, None, if◌then◌else◌}
 use Rattle.std.specs.List.{list_all}
-use Rattle.std.proofs.lemmas.Bool.{and_parts}
+use Rattle.std.proofs.lemmas.Bool.{and_parts, and_from}
 use Rattle.std.proofs.lemmas.Bool.Decides.{nat_tests}
 use Rattle.std.proofs.lemmas.List.{drop-replicate}
 use Rattle.std.proofs.Math.Seq.{take-append_seam}
-use Rattle.dicomdir.specs.FileId.{is_id_character, is_file_id_component, before_parts, parts_of, is_file_id, filled}
-use Rattle.dicomdir.specs.FileIdRoom.{IsKept}
+use Rattle.dicomdir.specs.FileId.{is_id_character, is_file_id_component, before_parts, parts_of, is_file_id, filled, if_file_id, file_id_of, IsKept}
 use Rattle.std.proofs.lemmas.Grind.{common_steps}
+use Rattle.element.specs.Padding.{is_space, kept_before, without_trailing, padded}
+use Rattle.dicomdir.proofs.Distinct.{not_true}
 
 -- the first part, of which characters may still come in front
 abbrev pub first_size : List (List ℕ) → ℕ
@@ -39,7 +40,7 @@ good_end : (parts : List (List ℕ)) → is_none parts ≡ false → is_good ([]
 good_end v1 some = grind (arith, nat_tests, moved)
 
 shifted : (a b c : Bool) → (a && (b && c)) ≡ ((a && c) && b)
-shifted v1 b c = grind (arith, nat_tests, common_steps)
+shifted v1 b c = grind (arith, common_steps)
 
 good_more : (c : ℕ) (parts : List (List ℕ)) → is_none parts ≡ false → is_good (before_parts c parts) ≡ (is_good parts && is_id_character c)
 good_more c v2 some = grind (arith, nat_tests, shifted)
@@ -79,7 +80,7 @@ pub count_before : (xs : List ℕ) (n : ℕ) → n < length xs → nat_eq (get_o
 count_before xs n lt e = ap length (goes_on xs n lt e) ∙ count_more (get_or xs n 0) (parts_of (drop (n + 1) xs)) (some_part (drop (n + 1) xs))
 
 gathered : (a b c d e : Bool) → (e && ((a && b && c) && d)) ≡ ((d && c) && ((a && b) && e))
-gathered v1 b c d v5 = grind (arith, nat_tests, common_steps)
+gathered v1 b c d v5 = grind (arith, common_steps)
 
 by_parts : (parts : List (List ℕ)) → is_none parts ≡ false → (nat_le (length parts) 8 && list_all is_file_id_component parts) ≡ (is_good parts && (is_size (first_size parts) && nat_le (length parts) 8))
 by_parts v1 some = grind (arith, nat_tests, gathered)
@@ -125,7 +126,51 @@ pub zeros_after : (n : ℕ) → drop n (replicate {A = ℕ} 71 0) ≡ replicate 
 zeros_after n = drop-replicate {X = ℕ} n 71 0
 
 pub kept_filled : (text : List ℕ) → is_file_id text ≡ true → IsKept (filled text) (length text)
-kept_filled text e = grind (arith, nat_tests, common_steps, take-append_seam text (replicate (71 - length text) 0))
+kept_filled text e = grind (arith, common_steps, take-append_seam text (replicate (71 - length text) 0))
 
 pub shown_filled : (text : List ℕ) → take (length text) (filled text) ≡ text
 shown_filled text = take-append_seam text (replicate (71 - length text) 0)
+
+-- ---- a file ID that is padded by a space is read back
+
+abbrev no_space : ℕ → Bool
+no_space c = not (is_space c)
+
+abbrev are_characters : List (List ℕ) → Bool
+are_characters parts = list_all (list_all is_id_character) parts
+
+no_spaces : (text : List ℕ) → are_characters (parts_of text) ≡ true → list_all no_space text ≡ true
+no_spaces [] e = refl
+no_spaces (c ∷ text) e = grind (arith, nat_tests, no_spaces text)
+
+components_are : (parts : List (List ℕ)) → list_all is_file_id_component parts ≡ true → are_characters parts ≡ true
+components_are [] e = refl
+components_are (part ∷ parts) e =
+    let two = and_parts (is_file_id_component part) (list_all is_file_id_component parts) e in
+    let chars = and_parts _ (list_all is_id_character part) two.0 in
+    and_from (list_all is_id_character part) (are_characters parts) chars.1 (components_are parts two.1)
+
+keeps : (c : ℕ) (rest : List ℕ) → no_space c ≡ true → kept_before is_space c rest ≡ c ∷ rest
+keeps c rest e = grind (arith, nat_tests, not_true (is_space c) e)
+
+trimmed : (text : List ℕ) → list_all no_space text ≡ true → without_trailing is_space text ≡ text
+trimmed [] e = refl
+trimmed (c ∷ text) e =
+    let two = and_parts (no_space c) (list_all no_space text) e in
+    ap (kept_before is_space c) (trimmed text two.1) ∙ keeps c text two.0
+
+trimmed_space : (text : List ℕ) → list_all no_space text ≡ true → without_trailing is_space (text ++ 32 ∷ []) ≡ text
+trimmed_space [] e = refl
+trimmed_space (c ∷ text) e =
+    let two = and_parts (no_space c) (list_all no_space text) e in
+    ap (kept_before is_space c) (trimmed_space text two.1) ∙ keeps c text two.0
+
+pub file_id_back : (text : List ℕ) → is_file_id text ≡ true → file_id_of (padded 32 text) ≡ Some text
+file_id_back text e =
+    let parts = and_parts (nat_le (length (parts_of text)) 8) (list_all is_file_id_component (parts_of text)) e in
+    let clean = no_spaces text (components_are (parts_of text) parts.1) in
+    by (nat_eq (length text % 2) 0) clean
+  where
+    by : (b : Bool) → list_all no_space text ≡ true → file_id_of (if b then text else text ++ 32 ∷ []) ≡ Some text
+    by true clean = ap if_file_id (trimmed text clean) ∙ ap (λ (b : Bool). if b then Some text else None) e
+    by false clean = ap if_file_id (trimmed_space text clean) ∙ ap (λ (b : Bool). if b then Some text else None) e

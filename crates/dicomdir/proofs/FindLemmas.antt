@@ -1,26 +1,171 @@
--- Finding an element under its tag.
-use Rattle.std.proofs.Common.{◌≡◌, ◌≢◌, ℕ, ◌+◌, ◌-◌, ◌≤◌, ◌<◌, Bool, true, false, not, ◌&&◌, List, [], ◌++◌, length, take, drop, Some, None, ◌⊎◌, refl, sym, ap, subst, ◌∙◌, arith, append_assoc, length-append, eqb-true, eq-eqb, nat_eq, nat_le}
-use Rattle.std.proofs.lemmas.Bool.{cond-true}
-use Rattle.std.proofs.lemmas.Bool.Decides.{nat_tests}
-use Rattle.std.proofs.lemmas.List.{append-nil}
-use Rattle.std.proofs.Math.Seq.{take-append_seam}
+-- Passing over what a header announces, and finding an element under its tag.
+use Rattle.std.proofs.Common.{◌≡◌, ◌≢◌, ℕ, ◌%◌, true, false, List, ◌++◌, length, drop, Some, None, refl, sym, ap, subst, ◌∙◌, arith, append_assoc, lit<, ◌+◌, ◌-◌, ◌≤◌, ◌<◌, Bool, not, ◌&&◌, [], take, ◌⊎◌, length-append, eqb-true, eq-eqb, nat_eq, nat_le}
+use Rattle.std.proofs.Math.Seq.{drop-append_seam, take-append_seam}
 use Rattle.element.specs.declared.syntax.Syntax.{Syntax}
 use Rattle.element.specs.declared.tag.Tag.{Tag}
 use Rattle.element.specs.declared.header.Header.{Header}
-use Rattle.element.specs.Header.{number, is_marker, IsTag, SpellsHeader, item_end_tag}
-use Rattle.sequence.specs.declared.shape.Shape.{Shape}
-use Rattle.sequence.specs.declared.shape.Shape.TheVariants.{Value, Sequence, NotAllowed}
-use Rattle.sequence.specs.Rules.{same_tag}
-use Rattle.sequence.specs.Shape.{undefined_length, is_undefined, shape}
-use Rattle.sequence.specs.Tree.{Elements, no_elements, delimitation, Ended, counted, delimited}
+use Rattle.element.specs.Header.{number, is_marker, IsTag, item_tag, item_end_tag, sequence_end_tag, SpellsHeader}
+use Rattle.sequence.specs.declared.shape.Shape.TheVariants.{Sequence, Value, NotAllowed}
+use Rattle.sequence.specs.Shape.{undefined_length, shape, is_undefined}
+use Rattle.sequence.specs.Tree.{Elements, Items, delimitation, Ended, counted, delimited, no_elements}
 use Rattle.dicomdir.specs.declared.found.Head.{Head}
 use Rattle.dicomdir.specs.Directory.{Found, missing, found, header_size}
-use Rattle.dicomdir.specs.machine.Heads.{head_at}
-use Rattle.dicomdir.specs.machine.Texts.{ElementsThen, IsAfter, nothing_after, end_after, HasElements, IsContent, of_value, of_items, IsItemContent, of_elements, content_at, FindsItems}
-use Rattle.dicomdir.proofs.HeadLemmas.{head_read}
-use Rattle.dicomdir.proofs.TextLemmas.{Front, at_end, at_element, front_of, header_length, is_head, marked_head, no_head, same_tags}
-use Rattle.dicomdir.proofs.SkipLemmas.{fits_end}
+use Rattle.dicomdir.specs.machine.Texts.{head_at, ElementsThen, ItemsThen, IsContent, of_value, of_items, IsItemContent, of_elements, IsAfter, nothing_after, end_after, HasElements, content_at, FindsItems}
+use Rattle.dicomdir.proofs.TextLemmas.{head_read, Front, at_end, at_element, front_of, FrontOfItems, no_item, at_item, front_of_items, mark_head, marked_head, is_head, header_length, no_head, same_tags}
+use Rattle.std.proofs.lemmas.Bool.Decides.{nat_tests}
+use Rattle.std.proofs.lemmas.Bool.{cond-true}
+use Rattle.std.proofs.lemmas.List.{append-nil}
+use Rattle.sequence.specs.declared.shape.Shape.{Shape}
+use Rattle.sequence.specs.Rules.{same_tag}
 use Rattle.std.proofs.lemmas.Grind.{common_steps}
+
+-- ---- a defined length
+
+dropped : (n : ℕ) (b rest text : List ℕ) → length b ≡ n → text ≡ b ++ rest → drop n text ≡ rest
+dropped n b rest text size whole = ap (λ k. drop k text) (sym size) ∙ (ap (λ z. drop (length b) z) whole ∙ drop-append_seam b rest)
+
+ended_drop : {mark : Tag} {n : ℕ} {b c : List ℕ} (rest text : List ℕ) → n ≢ undefined_length → Ended mark n b c → text ≡ c ++ rest → drop n text ≡ rest
+ended_drop rest text other (counted {b = b} n defined even size) whole = dropped n b rest text size whole
+ended_drop rest text other (delimited) whole = absurd (other refl)
+
+pub content_drop : (s : Syntax) (h : Header) (place : ℕ) (f : Found) (c rest text : List ℕ) → h.length ≢ undefined_length → IsContent s h place f c → text ≡ c ++ rest
+    → drop h.length text ≡ rest
+content_drop s h place f c rest text other (of_value {v = v} sh val) whole = dropped h.length v rest text val.size whole
+content_drop s h place f c rest text other (of_items sh items end) whole = ended_drop rest text other end whole
+
+pub item_drop : (s : Syntax) (h : Header) (es : Elements) (c rest text : List ℕ) → h.length ≢ undefined_length → IsItemContent s h es c → text ≡ c ++ rest
+    → drop h.length text ≡ rest
+item_drop s h es c rest text other (of_elements elements end) whole = ended_drop rest text other end whole
+
+-- ---- an undefined one
+
+pub is_delimited : {mark : Tag} {n : ℕ} {b c : List ℕ} → Ended mark n b c → n ≡ undefined_length → c ≡ b ++ delimitation mark
+is_delimited v1 e = grind (arith, nat_tests)
+
+pub delimited_text : {mark : Tag} {n : ℕ} {b c : List ℕ} (rest text : List ℕ) → Ended mark n b c → n ≡ undefined_length → text ≡ c ++ rest → text ≡ b ++ (delimitation mark ++ rest)
+delimited_text {mark = mark} {b = b} rest text end e whole = whole ∙ (ap (λ z. z ++ rest) (is_delimited end e) ∙ append_assoc b (delimitation mark) rest)
+
+pub odd : (n : ℕ) → n % 2 ≡ 0 → n ≡ undefined_length → ⊥
+odd n even e = let none : undefined_length % 2 ≡ 0 = ap (λ z. z % 2) (sym e) ∙ even in absurd cc
+
+pub record SomeItems (s : Syntax) (more text : List ℕ) : Type 0 where
+  pub items : Items
+  pub spelled : ItemsThen s items more text
+
+pub record SomeElements (s : Syntax) (more text : List ℕ) : Type 0 where
+  pub last : ℕ
+  pub elements : Elements
+  pub spelled : ElementsThen s last elements more text
+
+pub content_items : (s inner : Syntax) (h : Header) (place : ℕ) (f : Found) (c rest text : List ℕ) → h.length ≡ undefined_length → shape s h ≡ Sequence inner → IsContent s h place f c
+    → text ≡ c ++ rest → SomeItems inner (delimitation sequence_end_tag ++ rest) text
+content_items s inner h place f c rest text unsized is (of_value sh val) whole = absurd (odd h.length val.even unsized)
+content_items s inner h place f c rest text unsized is (of_items {inner = other} {is = items} {b = b} sh list end) whole =
+    let same : Sequence other ≡ Sequence inner = sym sh ∙ is in
+    let inner_is : other ≡ inner = cc in
+    subst (λ z. SomeItems z (delimitation sequence_end_tag ++ rest) text) inner_is
+    (record { items = items; spelled = record { bytes = b; items = list; whole = delimited_text rest text end unsized whole } })
+
+pub item_elements : (s : Syntax) (h : Header) (es : Elements) (c rest text : List ℕ) → h.length ≡ undefined_length → IsItemContent s h es c → text ≡ c ++ rest
+    → ElementsThen s 0 es (delimitation item_end_tag ++ rest) text
+item_elements s h es c rest text unsized (of_elements {b = b} elements end) whole = record { bytes = b; data_set = elements; whole = delimited_text rest text end unsized whole }
+
+-- ---- one element after the other, up to a delimitation
+
+pub fits_end : IsTag item_end_tag
+fits_end = (lit< tt, lit< tt)
+
+pub fits_sequence_end : IsTag sequence_end_tag
+fits_sequence_end = (lit< tt, lit< tt)
+
+pub next_elements : (s : Syntax) (head : Head) (rest after text : List ℕ) → SomeElements s (delimitation item_end_tag ++ rest) text → head_at s text ≡ Some head
+    → is_marker head.header.tag ≡ false
+    → ((place : ℕ) (f : Found) (c more : List ℕ) → IsContent s head.header place f c → drop head.size text ≡ c ++ more → after ≡ more)
+    → SomeElements s (delimitation item_end_tag ++ rest) after
+next_elements s head rest after text some read plain passes = by (front_of (delimitation item_end_tag ++ rest) text some.spelled.data_set some.spelled.whole)
+  where
+    by : Front s some.last (delimitation item_end_tag ++ rest) text some.elements → SomeElements s (delimitation item_end_tag ++ rest) after
+    by (at_end none whole) =
+        let is = marked_head s item_end_tag rest text head refl fits_end whole read in
+        let marks : true ≡ false = ap (λ z. is_marker z.header.tag) is ∙ plain in
+        absurd cc
+    by (at_element f) =
+        let at = is_head s head f.header f.spelling (f.content ++ f.rest) text f.is_element.spelled f.whole read in
+        let content = subst (λ h. IsContent s h 0 (f.stands 0) f.content) (sym at.header) (f.content_is 0) in
+        let is : after ≡ f.rest = passes 0 (f.stands 0) f.content f.rest content at.rest_is in
+        record {
+          last = number f.header.tag;
+          elements = f.others;
+          spelled = subst (λ z. ElementsThen s (number f.header.tag) f.others (delimitation item_end_tag ++ rest) z) (sym is) f.spelled;
+        }
+
+pub end_of_elements : (s : Syntax) (head : Head) (rest text : List ℕ) → SomeElements s (delimitation item_end_tag ++ rest) text → head_at s text ≡ Some head
+    → is_marker head.header.tag ≡ true → drop head.size text ≡ rest
+end_of_elements s head rest text some read marks = by (front_of (delimitation item_end_tag ++ rest) text some.spelled.data_set some.spelled.whole)
+  where
+    by : Front s some.last (delimitation item_end_tag ++ rest) text some.elements → drop head.size text ≡ rest
+    by (at_end none whole) =
+        let is = marked_head s item_end_tag rest text head refl fits_end whole read in
+        ap (λ z. drop z.size text) (sym is) ∙ ap (λ z. drop 8 z) whole
+    by (at_element f) =
+        let at = is_head s head f.header f.spelling (f.content ++ f.rest) text f.is_element.spelled f.whole read in
+        let plain : true ≡ false = sym marks ∙ (ap (λ h. is_marker h.tag) at.header ∙ f.is_element.no_marker) in
+        absurd cc
+
+pub always_elements : (s : Syntax) (rest text : List ℕ) → SomeElements s (delimitation item_end_tag ++ rest) text → head_at s text ≡ None → ⊥
+always_elements s rest text some read = by (front_of (delimitation item_end_tag ++ rest) text some.spelled.data_set some.spelled.whole)
+  where
+    by : Front s some.last (delimitation item_end_tag ++ rest) text some.elements → ⊥
+    by (at_end none whole) =
+        let there = mark_head s item_end_tag rest text refl fits_end whole in
+        absurd cc
+    by (at_element f) =
+        let there = head_read s f.header f.spelling (f.content ++ f.rest) text f.is_element.spelled f.whole in
+        absurd cc
+
+-- ---- one item after the other
+
+pub next_items : (s : Syntax) (head : Head) (rest after text : List ℕ) → SomeItems s (delimitation sequence_end_tag ++ rest) text → head_at s text ≡ Some head
+    → head.header.tag ≡ item_tag
+    → ((es : Elements) (c more : List ℕ) → IsItemContent s head.header es c → drop head.size text ≡ c ++ more → after ≡ more)
+    → SomeItems s (delimitation sequence_end_tag ++ rest) after
+next_items s head rest after text some read tagged passes = by (front_of_items (delimitation sequence_end_tag ++ rest) text some.spelled.items some.spelled.whole)
+  where
+    by : FrontOfItems s (delimitation sequence_end_tag ++ rest) text some.items → SomeItems s (delimitation sequence_end_tag ++ rest) after
+    by (no_item none whole) =
+        let is = marked_head s sequence_end_tag rest text head refl fits_sequence_end whole read in
+        let tags : 0xe0dd ≡ 0xe000 = ap (λ z. z.header.tag.1) is ∙ ap (λ t. t.1) tagged in
+        absurd (omega (arith, tags))
+    by (at_item f) =
+        let at = is_head s head f.header f.spelling (f.content ++ f.rest) text f.is_item.spelled f.whole read in
+        let content = subst (λ h. IsItemContent s h f.elements f.content) (sym at.header) f.content_is in
+        let is : after ≡ f.rest = passes f.elements f.content f.rest content at.rest_is in
+        record { items = f.others; spelled = subst (λ z. ItemsThen s f.others (delimitation sequence_end_tag ++ rest) z) (sym is) f.spelled }
+
+pub end_of_items : (s : Syntax) (head : Head) (rest text : List ℕ) → SomeItems s (delimitation sequence_end_tag ++ rest) text → head_at s text ≡ Some head
+    → head.header.tag ≢ item_tag → drop head.size text ≡ rest
+end_of_items s head rest text some read other = by (front_of_items (delimitation sequence_end_tag ++ rest) text some.spelled.items some.spelled.whole)
+  where
+    by : FrontOfItems s (delimitation sequence_end_tag ++ rest) text some.items → drop head.size text ≡ rest
+    by (no_item none whole) =
+        let is = marked_head s sequence_end_tag rest text head refl fits_sequence_end whole read in
+        ap (λ z. drop z.size text) (sym is) ∙ ap (λ z. drop 8 z) whole
+    by (at_item f) =
+        let at = is_head s head f.header f.spelling (f.content ++ f.rest) text f.is_item.spelled f.whole read in
+        absurd (other (ap (λ h. h.tag) at.header ∙ f.is_item.tagged))
+
+pub always_items : (s : Syntax) (rest text : List ℕ) → SomeItems s (delimitation sequence_end_tag ++ rest) text → head_at s text ≡ None → ⊥
+always_items s rest text some read = by (front_of_items (delimitation sequence_end_tag ++ rest) text some.spelled.items some.spelled.whole)
+  where
+    by : FrontOfItems s (delimitation sequence_end_tag ++ rest) text some.items → ⊥
+    by (no_item none whole) =
+        let there = mark_head s sequence_end_tag rest text refl fits_sequence_end whole in
+        absurd cc
+    by (at_item f) =
+        let there = head_read s f.header f.spelling (f.content ++ f.rest) text f.is_item.spelled f.whole in
+        absurd cc
+
+-- ---- finding an element under its tag
 
 -- ---- what a length announces
 
@@ -37,7 +182,7 @@ defined_content h b more text other size whole =
     undefined_no false e = refl
 
 open_content : (h : Header) (text : List ℕ) → h.length ≡ undefined_length → content_at h text ≡ text
-open_content h text unsized = grind (arith, nat_tests, common_steps, eq-eqb h.length undefined_length unsized)
+open_content h text unsized = grind (arith, common_steps, eq-eqb h.length undefined_length unsized)
 
 -- the text is this one, and goes on by nothing or by the end of the level
 pub record EndsAs (mark : Tag) (b text : List ℕ) : Type 0 where
@@ -57,12 +202,12 @@ ended_content {mark = mark} h more text (delimited {b = b}) same whole =
     }
 
 pub item_content : (s : Syntax) (h : Header) (es : Elements) (c more text : List ℕ) → IsItemContent s h es c → text ≡ c ++ more → HasElements s es (content_at h text)
-item_content s h es c more text (of_elements {b = b} elements end) whole = grind (arith, nat_tests, common_steps, ended_content h more text end refl whole)
+item_content s h es c more text (of_elements {b = b} elements end) whole = grind (arith, common_steps, ended_content h more text end refl whole)
 
 pub finds_items : (s inner : Syntax) (h : Header) (place size : ℕ) (f : Found) (c more text there : List ℕ) → size ≡ header_size h → shape s h ≡ Sequence inner → IsContent s h place f c
     → text ≡ c ++ more → there ≡ content_at h text → FindsItems place (place + size) inner there f
 finds_items s inner h place size f c more text there sized is (of_value sh val) whole at = absurd cc
-finds_items s inner h place size f c more text there sized is (of_items {inner = other} {is = items} {b = b} sh list end) whole at = grind (arith, nat_tests, common_steps, ended_content h more text end refl whole)
+finds_items s inner h place size f c more text there sized is (of_items {inner = other} {is = items} {b = b} sh list end) whole at = grind (arith, common_steps, ended_content h more text end refl whole)
 
 pub no_sequence : (s : Syntax) (h : Header) (r : Shape) → (r ≡ Value) ⊎ (r ≡ NotAllowed) → r ≡ shape s h → (inner : Syntax) → shape s h ≡ Sequence inner → ⊥
 no_sequence s h r v4 same inner is = grind (arith, nat_tests)
@@ -90,11 +235,11 @@ pub record LeftOf (s : Syntax) (tag place : ℕ) (es : Elements) (text rest : Li
   pub same : found tag place es ≡ found tag (place + (length text - length rest)) others
 
 pub all_left : (s : Syntax) (tag place : ℕ) (es : Elements) (text : List ℕ) → HasElements s es text → LeftOf s tag place es text text
-all_left s tag place es text has = grind (arith, nat_tests, common_steps)
+all_left s tag place es text has = grind (arith, common_steps)
 
 after_head : (s : Syntax) (more text : List ℕ) (head : Head) → IsAfter item_end_tag more → text ≡ more → head_at s text ≡ Some head → is_marker head.header.tag ≡ true
 after_head s more text head (nothing_after) whole read = let none = no_head s text whole in absurd cc
-after_head s more text head (end_after rest) whole read = grind (arith, nat_tests, common_steps, marked_head s item_end_tag rest text head refl fits_end whole read)
+after_head s more text head (end_after rest) whole read = grind (arith, common_steps, marked_head s item_end_tag rest text head refl fits_end whole read)
 
 pub left_after : (s : Syntax) (tag place : ℕ) (es : Elements) (text rest after : List ℕ) (head : Head) → length rest ≤ length text → LeftOf s tag place es text rest
     → head_at s rest ≡ Some head → is_marker head.header.tag ≡ false → (IsTag head.header.tag → nat_eq (number head.header.tag) tag ≡ false)

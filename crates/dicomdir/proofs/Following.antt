@@ -19,14 +19,10 @@ use Rattle.dicomdir.specs.Linked.{record_at, fits, fits_level, is_one_of, elemen
 use Rattle.dicomdir.specs.Paths.{Links, Turn, named_by, level_of, paths_from, paths_of, reached_by, root_records, last_from}
 use Rattle.dicomdir.specs.DirFault.{Fault, fault, ◌or_else◌, path_fault, first_fault, unreached_fault, links_of, links_fault, place_in}
 use Rattle.dicomdir.specs.NodesInUse.{LevelNode}
-use Rattle.dicomdir.specs.machine.Entries.{AreRead, FailsToFollow, carried_by}
-use Rattle.dicomdir.specs.machine.Trail.{path_along, mark_of, own_node, node_on, paths_on, later, to_come, AreMarks, IsStep}
-use Rattle.dicomdir.specs.machine.Turns.{flags_of, AreFlagged, LeadsTo, GoesOn}
-use Rattle.dicomdir.proofs.PathForests.{lower_path, next_path, paths_more, elements_is}
-use Rattle.dicomdir.proofs.FreePaths.{path_free, or_some}
-use Rattle.dicomdir.proofs.Linking.{IsIn, not_false, one_more_in, few_in}
-use Rattle.dicomdir.proofs.Trails.{length_along}
-use Rattle.dicomdir.proofs.EntryLemmas.{AtEntry, at_entry, length_entries, none_flagged}
+use Rattle.dicomdir.specs.machine.Trail.{AreRead, FailsToFollow, carried_by, path_along, mark_of, own_node, node_on, paths_on, later, to_come, AreMarks, IsStep, flags_of, AreFlagged, LeadsTo, GoesOn}
+use Rattle.dicomdir.proofs.PathForests.{lower_path, next_path, paths_more, elements_is, path_free, or_some}
+use Rattle.dicomdir.proofs.FaultFree.{IsIn, not_false, one_more_in, few_in}
+use Rattle.dicomdir.proofs.Trails.{length_along, AtEntry, at_entry, length_entries, none_flagged}
 
 -- the paths that are gone had no fault, the rest is to come, and what was collected is of those that are gone
 pub record Following (links : Links) (entries : List ReadRecord) (flags : List Bool) (ms : List Mark) (pending : Option Step) (before nodes : List LevelNode) (last : ℕ) : Type 0 where
@@ -242,7 +238,7 @@ ends start es links entries flags ms before nodes last at =
     let last_is : last_from 0 (root_records links (paths_of links)) ≡ last = ap (λ z. last_from 0 (root_records links z)) all ∙ at.last_is in
     let left : unreached_fault (reached_by links (paths_of links)) links.records ≡ unreached_fault at.reached links.records =
     ap (λ z. unreached_fault (reached_by links z) links.records) all ∙ sym (same_unreached at.reached (reached_by links at.gone) links.records at.members) in
-    grind (arith, nat_tests, common_steps)
+    grind (arith, common_steps)
 
 pub ends_elsewhere : (root : Root) (entries : List ReadRecord) (start : ℕ) (es : Elements) (records : List Record) (flags : List Bool) (ms : List Mark) (before nodes : List LevelNode) (last : ℕ)
     → AreRead root entries start es records → Following (links_of start es records) entries flags ms None before nodes last
@@ -251,7 +247,7 @@ ends_elsewhere root entries start es records flags ms before nodes last read at 
     let there : ℕ = or_zero (last_offset start es) in
     let differs : (there ≡ last) → ⊥ = λ same. other (read.last ∙ same) in
     let test : nat_eq there last ≡ false = grind (arith, nat_tests, differs) in
-    grind (arith, nat_tests, common_steps, cond-false (nat_eq there last) None (fault 60 (place_in (found 0x00041202 start es))) test, ends start es (links_of start es records) entries flags ms before nodes last at)
+    grind (arith, common_steps, cond-false (nat_eq there last) None (fault 60 (place_in (found 0x00041202 start es))) test, ends start es (links_of start es records) entries flags ms before nodes last at)
 
 pub ends_there : (root : Root) (entries : List ReadRecord) (start : ℕ) (es : Elements) (records : List Record) (flags : List Bool) (ms : List Mark) (before nodes : List LevelNode) (last : ℕ)
     → AreRead root entries start es records → (at : Following (links_of start es records) entries flags ms None before nodes last)
@@ -260,7 +256,7 @@ ends_there root entries start es records flags ms before nodes last read at same
     let there : ℕ = or_zero (last_offset start es) in
     let is : there ≡ last = sym read.last ∙ same in
     let test : nat_eq there last ≡ true = grind (arith, nat_tests, is) in
-    grind (arith, nat_tests, common_steps, cond-true (nat_eq there last) None (fault 60 (place_in (found 0x00041202 start es))) test, ends start es (links_of start es records) entries flags ms before nodes last at)
+    grind (arith, common_steps, cond-true (nat_eq there last) None (fault 60 (place_in (found 0x00041202 start es))) test, ends start es (links_of start es records) entries flags ms before nodes last at)
 
 pub nodes_of_all : (links : Links) (entries : List ReadRecord) (flags : List Bool) (ms : List Mark) (before nodes : List LevelNode) (last : ℕ)
     → Following links entries flags ms None before nodes last

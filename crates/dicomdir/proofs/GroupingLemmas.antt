@@ -1,16 +1,20 @@
--- Rows that are put one after the other into the groups of their keys.
-use Rattle.std.proofs.Common.{◌≡◌, ℕ, suc, ◌+◌, Bool, true, false, cond, not, ◌||◌, List, [], ◌∷◌, ◌++◌, map, get_or, set, refl, sym, ap, ap₂, ◌∙◌, arith}
+-- Rows that are put one after the other into the groups of their keys, and the doubles that are left out.
+use Rattle.std.proofs.Common.{◌≡◌, ℕ, suc, ◌+◌, Bool, true, false, cond, not, ◌||◌, List, [], ◌∷◌, ◌++◌, map, get_or, set, refl, sym, ap, ap₂, ◌∙◌, arith, zero, ◌<◌, ◌≤◌, take, length, Vec, subst, drop, append_assoc, drop-cons}
 use Rattle.std.proofs.lemmas.Bool.{or_parts, or_from, or_right}
-use Rattle.std.specs.List.{list_any, position_or_len}
+use Rattle.std.specs.List.{list_any, position_or_len, AllByRecursion}
 use Rattle.std.specs.Str.{bytes_eq}
-use Rattle.std.proofs.lemmas.List.{append-nil, map-append}
+use Rattle.std.proofs.lemmas.List.{append-nil, map-append, length-map, take_all}
 use Rattle.std.proofs.lemmas.List.Elements.{filter-append}
 use Rattle.std.proofs.lemmas.Slice.Eq.{bytes_eq-Decides}
-use Rattle.dicomdir.specs.Row.{Row}
-use Rattle.dicomdir.specs.TreeOf.{with_key, seen_after, rows_with}
+use Rattle.dicomdir.specs.Row.{Row, without_doubles}
+use Rattle.dicomdir.specs.TreeOf.{with_key, seen_after, rows_with, rows_at, row_groups, groups_of}
 use Rattle.dicomdir.proofs.Distinct.{backwards}
 use Rattle.std.proofs.lemmas.Bool.Decides.{nat_tests}
 use Rattle.std.proofs.lemmas.Grind.{common_steps}
+use Rattle.std.specs.Borrow.{Bor}
+use Rattle.dicomdir.specs.machine.FirstSeen.{texts, is_seen, Sees, Puts, with_one, TakesRow}
+use Rattle.std.proofs.lemmas.List.Folds.{list_any-append}
+use Rattle.dicomdir.specs.Places.{doubles_of, doubles_after}
 
 -- the same bytes
 
@@ -30,11 +34,11 @@ Distinct (k ∷ keys) = (list_any (bytes_eq k) keys ≡ false) × Distinct keys
 
 any_append : (p : List ℕ → Bool) (keys : List (List ℕ)) (k : List ℕ) → list_any p (keys ++ k ∷ []) ≡ false → (list_any p keys ≡ false) × (p k ≡ false)
 any_append p [] k e = (refl, (or_parts (p k) false e).0)
-any_append p (x ∷ keys) k e = grind (arith, nat_tests, common_steps)
+any_append p (x ∷ keys) k e = grind (arith, common_steps)
 
 append_any : (p : List ℕ → Bool) (keys : List (List ℕ)) (k : List ℕ) → list_any p keys ≡ false → p k ≡ false → list_any p (keys ++ k ∷ []) ≡ false
 append_any p [] k e f = or_from (p k) false f refl
-append_any p (x ∷ keys) k e f = grind (arith, nat_tests, common_steps)
+append_any p (x ∷ keys) k e f = grind (arith, common_steps)
 
 distinct_more : (keys : List (List ℕ)) (k : List ℕ) → Distinct keys → list_any (bytes_eq k) keys ≡ false → Distinct (keys ++ k ∷ [])
 distinct_more [] k d e = (refl, tt)
@@ -106,7 +110,7 @@ pub record Grouped (key_of : Row → List ℕ) (done : List Row) (keys : List (L
 
 seen_step : (key_of : Row → List ℕ) (done : List Row) (row : Row) (keys : List (List ℕ)) → keys ≡ seen_after [] (map key_of done)
     → with_key (key_of row) keys ≡ seen_after [] (map key_of (done ++ row ∷ []))
-seen_step key_of done row keys e = grind (arith, nat_tests, common_steps, seen_more [] (map key_of done) (key_of row), map-append key_of done (row ∷ []))
+seen_step key_of done row keys e = grind (arith, common_steps, seen_more [] (map key_of done) (key_of row), map-append key_of done (row ∷ []))
 
 pub grouped_old : (key_of : Row → List ℕ) (done : List Row) (row : Row) (keys : List (List ℕ)) (groups : List (List Row)) → Grouped key_of done keys groups
     → list_any (bytes_eq (key_of row)) keys ≡ true
@@ -137,3 +141,170 @@ grouped_new key_of done row keys groups g e =
           let parts = any_append (bytes_eq x) keys k apart in
           other_key key_of done row x parts.1 ∙ g.covers x parts.0;
     }
+
+-- ---- what one more row does to the keys of a set and to the groups of rows
+
+pub any_texts : {A : Type 0} (k : List ℕ) (keys : List (Vec ℕ A)) → list_any (λ y. bytes_eq k y.items) keys ≡ list_any (bytes_eq k) (texts keys)
+any_texts k [] = refl
+any_texts k (x ∷ keys) = ap (λ (b : Bool). bytes_eq k x.items || b) (any_texts k keys)
+
+place_texts : {A : Type 0} (k : List ℕ) (keys : List (Vec ℕ A)) → position_or_len (λ y. bytes_eq k y.items) keys ≡ position_or_len (bytes_eq k) (texts keys)
+place_texts k [] = refl
+place_texts k (x ∷ keys) = ap (λ (n : ℕ). cond (not (bytes_eq k x.items)) (1 + n) 0) (place_texts k keys)
+
+-- the row at the index comes after those before it
+taken : (rows : List (Bor Row)) (i : ℕ) (row : Bor Row) → i < length rows → row ≡ get_or rows i row → take (suc i) (rows_at rows) ≡ take i (rows_at rows) ++ row.now ∷ []
+taken [] i row lt is = absurd (omega (arith, lt))
+taken (r ∷ rows) zero row lt is = ap (λ (x : Bor Row). x.now ∷ []) (sym is)
+taken (r ∷ rows) (suc i) row lt is = ap (λ (rs : List Row). r.now ∷ rs) (taken rows i row (omega (arith, lt)) is)
+
+pub row_put : {A : Type 0} (groups : List (Vec (Bor Row) A)) (n : ℕ) (d g : Vec (Bor Row) A) (row : Bor Row) → n < length groups → g.items ≡ (get_or groups n d).items ++ row ∷ []
+    → row_groups (set groups n g) ≡ set (row_groups groups) n (get_or (row_groups groups) n [] ++ row.now ∷ [])
+row_put [] n d g row lt is = absurd (omega (arith, lt))
+row_put (x ∷ groups) zero d g row lt is = ap (λ (rs : List (Bor Row)). rows_at rs ∷ row_groups groups) is ∙ ap (λ (rs : List Row). rs ∷ row_groups groups) (map-append (λ r. r.now) x.items (row ∷ []))
+row_put (x ∷ groups) (suc n) d g row lt is = ap (λ (gs : List (List Row)). rows_at x.items ∷ gs) (row_put groups n d g row (omega (arith, lt)) is)
+
+step_by : (b : Bool) (key_of : Row → List ℕ) (done : List Row) (row : Row) (keys new : List (List ℕ)) (groups g1 g2 : List (List Row)) (n : ℕ)
+    → list_any (bytes_eq (key_of row)) keys ≡ b → Grouped key_of done keys groups
+    → new ≡ cond b keys (keys ++ key_of row ∷ []) → n ≡ position_or_len (bytes_eq (key_of row)) keys
+    → g1 ≡ cond (not b) (groups ++ [] ∷ []) groups → g2 ≡ set g1 n (get_or g1 n [] ++ row ∷ [])
+    → Grouped key_of (done ++ row ∷ []) new g2
+step_by true key_of done row keys new groups g1 g2 n any g is place opened put = grind (arith, common_steps, grouped_old key_of done row keys groups g any)
+step_by false key_of done row keys new groups g1 g2 n any g is place opened put = grind (arith, common_steps, grouped_new key_of done row keys groups g any)
+
+pub sees : {A : Type 0} (k : List ℕ) (keys new : List (Vec ℕ A)) (v : Vec ℕ A) (n : ℕ) (is_new : Bool) → v.items ≡ k
+    → new ≡ cond (list_any (λ y. bytes_eq v.items y.items) keys) keys (keys ++ v ∷ [])
+    → n ≡ position_or_len (λ y. bytes_eq v.items y.items) keys
+    → is_new ≡ not (list_any (λ y. bytes_eq v.items y.items) keys)
+    → Sees k (texts keys) (texts new) n is_new
+sees k keys new v n is_new key news place newness = grind (arith, common_steps, any_texts v.items keys, place_texts v.items keys)
+
+pub as_many : (key_of : Row → List ℕ) (done : List Row) (keys : List (List ℕ)) (groups : List (List Row)) → Grouped key_of done keys groups → length groups ≡ length keys
+as_many key_of done keys groups g = ap length g.each ∙ length-map keys (λ k. rows_with key_of k done)
+
+pub step : (key_of : Row → List ℕ) (rows : List (Bor Row)) (i : ℕ) (row : Bor Row) (k : List ℕ) (keys new : List (List ℕ)) (groups after : List (List Row))
+    → i < length rows → row ≡ get_or rows i row → k ≡ key_of row.now → Grouped key_of (take i (rows_at rows)) keys groups → Puts k row.now keys new groups after
+    → Grouped key_of (take (suc i) (rows_at rows)) new after
+step key_of rows i row k keys new groups after lt is key g p =
+    let q : Puts (key_of row.now) row.now keys new groups after = subst (λ z. Puts z row.now keys new groups after) key p in
+    let b = is_seen (key_of row.now) keys in
+    let whole = step_by b key_of (take i (rows_at rows)) row.now keys new groups (cond (not b) (groups ++ [] ∷ []) groups) after (position_or_len (bytes_eq (key_of row.now)) keys) refl g q.keys_are refl refl q.groups_are in
+    rw (taken rows i row lt is) whole
+
+pub finished : (key_of : Row → List ℕ) (rows : List (Bor Row)) (n : ℕ) (keys : List (List ℕ)) (groups : List (List Row)) → length rows ≤ n
+    → Grouped key_of (take n (rows_at rows)) keys groups → groups ≡ groups_of key_of (rows_at rows)
+finished key_of rows n keys groups le g = grind (arith, common_steps)
+
+-- ---- rows are gone through one after the other, with the instances that were seen
+
+abbrev pub newest_first : List (List ℕ) → List (List ℕ)
+newest_first [] = []
+newest_first (x ∷ xs) = newest_first xs ++ x ∷ []
+
+one_newer : (xs : List (List ℕ)) (x : List ℕ) → newest_first (xs ++ x ∷ []) ≡ x ∷ newest_first xs
+one_newer [] x = refl
+one_newer (y ∷ xs) x = ap (λ (l : List (List ℕ)). l ++ y ∷ []) (one_newer xs x)
+
+turned : (a b : Bool) → (a || (b || false)) ≡ (b || a)
+turned v1 v2 = grind (arith, nat_tests)
+
+any_newest : (p : List ℕ → Bool) (xs : List (List ℕ)) → list_any p (newest_first xs) ≡ list_any p xs
+any_newest p [] = refl
+any_newest p (x ∷ xs) = grind (arith, common_steps, any_newest p xs, list_any-append p (newest_first xs) (x ∷ []), turned (list_any p (newest_first xs)) (p x))
+
+not_true : (b c : Bool) → c ≡ not b → c ≡ true → b ≡ false
+not_true v1 c e f = grind (arith, nat_tests)
+
+not_false : (b c : Bool) → c ≡ not b → c ≡ false → b ≡ true
+not_false v1 c e f = grind (arith, nat_tests)
+
+rest_is : (rows : List Row) (at : ℕ) (row : Row) → at < length rows → row ≡ get_or rows at row → drop at rows ≡ row ∷ drop (at + 1) rows
+rest_is rows at row lt is = grind (arith, common_steps, drop-cons rows at row lt)
+
+row_kept : (before : List (List ℕ)) (row : Row) (rows : List Row) → list_any (bytes_eq row.instance) before ≡ false
+    → without_doubles before (row ∷ rows) ≡ row ∷ without_doubles (row.instance ∷ before) rows
+row_kept before row rows e = ap (λ (b : Bool). cond b (without_doubles before rows) (row ∷ without_doubles (row.instance ∷ before) rows)) e
+
+row_left : (before : List (List ℕ)) (row : Row) (rows : List Row) → list_any (bytes_eq row.instance) before ≡ true
+    → without_doubles before (row ∷ rows) ≡ without_doubles before rows
+row_left before row rows e = ap (λ (b : Bool). cond b (without_doubles before rows) (row ∷ without_doubles (row.instance ∷ before) rows)) e
+
+no_double : (at : ℕ) (before : List (List ℕ)) (row : Row) (rows : List Row) → list_any (bytes_eq row.instance) before ≡ false
+    → doubles_after at before (row ∷ rows) ≡ doubles_after (suc at) (row.instance ∷ before) rows
+no_double at before row rows e = ap (λ (b : Bool). cond b (at ∷ doubles_after (suc at) before rows) (doubles_after (suc at) (row.instance ∷ before) rows)) e
+
+one_double : (at : ℕ) (before : List (List ℕ)) (row : Row) (rows : List Row) → list_any (bytes_eq row.instance) before ≡ true
+    → doubles_after at before (row ∷ rows) ≡ at ∷ doubles_after (suc at) before rows
+one_double at before row rows e = ap (λ (b : Bool). cond b (at ∷ doubles_after (suc at) before rows) (doubles_after (suc at) (row.instance ∷ before) rows)) e
+
+-- the rows that are kept so far and the doubles, with those of the rest, are all
+pub record Leaves (rows : List Row) (at : ℕ) (before : List (List ℕ)) (kept : List Row) (doubles : List ℕ) : Type 0 where
+  pub rows_are : kept ++ without_doubles before (drop at rows) ≡ without_doubles [] rows
+  pub doubles_are : doubles ++ doubles_after at before (drop at rows) ≡ doubles_of rows
+
+module _ (rows : List Row) (at : ℕ) (row : Row) (lt : at < length rows) (is : row ≡ get_or rows at row) (keys new : List (List ℕ)) (kept kept2 : List Row) (doubles doubles2 : List ℕ)
+    (l : Leaves rows at (newest_first keys) kept doubles) (t : TakesRow at row keys new kept kept2 doubles doubles2) where
+  next : at + 1 ≡ suc at
+  next = omega arith
+
+  leaves_new : is_seen row.instance keys ≡ false → Leaves rows (at + 1) (newest_first new) kept2 doubles2
+  leaves_new e =
+      let unseen = any_newest (bytes_eq row.instance) keys ∙ e in
+      let after : newest_first new ≡ row.instance ∷ newest_first keys = ap newest_first (t.keys_are ∙ ap (λ (b : Bool). with_one b row.instance keys) e) ∙ one_newer keys row.instance in
+      let grown : kept2 ≡ kept ++ row ∷ [] = t.rows_are ∙ ap (λ (b : Bool). cond b kept (kept ++ row ∷ [])) e in
+      let same : doubles2 ≡ doubles = t.doubles_are ∙ ap (λ (b : Bool). cond b (doubles ++ at ∷ []) doubles) e in
+      record {
+        rows_are =
+            ap (λ (rs : List Row). rs ++ without_doubles (newest_first new) (drop (at + 1) rows)) grown
+            ∙ append_assoc kept (row ∷ []) (without_doubles (newest_first new) (drop (at + 1) rows))
+            ∙ ap (λ (b : List (List ℕ)). kept ++ row ∷ without_doubles b (drop (at + 1) rows)) after
+            ∙ ap (λ (rs : List Row). kept ++ rs) (sym (row_kept (newest_first keys) row (drop (at + 1) rows) unseen) ∙ ap (without_doubles (newest_first keys)) (sym (rest_is rows at row lt is)))
+            ∙ l.rows_are;
+        doubles_are =
+            ap (λ (ds : List ℕ). ds ++ doubles_after (at + 1) (newest_first new) (drop (at + 1) rows)) same
+            ∙ ap₂ (λ (n : ℕ) (b : List (List ℕ)). doubles ++ doubles_after n b (drop (at + 1) rows)) next after
+            ∙ ap (λ (ds : List ℕ). doubles ++ ds) (sym (no_double at (newest_first keys) row (drop (at + 1) rows) unseen) ∙ ap (doubles_after at (newest_first keys)) (sym (rest_is rows at row lt is)))
+            ∙ l.doubles_are;
+      }
+
+  leaves_double : is_seen row.instance keys ≡ true → Leaves rows (at + 1) (newest_first new) kept2 doubles2
+  leaves_double e =
+      let seen = any_newest (bytes_eq row.instance) keys ∙ e in
+      let after : newest_first new ≡ newest_first keys = ap newest_first (t.keys_are ∙ ap (λ (b : Bool). with_one b row.instance keys) e) in
+      let same : kept2 ≡ kept = t.rows_are ∙ ap (λ (b : Bool). cond b kept (kept ++ row ∷ [])) e in
+      let grown : doubles2 ≡ doubles ++ at ∷ [] = t.doubles_are ∙ ap (λ (b : Bool). cond b (doubles ++ at ∷ []) doubles) e in
+      record {
+        rows_are =
+            ap (λ (rs : List Row). rs ++ without_doubles (newest_first new) (drop (at + 1) rows)) same
+            ∙ ap (λ (b : List (List ℕ)). kept ++ without_doubles b (drop (at + 1) rows)) after
+            ∙ ap (λ (rs : List Row). kept ++ rs) (sym (row_left (newest_first keys) row (drop (at + 1) rows) seen) ∙ ap (without_doubles (newest_first keys)) (sym (rest_is rows at row lt is)))
+            ∙ l.rows_are;
+        doubles_are =
+            ap (λ (ds : List ℕ). ds ++ doubles_after (at + 1) (newest_first new) (drop (at + 1) rows)) grown
+            ∙ append_assoc doubles (at ∷ []) (doubles_after (at + 1) (newest_first new) (drop (at + 1) rows))
+            ∙ ap₂ (λ (n : ℕ) (b : List (List ℕ)). doubles ++ at ∷ doubles_after n b (drop (at + 1) rows)) next after
+            ∙ ap (λ (ds : List ℕ). doubles ++ ds) (sym (one_double at (newest_first keys) row (drop (at + 1) rows) seen) ∙ ap (doubles_after at (newest_first keys)) (sym (rest_is rows at row lt is)))
+            ∙ l.doubles_are;
+      }
+
+  leaves_by : (b : Bool) → is_seen row.instance keys ≡ b → Leaves rows (at + 1) (newest_first new) kept2 doubles2
+  leaves_by true e = leaves_double e
+  leaves_by false e = leaves_new e
+
+  pub leaves_next : Leaves rows (at + 1) (newest_first new) kept2 doubles2
+  leaves_next = leaves_by (is_seen row.instance keys) refl
+
+pub leaves_all : (rows : List Row) (at : ℕ) (before : List (List ℕ)) (kept : List Row) (doubles : List ℕ) → length rows ≤ at → Leaves rows at before kept doubles
+    → (kept ≡ without_doubles [] rows) × (doubles ≡ doubles_of rows)
+leaves_all rows at before kept doubles le l = grind (arith, common_steps, append-nil kept, append-nil doubles)
+
+-- one row more is one
+pub all_more : {X : Type 0} (P : X → Type 0) (xs : List X) (at : ℕ) (x : X) → at < length xs → x ≡ get_or xs at x → P x → AllByRecursion P (take at xs) → AllByRecursion P (take (at + 1) xs)
+all_more P [] at x lt is one all = absurd (omega (arith, lt))
+all_more P (y ∷ xs) zero x lt is one all = (subst P is one, tt)
+all_more P (y ∷ xs) (suc at) x lt is one all =
+    let next : suc at + 1 ≡ suc (at + 1) = omega arith in
+    rw next (all.0, all_more P xs at x (omega (arith, lt)) is one all.1)
+
+pub all_taken : {X : Type 0} (P : X → Type 0) (xs : List X) (at : ℕ) → length xs ≤ at → AllByRecursion P (take at xs) → AllByRecursion P xs
+all_taken P xs at le all = rw (← take_all at xs le) all

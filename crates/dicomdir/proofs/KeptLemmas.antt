@@ -3,16 +3,13 @@ use Rattle.std.proofs.Common.{◌≡◌, ℕ, suc, ◌+◌, ◌<◌, ◌≤◌, 
 use Rattle.std.proofs.lemmas.List.{append_assoc, append-nil, drop_more, drop_all}
 use Rattle.dicomdir.specs.TreeOf.{Forest, no_nodes, node}
 use Rattle.dicomdir.specs.Linked.{PlacedNode, nodes_of}
-use Rattle.dicomdir.specs.NodesInUse.{LevelNode, nodes_in_use, HasNodes}
-use Rattle.dicomdir.specs.Kept.{pruned, images_of, file_id_of_image, KeptOf}
-use Rattle.dicomdir.specs.TreeNodes.{kept_in, node_of}
+use Rattle.dicomdir.specs.NodesInUse.{LevelNode, nodes_in_use, HasNodes, pruned, images_of, file_id_of_image, KeptOf, kept_in, node_of}
 use Rattle.dicomdir.specs.declared.tree.TreeRecord.{TreeRecord}
-use Rattle.std.proofs.lemmas.Bool.Decides.{nat_tests}
 use Rattle.std.proofs.lemmas.Grind.{common_steps}
 
 kept_append : (xs ys : List LevelNode) → kept_in (xs ++ ys) ≡ kept_in xs ++ kept_in ys
 kept_append [] ys = refl
-kept_append (x ∷ xs) ys = grind (arith, nat_tests, common_steps, kept_append xs ys, append_assoc (file_id_of_image x.carries) (kept_in xs) (kept_in ys))
+kept_append (x ∷ xs) ys = grind (arith, common_steps, kept_append xs ys, append_assoc (file_id_of_image x.carries) (kept_in xs) (kept_in ys))
 
 kept_are_in_use : (level : ℕ) (placed : Forest PlacedNode) → KeptOf (nodes_of placed) ≡ kept_in (nodes_in_use level placed)
 kept_are_in_use level no_nodes = refl
@@ -38,7 +35,7 @@ kept_from i records = kept_in (map node_of (drop i records))
 pub kept_one_more : (records : List TreeRecord) (i : ℕ) (d : TreeRecord) (kept one : List (List ℕ)) → i < length records
     → one ≡ file_id_of_image (node_of (get_or records i d)).carries → kept ++ kept_from i records ≡ kept_in (map node_of records)
     → (kept ++ one) ++ kept_from (i + 1) records ≡ kept_in (map node_of records)
-kept_one_more records i d kept one within is all = grind (arith, nat_tests, common_steps, drop_more records i d within, append_assoc kept one (kept_from (i + 1) records))
+kept_one_more records i d kept one within is all = grind (arith, common_steps, drop_more records i d within, append_assoc kept one (kept_from (i + 1) records))
 
 pub kept_whole : (records : List TreeRecord) (kept : List (List ℕ)) (i : ℕ) → length records ≤ i → kept ++ kept_from i records ≡ kept_in (map node_of records) → kept ≡ kept_in (map node_of records)
-kept_whole records kept i le all = grind (arith, nat_tests, common_steps, drop_all i records le, append-nil kept)
+kept_whole records kept i le all = grind (arith, common_steps, drop_all i records le, append-nil kept)

@@ -26,16 +26,13 @@ use Rattle.dicomdir.specs.Directory.{missing, found, carried_node, next_offset, 
 use Rattle.dicomdir.specs.FileId.{file_id_of}
 use Rattle.dicomdir.specs.KeyTable.{has_level, key_table}
 use Rattle.dicomdir.specs.Keys.{IsRow, optional_size, fits_room}
-use Rattle.dicomdir.specs.Layout.{with_offsets}
-use Rattle.dicomdir.specs.Levels.{is_image}
+use Rattle.dicomdir.specs.Record.{with_offsets, tag, record_elements, padding_for, key_field_of, written, key_fields, kind_of, file_fields, record_for, patient_record, study_record, series_record, image_record}
+use Rattle.dicomdir.specs.TreeOf.{is_image}
 use Rattle.dicomdir.specs.Linked.{fits}
-use Rattle.dicomdir.specs.Record.{tag, record_elements, padding_for, key_field_of, written, key_fields, kind_of, file_fields, record_for, patient_record, study_record, series_record, image_record}
 use Rattle.dicomdir.specs.Row.{Row, key}
 use Rattle.dicomdir.proofs.Distinct.{not_true}
-use Rattle.dicomdir.proofs.FileIds.{file_id_room}
-use Rattle.dicomdir.proofs.FileIdText.{file_id_back}
-use Rattle.dicomdir.proofs.Laid.{is_laid, is_header, is_element, is_value, is_sequence}
-use Rattle.dicomdir.proofs.LaidFields.{IsFixed, IsGood, is_fixed, fixed_from, good_none, good_value, good_key}
+use Rattle.dicomdir.proofs.FileIds.{file_id_room, file_id_back}
+use Rattle.dicomdir.proofs.Laid.{is_laid, is_header, is_element, is_value, is_sequence, IsFixed, IsGood, is_fixed, fixed_from, good_none, good_value, good_key}
 use Rattle.dicomdir.proofs.RecordLemmas.{syntax_uid_short}
 use Rattle.std.proofs.lemmas.Grind.{common_steps}
 
@@ -49,7 +46,7 @@ uid_room text e =
 -- a record's offsets, its flag and its type, before good elements
 good_start : (next lower : ℕ) (kind : List ℕ) (es : Elements) → length kind ≤ 1024 → IsGood 0x00041430 es → IsGood 0 (with_offsets next lower (record_elements kind es))
 unfolding is_short
-good_start next lower kind es short good = grind (arith, nat_tests, common_steps)
+good_start next lower kind es short good = grind (arith, common_steps)
 
 rising_more : (last more : ℕ) (es : Elements) → last ≤ more → IsGood more es → IsGood last es
 rising_more last more es le good = record { laid = later last more es le good.laid; size = good.size; even = good.even }

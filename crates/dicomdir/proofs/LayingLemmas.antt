@@ -8,15 +8,11 @@ use Rattle.dicomdir.specs.declared.level.Level.TheVariants.{Patient, Study, Seri
 use Rattle.dicomdir.specs.declared.build_plan.LaidRecord.{LaidRecord}
 use Rattle.dicomdir.specs.declared.build_plan.Stop.{Stop}
 use Rattle.std.specs.Borrow.{Bor}
-use Rattle.dicomdir.specs.Grouping.{groups_of, rows_at, row_groups}
-use Rattle.dicomdir.specs.Laying.{StopsFor, place_from_end, entry_text, laid_text, forest_text, has_none, Adds, groups_forest, Lays}
-use Rattle.dicomdir.specs.Layout.{spelled, spelled_items, with_offsets, record_item}
-use Rattle.dicomdir.specs.Record.{record_for}
-use Rattle.dicomdir.specs.Levels.{forest_for, lower_level, is_image}
+use Rattle.dicomdir.specs.TreeOf.{groups_of, rows_at, row_groups, forest_for, lower_level, is_image, Forest, no_nodes, node, group_node, group_nodes, rows_with, seen_after, images, key_for}
+use Rattle.dicomdir.specs.machine.Building.{StopsFor, place_from_end, entry_text, laid_text, forest_text, has_none, Adds, groups_forest, Lays}
+use Rattle.dicomdir.specs.Record.{spelled, spelled_items, with_offsets, record_item, record_for, record_text}
 use Rattle.dicomdir.specs.Places.{record_size, forest_size, with_places, first_record_place, last_record_place, last_record_place_after}
-use Rattle.dicomdir.specs.RecordText.{record_text}
 use Rattle.dicomdir.specs.Row.{Row}
-use Rattle.dicomdir.specs.TreeOf.{Forest, no_nodes, node, group_node, group_nodes, rows_with, seen_after, images, key_for}
 use Rattle.std.proofs.lemmas.Grind.{common_steps}
 
 none_is : (n : ℕ) → 0 < n → nat_eq n 0 ≡ false
@@ -51,8 +47,8 @@ module _ {A : Type 0} (forest : Forest Elements) (old new : List (LaidRecord A))
 
 last_of_node : (next : Forest Elements) (start p s f l last total : ℕ) → nat_eq f 0 ≡ has_none next → last ≡ cond (nat_eq f 0) s l → place_from_end total s ≡ start
     → place_from_end total l ≡ last_record_place (with_places p next) → place_from_end total last ≡ last_record_place_after start (with_places p next)
-last_of_node no_nodes start p s f l last total none is own others = grind (arith, nat_tests, common_steps)
-last_of_node (node es below next) start p s f l last total none is own others = grind (arith, nat_tests, common_steps)
+last_of_node no_nodes start p s f l last total none is own others = grind (arith, common_steps)
+last_of_node (node es below next) start p s f l last total none is own others = grind (arith, common_steps)
 
 record_is : (level : Level) (row : Row) (next lower : ℕ) → record_text level row next lower ≡ spelled_items (record_item next lower (record_for level row) no_items)
 unfolding record_text
@@ -110,7 +106,7 @@ group_size r b v3 next = grind (arith, nat_tests)
 pub dropped_size : (r : Row → Elements) (b : List Row → Forest Elements) (n : ℕ) (groups : List (List Row)) → forest_size (groups_forest r b (drop n groups)) ≤ forest_size (groups_forest r b groups)
 dropped_size r b zero groups = omega arith
 dropped_size r b (suc n) [] = omega arith
-dropped_size r b (suc n) (g ∷ groups) = grind (arith, nat_tests, common_steps, dropped_size r b n groups, group_size r b g (groups_forest r b groups))
+dropped_size r b (suc n) (g ∷ groups) = grind (arith, common_steps, dropped_size r b n groups, group_size r b g (groups_forest r b groups))
 
 nodes_are : (key_of : Row → List ℕ) (r : Row → Elements) (b : List Row → Forest Elements) (rows : List Row) (keys : List (List ℕ))
     → group_nodes key_of r b rows keys ≡ groups_forest r b (map (λ k. rows_with key_of k rows) keys)
@@ -135,7 +131,7 @@ named : {A : Type 0} (forest : Forest Elements) (e0 e1 : List (LaidRecord A)) (s
 named forest e0 e1 s0 s1 f l first last lays a b = rw (a, b) lays
 
 last_row : {X : Type 0} (xs : List X) (at : ℕ) (x : X) → 0 < at → at ≤ length xs → x ≡ get_or xs (at - 1) x → drop (at - 1) xs ≡ x ∷ drop at xs
-last_row xs at x some le is = grind (arith, nat_tests, common_steps)
+last_row xs at x some le is = grind (arith, common_steps)
 
 pub image_laid : {A : Type 0} (rows : List (Bor Row)) (at : ℕ) (row : Bor Row) (e0 e1 e2 : List (LaidRecord A)) (s0 s1 s2 f l start first last : ℕ)
     → 0 < at → at ≤ length rows → row ≡ get_or rows (at - 1) row
@@ -162,7 +158,7 @@ pub image_stops : {A : Type 0} (rows : List (Bor Row)) (at : ℕ) (row : Bor Row
     → 0 < at → at ≤ length rows → row ≡ get_or rows (at - 1) row
     → Lays (images (rows_at (drop at rows))) e0 e1 s0 s1 f l → StopsFor (s1 + record_size (record_for Image row.now)) stop
     → StopsFor (s0 + forest_size (images (rows_at rows))) stop
-image_stops rows at row e0 e1 s0 s1 f l stop some le is lays stops = grind (arith, nat_tests, common_steps, rows_dropped rows (at - 1), images_dropped (rows_at rows) (at - 1), last_row rows at row some le is)
+image_stops rows at row e0 e1 s0 s1 f l stop some le is lays stops = grind (arith, common_steps, rows_dropped rows (at - 1), images_dropped (rows_at rows) (at - 1), last_row rows at row some le is)
 
 pub group_more : {X : Type 0} (group : List X) (row : X) → slice_get group 0 ≡ Some row → group ≡ row ∷ drop 1 group
 group_more v1 row e = grind (arith, nat_tests)
@@ -238,5 +234,5 @@ none_now (x ∷ group) e = absurd cc
 
 pub whole_laid : {A : Type 0} (level : Level) (groups : List (List Row)) (rows : List Row) (at : ℕ) (e0 e1 : List (LaidRecord A)) (s0 s1 f l : ℕ) → is_image level ≡ false → groups ≡ groups_of (key_for level) rows → at ≤ 0
     → Lays (groups_forest (record_for level) (forest_for (lower_level level)) (drop at groups)) e0 e1 s0 s1 f l → Lays (forest_for level rows) e0 e1 s0 s1 f l
-whole_laid level groups rows zero e0 e1 s0 s1 f l image are le lays = grind (arith, nat_tests, common_steps, forest_is level rows image)
+whole_laid level groups rows zero e0 e1 s0 s1 f l image are le lays = grind (arith, common_steps, forest_is level rows image)
 whole_laid level groups rows (suc at) e0 e1 s0 s1 f l image are le lays = absurd (omega (arith, le))

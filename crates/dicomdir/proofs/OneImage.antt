@@ -1,22 +1,23 @@
--- The directory of one image is linked, and offsets that leave the preamble out link nothing.
-use Rattle.std.proofs.Common.{◌≡◌, ℕ, ◌≤◌, List, [], ◌∷◌, ◌++◌, length, replicate, Option, Some, None, refl, subst, arith, codes}
+-- Worked directories: what is linked, the faults, the places and what is kept compute.
+use Rattle.std.proofs.Common.{◌≡◌, ℕ, ◌≤◌, List, [], ◌∷◌, ◌++◌, length, replicate, Option, Some, None, refl, subst, arith, codes, sym}
 use Rattle.element.specs.declared.syntax.Syntax.TheVariants.{Explicit}
 use Rattle.element.specs.Vr.{is_short}
 use Rattle.part10.specs.declared.meta.Meta.{Meta}
 use Rattle.part10.specs.File.{head, meta_group, identity_elements, implementation_elements, title_element}
-use Rattle.part10.specs.MetaText.{SpellsMeta, said_of}
-use Rattle.part10.proofs.Public.{head_is_read}
+use Rattle.part10.specs.MetaText.{SpellsMeta, said_of, HasMeta}
+use Rattle.part10.proofs.Public.{head_is_read, no_headers, other_syntax_is_a_fault, least_read}
 use Rattle.sequence.specs.Tree.{Elements}
 use Rattle.dicomdir.specs.TreeOf.{Forest, no_nodes, node, TreeOf}
 use Rattle.dicomdir.specs.Directory.{IsExplicitFile, IsDirectoryFile, Record, carried_node, records_of}
 use Rattle.dicomdir.specs.Linked.{Linked, PlacedNode, carried_forest, record_at, first_place, AreLinked, elements_at}
-use Rattle.dicomdir.specs.DirFault.{directory_fault}
-use Rattle.dicomdir.specs.Layout.{spelled}
-use Rattle.dicomdir.specs.OneImage.{one_image_row, one_image_header, one_image_file, one_image_elements, OneImageIsLinked, OneImageFaults, preamble_left_out, PreambleCounts, RecordFaults, no_rows_elements, NoRowsAreLinked}
-use Rattle.dicomdir.specs.NodesInUseExamples.{OneImageHasNodes}
-use Rattle.dicomdir.specs.Groups.{RowsAreGrouped, FileIdsAreRead}
-use Rattle.dicomdir.specs.Record.{patient_record, study_record, series_record, image_record}
+use Rattle.dicomdir.specs.DirFault.{directory_fault, in_header, in_syntax}
+use Rattle.dicomdir.specs.Record.{spelled, patient_record, study_record, series_record, image_record}
+use Rattle.dicomdir.specs.Examples.{one_image_row, one_image_header, one_image_file, one_image_elements, OneImageIsLinked, OneImageFaults, preamble_left_out, PreambleCounts, RecordFaults, no_rows_elements, NoRowsAreLinked, OneImageHasNodes, RowsAreGrouped, FileIdsAreRead, InactiveRecords, PlacesAreAssigned, HeaderFaults}
 use Rattle.dicomdir.proofs.Laid.{laid_elements}
+use Rattle.dicomdir.specs.Places.{directory_elements}
+use Rattle.std.proofs.lemmas.List.{append-nil}
+use Rattle.part10.specs.declared.meta_fault.MetaFault.TheVariants.{NotPart10, OtherSyntax}
+use Rattle.part10.specs.Examples.{least_header, least_said}
 
 one_image_meta : Meta
 one_image_meta = record {
@@ -211,3 +212,32 @@ one_image_has_nodes = record {
   all_reached = refl;
   nodes_are = refl;
 }
+
+-- ---- inactive records are followed, and what they keep computes
+
+pub inactive_records : InactiveRecords
+unfolding directory_fault directory_elements is_short
+inactive_records = (refl, refl, refl, refl, refl, refl, refl, refl, refl, refl, refl)
+
+-- ---- the places and the sizes of known directories compute
+
+pub places_are_assigned : PlacesAreAssigned
+unfolding TreeOf directory_elements is_short
+places_are_assigned = (refl, refl, refl, refl, refl, refl, refl, refl, refl, refl, refl, refl, refl, refl)
+
+-- ---- faults of the file header
+
+implicit_is : SpellsMeta (least_said (codes "1.2.840.10008.1.2")) (least_header (codes "1.2.840.10008.1.2"))
+unfolding is_short
+implicit_is = least_read (codes "1.2.840.10008.1.2") refl (omega arith)
+
+implicit_has : HasMeta (least_said (codes "1.2.840.10008.1.2")) (least_header (codes "1.2.840.10008.1.2"))
+implicit_has = record {
+  front = least_header (codes "1.2.840.10008.1.2");
+  back = [];
+  whole = sym (append-nil (least_header (codes "1.2.840.10008.1.2")));
+  spelled = implicit_is;
+}
+
+pub header_faults : HeaderFaults
+header_faults = (in_header NotPart10 no_headers.0, in_header OtherSyntax other_syntax_is_a_fault.1, in_syntax implicit_has refl)

@@ -1,17 +1,19 @@
 -- The forest that following the offsets goes through has just the nodes that paths name.
-use Rattle.std.proofs.Common.{◌≡◌, ℕ, zero, suc, ◌<◌, Bool, true, false, ◌&&◌, List, [], ◌∷◌, ◌++◌, filter, refl, sym, ap, ◌∙◌, arith, Option, Some, None, nat_eq, if◌then◌else◌}
-use Rattle.std.specs.List.{flat_map}
-use Rattle.std.proofs.lemmas.Bool.{or_parts, cond-false}
+use Rattle.std.proofs.Common.{◌≡◌, ℕ, zero, suc, ◌<◌, Bool, true, false, ◌&&◌, List, [], ◌∷◌, ◌++◌, filter, refl, sym, ap, ◌∙◌, arith, Option, Some, None, nat_eq, if◌then◌else◌, not}
+use Rattle.std.specs.List.{flat_map, list_all}
+use Rattle.std.proofs.lemmas.Bool.{or_parts, cond-false, and_parts, and_from, or_right, or_left, or_from, false_from_ne_true}
 use Rattle.std.proofs.lemmas.Bool.Decides.{nat_tests}
 use Rattle.std.proofs.lemmas.Grind.{common_steps}
 use Rattle.std.proofs.lemmas.List.Folds.{list_any-append}
 use Rattle.sequence.specs.Tree.{Elements, no_elements}
 use Rattle.dicomdir.specs.TreeOf.{Forest, no_nodes, node, count_of}
 use Rattle.dicomdir.specs.Directory.{Record, carried_node, lower_offset, next_offset, or_zero}
-use Rattle.dicomdir.specs.Linked.{PlacedNode, places_of, first_place, last_place_behind, record_at, AreLinked, is_one_of, elements_at, lower_at, next_at}
+use Rattle.dicomdir.specs.Linked.{PlacedNode, places_of, first_place, last_place_behind, record_at, AreLinked, is_one_of, elements_at, lower_at, next_at, is_distinct}
 use Rattle.dicomdir.specs.NodesInUse.{LevelNode, nodes_in_use}
 use Rattle.dicomdir.specs.Paths.{Links, Turn, named_by, level_of, paths_from, reached_by, root_records, last_from}
 use Rattle.dicomdir.specs.machine.Trail.{is_shown, node_on}
+use Rattle.dicomdir.specs.DirFault.{Fault, ◌or_else◌, names_no_record, names_wrong_level, path_fault, first_fault}
+use Rattle.dicomdir.proofs.Distinct.{not_true, same_place, not_place, clash, same_out, either_out}
 
 -- the forest from an offset, with no more records one after or below the other than the first number says
 abbrev pub forest_from : ℕ → List Record → ℕ → Forest PlacedNode
@@ -32,17 +34,17 @@ next_path links path = record { place = named_by links path; lower = false } ∷
 
 pub paths_none : (most : ℕ) (links : Links) (path : List Turn) → named_by links path ≡ 0 → paths_from most links path ≡ []
 paths_none zero links path e = refl
-paths_none (suc most) links path e = grind (arith, nat_tests, common_steps)
+paths_none (suc most) links path e = grind (arith, common_steps)
 
 pub paths_more : (most : ℕ) (links : Links) (path : List Turn) → nat_eq (named_by links path) 0 ≡ false
     → paths_from (suc most) links path ≡ path ∷ (paths_from most links (lower_path links path) ++ paths_from most links (next_path links path))
-paths_more most links path e = grind (arith, nat_tests, common_steps, cond-false (nat_eq (named_by links path) 0) [] (path ∷ (paths_from most links (lower_path links path) ++ paths_from most links (next_path links path))) e)
+paths_more most links path e = grind (arith, common_steps, cond-false (nat_eq (named_by links path) 0) [] (path ∷ (paths_from most links (lower_path links path) ++ paths_from most links (next_path links path))) e)
 
 -- its places are those that the paths name
 
 pub forest_places : (most : ℕ) (links : Links) (path : List Turn) → places_of (forest_from most links.records (named_by links path)) ≡ reached_by links (paths_from most links path)
 forest_places zero links path = refl
-forest_places (suc most) links path = grind (arith, nat_tests, common_steps, forest_places most links (lower_path links path), forest_places most links (next_path links path))
+forest_places (suc most) links path = grind (arith, common_steps, forest_places most links (lower_path links path), forest_places most links (next_path links path))
 
 -- paths below the root's records name none of them, so the last of these is the forest's last place
 
@@ -53,14 +55,14 @@ none_at_root : (most : ℕ) (links : Links) (path : List Turn) → 1 < level_of 
 none_at_root zero links path low = refl
 none_at_root (suc most) links path low =
     let not_one : at_root path ≡ false = grind (arith, nat_tests, low) in
-    grind (arith, nat_tests, common_steps, none_at_root most links (lower_path links path) (omega (arith, low)), none_at_root most links (next_path links path) low)
+    grind (arith, common_steps, none_at_root most links (lower_path links path) (omega (arith, low)), none_at_root most links (next_path links path) low)
 
 pub forest_last : (most : ℕ) (links : Links) (path : List Turn) (last : ℕ) → level_of path ≡ 1
     → last_place_behind last (forest_from most links.records (named_by links path)) ≡ last_from last (root_records links (paths_from most links path))
 forest_last zero links path last top = refl
 forest_last (suc most) links path last top =
     let here : at_root path ≡ true = ap (λ z. nat_eq z 1) top in
-    grind (arith, nat_tests, common_steps, none_at_root most links (lower_path links path) (omega (arith, top)), forest_last most links (next_path links path) (named_by links path) top)
+    grind (arith, common_steps, none_at_root most links (lower_path links path) (omega (arith, top)), forest_last most links (next_path links path) (named_by links path) top)
 
 -- the nodes in use that no inactive record is above
 
@@ -77,7 +79,7 @@ joined v1 u k bs ns = grind (arith, nat_tests)
 pub forest_nodes : (most : ℕ) (links : Links) (path : List Turn)
     → flat_map (node_on links) (paths_from most links path) ≡ shown_nodes (is_shown links path) (level_of path) (forest_from most links.records (named_by links path))
 forest_nodes zero links path = none_shown (is_shown links path) (level_of path)
-forest_nodes (suc most) links path = grind (arith, nat_tests, common_steps, forest_nodes most links (lower_path links path), forest_nodes most links (next_path links path))
+forest_nodes (suc most) links path = grind (arith, common_steps, forest_nodes most links (lower_path links path), forest_nodes most links (next_path links path))
 
 -- a forest that records are linked to is that one
 
@@ -100,4 +102,74 @@ followed_is (node n below next) (suc most) records level linked nonzero few =
     let carries : carried_node (elements_at records n.place) ≡ n.carries = ap (λ z. carried_node z) same ∙ here.carries in
     let bs : forest_from most records (lower_at records n.place) ≡ below = ap (λ z. forest_from most records z) low ∙ followed_is below most records (suc level) linked.1 inside.0 (omega (arith, few)) in
     let ns : forest_from most records (next_at records n.place) ≡ next = ap (λ z. forest_from most records z) nxt ∙ followed_is next most records level linked.2 inside.1 (omega (arith, few)) in
-    grind (arith, nat_tests, common_steps, cond-false (nat_eq n.place 0) no_nodes (node (record { place = n.place; carries = carried_node (elements_at records n.place) }) (forest_from most records (lower_at records n.place)) (forest_from most records (next_at records n.place))) some)
+    grind (arith, common_steps, cond-false (nat_eq n.place 0) no_nodes (node (record { place = n.place; carries = carried_node (elements_at records n.place) }) (forest_from most records (lower_at records n.place)) (forest_from most records (next_at records n.place))) some)
+
+-- ---- paths have no fault where each names another record, which fits its level
+
+abbrev pub is_good : Links → List Turn → Bool
+is_good links path = not (names_no_record links path) && not (names_wrong_level links path)
+
+-- the places that they name are distinct, and none of them was reached
+pub record AreFree (links : Links) (reached : List ℕ) (paths : List (List Turn)) : Type 0 where
+  pub distinct : is_distinct (reached_by links paths) ≡ true
+  pub apart : (p : ℕ) → is_one_of p (reached_by links paths) ≡ true → is_one_of p reached ≡ false
+  pub good : list_all (is_good links) paths ≡ true
+
+pub both_none : (a b : Option Fault) → (a or_else b) ≡ None → (a ≡ None) × (b ≡ None)
+both_none v1 b e = grind (arith, nat_tests)
+
+pub or_some : (a b : Option Fault) (x : Fault) → a ≡ Some x → (a or_else b) ≡ Some x
+or_some v1 b x e = grind (arith, nat_tests)
+
+pub or_none : (a b : Option Fault) → a ≡ None → (a or_else b) ≡ b
+or_none v1 b e = grind (arith, nat_tests)
+
+pub two_none : (a b : Option Fault) → a ≡ None → b ≡ None → (a or_else b) ≡ None
+two_none v1 b e f = grind (arith, nat_tests)
+
+pub path_free : (links : Links) (reached : List ℕ) (path : List Turn) → path_fault links reached path ≡ None
+    → (names_no_record links path ≡ false) × (is_one_of (named_by links path) reached ≡ false) × (names_wrong_level links path ≡ false)
+path_free links reached path e = grind (arith, nat_tests)
+
+pub free_path : (links : Links) (reached : List ℕ) (path : List Turn) → names_no_record links path ≡ false → is_one_of (named_by links path) reached ≡ false → names_wrong_level links path ≡ false
+    → path_fault links reached path ≡ None
+free_path links reached path a b c = rw (a, b, c) refl
+
+pub are_free : (links : Links) (reached : List ℕ) (paths : List (List Turn)) → first_fault links reached paths ≡ None → AreFree links reached paths
+are_free links reached [] e = record { distinct = refl; apart = λ p h. absurd cc; good = refl }
+are_free links reached (path ∷ paths) e =
+    let o : ℕ = named_by links path in
+    let parts = both_none (path_fault links reached path) (first_fault links (o ∷ reached) paths) e in
+    let here = path_free links reached path parts.0 in
+    let rest = are_free links (o ∷ reached) paths parts.1 in
+    let new : is_one_of o (reached_by links paths) ≡ false = false_from_ne_true (is_one_of o (reached_by links paths))
+    (λ h. clash (is_one_of o (o ∷ reached)) (or_left (nat_eq o o) (is_one_of o reached) (same_place o)) (rest.apart o h)) in
+    let first : not (is_one_of o (reached_by links paths)) ≡ true = rw new refl in
+    let well : is_good links path ≡ true = rw (here.0, here.2) refl in
+    record {
+      distinct = and_from (not (is_one_of o (reached_by links paths))) (is_distinct (reached_by links paths)) first rest.distinct;
+      apart = λ p h. either_out (nat_eq p o) (is_one_of p (reached_by links paths)) (is_one_of p reached)
+          (λ same. same_out p o reached same here.1)
+          (λ among. (or_parts (nat_eq p o) (is_one_of p reached) (rest.apart p among)).1)
+          h;
+      good = and_from (is_good links path) (list_all (is_good links) paths) well rest.good;
+    }
+
+pub good_parts : (links : Links) (path : List Turn) → is_good links path ≡ true → (names_no_record links path ≡ false) × (names_wrong_level links path ≡ false)
+good_parts links path e = grind (arith, common_steps, and_parts (not (names_no_record links path)) (not (names_wrong_level links path)) e)
+
+pub free_paths : (links : Links) (reached : List ℕ) (paths : List (List Turn)) → AreFree links reached paths → first_fault links reached paths ≡ None
+free_paths links reached [] free = refl
+free_paths links reached (path ∷ paths) free =
+    let o : ℕ = named_by links path in
+    let apart = and_parts (not (is_one_of o (reached_by links paths))) (is_distinct (reached_by links paths)) free.distinct in
+    let none : is_one_of o (reached_by links paths) ≡ false = not_true (is_one_of o (reached_by links paths)) apart.0 in
+    let well = and_parts (is_good links path) (list_all (is_good links) paths) free.good in
+    let here = good_parts links path well.0 in
+    let new : is_one_of o reached ≡ false = free.apart o (or_left (nat_eq o o) (is_one_of o (reached_by links paths)) (same_place o)) in
+    two_none (path_fault links reached path) (first_fault links (o ∷ reached) paths) (free_path links reached path here.0 new here.1)
+    (free_paths links (o ∷ reached) paths (record {
+      distinct = apart.1;
+      apart = λ p h. or_from (nat_eq p o) (is_one_of p reached) (not_place p o (reached_by links paths) none h) (free.apart p (or_right (nat_eq p o) (is_one_of p (reached_by links paths)) h));
+      good = well.1;
+    }))

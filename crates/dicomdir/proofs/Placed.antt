@@ -1,18 +1,22 @@
 -- The records of a forest with places: where they stand, what stands there, and how they are linked.
-use Rattle.std.proofs.Common.{◌≡◌, ℕ, suc, ◌+◌, ◌^◌, ◌<◌, ◌≤◌, Bool, true, false, not, ◌||◌, List, [], ◌∷◌, ◌++◌, Option, Some, None, refl, sym, ap, ◌∙◌, arith, nat_eq, nat_lt, ltb-true, if◌then◌else◌}
-use Rattle.std.specs.List.{list_any, list_all}
+use Rattle.std.proofs.Common.{◌≡◌, ℕ, suc, ◌+◌, ◌^◌, ◌<◌, ◌≤◌, Bool, true, false, not, ◌||◌, List, [], ◌∷◌, ◌++◌, Option, Some, None, refl, sym, ap, ◌∙◌, arith, nat_eq, nat_lt, ltb-true, if◌then◌else◌, filter}
+use Rattle.std.specs.List.{list_any, list_all, AllByRecursion}
 use Rattle.std.proofs.lemmas.Bool.{and_from, and_parts, ltb-false, or_right, or_left, or_from}
 use Rattle.std.proofs.lemmas.Bool.Decides.{nat_tests}
 use Rattle.std.proofs.lemmas.List.Folds.{list_any-append, list_all-append}
 use Rattle.sequence.specs.Tree.{Elements}
 use Rattle.dicomdir.specs.Directory.{Record, carried_node}
-use Rattle.dicomdir.specs.Layout.{with_offsets}
+use Rattle.dicomdir.specs.Record.{with_offsets, patient_record, study_record, series_record}
 use Rattle.dicomdir.specs.Linked.{PlacedNode, carried_forest, nodes_of, places_of, first_place, last_place_behind, is_distinct, record_at, are_records, AreLinked, is_one_of}
 use Rattle.dicomdir.specs.Places.{record_size, forest_size, with_places, first_record_place, last_record_place_after}
-use Rattle.dicomdir.specs.TreeOf.{Forest, no_nodes, node}
-use Rattle.dicomdir.proofs.LaidRecords.{IsNode}
+use Rattle.dicomdir.specs.TreeOf.{Forest, no_nodes, node, key_for, rows_with, group_node, group_nodes, images, series, studies, TreeOf}
+use Rattle.dicomdir.proofs.LaidRecords.{IsNode, patient_node, study_node, series_node, image_node}
 use Rattle.dicomdir.proofs.Distinct.{not_true, same_place, second_true, third_true}
 use Rattle.std.proofs.lemmas.Grind.{common_steps}
+use Rattle.std.specs.Str.{bytes_eq}
+use Rattle.dicomdir.specs.Keys.{IsRow}
+use Rattle.dicomdir.specs.Row.{Row, without_doubles}
+use Rattle.dicomdir.specs.declared.level.Level.TheVariants.{Patient, Study, Series}
 
 -- each record of the tree is one of its level
 abbrev pub AreNodes : ℕ → Forest Elements → Type 0
@@ -32,7 +36,7 @@ placed (node r below next) = node (record { place = r.place; carries = carried_n
 
 pub nodes_are : (place : ℕ) (tree : Forest Elements) → nodes_of (placed (with_places place tree)) ≡ carried_forest tree
 nodes_are place no_nodes = refl
-nodes_are place (node es below next) = grind (arith, nat_tests, common_steps, nodes_are (place + record_size es) below, nodes_are (place + record_size es + forest_size below) next)
+nodes_are place (node es below next) = grind (arith, common_steps, nodes_are (place + record_size es) below, nodes_are (place + record_size es + forest_size below) next)
 
 pub first_same : (f : Forest Record) → first_place (placed f) ≡ first_record_place f
 first_same v1 = grind (arith, nat_tests)
@@ -50,7 +54,7 @@ first_small place (node es below next) lt = omega (arith, lt)
 
 pub last_small : (last place : ℕ) (tree : Forest Elements) → last < 2 ^ 32 → place + forest_size tree < 2 ^ 32 → last_record_place_after last (with_places place tree) < 2 ^ 32
 last_small last place no_nodes small lt = small
-last_small last place (node es below next) small lt = grind (arith, nat_tests, common_steps, last_small place (place + record_size es + forest_size below) next (omega (arith, lt)) (omega (arith, lt)))
+last_small last place (node es below next) small lt = grind (arith, common_steps, last_small place (place + record_size es + forest_size below) next (omega (arith, lt)) (omega (arith, lt)))
 
 -- what stands at a place
 
@@ -206,3 +210,39 @@ good_records place (node es below next) level nodes =
     and_from _ _ (nodes.0.whole _ _)
     (list_all-append _ (written (with_places after below)) (written (with_places beyond next))
     ∙ and_from _ _ (good_records after below (suc level) nodes.1) (good_records beyond next level nodes.2))
+
+-- ---- each node of the tree of rows is a record of its level
+
+abbrev AreRows : List Row → Type 0
+AreRows rows = AllByRecursion IsRow rows
+
+with_rows : (p : Row → Bool) (rows : List Row) → AreRows rows → AreRows (filter p rows)
+with_rows p [] all = all
+with_rows p (row ∷ rows) all = grind (arith, nat_tests, with_rows p rows all.1)
+
+no_doubles : (before : List (List ℕ)) (rows : List Row) → AreRows rows → AreRows (without_doubles before rows)
+no_doubles before [] all = all
+no_doubles before (row ∷ rows) all = grind (arith, nat_tests, no_doubles before rows all.1, no_doubles (row.instance ∷ before) rows all.1)
+
+images_are : (rows : List Row) → AreRows rows → AreNodes 4 (images rows)
+images_are [] all = tt
+images_are (row ∷ rows) all = (image_node row all.0, tt, images_are rows all.1)
+
+module _ (level : ℕ) (key_of : Row → List ℕ) (record_of : Row → Elements) (below : List Row → Forest Elements) (is_record : (row : Row) → IsRow row → IsNode level (record_of row)) (are_below : (rows : List Row) → AreRows rows → AreNodes (suc level) (below rows)) where
+  group_is : (group : List Row) (next : Forest Elements) → AreRows group → AreNodes level next → AreNodes level (group_node record_of below group next)
+  group_is [] next all others = others
+  group_is (row ∷ rows) next all others = (is_record row all.0, are_below (row ∷ rows) all, others)
+
+  groups_are : (rows : List Row) (keys : List (List ℕ)) → AreRows rows → AreNodes level (group_nodes key_of record_of below rows keys)
+  groups_are rows [] all = tt
+  groups_are rows (k ∷ keys) all = group_is (rows_with key_of k rows) _ (with_rows (λ row. bytes_eq k (key_of row)) rows all) (groups_are rows keys all)
+
+series_are : (rows : List Row) → AreRows rows → AreNodes 3 (series rows)
+series_are rows all = groups_are 3 (key_for Series) series_record images series_node images_are rows _ all
+
+studies_are : (rows : List Row) → AreRows rows → AreNodes 2 (studies rows)
+studies_are rows all = groups_are 2 (key_for Study) study_record series study_node series_are rows _ all
+
+pub tree_nodes : (rows : List Row) → AllByRecursion IsRow rows → AreNodes 1 (TreeOf rows)
+unfolding TreeOf
+tree_nodes rows all = groups_are 1 (key_for Patient) patient_record studies patient_node studies_are (without_doubles [] rows) _ (no_doubles [] rows all)

@@ -16,10 +16,9 @@ use Rattle.dicomdir.specs.declared.key_table.KeyRule.{KeyRule}
 use Rattle.dicomdir.specs.declared.level.Level.{Level}
 use Rattle.dicomdir.specs.declared.level.Level.TheVariants.{Image}
 use Rattle.dicomdir.specs.KeyTable.{has_level, key_table}
-use Rattle.dicomdir.specs.Layout.{spelled, with_offsets}
-use Rattle.dicomdir.specs.Record.{tag, field, record_elements, padding_for, key_field, key_field_of, written, key_fields, kind_of, file_fields, record_for}
+use Rattle.dicomdir.specs.Record.{spelled, with_offsets, tag, field, record_elements, padding_for, key_field, key_field_of, written, key_fields, kind_of, file_fields, record_for}
 use Rattle.dicomdir.specs.Row.{Row, key}
-use Rattle.dicomdir.specs.RecordText as text
+use Rattle.dicomdir.specs.Record as text
 use Rattle.std.proofs.lemmas.Grind.{common_steps}
 
 dropped_length : (b : Bool) (x n : ℕ) (rest : List ℕ) → length rest ≤ n → length (cond b [] (x ∷ rest)) ≤ n + 1
@@ -44,7 +43,7 @@ record Spells (es : Elements) (bytes : List ℕ) : Type 0 where
 
 field_then : (t : Tag) (vr v : List ℕ) {es : Elements} {rest : List ℕ} → Spells es rest → Spells (field t vr v es) (text.element_text t vr v ++ rest)
 unfolding text.element_text
-field_then t vr v {es} {rest} e = grind (arith, nat_tests, common_steps)
+field_then t vr v {es} {rest} e = grind (arith, common_steps)
 
 field_last : (t : Tag) (vr v : List ℕ) → Spells (field t vr v no_elements) (text.element_text t vr v)
 field_last t vr v = record { is = (field_then t vr v {es = no_elements} {rest = []} (record { is = refl })).is ∙ append-nil (text.element_text t vr v) }
@@ -62,12 +61,12 @@ own_text rule values = spelled (key_field_of rule (written rule.kind (value_of v
 pub keys_more : (level : Level) (rules : List KeyRule) (values : Values) (out new whole : List ℕ) (i : ℕ) (d : KeyRule) → i < length rules
     → has_level (get_or rules i d).levels level ≡ true → new ≡ out ++ own_text (get_or rules i d) values
     → out ++ spelled (key_fields level (drop i rules) values) ≡ whole → new ++ spelled (key_fields level (drop (i + 1) rules) values) ≡ whole
-keys_more level rules values out new whole i d lt has put h = grind (arith, nat_tests, common_steps)
+keys_more level rules values out new whole i d lt has put h = grind (arith, common_steps)
 
 pub keys_skip : (level : Level) (rules : List KeyRule) (values : Values) (out whole : List ℕ) (i : ℕ) (d : KeyRule) → i < length rules
     → has_level (get_or rules i d).levels level ≡ false
     → out ++ spelled (key_fields level (drop i rules) values) ≡ whole → out ++ spelled (key_fields level (drop (i + 1) rules) values) ≡ whole
-keys_skip level rules values out whole i d lt has h = grind (arith, nat_tests, common_steps)
+keys_skip level rules values out whole i d lt has h = grind (arith, common_steps)
 
 -- the room that the loop has left
 
@@ -78,7 +77,7 @@ room_step level rules i d lt = at_drop_more (λ r. text.keys_room level r) rules
 pub room_more : (level : Level) (rules : List KeyRule) (i : ℕ) (d : KeyRule) (before after most : ℕ) → i < length rules
     → has_level (get_or rules i d).levels level ≡ true → after ≤ before + (get_or rules i d).room + 9
     → before + text.keys_room level (drop i rules) ≤ most → after + text.keys_room level (drop (i + 1) rules) ≤ most
-room_more level rules i d before after most lt has put h = grind (arith, nat_tests, common_steps, room_step level rules i d lt)
+room_more level rules i d before after most lt has put h = grind (arith, common_steps, room_step level rules i d lt)
 
 pub room_skip : (level : Level) (rules : List KeyRule) (i : ℕ) (d : KeyRule) (before most : ℕ) → i < length rules → has_level (get_or rules i d).levels level ≡ false
     → before + text.keys_room level (drop i rules) ≤ most → before + text.keys_room level (drop (i + 1) rules) ≤ most
@@ -86,14 +85,14 @@ room_skip level rules i d before most lt has h = let step = room_step level rule
 
 -- what an image's record says of its file
 pub file_text : (row : Row) → spelled (file_fields Image row no_elements) ≡ text.file row
-file_text row = grind (arith, nat_tests, common_steps, field_then (tag 0x0004 0x1500) (codes "CS") (padded 32 row.file_id) (field_then (tag 0x0004 0x1510) (codes "UI") (padded 0 row.class) (field_then (tag 0x0004 0x1511) (codes "UI") (padded 0 row.instance) (field_last (tag 0x0004 0x1512) (codes "UI") (padded 0 (syntax_uid row.syntax))))))
+file_text row = grind (arith, common_steps, field_then (tag 0x0004 0x1500) (codes "CS") (padded 32 row.file_id) (field_then (tag 0x0004 0x1510) (codes "UI") (padded 0 row.class) (field_then (tag 0x0004 0x1511) (codes "UI") (padded 0 row.instance) (field_last (tag 0x0004 0x1512) (codes "UI") (padded 0 (syntax_uid row.syntax))))))
 
 file_then : (level : Level) (row : Row) (es : Elements) → spelled (file_fields level row es) ≡ spelled (file_fields level row no_elements) ++ spelled es
-file_then v1 row es = grind (arith, nat_tests, common_steps, field_then)
+file_then v1 row es = grind (arith, common_steps, field_then)
 
 started : (next lower : ℕ) (kind : List ℕ) (es : Elements) (rest : List ℕ) → Spells es rest
     → spelled (with_offsets next lower (record_elements kind es)) ≡ text.start_text next lower (padded 32 kind) ++ rest
-started next lower kind es rest e = grind (arith, nat_tests, common_steps, field_then (tag 0x0004 0x1400) (codes "UL") (le next 4) (field_then (tag 0x0004 0x1410) (codes "US") (le 0xffff 2) (field_then (tag 0x0004 0x1420) (codes "UL") (le lower 4) (field_then (tag 0x0004 0x1430) (codes "CS") (padded 32 kind) e))))
+started next lower kind es rest e = grind (arith, common_steps, field_then (tag 0x0004 0x1400) (codes "UL") (le next 4) (field_then (tag 0x0004 0x1410) (codes "US") (le 0xffff 2) (field_then (tag 0x0004 0x1420) (codes "UL") (le lower 4) (field_then (tag 0x0004 0x1430) (codes "CS") (padded 32 kind) e))))
 
 pub record_spelled : (level : Level) (next lower : ℕ) (row : Row) → spelled (with_offsets next lower (record_for level row))
     ≡ text.start_text next lower (padded 32 (kind_of level)) ++ (spelled (file_fields level row no_elements) ++ spelled (key_fields level key_table row.values))
@@ -105,7 +104,7 @@ pub record_whole : (level : Level) (next lower : ℕ) (row : Row) (empty kind st
     → empty ≡ [] → kind ≡ kind_of level → rules ≡ key_table → start ≡ empty ++ text.start_text next lower (padded 32 kind)
     → file ≡ start ++ spelled (file_fields level row no_elements) → whole ≡ file ++ spelled (key_fields level rules row.values)
     → whole ≡ spelled (with_offsets next lower (record_for level row))
-record_whole level next lower row empty kind start file whole rules none is table a b c = grind (arith, nat_tests, common_steps, record_spelled level next lower row)
+record_whole level next lower row empty kind start file whole rules none is table a b c = grind (arith, common_steps, record_spelled level next lower row)
 
 -- what the longest record takes
 

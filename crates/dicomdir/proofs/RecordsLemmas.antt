@@ -1,24 +1,79 @@
--- Reading one record after the other.
-use Rattle.element.specs.Header.{item_tag, sequence_end_tag}
-use Rattle.std.proofs.Common.{◌≡◌, ◌≢◌, ℕ, suc, ◌+◌, ◌-◌, ◌≤◌, List, [], ◌∷◌, ◌++◌, length, drop, Some, None, refl, sym, ap, subst, ◌∙◌, arith, append_assoc, length-append}
-use Rattle.std.proofs.lemmas.List.{append-nil}
-use Rattle.element.specs.declared.syntax.Syntax.{Syntax}
+-- Reading one record after the other: what is read of a record is what its elements say.
+use Rattle.std.proofs.Common.{◌≡◌, ℕ, Bool, true, false, not, ◌&&◌, ◌||◌, List, [], ◌∷◌, length, Option, Some, None, is_some, refl, sym, ap, ◌∙◌, nat_eq, if◌then◌else◌, arith, ◌≢◌, suc, ◌+◌, ◌-◌, ◌≤◌, ◌++◌, drop, subst, append_assoc, length-append}
+use Rattle.std.specs.Str.{bytes_eq}
 use Rattle.sequence.specs.Tree.{Elements, Items, no_items, item}
-use Rattle.dicomdir.specs.declared.fault.DirFault.{DirFault}
-use Rattle.dicomdir.specs.declared.found.Head.{Head}
+use Rattle.dicomdir.specs.declared.found.Element.{Element}
 use Rattle.dicomdir.specs.declared.records.ReadRecord.{ReadRecord}
-use Rattle.dicomdir.specs.Directory.{Record, header_size, size_of, end_size, records_at}
-use Rattle.dicomdir.specs.DirFault.{◌or_else◌, record_fault, each_fault}
-use Rattle.dicomdir.specs.machine.Entries.{IsEntry, AreEntries, no_entries, entry_then, Rise}
-use Rattle.dicomdir.specs.machine.Heads.{head_at}
-use Rattle.dicomdir.specs.machine.Reading.{FailsAs}
-use Rattle.dicomdir.specs.machine.Texts.{ItemsThen, IsAfter, nothing_after, end_after, HasElements, HasItems, IsItemContent, content_at}
-use Rattle.dicomdir.proofs.HeadLemmas.{head_read}
-use Rattle.dicomdir.proofs.TextLemmas.{FrontOfItems, no_item, at_item, front_of_items, header_length, is_head, marked_head, no_head}
-use Rattle.dicomdir.proofs.SkipLemmas.{fits_sequence_end}
-use Rattle.dicomdir.proofs.FindLemmas.{item_content}
+use Rattle.dicomdir.specs.Directory.{Found, found, number_in, kind_in, file_id_in, is_missing, is_in_use, is_use_flag, carried_node, next_offset, lower_offset, has_file_id, or_zero, Record, header_size, size_of, end_size, records_at}
+use Rattle.dicomdir.specs.machine.Trail.{IsEntryOf, use_flag, entry_has_file_id, FailsAs, IsEntry, AreEntries, no_entries, entry_then, Rise}
+use Rattle.dicomdir.specs.machine.Texts.{Finds, got_number, got_kind, got_file_id, got_none, ItemsThen, IsAfter, nothing_after, end_after, HasElements, HasItems, IsItemContent, content_at, head_at}
 use Rattle.std.proofs.lemmas.Bool.Decides.{nat_tests}
 use Rattle.std.proofs.lemmas.Grind.{common_steps}
+use Rattle.element.specs.Header.{item_tag, sequence_end_tag}
+use Rattle.std.proofs.lemmas.List.{append-nil}
+use Rattle.element.specs.declared.syntax.Syntax.{Syntax}
+use Rattle.dicomdir.specs.declared.fault.DirFault.{DirFault}
+use Rattle.dicomdir.specs.declared.found.Head.{Head}
+use Rattle.dicomdir.specs.DirFault.{◌or_else◌, record_fault, each_fault}
+use Rattle.dicomdir.proofs.TextLemmas.{head_read, FrontOfItems, no_item, at_item, front_of_items, header_length, is_head, marked_head, no_head}
+use Rattle.dicomdir.proofs.FindLemmas.{fits_sequence_end, item_content}
+
+pub finds_number : (n : ℕ) (e : Element) (f : Found) → Finds e f → got_number n e ≡ number_in n f
+finds_number n v2 f is = grind (arith, nat_tests)
+
+pub finds_kind : (e : Element) (f : Found) → Finds e f → got_kind e ≡ kind_in f
+finds_kind v1 f is = grind (arith, nat_tests)
+
+pub finds_file_id : (e : Element) (f : Found) → Finds e f → got_file_id e ≡ file_id_in f
+finds_file_id v1 f is = grind (arith, nat_tests)
+
+pub finds_missing : (e : Element) (f : Found) → Finds e f → got_none e ≡ is_missing f
+finds_missing v1 f is = grind (arith, nat_tests)
+
+-- ---- a record with all that it must have
+
+flag_in_use : (flag : ℕ) (a b used : Bool) → nat_eq flag 0xffff ≡ a → nat_eq flag 0 ≡ b → (if a then Some true else (if b then Some false else None)) ≡ Some used
+    → (used ≡ nat_eq flag 0xffff) × ((nat_eq flag 0xffff || nat_eq flag 0) ≡ true)
+flag_in_use flag v2 b used e f is = grind (arith, nat_tests)
+
+use_is : (o : Option ℕ) (used : Bool) → use_flag o ≡ Some used → (used ≡ is_in_use o) × (is_use_flag o ≡ true)
+use_is None used is = absurd cc
+use_is (Some flag) used is = flag_in_use flag (nat_eq flag 0xffff) (nat_eq flag 0) used refl refl is
+
+some_is : (o : Option ℕ) (n : ℕ) → o ≡ Some n → is_some o ≡ true
+some_is o n e = ap is_some e
+
+pub not_empty : (xs : List ℕ) (b : Bool) → b ≡ nat_eq (length xs) 0 → b ≡ false → bytes_eq xs [] ≡ false
+not_empty [] b is e = absurd cc
+not_empty (x ∷ xs) b is e = refl
+
+pub entry_is : (place : ℕ) (es : Elements) (e : ReadRecord) → next_offset es ≡ Some e.next → use_flag (number_in 2 (found 0x00041410 0 es)) ≡ Some e.in_use
+    → lower_offset es ≡ Some e.lower → e.kind.now ≡ kind_in (found 0x00041430 0 es) → bytes_eq e.kind.now [] ≡ false → e.file_id ≡ file_id_in (found 0x00041500 0 es)
+    → e.place ≡ place → IsEntryOf place es e
+entry_is place es e next flag lower kind some file_id at =
+    let used = use_is (number_in 2 (found 0x00041410 0 es)) e.in_use flag in
+    let some_kind : bytes_eq (kind_in (found 0x00041430 0 es)) [] ≡ false = ap (λ k. bytes_eq k []) (sym kind) ∙ some in
+    let a = some_is (next_offset es) e.next next in
+    let b = some_is (lower_offset es) e.lower lower in
+    let c = used.1 in
+    record {
+      place_is = at;
+      next = sym (ap or_zero next);
+      lower = sym (ap or_zero lower);
+      carries = λ i. record { in_use = used.0 i; kind = kind i; file_id = file_id i };
+      has_record = four_true (is_some (next_offset es)) (is_use_flag (number_in 2 (found 0x00041410 0 es))) (is_some (lower_offset es)) (bytes_eq (carried_node es).kind []) a c b some_kind;
+    }
+  where
+    four_true : (a b c d : Bool) → a ≡ true → b ≡ true → c ≡ true → d ≡ false → ((a && b) && (c && not d)) ≡ true
+    four_true a b c d e f g h = rw (e, f, g, h) refl
+
+-- ---- its file ID
+
+pub file_id_as : (place : ℕ) (es : Elements) (e : ReadRecord) (found_id : Element) → IsEntryOf place es e → Finds found_id (found 0x00041500 0 es)
+    → entry_has_file_id e found_id ≡ has_file_id es
+file_id_as place es e found_id is finds = grind (arith, common_steps, finds_missing found_id (found 0x00041500 0 es) finds)
+
+-- ---- reading one record after the other
 
 -- ---- entries and their faults
 
@@ -65,7 +120,7 @@ read_none s first items text old has =
 
 no_item_head : (s : Syntax) (more text : List ℕ) (head : Head) → IsAfter sequence_end_tag more → text ≡ more → head_at s text ≡ Some head → head.header.tag ≢ item_tag
 no_item_head s more text head (nothing_after) whole read tagged = let none = no_head s text whole in absurd cc
-no_item_head s more text head (end_after rest) whole read tagged = grind (arith, nat_tests, common_steps, marked_head s sequence_end_tag rest text head refl fits_sequence_end whole read)
+no_item_head s more text head (end_after rest) whole read tagged = grind (arith, common_steps, marked_head s sequence_end_tag rest text head refl fits_sequence_end whole read)
 
 pub read_next : (s : Syntax) (first : ℕ) (items : Items) (text rest after : List ℕ) (old now new : List ReadRecord) (head : Head) (e : ReadRecord) → length rest ≤ length text
     → ReadUpTo s first items text rest old now → head_at s rest ≡ Some head → head.header.tag ≡ item_tag
@@ -133,7 +188,7 @@ read_fails s first items text rest old now head f r read tagged fails = by (fron
 
 all_read : (s : Syntax) (first : ℕ) (items : Items) (text rest : List ℕ) (old now : List ReadRecord) (before : List Record) (r : ReadUpTo s first items text rest old now) → r.left ≡ no_items
     → AreEntries old before → AreEntries now (before ++ records_at first items)
-all_read s first items text rest old now before r none are = grind (arith, nat_tests, common_steps)
+all_read s first items text rest old now before r none are = grind (arith, common_steps)
 
 pub read_to_mark : (s : Syntax) (first : ℕ) (items : Items) (text rest : List ℕ) (old now : List ReadRecord) (before : List Record) (head : Head) → ReadUpTo s first items text rest old now
     → head_at s rest ≡ Some head → head.header.tag ≢ item_tag → AreEntries old before → AreEntries now (before ++ records_at first items)

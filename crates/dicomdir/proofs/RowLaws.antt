@@ -1,32 +1,64 @@
 -- A file has one row, and its keys fit.
-use Rattle.std.proofs.Common.{◌≡◌, ℕ, ◌≤◌, Bool, true, false, ◌&&◌, cond, List, [], ◌∷◌, ◌++◌, length, take, drop, Option, Some, None, Err, nat_eq, nat_le, unwrap_or, is_some, eqb-true, refl, sym, ap, subst, ◌∙◌, arith, append_assoc, codes, rules}
-use Rattle.std.proofs.lemmas.List.{append_cancel_left, drop_at}
-use Rattle.std.specs.List.{list_all}
-use Rattle.std.proofs.lemmas.Bool.{and_parts, le-leb}
-use Rattle.element.specs.declared.syntax.Syntax.{Syntax}
+use Rattle.std.proofs.Common.{◌≡◌, ◌≤◌, ℕ, Bool, true, false, cond, List, [], ◌∷◌, map, Some, None, Ok, Err, refl, ap, subst, eqb-true, nat_eq, arith, rules, ◌&&◌, ◌++◌, length, take, drop, Option, nat_le, unwrap_or, is_some, sym, ◌∙◌, append_assoc, codes}
+use Rattle.std.specs.List.{list_all, find}
+use Rattle.std.proofs.lemmas.Bool.{and_parts, leb-true, le-leb}
 use Rattle.element.specs.Header.{number}
+use Rattle.sequence.specs.Wanted.{Values, value_of, room_of, is_wanted, kept_of}
+use Rattle.dicomdir.specs.declared.key_table.KeyRule.{KeyRule}
+use Rattle.dicomdir.specs.KeyTable.{key_table, want_of}
+use Rattle.dicomdir.specs.Keys.{optional_size, fits_room, fits_rooms, is_missing, first_empty, row_unless, checked_row, IsRow}
+use Rattle.dicomdir.specs.Row.{Row}
+use Rattle.dicomdir.specs.RowOf.{row_wants, row_limits, row_from, with_value, values_for, IsInstance, in_header, in_data_set, of_values}
+use Rattle.std.proofs.lemmas.Bool.Decides.{nat_tests}
+use Rattle.std.proofs.lemmas.Grind.{common_steps}
+use Rattle.std.proofs.lemmas.List.{append_cancel_left, drop_at}
+use Rattle.element.specs.declared.syntax.Syntax.{Syntax}
 use Rattle.dictionary.specs.Syntaxes.{syntax_uid}
-use Rattle.part10.specs.File.{length_element}
+use Rattle.part10.specs.File.{length_element, File, head}
 use Rattle.part10.specs.declared.meta_fault.MetaFault.{MetaFault}
 use Rattle.part10.specs.declared.meta_fault.MetaFault.TheVariants.{NotPart10, BadMeta, OtherSyntax, ReadFailed}
 use Rattle.part10.specs.MetaText.{Said, HasMeta, HasLetters, MetaFaultOf, fault_number}
-use Rattle.part10.proofs.Public.{one_header}
+use Rattle.part10.proofs.Public.{one_header, head_is_read}
 use Rattle.sequence.specs.declared.fault.Fault.{Fault}
 use Rattle.sequence.specs.declared.wanted.Want.{Want}
 use Rattle.sequence.specs.Tree.{Elements, no_elements, value, sequence, DataSet}
 use Rattle.sequence.specs.Within.{FitRooms}
-use Rattle.sequence.specs.Wanted.{Values, value_of, room_of, is_wanted, kept_of}
 use Rattle.sequence.specs.Ending.{IsWholeDataSet, Fails, breaks_rule, ends_early}
 use Rattle.sequence.specs.Rules.{Limits}
 use Rattle.sequence.proofs.Public.{one_fault, one_tree, whole_breaks_no_rule}
+use Rattle.dicomdir.specs.Laws.{OneRow, KeysFit, FiledHasRow}
 use Rattle.dicomdir.specs.declared.skip.Skip.TheVariants as skip
-use Rattle.dicomdir.specs.declared.key_table.KeyRule.{KeyRule}
-use Rattle.dicomdir.specs.KeyTable.{key_table}
-use Rattle.dicomdir.specs.Keys.{checked_row, optional_size, fits_room}
-use Rattle.dicomdir.specs.RowOf.{row_wants, row_limits, row_from, with_value, values_for, IsInstance, in_header, in_data_set, of_values}
-use Rattle.dicomdir.specs.RowLaws.{OneRow, KeysFit}
-use Rattle.std.proofs.lemmas.Bool.Decides.{nat_tests}
-use Rattle.std.proofs.lemmas.Grind.{common_steps}
+
+pub too_long : (row : Row) → fits_rooms row ≡ false → checked_row row ≡ Err (skip.Fault 21)
+too_long row e = ap (λ (b : Bool). cond b (row_unless row (first_empty row)) (Err (skip.Fault 21))) e
+
+pub one_empty : (row : Row) (rule : KeyRule) → fits_rooms row ≡ true → find (is_missing row.values) key_table ≡ Some rule → checked_row row ≡ Err (skip.Missing rule.tag)
+one_empty row rule e f = grind (arith, common_steps)
+
+pub none_empty : (row : Row) → fits_rooms row ≡ true → find (is_missing row.values) key_table ≡ None → checked_row row ≡ Ok row
+none_empty row e f = grind (arith, common_steps)
+
+-- no value is longer than the room for its tag
+
+kept_by : (values : Values) (rules : List KeyRule) (n room : ℕ) → list_all (fits_room values) rules ≡ true → room_of (map want_of rules) n ≡ Some room → optional_size (value_of values n) ≤ room
+kept_by values [] n room e r = absurd cc
+kept_by values (rule ∷ rules) n room e r =
+    let parts = and_parts (fits_room values rule) _ e in
+    by (nat_eq (number rule.tag) n) refl r parts.0 (λ r. kept_by values rules n room parts.1 r)
+  where
+    by : (b : Bool) → nat_eq (number rule.tag) n ≡ b → cond b (Some rule.room) (room_of (map want_of rules) n) ≡ Some room → fits_room values rule ≡ true
+        → (room_of (map want_of rules) n ≡ Some room → optional_size (value_of values n) ≤ room)
+        → optional_size (value_of values n) ≤ room
+    by true same r one more =
+        let is : rule.room ≡ room = cc in
+        let le : optional_size (value_of values (number rule.tag)) ≤ rule.room = leb-true _ _ one in
+        subst (λ z. optional_size (value_of values z) ≤ room) (eqb-true _ _ same) (subst (λ z. optional_size (value_of values (number rule.tag)) ≤ z) is le)
+    by false other r one more = more r
+
+pub room_kept : (row : Row) (n room : ℕ) → IsRow row → room_of row_wants n ≡ Some room → optional_size (value_of row.values n) ≤ room
+room_kept row n room is r = kept_by row.values key_table n room is.fits r
+
+-- ---- a file has one row, and its keys fit
 
 -- ---- a file has one row
 
@@ -48,7 +80,7 @@ no_header_fault : {file : List ℕ} (is : IsInstance file) (fault : MetaFault) �
 unfolding has_meta
 no_header_fault is NotPart10 f = f (has_letters (has_meta is))
 no_header_fault is BadMeta f = f.1 (record { class = is.class; instance = is.instance; syntax = syntax_uid is.syntax }) (has_meta is)
-no_header_fault {file = file} is OtherSyntax f = grind (arith, nat_tests, common_steps, one_header file f.0 (record { class = is.class; instance = is.instance; syntax = syntax_uid is.syntax }) f.1 (has_meta is))
+no_header_fault {file = file} is OtherSyntax f = grind (arith, common_steps, one_header file f.0 (record { class = is.class; instance = is.instance; syntax = syntax_uid is.syntax }) f.1 (has_meta is))
 no_header_fault is ReadFailed f = f
 
 one_header_fault : (file : List ℕ) (f g : MetaFault) → MetaFaultOf file f → MetaFaultOf file g → f ≡ g
@@ -85,7 +117,7 @@ same_instance {file = file} a b =
 
 -- the number of what is wrong with a data set is one
 one_number : {s : Syntax} {lim : Limits} {b : List ℕ} {f g : Fault} → Fails s lim b f → Fails s lim b g → f.number ≡ g.number
-one_number {s = s} {lim = lim} {b = b} (breaks_rule {p = p} {u = u} {rule = rule} {tag = t} first) (breaks_rule {p = p2} {u = u2} {rule = rule2} {tag = t2} second) = grind (arith, nat_tests, common_steps, one_fault s lim b p p2 u u2 rule rule2 t t2 first second)
+one_number {s = s} {lim = lim} {b = b} (breaks_rule {p = p} {u = u} {rule = rule} {tag = t} first) (breaks_rule {p = p2} {u = u2} {rule = rule2} {tag = t2} second) = grind (arith, common_steps, one_fault s lim b p p2 u u2 rule rule2 t t2 first second)
 one_number (breaks_rule {p = p} {u = u} {rule = rule} {tag = t} first) (ends_early end) = absurd (end.unbroken p u first.rest rule t first.text first.breaks)
 one_number (ends_early end) (breaks_rule {p = p} {u = u} {rule = rule} {tag = t} first) = absurd (end.unbroken p u first.rest rule t first.text first.breaks)
 one_number (ends_early end) (ends_early other) = refl
@@ -104,7 +136,7 @@ spells_too {s = s} {t = t} {b = b} {c = c} {es = es} e d x = subst (λ z. DataSe
 
 one_result : {file : List ℕ} (file_id : List ℕ) (a b : IsInstance file) (es fs : Elements) → SameInstance a b → es ≡ fs
     → checked_row (row_from file_id a.class a.instance a.syntax (kept_of row_wants es)) ≡ checked_row (row_from file_id b.class b.instance b.syntax (kept_of row_wants fs))
-one_result file_id a b es fs same e = grind (arith, nat_tests, common_steps)
+one_result file_id a b es fs same e = grind (arith, common_steps)
 
 pub one_row : OneRow
 one_row file file_id r q (in_header f m e) (in_header g n d) = e ∙ ap (λ z. Err (skip.Fault (fault_number z))) (one_header_fault file f g m n) ∙ sym d
@@ -178,3 +210,18 @@ rooms_fit ws es taken (rule ∷ rules) fit e =
 
 pub keys_fit : KeysFit
 keys_fit file_id class instance s es fit = rooms_fit row_wants es key_table key_table fit refl
+
+-- ---- the row of a file that was filed
+
+pub filed_has_row : FiledHasRow
+filed_has_row meta file_id rest elements class instance title few set within =
+    let is : IsInstance (File meta rest) = record {
+      class = meta.class;
+      instance = meta.instance;
+      syntax = meta.syntax;
+      front = head meta;
+      back = rest;
+      whole = refl;
+      header = head_is_read meta class instance title few;
+    } in
+    of_values is elements set within refl

@@ -1,15 +1,37 @@
--- The trail: what leads back, and the paths that are to come as chains end.
-use Rattle.std.proofs.Common.{◌≡◌, ℕ, zero, suc, ◌<◌, ◌≤◌, ◌-◌, ◌+◌, Bool, true, false, not, ◌&&◌, ◌||◌, List, [], ◌∷◌, ◌++◌, length, reverse, take, get_or, slice_get, Option, Some, ◌⊎◌, refl, sym, ap, subst, ◌∙◌, arith, nat_eq}
+-- The trail and the entries: what leads back, the paths that are to come as chains end, and the records that offsets lead to.
+use Rattle.std.proofs.Common.{◌≡◌, ℕ, zero, suc, ◌<◌, Bool, true, false, List, [], ◌∷◌, get_or, set, arith, if◌then◌else◌, ◌≤◌, ◌-◌, ◌+◌, not, ◌&&◌, ◌||◌, ◌++◌, length, reverse, take, slice_get, Option, Some, ◌⊎◌, refl, sym, ap, subst, ◌∙◌, nat_eq, drop, replicate, None, Less, Equal, Greater, inl, inr, is_none}
 use Rattle.std.proofs.lemmas.Bool.Decides.{nat_tests}
-use Rattle.std.proofs.lemmas.List.{reverse-append, append-nil, take_all, take_more, length-reverse}
+use Rattle.std.proofs.lemmas.List.{reverse-append, append-nil, take_all, take_more, length-reverse, get_or_default}
 use Rattle.dicomdir.specs.declared.links.Mark.{Mark}
 use Rattle.dicomdir.specs.declared.links.Step.{Step}
-use Rattle.dicomdir.specs.Linked.{is_one_of}
-use Rattle.dicomdir.specs.Paths.{Links, Turn, named_by, paths_from, paths_of, above, before, line_of}
-use Rattle.dicomdir.specs.machine.Trail.{path_along, left_of, paths_on, later, AreMarks}
-use Rattle.dicomdir.specs.machine.Turns.{IsToCome}
-use Rattle.dicomdir.proofs.PathForests.{paths_none}
+use Rattle.dicomdir.specs.Linked.{is_one_of, record_at, fits}
+use Rattle.dicomdir.specs.Paths.{Links, Turn, named_by, paths_from, paths_of, above, before, line_of, level_of}
+use Rattle.dicomdir.specs.machine.Trail.{path_along, left_of, paths_on, later, AreMarks, told_along, IsStep, IsToCome, flags_of, AreFlagged, IsTarget, IsEntry, AreEntries, no_entries, entry_then, Rise, carried_by}
+use Rattle.dicomdir.proofs.PathForests.{paths_none, elements_is}
 use Rattle.std.proofs.lemmas.Grind.{common_steps}
+use Rattle.std.specs.List.{HoldsAt, AllWithin}
+use Rattle.std.specs.List.Sorted.{IsNonDecreasingBy, IsPartitionPoint}
+use Rattle.std.specs.Ordering.{nat_cmp, ordering_index}
+use Rattle.std.proofs.lemmas.Cmp.{ranked}
+use Rattle.std.proofs.lemmas.Bool.{cases_lt, cond-true}
+use Rattle.dicomdir.specs.declared.records.ReadRecord.{ReadRecord}
+use Rattle.dicomdir.specs.Directory.{Record, carried_node}
+use Rattle.dicomdir.specs.DirFault.{fault, unreached_fault, names_no_record, names_wrong_level, path_fault}
+use Rattle.dicomdir.proofs.Distinct.{same_place}
+use Rattle.sequence.specs.Tree.{Elements}
+
+abbrev pub left_in : List Bool → ℕ
+left_in [] = 0
+left_in (reached ∷ rest) = if reached then left_in rest else suc (left_in rest)
+
+pub left_fewer : (xs : List Bool) (i : ℕ) → get_or xs i true ≡ false → left_in (set xs i true) < left_in xs
+left_fewer [] i e = absurd cc
+left_fewer (true ∷ xs) zero e = absurd cc
+left_fewer (false ∷ xs) zero e = omega arith
+left_fewer (true ∷ xs) (suc i) e = left_fewer xs i e
+left_fewer (false ∷ xs) (suc i) e = let fewer = left_fewer xs i e in omega (arith, fewer)
+
+-- ---- the trail: what leads back, and the paths that are to come as chains end
 
 -- a trail as it is gone through from its last mark
 
@@ -47,10 +69,10 @@ reverse_more xs i d fits = ap reverse (take_more xs i d fits) ∙ push_reverse (
 pub looks_at : (offset : ℕ) (in_chain is_above : Bool) (xs : List Mark) (at : ℕ) (m : Mark) → 0 < at → at ≤ length xs → m ≡ get_or xs (at - 1) m
     → looks offset in_chain is_above (reverse (take at xs))
     ≡ (((in_chain || is_above) && nat_eq m.place offset) || looks offset (in_chain && not m.begins) m.begins (reverse (take (at - 1) xs)))
-looks_at offset in_chain is_above xs at m some within is = grind (arith, nat_tests, common_steps, reverse_more xs (at - 1) m (omega (arith, some, within)))
+looks_at offset in_chain is_above xs at m some within is = grind (arith, common_steps, reverse_more xs (at - 1) m (omega (arith, some, within)))
 
 pub looks_here : (i a : Bool) (p o : ℕ) → (i ≡ true) ⊎ ((i ≡ false) × (a ≡ true)) → p ≡ o → ((i || a) && nat_eq p o) ≡ true
-looks_here v1 a p o either same = grind (arith, nat_tests, common_steps)
+looks_here v1 a p o either same = grind (arith, common_steps)
 
 pub looks_found : (offset : ℕ) (in_chain is_above : Bool) (xs : List Mark) (at : ℕ) (m : Mark) → 0 < at → at ≤ length xs → m ≡ get_or xs (at - 1) m
     → ((in_chain || is_above) && nat_eq m.place offset) ≡ true
@@ -81,7 +103,7 @@ pub last_first : (xs : List Mark) (m : Mark) → Some m ≡ slice_get xs (length
 last_first xs m e =
     let some = some_length xs m (length xs - 1) e in
     let back : length xs - 1 + 1 ≡ length xs = omega (arith, some) in
-    grind (arith, nat_tests, common_steps, take_all (length xs - 1 + 1) xs (omega (arith, some)), got_is xs m (length xs - 1) e)
+    grind (arith, common_steps, take_all (length xs - 1 + 1) xs (omega (arith, some)), got_is xs m (length xs - 1) e)
 
 -- the paths of the open path, and all of them
 
@@ -112,7 +134,7 @@ pub record Climbed (links : Links) (ms ms2 : List Mark) : Type 0 where
 
 -- the last chain is at its end
 chain_ends : (links : Links) (m : Mark) (ms : List Mark) → m.next ≡ 0 → AreMarks links (m ∷ ms) → later links true (m ∷ ms) ≡ later links true (left_of (m ∷ ms))
-chain_ends links m ms none marks = grind (arith, nat_tests, common_steps, later_left links (m ∷ ms))
+chain_ends links m ms none marks = grind (arith, common_steps, later_left links (m ∷ ms))
 
 pub climbed : (links : Links) (ms : List Mark) (xs ys : List Mark) (m : Mark) → Some m ≡ slice_get xs (length xs - 1) → m.next ≡ 0 → reverse ys ≡ left_of (reverse xs)
     → (0 < length xs → length ys < length xs) → Climbed links ms (reverse xs) → Climbed links ms (reverse ys)
@@ -135,7 +157,7 @@ climbed links ms xs ys m got none left fewer before =
 -- it goes on
 pub goes_next : (links : Links) (ms xs : List Mark) (m : Mark) → Some m ≡ slice_get xs (length xs - 1) → (m.next ≡ 0 → ⊥) → Climbed links ms (reverse xs)
     → IsToCome links (later links true ms) ms (reverse xs) (Some (record { offset = m.next; begins = false; level = m.level; shown = m.shown }))
-goes_next links ms xs m got other before = grind (arith, nat_tests, common_steps, last_first xs m got)
+goes_next links ms xs m got other before = grind (arith, common_steps, last_first xs m got)
 
 -- no record is below the last mark
 pub lower_none : (links : Links) (ms ms2 : List Mark) (pending : Option Step) (lower : ℕ) → lower ≡ 0 → lower ≡ named_by links (path_along true ms)
@@ -143,3 +165,179 @@ pub lower_none : (links : Links) (ms ms2 : List Mark) (pending : Option Step) (l
 lower_none links ms ms2 pending lower none named comes =
     let nothing = paths_none _ links (path_along true ms) (sym named ∙ none) in
     record { come = ap (λ z. z ++ later links true ms) nothing ∙ comes.come; fewer = comes.fewer; marks = comes.marks; step = comes.step }
+
+-- ---- entries of records, whose places rise: a search among them, and the flags of those that were reached
+
+-- the search
+
+pub place_found : (entries : List ReadRecord) (place at : ℕ) → HoldsAt (λ e. nat_cmp e.place place ≡ Equal) entries at → (d : ReadRecord) → (get_or entries at d).place ≡ place
+place_found entries place at equal d = ranked _ place _ (sym (equal d))
+
+least_below : (entries : List ReadRecord) (records : List Record) (least : ℕ) → AreEntries entries records → Rise least records
+    → (j : ℕ) (d : ReadRecord) → j < length entries → least ≤ (get_or entries j d).place
+least_below [] (r ∷ rs) least are rise j d fits = elim are [ ]
+least_below (e ∷ es) [] least are rise j d fits = elim are [ ]
+least_below [] [] least no_entries rise j d fits = absurd (omega (arith, fits))
+least_below (e ∷ es) (r ∷ rs) least (entry_then is rest) rise zero d fits = omega (arith, rise.0, is.place)
+least_below (e ∷ es) (r ∷ rs) least (entry_then is rest) rise (suc j) d fits = grind (arith, common_steps, least_below es rs (suc r.place) rest rise.1 j d (omega (arith, fits)))
+
+places_rise : (entries : List ReadRecord) (records : List Record) (least : ℕ) → AreEntries entries records → Rise least records
+    → (i j : ℕ) (d : ReadRecord) → i ≤ j → j < length entries → (get_or entries i d).place ≤ (get_or entries j d).place
+places_rise [] (r ∷ rs) least are rise i j d below fits = elim are [ ]
+places_rise (e ∷ es) [] least are rise i j d below fits = elim are [ ]
+places_rise [] [] least no_entries rise i j d below fits = absurd (omega (arith, fits))
+places_rise (e ∷ es) (r ∷ rs) least (entry_then is rest) rise zero zero d below fits = omega arith
+places_rise (e ∷ es) (r ∷ rs) least (entry_then is rest) rise zero (suc j) d below fits = grind (arith, common_steps, least_below es rs (suc r.place) rest rise.1 j d (omega (arith, fits)))
+places_rise (e ∷ es) (r ∷ rs) least (entry_then is rest) rise (suc i) zero d below fits = absurd (omega (arith, below))
+places_rise (e ∷ es) (r ∷ rs) least (entry_then is rest) rise (suc i) (suc j) d below fits = grind (arith, common_steps, places_rise es rs (suc r.place) rest rise.1 i j d (omega (arith, below)) (omega (arith, fits)))
+
+compared : (a b p : ℕ) → a ≤ b → ordering_index (nat_cmp a p) ≤ ordering_index (nat_cmp b p)
+compared a b p below = grind (arith, nat_tests)
+
+comparisons_rise : (entries : List ReadRecord) (records : List Record) (place : ℕ) → AreEntries entries records → Rise 0 records
+    → IsNonDecreasingBy (λ e. ordering_index (nat_cmp e.place place)) entries
+comparisons_rise entries records place are rise i j d below fits = grind (arith, common_steps, compared (get_or entries i d).place (get_or entries j d).place place (places_rise entries records 0 are rise i j d below fits))
+
+no_record_step : (r : Record) (rs : List Record) (place : ℕ) → (r.place ≡ place → ⊥) → record_at place rs ≡ None → record_at place (r ∷ rs) ≡ None
+no_record_step r rs place other none = grind (arith, nat_tests)
+
+no_record : (entries : List ReadRecord) (records : List Record) (place : ℕ) → AreEntries entries records
+    → ((k : ℕ) (d : ReadRecord) → k < length entries → (get_or entries k d).place ≡ place → ⊥) → record_at place records ≡ None
+no_record [] (r ∷ rs) place are none = elim are [ ]
+no_record (e ∷ es) [] place are none = elim are [ ]
+no_record [] [] place no_entries none = refl
+no_record (e ∷ es) (r ∷ rs) place (entry_then is rest) none =
+    no_record_step r rs place (λ same. none 0 e (omega arith) (is.place ∙ same)) (no_record es rs place rest (λ k d fits. none (suc k) d (omega (arith, fits))))
+
+neither : (entries : List ReadRecord) (place i k : ℕ) (d : ReadRecord) → AllWithin (λ e. nat_cmp e.place place ≡ Less) entries 0 i
+    → AllWithin (λ e. nat_cmp e.place place ≡ Greater) entries i (length entries) → k < length entries → (get_or entries k d).place ≡ place → ⊥
+neither entries place i k d less greater fits same = elim (cases_lt k i) [
+  | inl before ↦ let under = ranked _ place _ (sym (less k d (omega arith) before)) in absurd (omega (arith, under, same))
+  | inr after ↦ let over = ranked _ place _ (sym (greater k d after fits)) in absurd (omega (arith, over, same))
+]
+
+pub place_absent : (entries : List ReadRecord) (place i : ℕ)
+    → (IsNonDecreasingBy (λ e. ordering_index (nat_cmp e.place place)) entries
+    → IsPartitionPoint (λ e. nat_cmp e.place place ≡ Less) (λ e. nat_cmp e.place place ≡ Greater) entries i)
+    → (records : List Record) → AreEntries entries records → Rise 0 records → record_at place records ≡ None
+place_absent entries place i parted records are rise =
+    let parts = parted (comparisons_rise entries records place are rise) in
+    no_record entries records place are (λ k d fits same. neither entries place i k d parts.0 parts.1 fits same)
+
+-- the flags
+
+pub length_entries : (entries : List ReadRecord) (records : List Record) → AreEntries entries records → length entries ≡ length records
+length_entries [] (r ∷ rs) are = elim are [ ]
+length_entries (e ∷ es) [] are = elim are [ ]
+length_entries [] [] no_entries = refl
+length_entries (e ∷ es) (r ∷ rs) (entry_then is rest) = ap suc (length_entries es rs rest)
+
+pub none_flagged : (records : List Record) → flags_of [] records ≡ replicate (length records) false
+none_flagged [] = refl
+none_flagged (r ∷ rs) = ap (λ z. false ∷ z) (none_flagged rs)
+
+-- a place below all others flags none of them
+same_flags : (p : ℕ) (reached : List ℕ) (least : ℕ) (records : List Record) → Rise least records → p < least → flags_of (p ∷ reached) records ≡ flags_of reached records
+same_flags p reached least [] rise below = refl
+same_flags p reached least (r ∷ rs) rise below = grind (arith, common_steps, same_flags p reached (suc r.place) rs rise.1 (omega (arith, rise.0, below)))
+
+-- the record of an entry
+pub record AtEntry (e : ReadRecord) (records : List Record) (at least : ℕ) : Type 0 where
+  pub of_it : Record
+  pub is : IsEntry e of_it
+  pub above : least ≤ of_it.place
+  pub stands : record_at of_it.place records ≡ Some of_it.elements
+  pub flag : (reached : List ℕ) (d : Bool) → get_or (flags_of reached records) at d ≡ is_one_of of_it.place reached
+  pub marked : (reached : List ℕ) → set (flags_of reached records) at true ≡ flags_of (of_it.place ∷ reached) records
+  pub left : (reached : List ℕ) → unreached_fault reached (drop at records)
+      ≡ (if not (carried_node of_it.elements).in_use || is_one_of of_it.place reached then unreached_fault reached (drop (suc at) records) else fault 63 of_it.place)
+
+first_entry : (e : ReadRecord) (r : Record) (rs : List Record) (least : ℕ) → IsEntry e r → Rise least (r ∷ rs) → AtEntry e (r ∷ rs) 0 least
+first_entry e r rs least is rise =
+    let here = same_place r.place in
+    record {
+      of_it = r;
+      is = is;
+      above = rise.0;
+      stands = cond-true (nat_eq r.place r.place) (Some r.elements) (record_at r.place rs) here;
+      flag = λ reached d. refl;
+      marked = λ reached. let rest = sym (same_flags r.place reached (suc r.place) rs rise.1 (omega arith)) in λ i. (sym here i || is_one_of r.place reached) ∷ rest i;
+      left = λ reached. refl;
+    }
+
+later_entry : (e : ReadRecord) (r : Record) (rs : List Record) (at least : ℕ) → least ≤ r.place → AtEntry e rs at (suc r.place) → AtEntry e (r ∷ rs) (suc at) least
+later_entry e r rs at least first later = grind (arith, common_steps)
+
+pub at_entry : (entries : List ReadRecord) (records : List Record) (least at : ℕ) (d : ReadRecord) → AreEntries entries records → Rise least records → at < length entries
+    → AtEntry (get_or entries at d) records at least
+at_entry [] (r ∷ rs) least at d are rise fits = elim are [ ]
+at_entry (e ∷ es) [] least at d are rise fits = elim are [ ]
+at_entry [] [] least at d no_entries rise fits = absurd (omega (arith, fits))
+at_entry (e ∷ es) (r ∷ rs) least zero d (entry_then is rest) rise fits = first_entry e r rs least is rise
+at_entry (e ∷ es) (r ∷ rs) least (suc at) d (entry_then is rest) rise fits = grind (arith, common_steps, later_entry (get_or es at d) r rs at least rise.0 (at_entry es rs (suc r.place) at d rest rise.1 (omega (arith, fits))))
+
+-- an entry in use that was not reached is the first such one; any other is passed over
+pub left_at : (entries : List ReadRecord) (flags : List Bool) (records : List Record) (reached : List ℕ) (e : ReadRecord) (at : ℕ) → AreFlagged entries flags records reached
+    → e ≡ get_or entries at e → at < length entries
+    → unreached_fault reached (drop at records) ≡ (if not e.in_use || get_or flags at false then unreached_fault reached (drop (suc at) records) else fault 63 e.place)
+left_at entries flags records reached e at flagged is fits = grind (arith, common_steps, at_entry entries records 0 at e flagged.are flagged.rise fits)
+
+pub passes : (u r : Bool) → (u ≡ false) ⊎ (r ≡ true) → (not u || r) ≡ true
+passes v1 r e = grind (arith, nat_tests)
+
+-- ---- the record that an offset leads to, and the fault of that offset
+
+-- the record at an offset where an entry was found
+
+pub record AtOffset (entries : List ReadRecord) (flags : List Bool) (records : List Record) (reached : List ℕ) (offset at : ℕ) : Type 0 where
+  pub elements : Elements
+  pub stands : record_at offset records ≡ Some elements
+  pub carries : (d : ReadRecord) → carried_by (get_or entries at d) ≡ carried_node elements
+  pub flag : (d : Bool) → get_or flags at d ≡ is_one_of offset reached
+
+at_offset_by : (entries : List ReadRecord) (flags : List Bool) (records : List Record) (reached : List ℕ) (offset at : ℕ) (d : ReadRecord) → AreFlagged entries flags records reached
+    → at < length entries → ((d : ReadRecord) → (get_or entries at d).place ≡ offset) → AtOffset entries flags records reached offset at
+at_offset_by entries flags records reached offset at d flagged fits found =
+    let there = at_entry entries records 0 at d flagged.are flagged.rise fits in
+    let same : there.of_it.place ≡ offset = sym there.is.place ∙ found d in
+    record {
+      elements = there.of_it.elements;
+      stands = ap (λ z. record_at z records) (sym same) ∙ there.stands;
+      carries = λ e. ap carried_by (get_or_default entries at e d fits) ∙ there.is.carries;
+      flag = λ b. ap (λ z. get_or z at b) flagged.flagged ∙ (there.flag reached b ∙ ap (λ z. is_one_of z reached) same);
+    }
+
+pub at_offset : (entries : List ReadRecord) (flags : List Bool) (records : List Record) (reached : List ℕ) (offset at : ℕ) → AreFlagged entries flags records reached
+    → at < length entries → ((d : ReadRecord) → (get_or entries at d).place ≡ offset) → AtOffset entries flags records reached offset at
+at_offset v1 flags records reached offset at flagged fits found = grind (arith, nat_tests, at_offset_by)
+
+-- the fault of an offset
+
+has_record : (links : Links) (path : List Turn) (offset : ℕ) (es : Elements) → named_by links path ≡ offset → record_at offset links.records ≡ Some es → names_no_record links path ≡ false
+has_record links path offset es named stands = ap (λ z. is_none (record_at z links.records)) named ∙ ap is_none stands
+
+fits_there : (links : Links) (path : List Turn) (offset : ℕ) (es : Elements) (b : Bool) → named_by links path ≡ offset → record_at offset links.records ≡ Some es
+    → fits (level_of path) (carried_node es) ≡ b → names_wrong_level links path ≡ not b
+fits_there links path offset es b named stands fit = grind (arith, common_steps, elements_is (record_at offset links.records) es stands)
+
+no_fault : (links : Links) (path : List Turn) (reached : List ℕ) (offset : ℕ) (es : Elements) → named_by links path ≡ offset → record_at offset links.records ≡ Some es
+    → is_one_of offset reached ≡ false → fits (level_of path) (carried_node es) ≡ true → path_fault links reached path ≡ None
+no_fault links path reached offset es named stands new fit = grind (arith, common_steps, has_record links path offset es named stands, fits_there links path offset es true named stands fit)
+
+pub old_target : (links : Links) (entries : List ReadRecord) (flags : List Bool) (reached : List ℕ) (ms : List Mark) (step : Step) (at root told : ℕ) (b : Bool)
+    → AreFlagged entries flags links.records reached → IsStep links ms (Some step) → root ≡ links.place → at < length entries → ((d : ReadRecord) → (get_or entries at d).place ≡ step.offset)
+    → get_or flags at false ≡ true → is_one_of step.offset (line_of (path_along true ms)) ≡ b → told ≡ told_along root ms
+    → path_fault links reached (path_along step.begins ms) ≡ fault (if b then 61 else 62) told
+old_target links entries flags reached ms step at root told b flagged is_step root_is fits found old back is = grind (arith, common_steps, at_offset entries flags links.records reached step.offset at flagged fits found)
+
+pub unfit_target : (links : Links) (entries : List ReadRecord) (flags : List Bool) (reached : List ℕ) (ms : List Mark) (step : Step) (at : ℕ) (e : ReadRecord)
+    → AreFlagged entries flags links.records reached → IsStep links ms (Some step) → at < length entries → ((d : ReadRecord) → (get_or entries at d).place ≡ step.offset)
+    → get_or flags at false ≡ false → e ≡ get_or entries at e → fits step.level (carried_by e) ≡ false
+    → path_fault links reached (path_along step.begins ms) ≡ fault 64 step.offset
+unfit_target links entries flags reached ms step at e flagged is_step fits_in found new is unfit = grind (arith, common_steps, at_offset entries flags links.records reached step.offset at flagged fits_in found)
+
+pub good_target : (links : Links) (entries : List ReadRecord) (flags : List Bool) (reached : List ℕ) (ms : List Mark) (step : Step) (at : ℕ) (e : ReadRecord)
+    → AreFlagged entries flags links.records reached → IsStep links ms (Some step) → at < length entries → ((d : ReadRecord) → (get_or entries at d).place ≡ step.offset)
+    → get_or flags at false ≡ false → e ≡ get_or entries at e → fits step.level (carried_by e) ≡ true
+    → IsTarget links entries ms step reached at
+good_target links entries flags reached ms step at e flagged is_step fits_in found new is fit = grind (arith, common_steps, at_offset entries flags links.records reached step.offset at flagged fits_in found)

@@ -1,25 +1,125 @@
--- A walk over a whole text, step by step.
-use Rattle.std.proofs.Common.{◌≡◌, ℕ, zero, suc, ◌+◌, ◌-◌, ◌≤◌, List, [], ◌∷◌, ◌++◌, length, take, drop, Some, None, refl, sym, ap, subst, ◌∙◌, arith}
-use Rattle.std.proofs.lemmas.List.{append-nil, length-append, length-drop, drop-drop, take-append-drop}
+-- What a file header and a walk over a whole text mean for a check.
+use Rattle.std.proofs.Common.{◌≡◌, ℕ, ◌≤◌, Bool, Some, None, arith, if◌then◌else◌, List, ◌≢◌, ◌+◌, ◌-◌, length, refl, ap, subst, ◌∙◌, zero, suc, [], ◌∷◌, ◌++◌, take, drop, sym}
+use Rattle.element.specs.declared.size.Need.{Need}
 use Rattle.element.specs.declared.syntax.Syntax.{Syntax}
-use Rattle.element.specs.declared.syntax.Syntax.TheVariants.{Explicit}
-use Rattle.element.specs.Numbers.{IsBytes}
+use Rattle.element.specs.declared.tag.Tag.{Tag}
+use Rattle.element.specs.declared.header.Header.{Header}
+use Rattle.element.specs.Header.{tag_at, need, header_at}
 use Rattle.sequence.specs.declared.fault.Fault.{Fault}
+use Rattle.sequence.specs.declared.spot.Spot.{Spot}
+use Rattle.sequence.specs.Ending.{Fails, breaks_rule, ends_early}
+use Rattle.sequence.specs.Rules.{Limits, Broken, passes, broken_tag, broken_need, broken_header, broken, when, ◌or_else◌, no_tag}
+use Rattle.std.proofs.lemmas.Bool.Decides.{nat_tests}
+use Rattle.std.proofs.lemmas.Grind.{common_steps}
+use Rattle.std.proofs.lemmas.List.{length-append, append-nil, length-drop, drop-drop, take-append-drop}
+use Rattle.element.specs.declared.syntax.Syntax.TheVariants.{Implicit, Explicit}
+use Rattle.dictionary.specs.Syntaxes.{syntax_uid}
+use Rattle.part10.specs.declared.meta.Meta.{Meta}
+use Rattle.part10.specs.declared.meta_fault.MetaFault.{MetaFault}
+use Rattle.part10.specs.declared.meta_fault.MetaFault.TheVariants.{NotPart10, BadMeta, OtherSyntax, ReadFailed}
+use Rattle.part10.specs.MetaText.{said_of, TakesMeta, FailsToRead}
+use Rattle.dicomdir.specs.declared.fault.DirFault.{DirFault}
+use Rattle.dicomdir.specs.DirFault.{CheckFault, check_limits, HasHeader, IsAtNone, in_header, in_syntax, in_data_set, at_the_end}
+use Rattle.dicomdir.specs.machine.RowReading.{header_fault_of, refusal_of, IsGoing, FailsIn}
+use Rattle.element.specs.Numbers.{IsBytes}
 use Rattle.sequence.specs.declared.step.Step.{Step}
-use Rattle.sequence.specs.Rules.{Limits}
 use Rattle.sequence.specs.FirstFault.{IsUnbroken}
 use Rattle.sequence.specs.Walk.{Told, Tells, going, refused}
-use Rattle.sequence.specs.Ending.{Fails, breaks_rule, ends_early}
 use Rattle.sequence.specs.declared.step.Step.TheVariants.{Refused}
 use Rattle.sequence.specs.Answering.{IsRun, Answers, no_piece, goes_on, element, opened, closed, runs, refuses, stays}
 use Rattle.sequence.specs.declared.walker.Walker.{Walker}
 use Rattle.sequence.specs.Taken.{StandsAt, walker_syntax, limits_of}
 use Rattle.sequence.proofs.Public.{fault_stays, nothing_unbroken}
-use Rattle.dicomdir.specs.CheckFault.{check_limits}
-use Rattle.dicomdir.specs.machine.RowReading.{IsGoing, FailsIn}
-use Rattle.dicomdir.specs.machine.Steps.{refusal_of}
-use Rattle.std.proofs.lemmas.Bool.Decides.{nat_tests}
-use Rattle.std.proofs.lemmas.Grind.{common_steps}
+
+-- a rule, if any is broken
+abbrev IsRule : Broken → Type 0
+IsRule o = (n : ℕ) (t : Tag) → o ≡ Some (n, t) → n ≤ 21
+
+none_rule : IsRule None
+none_rule n t e = absurd cc
+
+some_rule : (k : ℕ) (u : Tag) → k ≤ 21 → IsRule (Some (k, u))
+some_rule k u le n t e = grind (arith, common_steps)
+
+if_rule : (b : Bool) (x y : Broken) → IsRule x → IsRule y → IsRule (if b then x else y)
+if_rule v1 x y p q = grind (arith, nat_tests)
+
+when_rule : (b : Bool) (x : Broken) → IsRule x → IsRule (when b x)
+when_rule v1 x p = grind (arith, nat_tests)
+
+or_rule : (x y : Broken) → IsRule x → IsRule y → IsRule (x or_else y)
+or_rule v1 y p q = grind (arith, nat_tests)
+
+tag_rule : (spot : Spot) (t : Tag) → IsRule (broken_tag spot t)
+unfolding broken_tag
+tag_rule spot t = grind (arith, common_steps, some_rule 15 t (omega arith), some_rule 13 t (omega arith), some_rule 12 t (omega arith))
+
+need_rule : (spot : Spot) (n : Need) (t : Tag) → IsRule (broken_need spot n t)
+need_rule spot v2 t = grind (arith, nat_tests)
+
+header_rule : (lim : Limits) (spot : Spot) (size : ℕ) (h : Header) → IsRule (broken_header lim spot size h)
+unfolding broken_header
+header_rule lim spot size h =
+    if_rule _ _ _ (some_rule 16 h.tag (omega arith))
+    (if_rule _ _ _ (some_rule 14 h.tag (omega arith))
+    (if_rule _ _ _ (some_rule 11 h.tag (omega arith))
+    (if_rule _ _ _ (some_rule 17 h.tag (omega arith))
+    (if_rule _ _ _ (some_rule 19 h.tag (omega arith))
+    (if_rule _ _ _ (some_rule 21 h.tag (omega arith))
+    (if_rule _ _ _ (some_rule 18 h.tag (omega arith)) none_rule))))))
+
+broken_rule : (lim : Limits) (spot : Spot) (t : List ℕ) → IsRule (broken lim spot t)
+unfolding broken
+broken_rule lim spot t =
+    or_rule _ _ (if_rule (passes spot.near 8) _ _ (some_rule 17 _ (omega arith)) none_rule)
+    (or_rule _ _ (when_rule _ _ (tag_rule spot (tag_at t)))
+    (or_rule _ _ (when_rule _ _ (need_rule spot (need spot.syntax t) (tag_at t)))
+    (when_rule _ _ (header_rule lim spot _ (header_at spot.syntax t)))))
+
+pub fault_number : {s : Syntax} {lim : Limits} {b : List ℕ} {fault : Fault} → Fails s lim b fault → fault.number ≤ 21
+fault_number {lim = lim} (breaks_rule {u = u} {rule = rule} {tag = tag} first) = broken_rule lim _ u rule tag first.breaks.breaks
+fault_number (ends_early end) = omega arith
+
+pub fault_at_none : {s : Syntax} {lim : Limits} {b : List ℕ} {fault : Fault} → Fails s lim b fault → fault.number ≡ 67 → ⊥
+fault_at_none fails e = let le = fault_number fails in omega (arith, le, e)
+
+-- ---- what a file header says of a check
+
+pub header_check : (file : List ℕ) (fault : MetaFault) → FailsToRead fault (Some file) → (header_fault_of fault).number ≢ 67
+    → CheckFault file (header_fault_of fault).number (header_fault_of fault).place (header_fault_of fault).tag
+header_check file NotPart10 r some = in_header NotPart10 r
+header_check file BadMeta r some = in_header BadMeta r
+header_check file OtherSyntax r some = in_header OtherSyntax r
+header_check file ReadFailed r some = absurd (some refl)
+
+pub header_at_none : (fault : MetaFault) (f : DirFault) → f ≡ header_fault_of fault → IsAtNone f
+header_at_none v1 f is e = grind (arith, nat_tests)
+
+pub implicit_check : (file rest : List ℕ) (meta : Meta) → TakesMeta (said_of meta) (Some file) (Some rest) → meta.syntax ≡ Implicit → CheckFault file 53 132 no_tag
+implicit_check file rest meta takes is =
+    in_syntax (record { front = takes.0; back = rest; whole = takes.2; spelled = takes.1 }) (ap (λ s. syntax_uid s) is)
+
+pub explicit_check : (file rest : List ℕ) (meta : Meta) → TakesMeta (said_of meta) (Some file) (Some rest) → meta.syntax ≡ Explicit → HasHeader file rest
+explicit_check file rest meta takes is = record {
+  front = takes.0;
+  explicit = record { said = said_of meta; whole = takes.2; header = takes.1; syntax = ap (λ s. syntax_uid s) is };
+}
+
+pub header_before : {file back : List ℕ} → HasHeader file back → length back ≤ length file
+header_before {file = file} {back = back} h = grind (arith, common_steps, length-append h.front back)
+
+pub data_set_check : {file back : List ℕ} (h : HasHeader file back) (fault : Fault) (start : ℕ) → start ≡ length file - length back → Fails Explicit check_limits back fault
+    → CheckFault file fault.number (start + fault.place) fault.tag
+data_set_check {file = file} {back = back} h fault start from (breaks_rule {p = p} {rule = rule} {tag = tag} first) =
+    let whole = ap length h.explicit.whole ∙ length-append h.front back in
+    let place : length h.front + length p ≡ start + length p = omega (arith, whole, from) in
+    subst (λ z. CheckFault file rule z tag) place (in_data_set h.explicit first)
+data_set_check {file = file} {back = back} h fault start from (ends_early {tag = tag} end) =
+    let whole = ap length h.explicit.whole ∙ length-append h.front back in
+    let place : length file ≡ start + length back = omega (arith, whole, from) in
+    subst (λ z. CheckFault file 20 z tag) place (at_the_end h.explicit end)
+
+-- ---- a walk over a whole text, step by step
 
 -- where nothing is refused, no rule is broken
 pub unrefused : {s : Syntax} {lim : Limits} {b piece taken : List ℕ} {step : Step} → Answers s lim b piece taken step → refusal_of step ≡ None → IsUnbroken s lim (b ++ taken)
@@ -60,7 +160,7 @@ tells_none (going unbroken front) u = refl
 tells_none (refused {p = p} {u = t} {rule = rule} {tag = tag} first front) u = absurd (u p t first.rest rule tag first.text first.breaks)
 
 pub failed_text : {s : Syntax} {lim : Limits} (s2 : Syntax) (lim2 : Limits) (text : List ℕ) (fault : Fault) → s ≡ s2 → lim ≡ lim2 → Fails s lim text fault → Fails s2 lim2 text fault
-failed_text {s = s} {lim = lim} s2 lim2 text fault e f w = grind (arith, nat_tests, common_steps)
+failed_text {s = s} {lim = lim} s2 lim2 text fault e f w = grind (arith, common_steps)
 
 -- one step farther along the text
 
@@ -97,7 +197,7 @@ farther text rest n fits is within =
 
 -- a fault stands in the text
 pub fault_within : {s : Syntax} {lim : Limits} {b : List ℕ} {fault : Fault} → Fails s lim b fault → fault.place ≤ length b
-fault_within {b = b} (breaks_rule {p = p} {u = u} first) = grind (arith, nat_tests, common_steps, length-append p u)
+fault_within {b = b} (breaks_rule {p = p} {u = u} first) = grind (arith, common_steps, length-append p u)
 fault_within (ends_early end) = omega arith
 
 pub not_refused : (step : Step) → ((x : Fault) → step ≡ Refused x → ⊥) → refusal_of step ≡ None

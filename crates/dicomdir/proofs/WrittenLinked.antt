@@ -14,25 +14,22 @@ use Rattle.sequence.specs.Tree.{Elements, Items, no_items}
 use Rattle.dicomdir.specs.Built.{directory_meta, directory_header, directory_file, file_is_too_large}
 use Rattle.dicomdir.specs.Directory.{Record, size_of, end_size, records_at, first_offset, last_offset, records_of}
 use Rattle.dicomdir.specs.Keys.{IsRow}
-use Rattle.dicomdir.specs.Layout.{spelled, spelled_items, with_offsets, root_elements}
+use Rattle.dicomdir.specs.Record.{spelled, spelled_items, with_offsets, root_elements}
 use Rattle.dicomdir.specs.Linked.{Linked, LinkedElements, IsAllReached, carried_forest, places_of}
 use Rattle.dicomdir.specs.Places.{record_size, root_size, forest_size, with_places, first_record_place, last_record_place, record_items, elements_with_places}
 use Rattle.dicomdir.specs.Row.{Row}
 use Rattle.dicomdir.specs.TreeOf.{Forest, no_nodes, node, TreeOf}
-use Rattle.dicomdir.specs.WrittenIsLinked.{IsDirectoryOf, WrittenIsLinked}
-use Rattle.dicomdir.proofs.BuildingLemmas.{directory_text, root_size_is}
-use Rattle.dicomdir.proofs.Laid.{is_laid, are_laid, is_item, laid_elements}
-use Rattle.dicomdir.proofs.LaidFields.{padded_short}
+use Rattle.dicomdir.specs.Laws.{IsDirectoryOf, WrittenIsLinked}
+use Rattle.dicomdir.proofs.BuildingLemmas.{directory_text, root_size_is, items_size, offsets_size}
+use Rattle.dicomdir.proofs.Laid.{is_laid, are_laid, is_item, laid_elements, padded_short}
 use Rattle.dicomdir.proofs.LaidRecords.{number_back}
 use Rattle.dicomdir.proofs.NoFault.{linked_has_no_fault}
-use Rattle.dicomdir.proofs.Placed.{AreNodes, written, placed, nodes_are, first_same, last_same, first_small, last_small, linked, distinct, reached, good_records}
-use Rattle.dicomdir.proofs.Sizes.{items_size, offsets_size}
-use Rattle.dicomdir.proofs.TreeNodes.{tree_nodes}
+use Rattle.dicomdir.proofs.Placed.{AreNodes, written, placed, nodes_are, first_same, last_same, first_small, last_small, linked, distinct, reached, good_records, tree_nodes}
 use Rattle.std.proofs.lemmas.Grind.{common_steps}
 
 -- an item's header of an even length is good
 item_good : (n : ℕ) → n < undefined_length → n % 2 ≡ 0 → is_item (record { tag = item_tag; vr = None; length = n }) ≡ true
-item_good n short even = grind (arith, nat_tests, common_steps)
+item_good n short even = grind (arith, common_steps)
 
 items_laid : (place : ℕ) (tree : Forest Elements) (level : ℕ) (others : Items) → AreNodes level tree → place + forest_size tree < 2 ^ 32 → are_laid others ≡ true
     → are_laid (record_items (with_places place tree) others) ≡ true
@@ -47,11 +44,11 @@ items_laid place (node es below next) level others nodes small laid =
     let same = offsets_size (first_record_place n) (first_record_place b) es in
     let short : length (spelled own) < undefined_length = omega (arith, small, same) in
     let size : nat_eq (length (spelled own)) (length (spelled own)) ≡ true = grind (arith, nat_tests) in
-    grind (arith, nat_tests, common_steps, item_good (length (spelled own)) short good.even, items_laid after below (suc level) (record_items n others) nodes.1 (omega (arith, small)) (items_laid beyond next level others nodes.2 (omega (arith, small)) laid))
+    grind (arith, common_steps, item_good (length (spelled own)) short good.even, items_laid after below (suc level) (record_items n others) nodes.1 (omega (arith, small)) (items_laid beyond next level others nodes.2 (omega (arith, small)) laid))
 
 forest_even : (tree : Forest Elements) (level : ℕ) → AreNodes level tree → forest_size tree % 2 ≡ 0
 forest_even no_nodes level nodes = refl
-forest_even (node es below next) level nodes = grind (arith, nat_tests, common_steps, forest_even below (suc level) nodes.1, forest_even next level nodes.2)
+forest_even (node es below next) level nodes = grind (arith, common_steps, forest_even below (suc level) nodes.1, forest_even next level nodes.2)
 
 records_are : (place : ℕ) (tree : Forest Elements) (level : ℕ) (others : Items) → AreNodes level tree → place + forest_size tree < 2 ^ 32
     → records_at place (record_items (with_places place tree) others) ≡ written (with_places place tree) ++ records_at (place + forest_size tree) others
@@ -80,7 +77,7 @@ records_are place (node es below next) level others nodes small =
 
 root_laid : (first last : ℕ) (is : Items) → length (spelled_items is) < undefined_length → length (spelled_items is) % 2 ≡ 0 → are_laid is ≡ true → is_laid 0 (root_elements first last is) ≡ true
 unfolding is_short
-root_laid first last is short even laid = grind (arith, nat_tests, common_steps)
+root_laid first last is short even laid = grind (arith, common_steps)
 
 same_records : (a b : ℕ) (is : Items) → a ≡ b → Some (records_at a is) ≡ Some (records_at b is)
 same_records a b is e = ap (λ (p : ℕ). Some (records_at p is)) e
@@ -99,7 +96,7 @@ root_last start first last is small = number_back last small
 
 group_short : (uid : List ℕ) → is_uid uid ≡ true → length (meta_group (directory_meta uid)) ≤ 360
 unfolding identity_elements implementation_elements title_element is_short
-group_short uid e = grind (arith, nat_tests, common_steps, padded_short 0 uid)
+group_short uid e = grind (arith, common_steps, padded_short 0 uid)
 
 header_read : (uid : List ℕ) → is_uid uid ≡ true → SpellsMeta (said_of (directory_meta uid)) (directory_header uid)
 unfolding directory_header

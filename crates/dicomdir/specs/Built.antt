@@ -1,13 +1,14 @@
 -- The directory file that this product builds of rows, and why it builds none (PS3.10 sections 7.1 and 8.6).
-use Rattle.std.specs.Prelude.{◌≡◌, ℕ, Bool, true, List, length, replicate, codes}
+use Rattle.std.specs.Prelude.{◌≡◌, ℕ, Bool, true, List, length, replicate, codes, Option, take}
 use Rattle.element.specs.declared.syntax.Syntax.TheVariants.{Explicit}
 use Rattle.part10.specs.declared.meta.Meta.{Meta}
 use Rattle.part10.specs.File.{head}
 use Rattle.sequence.specs.Rules.{no_tag}
 use Rattle.dicomdir.specs.declared.fault.DirFault.{DirFault}
-use Rattle.dicomdir.specs.FaultNumbers as numbered
 use Rattle.dicomdir.specs.Places.{directory_of, is_too_large}
 use Rattle.dicomdir.specs.Row.{Row}
+use Rattle.std.specs.Io.KnownBytes.{Appends}
+use Rattle.dicomdir.specs.FaultNumbers as numbered
 
 -- what a directory is built from: the instance UID of its file, and the rows
 pub record BuiltFrom : Type 0 where
@@ -42,3 +43,9 @@ file_is_too_large uid rows = is_too_large (length (directory_header uid)) rows
 pub data IsNotBuilt (uid : List ℕ) (rows : List Row) (f : DirFault) : Type 0 where
   too_large : file_is_too_large uid rows ≡ true → f ≡ record { number = numbered.too_large; place = 0; tag = no_tag } → IsNotBuilt uid rows f
   no_memory : f ≡ record { number = numbered.out_of_memory; place = 0; tag = no_tag } → IsNotBuilt uid rows f
+
+-- ---- what a writer has of a text of which a write failed
+
+-- a beginning of the text was appended
+abbrev pub AppendsFront : Option (List ℕ) → Option (List ℕ) → List ℕ → Type 0
+AppendsFront old new text = (count : ℕ) × Appends old new (take count text)

@@ -1,11 +1,20 @@
 -- What is first found wrong with the elements of a directory (this product's own profile): first in its root, then record
 -- by record, and then along the paths from the root.
-use Rattle.std.specs.Prelude.{ℕ, Bool, not, ◌||◌, List, [], ◌∷◌, length, Option, Some, None, is_none, nat_eq, if◌then◌else◌}
-use Rattle.sequence.specs.Tree.{Elements}
-use Rattle.dicomdir.specs.FaultNumbers.{bad_offset, cycle, twice_reached, unreached, wrong_level, bad_file_id, bad_record}
-use Rattle.dicomdir.specs.Directory.{Found, missing, value_at, items_at, found, Record, carried_node, first_offset, last_offset, records_of, or_zero, has_record, has_file_id}
+use Rattle.std.specs.Prelude.{ℕ, Bool, not, ◌||◌, List, [], ◌∷◌, length, Option, Some, None, is_none, nat_eq, if◌then◌else◌, ◌≡◌, ◌+◌, ◌^◌}
+use Rattle.sequence.specs.Tree.{Elements, DataSet}
+use Rattle.dicomdir.specs.FaultNumbers.{bad_offset, cycle, twice_reached, unreached, wrong_level, bad_file_id, bad_record, out_of_memory}
+use Rattle.dicomdir.specs.Directory.{Found, missing, value_at, items_at, found, Record, carried_node, first_offset, last_offset, records_of, or_zero, has_record, has_file_id, IsExplicitFile}
 use Rattle.dicomdir.specs.Linked.{fits, is_one_of, record_at, elements_at}
 use Rattle.dicomdir.specs.Paths.{Links, Turn, named_by, told_at, level_of, makes_cycle, paths_of, reached_by, root_records, last_from}
+use Rattle.element.specs.declared.syntax.Syntax.TheVariants.{Implicit, Explicit}
+use Rattle.element.specs.declared.tag.Tag.{Tag}
+use Rattle.dictionary.specs.Syntaxes.{syntax_uid}
+use Rattle.part10.specs.declared.meta_fault.MetaFault.{MetaFault}
+use Rattle.part10.specs.MetaText.{Said, HasMeta, MetaFaultOf, fault_number}
+use Rattle.sequence.specs.Rules.{Limits, no_tag}
+use Rattle.sequence.specs.FirstFault.{IsUnbroken, FirstFault, EndFault}
+use Rattle.sequence.specs.Ending.{IsWholeDataSet}
+use Rattle.dicomdir.specs.declared.fault.DirFault.{DirFault}
 
 -- a fault's number, and its place in the file
 pub record Fault : Type 0 where
@@ -109,3 +118,41 @@ records_then_links start es (Some records) = each_fault records or_else links_fa
 -- the first fault of a directory with these elements, of which the first stands at `start`
 unfoldable pub directory_fault : ℕ → Elements → Option Fault
 directory_fault start es = root_fault start es or_else records_then_links start es (records_of start es)
+
+-- ---- what is first found wrong with a file that ought to be a directory (this product's own profile)
+
+-- what the data set is held to: 64 open levels and 2^48 bytes; no value of it is kept
+abbrev pub check_limits : Limits
+check_limits = record { wanted = []; depth = 64; bytes = 2 ^ 48 }
+
+-- a file header that names Explicit stands before these bytes of the file
+pub record HasHeader (file back : List ℕ) : Type 0 where
+  pub front : List ℕ
+  pub explicit : IsExplicitFile file front back
+
+-- after such a file header the file is a whole data set within the limits
+pub record HasDataSet (file : List ℕ) : Type 0 where
+  pub back : List ℕ
+  pub header : HasHeader file back
+  pub whole : IsWholeDataSet Explicit check_limits back
+
+-- where a fault of the file header is told: at its letters, and else behind them
+abbrev pub place_of_meta_fault : ℕ → ℕ
+place_of_meta_fault number = if nat_eq number 50 then 128 else 132
+
+-- the fault's number, its place in the file, and the tag where it is a fault of the data set: first those of the
+-- file header, with Implicit as another syntax; then those of the data set; then those of the directory
+pub data CheckFault (file : List ℕ) : ℕ → ℕ → Tag → Type 0 where
+  in_header : (fault : MetaFault) → MetaFaultOf file fault → CheckFault file (fault_number fault) (place_of_meta_fault (fault_number fault)) no_tag
+  in_syntax : {said : Said} → HasMeta said file → said.syntax ≡ syntax_uid Implicit → CheckFault file 53 132 no_tag
+  in_data_set : {front back p u : List ℕ} {rule : ℕ} {tag : Tag} → IsExplicitFile file front back
+      → FirstFault Explicit check_limits back p u rule tag → CheckFault file rule (length front + length p) tag
+  at_the_end : {front back : List ℕ} {tag : Tag} → IsExplicitFile file front back
+      → EndFault Explicit check_limits back tag → CheckFault file 20 (length file) tag
+  in_directory : {front back : List ℕ} {elements : Elements} {f : Fault} → IsExplicitFile file front back
+      → IsUnbroken Explicit check_limits back → DataSet Explicit 0 elements back
+      → directory_fault (length front) elements ≡ Some f → CheckFault file f.number f.place no_tag
+
+-- where memory ran out, no place and no tag are told
+abbrev pub IsAtNone : DirFault → Type 0
+IsAtNone f = f.number ≡ out_of_memory → (f.place ≡ 0) × (f.tag ≡ no_tag)

@@ -1,5 +1,5 @@
 -- File IDs (PS3.10 section 8.2, PS3.3 section F.3.2.2).
-use Rattle.std.specs.Prelude.{ℕ, Bool, ◌-◌, ◌&&◌, ◌||◌, List, [], ◌∷◌, ◌++◌, length, replicate, Option, Some, None, nat_eq, nat_le, if◌then◌else◌}
+use Rattle.std.specs.Prelude.{ℕ, Bool, ◌-◌, ◌&&◌, ◌||◌, List, [], ◌∷◌, ◌++◌, length, replicate, Option, Some, None, nat_eq, nat_le, if◌then◌else◌, ◌≡◌, true, take}
 use Rattle.std.specs.List.{list_all}
 use Rattle.element.specs.Padding.{is_space, without_trailing}
 
@@ -34,3 +34,10 @@ if_file_id text = if is_file_id text then Some text else None
 -- the file ID that a value holds; spaces at its end do not count
 abbrev pub file_id_of : List ℕ → Option (List ℕ)
 file_id_of value = if_file_id (without_trailing is_space value)
+
+-- ---- the room of a file ID: 71 bytes, which are zero after its text
+
+pub record IsKept (bytes : List ℕ) (size : ℕ) : Type 0 where
+  pub rest_is_zero : filled (take size bytes) ≡ bytes
+  pub size_fits : length (take size bytes) ≡ size
+  pub is_one : is_file_id (take size bytes) ≡ true

@@ -1,6 +1,6 @@
 -- What the keys of a row have to be (PS3.3 section F.5): no longer than the room that a reader has for them, and
 -- some of them not empty. Both is this product's own profile.
-use Rattle.std.specs.Prelude.{◌≡◌, ℕ, Bool, true, false, ◌&&◌, List, length, Option, Some, None, option_map, Result, Ok, Err, nat_le, if◌then◌else◌}
+use Rattle.std.specs.Prelude.{◌≡◌, ℕ, Bool, true, false, ◌&&◌, List, length, Option, Some, None, option_map, Result, Ok, Err, nat_le, if◌then◌else◌, map}
 use Rattle.std.specs.List.{list_all, find}
 use Rattle.element.specs.declared.tag.Tag.{Tag}
 use Rattle.element.specs.Header.{number}
@@ -15,6 +15,9 @@ use Rattle.dicomdir.specs.declared.skip.Skip.TheVariants.{Fault, Missing}
 use Rattle.dicomdir.specs.FileId.{is_file_id}
 use Rattle.dicomdir.specs.KeyTable.{key_table}
 use Rattle.dicomdir.specs.Row.{Row, key, key_in}
+use Rattle.element.specs.declared.syntax.Syntax.{Syntax}
+use Rattle.dicomdir.specs.declared.keys.Entry.{Entry}
+use Rattle.dicomdir.specs.declared.keys.Keys.{Keys}
 
 abbrev pub optional_size : Option (List ℕ) → ℕ
 optional_size None = 0
@@ -61,3 +64,23 @@ pub record IsRow (row : Row) : Type 0 where
   pub instance : is_uid row.instance ≡ true
   pub fits : fits_rooms row ≡ true
   pub full : first_empty row ≡ None
+
+-- ---- the row that a file ID, what a file header says, and keys make
+
+abbrev pub RowValue : Type 0
+RowValue = Row
+
+abbrev pub entry_value : {A : Type 0} → Entry A → ℕ × List ℕ
+entry_value entry = (number entry.tag, entry.value.items)
+
+abbrev pub key_values : {A : Type 0} → Keys A → Values
+key_values keys = map entry_value keys.entries.items
+
+abbrev pub keys_row : {A : Type 0} → List ℕ → List ℕ → List ℕ → Syntax → Keys A → Row
+keys_row file_id class instance syntax keys = record {
+  file_id = file_id;
+  class = class;
+  instance = instance;
+  syntax = syntax;
+  values = key_values keys;
+}

@@ -1,9 +1,12 @@
--- The records in use of a linked directory, depth first, each with its place and its level.
-use Rattle.std.specs.Prelude.{◌≡◌, ℕ, suc, List, [], ◌∷◌, ◌++◌, if◌then◌else◌}
+-- The records in use of a linked directory, depth first, each with its place and its level, and the files that it keeps.
+use Rattle.std.specs.Prelude.{◌≡◌, ℕ, suc, List, [], ◌∷◌, ◌++◌, if◌then◌else◌, Option, Some, None, codes, true, map}
 use Rattle.sequence.specs.Tree.{Elements}
 use Rattle.dicomdir.specs.TreeOf.{Forest, no_nodes, node}
 use Rattle.dicomdir.specs.Directory.{IsDirectoryFile, Node}
 use Rattle.dicomdir.specs.Linked.{PlacedNode, LinkedElements, IsAllReached}
+use Rattle.std.specs.Str.{bytes_eq}
+use Rattle.dicomdir.specs.declared.tree.TreeRecord.{TreeRecord}
+use Rattle.dicomdir.specs.declared.tree.Tree.{Tree}
 
 -- a record of the tree: 1 is a patient's level, and 4 an image's
 pub record LevelNode : Type 0 where
@@ -28,3 +31,40 @@ pub record HasNodes (file : List ℕ) (nodes : List LevelNode) : Type 0 where
   pub linked : LinkedElements start elements tree
   pub all_reached : IsAllReached linked
   pub nodes_are : nodes_in_use 1 linked.placed ≡ nodes
+
+-- ---- what is left of a directory's tree without its inactive records (PS3.3 section F.5.1), and the files that it keeps
+
+-- the tree without inactive nodes and what is below them
+abbrev pub pruned : Forest Node → Forest Node
+pruned no_nodes = no_nodes
+pruned (node n below next) = if n.in_use then node n (pruned below) (pruned next) else pruned next
+
+abbrev pub listed : Option (List ℕ) → List (List ℕ)
+listed None = []
+listed (Some file_id) = file_id ∷ []
+
+abbrev pub file_id_of_image : Node → List (List ℕ)
+file_id_of_image n = if bytes_eq n.kind (codes "IMAGE") then listed n.file_id else []
+
+-- depth first
+abbrev pub images_of : Forest Node → List (List ℕ)
+images_of no_nodes = []
+images_of (node n below next) = file_id_of_image n ++ (images_of below ++ images_of next)
+
+-- the file IDs of the images in use with no inactive record above
+abbrev pub KeptOf : Forest Node → List (List ℕ)
+KeptOf tree = images_of (pruned tree)
+
+-- ---- the nodes of a tree that a check returned, and the files that they keep
+
+-- a record of the tree, which is in use
+abbrev pub node_of : TreeRecord → LevelNode
+node_of r = record { place = r.place; level = r.level; carries = record { in_use = true; kind = r.kind.now; file_id = r.file_id } }
+
+abbrev pub tree_nodes : {A : Type 0} → Tree A → List LevelNode
+tree_nodes tree = map node_of tree.records.items
+
+-- the file IDs of the images among these nodes
+abbrev pub kept_in : List LevelNode → List (List ℕ)
+kept_in [] = []
+kept_in (n ∷ nodes) = file_id_of_image n.carries ++ kept_in nodes

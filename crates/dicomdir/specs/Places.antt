@@ -7,7 +7,7 @@ use Rattle.sequence.specs.Tree.{Elements, Items, no_items}
 use Rattle.dicomdir.specs.Row.{Row}
 use Rattle.dicomdir.specs.TreeOf.{Forest, no_nodes, node, TreeOf}
 use Rattle.dicomdir.specs.Directory.{Record}
-use Rattle.dicomdir.specs.Layout.{spelled, with_offsets, record_item, root_elements}
+use Rattle.dicomdir.specs.Record.{spelled, with_offsets, record_item, root_elements}
 
 -- how many bytes a record takes, with its item's header and its two offsets
 abbrev pub record_size : Elements → ℕ

@@ -1,12 +1,12 @@
 -- The directory records of a row (PS3.3 section F.5): their elements but for the two offsets.
-use Rattle.std.specs.Prelude.{ℕ, List, [], ◌∷◌, length, Option, Some, None, unwrap_or, codes, nat_eq, if◌then◌else◌}
+use Rattle.std.specs.Prelude.{ℕ, List, [], ◌∷◌, length, Option, Some, None, unwrap_or, codes, nat_eq, if◌then◌else◌, ◌++◌, Bool, not, ◌+◌}
 use Rattle.std.specs.Cmp.Lexicographic.{pointwise}
 use Rattle.element.specs.declared.tag.Tag.{Tag}
-use Rattle.element.specs.Header.{number}
+use Rattle.element.specs.Header.{number, header_bytes, item_tag, is_marker}
 use Rattle.element.specs.Numbers.{le}
 use Rattle.dictionary.specs.Syntaxes.{syntax_uid}
 use Rattle.element.specs.Padding.{padded}
-use Rattle.sequence.specs.Tree.{Elements, no_elements, value}
+use Rattle.sequence.specs.Tree.{Elements, no_elements, value, sequence, Items, no_items, item}
 use Rattle.sequence.specs.Wanted.{Values, value_of}
 use Rattle.dicomdir.specs.declared.key_table.KeyRule.{KeyRule}
 use Rattle.dicomdir.specs.declared.key_table.KeyType.{KeyType}
@@ -15,6 +15,8 @@ use Rattle.dicomdir.specs.declared.level.Level.{Level}
 use Rattle.dicomdir.specs.declared.level.Level.TheVariants.{Patient, Study, Series, Image}
 use Rattle.dicomdir.specs.KeyTable.{has_level, key_table}
 use Rattle.dicomdir.specs.Row.{Row, key}
+use Rattle.element.specs.declared.header.Header.{Header}
+use Rattle.element.specs.Vr.{is_short_vr}
 
 abbrev pub tag : ℕ → ℕ → Tag
 tag group element = record { 0 = group; 1 = element }
@@ -87,3 +89,92 @@ series_record row = record_for Series row
 
 abbrev pub image_record : Row → Elements
 image_record row = record_for Image row
+
+-- ---- how this product lays a directory down (PS3.3 section F.3): sequence and items have defined lengths (PS3.5
+-- section 7.5.1), which is this product's own profile.
+
+-- the bytes of elements and items, one after the other
+abbrev mutual
+  pub spelled : Elements → List ℕ
+  spelled no_elements = []
+  spelled (value h v es) = header_bytes h ++ (v ++ spelled es)
+  spelled (sequence h is es) = header_bytes h ++ (spelled_items is ++ spelled es)
+
+  pub spelled_items : Items → List ℕ
+  spelled_items no_items = []
+  spelled_items (item h es is) = header_bytes h ++ (spelled es ++ spelled_items is)
+
+-- a record's elements with its offsets, round Record In-use Flag, which comes first without them
+abbrev pub with_offsets : ℕ → ℕ → Elements → Elements
+with_offsets next lower no_elements = no_elements
+with_offsets next lower (value in_use flag es) =
+    field (tag 0x0004 0x1400) (codes "UL") (le next 4)
+    (value in_use flag (field (tag 0x0004 0x1420) (codes "UL") (le lower 4) es))
+with_offsets next lower (sequence h is es) = sequence h is es
+
+abbrev pub item_of : Elements → Items → Items
+item_of es is = item (record { tag = item_tag; vr = None; length = length (spelled es) }) es is
+
+-- a record with its next and its lower offset, and the records behind it
+abbrev pub record_item : ℕ → ℕ → Elements → Items → Items
+record_item next lower es is = item_of (with_offsets next lower es) is
+
+abbrev pub records_header : Items → Header
+records_header is = record { tag = tag 0x0004 0x1220; vr = Some (codes "SQ"); length = length (spelled_items is) }
+
+-- the elements of a directory: an empty File-set ID, the offsets of the first and the last record of the root, the
+-- consistency flag, and the records
+abbrev pub root_elements : ℕ → ℕ → Items → Elements
+root_elements first last is =
+    field (tag 0x0004 0x1130) (codes "CS") []
+    (field (tag 0x0004 0x1200) (codes "UL") (le first 4)
+    (field (tag 0x0004 0x1202) (codes "UL") (le last 4)
+    (field (tag 0x0004 0x1212) (codes "US") (le 0 2)
+    (sequence (records_header is) is no_elements))))
+
+-- ---- the bytes of a directory record, element after element (PS3.5 section 7.1.2, PS3.3 section F.5)
+
+unfoldable pub element_text : Tag → List ℕ → List ℕ → List ℕ
+element_text t vr v = header_bytes (record { tag = t; vr = Some vr; length = length v }) ++ v
+
+-- the offsets round Record In-use Flag, and Directory Record Type
+abbrev pub start_text : ℕ → ℕ → List ℕ → List ℕ
+start_text next lower kind =
+    element_text (tag 0x0004 0x1400) (codes "UL") (le next 4)
+    ++ (element_text (tag 0x0004 0x1410) (codes "US") (le 0xffff 2)
+    ++ (element_text (tag 0x0004 0x1420) (codes "UL") (le lower 4)
+    ++ element_text (tag 0x0004 0x1430) (codes "CS") kind))
+
+-- what the record of an image says of its file
+abbrev pub file : Row → List ℕ
+file row =
+    element_text (tag 0x0004 0x1500) (codes "CS") (padded 32 row.file_id)
+    ++ (element_text (tag 0x0004 0x1510) (codes "UI") (padded 0 row.class)
+    ++ (element_text (tag 0x0004 0x1511) (codes "UI") (padded 0 row.instance)
+    ++ element_text (tag 0x0004 0x1512) (codes "UI") (padded 0 (syntax_uid row.syntax))))
+
+-- a record with its offsets
+unfoldable pub record_text : Level → Row → ℕ → ℕ → List ℕ
+record_text level row next lower = spelled_items (record_item next lower (record_for level row) no_items)
+
+-- how many bytes the keys of a record take at most
+abbrev pub key_room : Level → KeyRule → ℕ
+key_room level rule = if has_level rule.levels level then rule.room + 9 else 0
+
+abbrev pub keys_room : Level → List KeyRule → ℕ
+keys_room level [] = 0
+keys_room level (rule ∷ rules) = key_room level rule + keys_room level rules
+
+abbrev pub has_short_vr : KeyRule → Bool
+has_short_vr rule = is_short_vr rule.vr
+
+-- its tag is none of an item or a delimitation
+abbrev pub is_element : KeyRule → Bool
+is_element rule = not (is_marker rule.tag)
+
+-- how many bytes the record of an image takes at most for what it says of its file
+abbrev pub file_room : Level → ℕ
+file_room Patient = 0
+file_room Study = 0
+file_room Series = 0
+file_room Image = 400

@@ -1,14 +1,15 @@
 -- The tree of a directory (PS3.3 section F.4): patients, their studies, their series, their images.
-use Rattle.std.specs.Prelude.{ℕ, suc, ◌+◌, List, [], ◌∷◌, ◌++◌, map, filter, Option, Some, None, if◌then◌else◌}
+use Rattle.std.specs.Prelude.{ℕ, suc, ◌+◌, List, [], ◌∷◌, ◌++◌, map, filter, Option, Some, None, if◌then◌else◌, Bool, true, false, Vec}
 use Rattle.std.specs.List.{list_any, find}
 use Rattle.std.specs.Str.{bytes_eq}
 use Rattle.sequence.specs.Tree.{Elements}
 use Rattle.dicomdir.specs.declared.key_table.KeyRule.{KeyRule}
 use Rattle.dicomdir.specs.declared.level.Level.{Level}
-use Rattle.dicomdir.specs.declared.level.Level.TheVariants.{Patient, Study, Series}
+use Rattle.dicomdir.specs.declared.level.Level.TheVariants.{Patient, Study, Series, Image}
 use Rattle.dicomdir.specs.Row.{Row, key, key_in, without_doubles}
 use Rattle.dicomdir.specs.KeyTable.{groups, key_table}
 use Rattle.dicomdir.specs.Record.{patient_record, study_record, series_record, image_record}
+use Rattle.std.specs.Borrow.{Bor}
 
 -- siblings: each node carries something, and has nodes below it
 pub data Forest (N : Type 0) : Type 0 where
@@ -70,3 +71,43 @@ patients rows = grouped (key_for Patient) patient_record studies rows
 -- the tree of these rows; a node is its record's elements but for the two offsets
 unfoldable pub TreeOf : List Row → Forest Elements
 TreeOf rows = patients (without_doubles [] rows)
+
+-- ---- the levels of the tree that is built of rows (PS3.3 section F.4)
+
+-- the nodes at a level and below it
+abbrev pub forest_for : Level → List Row → Forest Elements
+forest_for Patient rows = patients rows
+forest_for Study rows = studies rows
+forest_for Series rows = series rows
+forest_for Image rows = images rows
+
+abbrev pub lower_level : Level → Level
+lower_level Patient = Study
+lower_level Study = Series
+lower_level Series = Image
+lower_level Image = Image
+
+abbrev pub is_image : Level → Bool
+is_image Patient = false
+is_image Study = false
+is_image Series = false
+is_image Image = true
+
+-- how many levels are below
+abbrev pub depth : Level → ℕ
+depth Patient = 3
+depth Study = 2
+depth Series = 1
+depth Image = 0
+
+-- ---- the groups of rows that have the same key, in first-seen order (PS3.3 section F.4)
+
+abbrev pub groups_of : (Row → List ℕ) → List Row → List (List Row)
+groups_of key_of rows = map (λ k. rows_with key_of k rows) (seen_after [] (map key_of rows))
+
+-- the rows behind references
+abbrev pub rows_at : List (Bor Row) → List Row
+rows_at rows = map (λ row. row.now) rows
+
+abbrev pub row_groups : {A : Type 0} → List (Vec (Bor Row) A) → List (List Row)
+row_groups groups = map (λ group. rows_at group.items) groups

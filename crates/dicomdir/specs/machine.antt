@@ -1,10 +1,5 @@
-pub mod Entries
-pub mod Heads
-pub mod Reading
-pub mod Steps
+pub mod Trail
 pub mod Texts
 pub mod RowReading
-pub mod Trail
 pub mod Building
-pub mod Turns
 pub mod FirstSeen

@@ -1,8 +1,7 @@
 //! Groups rows by their keys.
 ghost use Rattle.std.specs.Prelude.{◌≡◌, ◌<◌, ◌++◌, ◌∷◌, [], IfOk, OnOk, if◌then◌else◌, length, get_or, set};
-ghost use Rattle.dicomdir.specs.Grouping.{groups_of, row_groups, rows_at};
+ghost use Rattle.dicomdir.specs.TreeOf.{groups_of, row_groups, rows_at, key_for};
 ghost use Rattle.dicomdir.specs.machine.FirstSeen.{Puts, texts};
-ghost use Rattle.dicomdir.specs.TreeOf.{key_for};
 ghost use Rattle.dicomdir.specs.KeyTable as table;
 ghost use Rattle.std.specs.List.{find};
 
@@ -46,7 +45,7 @@ fn open_group<'r, A: Allocator + Copy>(
     Ok(())
 }
 
-#[tactic(auto, using(crate::proofs::GroupingSteps::row_put))]
+#[tactic(auto, using(crate::proofs::GroupingLemmas::row_put))]
 fn put_row<'r, A: Allocator>(
     groups: &mut Vec<Vec<&'r Row<A>, A>, A>,
     number: usize,

@@ -1,10 +1,8 @@
 //! Lays the records of a directory down, last record first.
 ghost use Rattle.std.specs.Prelude.{◌≡◌, ◌+◌, [], IfOk, IfErr, if◌then◌else◌, nat_eq};
-ghost use Rattle.dicomdir.specs.Grouping.{rows_at};
-ghost use Rattle.dicomdir.specs.Laying.{StopsFor, Adds, Lays};
-ghost use Rattle.dicomdir.specs.TreeOf.{images};
+ghost use Rattle.dicomdir.specs.TreeOf.{rows_at, images, forest_for};
+ghost use Rattle.dicomdir.specs.machine.Building.{StopsFor, Adds, Lays};
 ghost use Rattle.dicomdir.specs.Record.{record_for};
-ghost use Rattle.dicomdir.specs.Levels.{forest_for};
 ghost use Rattle.dicomdir.specs.Places.{record_size, forest_size};
 
 use crate::Row;

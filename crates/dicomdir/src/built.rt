@@ -1,11 +1,10 @@
 //! Builds the directory of rows.
 ghost use Rattle.std.specs.Prelude.{◌≡◌, false, IfOk, OnOk, IfErr, OnErr};
 ghost use Rattle.std.specs.Io.KnownBytes.{Appends};
-ghost use Rattle.dicomdir.specs.Built.{file_is_too_large, IsNotBuilt, directory_file};
+ghost use Rattle.dicomdir.specs.Built.{file_is_too_large, IsNotBuilt, directory_file, AppendsFront};
 ghost use Rattle.dicomdir.specs.Places.{doubles_of};
 ghost use Rattle.dicomdir.specs.TreeOf.{TreeOf, count_of};
-ghost use Rattle.dicomdir.specs.WrittenIsLinked.{IsDirectoryOf};
-ghost use Rattle.dicomdir.specs.Written.{AppendsFront};
+ghost use Rattle.dicomdir.specs.Laws.{IsDirectoryOf};
 
 use crate::Row;
 use crate::build_plan::{Chain, Plan, Stop, lay};

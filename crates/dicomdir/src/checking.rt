@@ -3,13 +3,11 @@ ghost use Rattle.std.specs.Prelude.{◌≡◌, ◌≤◌, ◌<◌, ◌+◌, ◌^
 ghost use Rattle.element.specs.declared.syntax.Syntax.TheVariants.{Explicit};
 ghost use Rattle.sequence.specs.Ending.{IsWholeDataSet, Fails};
 ghost use Rattle.sequence.specs.Tree.{Elements, DataSet};
-ghost use Rattle.dicomdir.specs.CheckFault.{check_limits, CheckFault, HasHeader, HasDataSet, IsAtNone};
+ghost use Rattle.dicomdir.specs.DirFault.{check_limits, CheckFault, HasHeader, HasDataSet, IsAtNone, offset_fault, directory_fault};
 ghost use Rattle.dicomdir.specs.Directory.{Found};
-ghost use Rattle.dicomdir.specs.DirFault.{offset_fault, directory_fault};
-ghost use Rattle.dicomdir.specs.NodesInUse.{HasNodes};
-ghost use Rattle.dicomdir.specs.TreeNodes.{tree_nodes};
-ghost use Rattle.dicomdir.specs.machine.Reading.{FailsAs, IsRootOffset, ChecksAs};
-ghost use Rattle.dicomdir.specs.machine.Steps.{header_fault_of};
+ghost use Rattle.dicomdir.specs.NodesInUse.{HasNodes, tree_nodes};
+ghost use Rattle.dicomdir.specs.machine.Trail.{FailsAs, IsRootOffset, ChecksAs};
+ghost use Rattle.dicomdir.specs.machine.RowReading.{header_fault_of};
 ghost use Rattle.dicomdir.specs.machine.Texts.{Finds};
 
 use crate::data_set::walk_piece;
@@ -36,7 +34,7 @@ fn header_fault(fault: MetaFault) -> DirFault
 }
 
 /// Reads the file header of a file in Explicit VR Little Endian, and returns what follows it.
-#[tactic(auto, using(crate::proofs::HeaderChecks::header_check, crate::proofs::HeaderChecks::header_at_none, crate::proofs::HeaderChecks::implicit_check, crate::proofs::HeaderChecks::explicit_check))]
+#[tactic(auto, using(crate::proofs::WalkLemmas::header_check, crate::proofs::WalkLemmas::header_at_none, crate::proofs::WalkLemmas::implicit_check, crate::proofs::WalkLemmas::explicit_check))]
 fn after_header(bytes: &[u8]) -> Result<&[u8], DirFault>
     ensures read { IfOk result (λ rest. HasHeader bytes.now rest.now) }
     ensures memory { IfErr result IsAtNone }
@@ -131,7 +129,7 @@ fn check_elements<'a, A: Allocator + Copy>(
 /// the named one (60), and no record in use may be left over (63). An inactive record is followed as any other, and need
 /// not fit its level. 67 comes where the allocator refuses a growth, with place 0 and no tag; any other fault is the
 /// first one in this order, whatever was allocated.
-#[tactic(auto, using(crate::proofs::HeaderChecks::data_set_check, crate::proofs::HeaderChecks::header_before, crate::proofs::WalkLemmas::fault_within, crate::proofs::RuleNumbers::fault_at_none))]
+#[tactic(auto, using(crate::proofs::WalkLemmas::data_set_check, crate::proofs::WalkLemmas::header_before, crate::proofs::WalkLemmas::fault_within, crate::proofs::WalkLemmas::fault_at_none))]
 pub fn check<'a, A: Allocator + Copy>(alloc: A, bytes: &'a [u8]) -> Result<Tree<'a, A>, DirFault>
     ensures whole { IsOk result → HasDataSet bytes.now }
     ensures nodes { IfOk result (λ tree. HasNodes bytes.now (tree_nodes tree)) }

@@ -2,7 +2,7 @@
 ghost use Rattle.std.specs.Prelude.{◌≡◌, [], IfOk, OnOk};
 ghost use Rattle.std.specs.List.{AllByRecursion};
 ghost use Rattle.dicomdir.specs.Keys.{IsRow};
-ghost use Rattle.dicomdir.specs.Grouping.{rows_at};
+ghost use Rattle.dicomdir.specs.TreeOf.{rows_at};
 ghost use Rattle.dicomdir.specs.Places.{doubles_of};
 ghost use Rattle.dicomdir.specs.Row.{without_doubles};
 ghost use Rattle.dicomdir.specs.machine.FirstSeen.{TakesRow, texts};

@@ -1,7 +1,7 @@
 //! What is wrong with a directory.
 ghost use Rattle.std.specs.Prelude.{◌≡◌};
 ghost use Rattle.sequence.specs.Rules.{no_tag};
-ghost use Rattle.dicomdir.specs.Names as names;
+ghost use Rattle.dicomdir.specs.FaultNumbers as names;
 
 use crate::rule::DirRule;
 use element::Tag;

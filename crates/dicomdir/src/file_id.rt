@@ -17,8 +17,7 @@ pub struct FileId {
 
 impl Model for FileId {
     ghost use Rattle.std.specs.Prelude.{List, ℕ, take, length};
-    ghost use Rattle.dicomdir.specs.FileId.{filled};
-    ghost use Rattle.dicomdir.specs.FileIdRoom.{IsKept};
+    ghost use Rattle.dicomdir.specs.FileId.{filled, IsKept};
 
     ghost Value = { List ℕ };
 

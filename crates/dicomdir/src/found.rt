@@ -3,8 +3,7 @@ ghost use Rattle.std.specs.Prelude.{◌≡◌, ◌≤◌, ◌<◌, ◌+◌, ◌^
 ghost use Rattle.element.specs.Header.{number, IsTag, item_end_tag, sequence_end_tag};
 ghost use Rattle.sequence.specs.Tree.{Elements, Items, delimitation};
 ghost use Rattle.dicomdir.specs.Directory.{Found, header_size, found};
-ghost use Rattle.dicomdir.specs.machine.Heads.{head_at};
-ghost use Rattle.dicomdir.specs.machine.Texts.{EndsBefore, ElementsThen, ItemsThen, HasElements, IsContent, IsItemContent, content_at, Finds};
+ghost use Rattle.dicomdir.specs.machine.Texts.{head_at, EndsBefore, ElementsThen, ItemsThen, HasElements, IsContent, IsItemContent, content_at, Finds};
 ghost use Rattle.dicomdir.specs.machine.Texts as texts;
 
 use byteorder::{ByteOrder, LittleEndian};
@@ -32,7 +31,7 @@ pub(crate) fn after(text: &[u8], count: usize) -> &[u8]
 }
 
 /// Reads the header at the front of the bytes.
-#[tactic(auto, using(crate::proofs::HeadLemmas::head_whole, crate::proofs::HeadLemmas::head_some))]
+#[tactic(auto, using(crate::proofs::TextLemmas::head_whole, crate::proofs::TextLemmas::head_some))]
 pub(crate) fn head_of(syntax: Syntax, text: &[u8]) -> Option<Head>
     ensures value { result ≡ head_at syntax text.now }
     ensures some { IfSome result (λ r. 8 ≤ r.size) }

@@ -1,9 +1,7 @@
 //! The files that a directory keeps.
 ghost use Rattle.std.specs.Prelude.{◌≡◌, ℕ, List, map, IfOk, IfErr};
 ghost use Rattle.sequence.specs.Rules.{no_tag};
-ghost use Rattle.dicomdir.specs.Kept.{listed, file_id_of_image, KeptOf};
-ghost use Rattle.dicomdir.specs.NodesInUse.{HasNodes};
-ghost use Rattle.dicomdir.specs.TreeNodes.{node_of, tree_nodes, kept_in};
+ghost use Rattle.dicomdir.specs.NodesInUse.{listed, file_id_of_image, KeptOf, HasNodes, node_of, tree_nodes, kept_in};
 
 use crate::fault::DirFault;
 use crate::file_id::FileId;

@@ -20,7 +20,7 @@ pub struct Keys<A: Allocator> {
 }
 
 impl<A: Allocator> Keys<A> {
-    ghost use Rattle.dicomdir.specs.KeysOf.{key_values};
+    ghost use Rattle.dicomdir.specs.Keys.{key_values};
 
     /// Returns no values.
     pub fn new(alloc: A) -> Keys<A>

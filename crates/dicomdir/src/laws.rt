@@ -1,18 +1,8 @@
 //! What holds of the definitions: each function has a law as its contract, and does nothing.
 ghost use Rattle.std.specs.Prelude.{◌≡◌, ◌∷◌, []};
-ghost use Rattle.dicomdir.specs.NodesInUseExamples.{OneImageHasNodes};
+ghost use Rattle.dicomdir.specs.Examples.{OneImageHasNodes, RowsAreGrouped, FileIdsAreRead, HeaderFaults, InactiveRecords, OneImageIsLinked, OneImageFaults, PreambleCounts, RecordFaults, NoRowsAreLinked, PlacesAreAssigned, SizesAreTrue};
 ghost use Rattle.dicomdir.specs.FaultNumbers.{bad_offset, cycle, twice_reached, unreached, wrong_level, bad_file_id, too_large, out_of_memory, bad_record};
-ghost use Rattle.dicomdir.specs.FiledLaws.{FiledHasRow};
-ghost use Rattle.dicomdir.specs.Groups.{RowsAreGrouped, FileIdsAreRead};
-ghost use Rattle.dicomdir.specs.HeaderFaults.{HeaderFaults};
-ghost use Rattle.dicomdir.specs.KeptExamples.{InactiveRecords};
-ghost use Rattle.dicomdir.specs.NoFault.{LinkedHasNoFault, NodesAreRecords, NoFaultIsLinked, OneTreeOfFile};
-ghost use Rattle.dicomdir.specs.OneCheck.{AcceptedHasNoFault, OneCheckFault, OneListOfNodes};
-ghost use Rattle.dicomdir.specs.OneImage.{OneImageIsLinked, OneImageFaults, PreambleCounts, RecordFaults, NoRowsAreLinked};
-ghost use Rattle.dicomdir.specs.PathLaws.{LongerPathsChangeNothing, PathsNameNodes, PathsNameRecords};
-ghost use Rattle.dicomdir.specs.PlacesExamples.{PlacesAreAssigned, SizesAreTrue};
-ghost use Rattle.dicomdir.specs.RowLaws.{KeysFit, OneRow};
-ghost use Rattle.dicomdir.specs.WrittenIsLinked.{WrittenIsLinked};
+ghost use Rattle.dicomdir.specs.Laws.{FiledHasRow, LinkedHasNoFault, NodesAreRecords, NoFaultIsLinked, OneTreeOfFile, AcceptedHasNoFault, OneCheckFault, OneListOfNodes, LongerPathsChangeNothing, PathsNameNodes, PathsNameRecords, KeysFit, OneRow, WrittenIsLinked};
 
 use crate::fault::DirFault;
 
@@ -78,7 +68,7 @@ pub fn no_rows_are_linked()
 {}
 
 /// Files without a file header, and of another syntax than Explicit, are told so.
-#[tactic(auto, using(crate::proofs::HeaderFaults::header_faults))]
+#[tactic(auto, using(crate::proofs::OneImage::header_faults))]
 pub fn header_faults()
     ensures { HeaderFaults }
 {}
@@ -110,7 +100,7 @@ pub fn accepted_has_no_fault()
 {}
 
 /// A file has one first fault at most.
-#[tactic(auto, using(crate::proofs::OneCheck::one_check_fault))]
+#[tactic(auto, using(crate::proofs::NoFault::one_check_fault))]
 pub fn one_fault_of_a_check()
     ensures { OneCheckFault }
 {}
@@ -122,7 +112,7 @@ pub fn one_list_of_nodes()
 
 /// Records stand depth first, without gaps: the directory that the definitions lay down of one image
 /// is the known one, byte by byte.
-#[tactic(auto, using(crate::proofs::Places::places_are_assigned))]
+#[tactic(auto, using(crate::proofs::OneImage::places_are_assigned))]
 pub fn places_are_assigned()
     ensures { PlacesAreAssigned }
 {}
@@ -134,7 +124,7 @@ pub fn sizes_are_true()
 {}
 
 /// Inactive records are followed as any other, and keep neither themselves nor what is below them.
-#[tactic(auto, using(crate::proofs::Kept::inactive_records))]
+#[tactic(auto, using(crate::proofs::OneImage::inactive_records))]
 pub fn inactive_records()
     ensures { InactiveRecords }
 {}
@@ -180,7 +170,7 @@ pub fn paths_name_nodes()
 
 /// The paths of a directory name its records in order, and an offset back to a record above is a cycle, one to a record
 /// before that is a second way.
-#[tactic(auto, using(crate::proofs::PathLaws::paths_name_records))]
+#[tactic(auto, using(crate::proofs::FaultFree::paths_name_records))]
 pub fn paths_name_records()
     ensures { PathsNameRecords }
 {}

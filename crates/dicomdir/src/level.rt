@@ -1,7 +1,7 @@
 //! The levels of a directory's tree.
 ghost use Rattle.std.specs.Prelude.{◌≡◌};
-ghost use Rattle.dicomdir.specs.Levels.{lower_level};
-ghost use Rattle.dicomdir.specs.Levels as levels;
+ghost use Rattle.dicomdir.specs.TreeOf.{lower_level};
+ghost use Rattle.dicomdir.specs.TreeOf as levels;
 ghost use Rattle.dicomdir.specs.Record.{kind_of};
 
 /// The level of a record: of a patient, of a study, of a series or of an image (PS3.3 section F.4).

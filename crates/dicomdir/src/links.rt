@@ -2,11 +2,9 @@
 ghost use Rattle.std.specs.Prelude.{◌≡◌, ◌≤◌, ◌<◌, ◌+◌, ◌++◌, ◌∷◌, [], min, ◌&&◌, not, nat_eq, if◌then◌else◌, ℕ, List, length, map, reverse, replicate, IsOk, IfOk, IfErr, IfSome, IfNone, get_or, slice_index_or, true, false};
 ghost use Rattle.sequence.specs.Rules.{no_tag};
 ghost use Rattle.dicomdir.specs.Linked as linked;
-ghost use Rattle.dicomdir.specs.TreeNodes.{node_of};
-ghost use Rattle.dicomdir.specs.machine.Entries.{AreFollowed, FailsToFollow, carried_by};
-ghost use Rattle.dicomdir.specs.machine.Trail.{left_of, mark_of, own_node, path_along, told_along};
+ghost use Rattle.dicomdir.specs.NodesInUse.{node_of};
+ghost use Rattle.dicomdir.specs.machine.Trail.{AreFollowed, FailsToFollow, carried_by, left_of, mark_of, own_node, path_along, told_along, AreAllReached, Begins, Climbs, IsWrongOffset, LeadsTo, GoesOn, IsLeftOver, IsNoPlace};
 ghost use Rattle.dicomdir.specs.Paths.{line_of};
-ghost use Rattle.dicomdir.specs.machine.Turns.{AreAllReached, Begins, Climbs, IsWrongOffset, LeadsTo, GoesOn, IsLeftOver, IsNoPlace};
 ghost use Rattle.dicomdir.specs.Linked.{is_one_of};
 
 use crate::fault::DirFault;
@@ -263,7 +261,7 @@ fn first_step(root: &Root) -> Option<Step>
 
 /// Follows the offsets from the root, depth first, the lower one before the next one, and adds the records of the tree.
 /// Fails with the first fault of the links (60 to 64), or with 67 where the allocator refuses a growth.
-#[tactic(auto, using(crate::proofs::UnreachedLemmas::left_fewer))]
+#[tactic(auto, using(crate::proofs::Trails::left_fewer))]
 pub(crate) fn follow<'a, A: Allocator + Copy>(
     alloc: A,
     entries: &[ReadRecord<'a>],

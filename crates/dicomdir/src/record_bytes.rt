@@ -11,10 +11,8 @@ ghost use Rattle.element.specs.Header.{number, is_marker, header_bytes, header_f
 ghost use Rattle.sequence.specs.Wanted.{value_of};
 ghost use Rattle.dicomdir.specs.declared.level.Level.TheVariants.{Image};
 ghost use Rattle.dicomdir.specs.Keys.{fits_room};
-ghost use Rattle.dicomdir.specs.Layout.{spelled, with_offsets};
-ghost use Rattle.dicomdir.specs.Record.{key_field, key_field_of, written, key_fields, file_fields, record_for};
-ghost use Rattle.dicomdir.specs.RecordText.{keys_room, has_short_vr, is_element};
-ghost use Rattle.dicomdir.specs.RecordText as text;
+ghost use Rattle.dicomdir.specs.Record.{spelled, with_offsets, key_field, key_field_of, written, key_fields, file_fields, record_for, keys_room, has_short_vr, is_element};
+ghost use Rattle.dicomdir.specs.Record as text;
 
 use crate::Row;
 use crate::key_table::{KeyRule, KeyType, key_table};
@@ -47,7 +45,7 @@ pub(crate) fn put_header(out: &mut RecordBytes, header: &Header)
 }
 
 /// Appends an element in Explicit VR Little Endian with a VR whose length takes two bytes.
-#[tactic(auto, unfolding(crate::specs::RecordText::element_text))]
+#[tactic(auto, unfolding(crate::specs::Record::element_text))]
 pub(crate) fn put_element(out: &mut RecordBytes, tag: Tag, vr: Vr, value: &[u8], padding: u8)
     requires room { array_vec_len out.old + length value.now + 12 ≤ 1024 }
     requires plain { is_marker tag ≡ false }
@@ -185,7 +183,7 @@ fn record_elements<A: Allocator>(level: Level, row: &Row<A>, next: u32, lower: u
 }
 
 /// Returns a record with its offsets: its item with a defined length (PS3.5 section 7.5.1).
-#[tactic(auto, unfolding(crate::specs::RecordText::record_text))]
+#[tactic(auto, unfolding(crate::specs::Record::record_text))]
 pub(crate) fn record_bytes<A: Allocator>(
     level: Level,
     row: &Row<A>,

@@ -1,8 +1,8 @@
 //! Writes the records of a directory.
 ghost use Rattle.std.specs.Prelude.{◌≡◌, OnOk, OnErr};
 ghost use Rattle.std.specs.Io.KnownBytes.{Appends};
-ghost use Rattle.dicomdir.specs.Laying.{place_from_end, entry_text, laid_text};
-ghost use Rattle.dicomdir.specs.Written.{AppendsFront};
+ghost use Rattle.dicomdir.specs.machine.Building.{place_from_end, entry_text, laid_text};
+ghost use Rattle.dicomdir.specs.Built.{AppendsFront};
 
 use crate::build_plan::LaidRecord;
 use crate::record_bytes::record_bytes;

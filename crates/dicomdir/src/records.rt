@@ -3,8 +3,7 @@ ghost use Rattle.std.specs.Prelude.{◌≡◌, ◌≤◌, ◌<◌, ◌+◌, ◌^
 ghost use Rattle.sequence.specs.Tree.{Elements, Items};
 ghost use Rattle.dicomdir.specs.Directory.{Record, records_at, has_record};
 ghost use Rattle.dicomdir.specs.DirFault.{record_fault, each_fault};
-ghost use Rattle.dicomdir.specs.machine.Entries.{IsEntry, AreEntries};
-ghost use Rattle.dicomdir.specs.machine.Reading.{FailsAs, IsEntryOf, use_flag, entry_has_file_id};
+ghost use Rattle.dicomdir.specs.machine.Trail.{IsEntry, AreEntries, FailsAs, IsEntryOf, use_flag, entry_has_file_id};
 ghost use Rattle.dicomdir.specs.machine.Texts.{HasElements, HasItems, got_kind, got_file_id};
 ghost use Rattle.std.specs.Str.{bytes_eq};
 

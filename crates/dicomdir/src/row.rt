@@ -4,9 +4,8 @@ ghost use Rattle.std.specs.List.{list_all, find};
 ghost use Rattle.element.specs.Header.{number};
 ghost use Rattle.element.specs.Uid.{is_uid};
 ghost use Rattle.sequence.specs.Wanted.{value_of, room_of};
-ghost use Rattle.dicomdir.specs.Keys.{IsRow, checked_row, optional_size};
+ghost use Rattle.dicomdir.specs.Keys.{IsRow, checked_row, optional_size, key_values, keys_row};
 ghost use Rattle.dicomdir.specs.Keys as spelling;
-ghost use Rattle.dicomdir.specs.KeysOf.{key_values, keys_row};
 ghost use Rattle.dicomdir.specs.Row.{key_in};
 ghost use Rattle.dicomdir.specs.RowOf.{row_wants};
 
@@ -29,8 +28,7 @@ pub struct Row<A: Allocator> {
 }
 
 impl<A: Allocator> Model for Row<A> {
-    ghost use Rattle.dicomdir.specs.KeysOf.{RowValue, keys_row};
-    ghost use Rattle.dicomdir.specs.Keys.{IsRow};
+    ghost use Rattle.dicomdir.specs.Keys.{RowValue, keys_row, IsRow};
 
     ghost Value = { RowValue };
 
@@ -83,7 +81,7 @@ impl<A: Allocator> Row<A> {
     /// Makes a row of these values. The first that holds is returned: `Fault(21)` if a key is longer
     /// than its room; `Missing` with the first of the keys that must not be empty, by rising tags, of
     /// which nothing remains without padding; else the row.
-    #[tactic(auto, using(crate::proofs::KeysLemmas::too_long, crate::proofs::KeysLemmas::one_empty, crate::proofs::KeysLemmas::none_empty))]
+    #[tactic(auto, using(crate::proofs::RowLaws::too_long, crate::proofs::RowLaws::one_empty, crate::proofs::RowLaws::none_empty))]
     pub fn new(
         file_id: FileId,
         class: Uid,
@@ -152,7 +150,7 @@ impl<A: Allocator> Row<A> {
     }
 
     /// Returns the value of a key, if the data set has it; it is no longer than its room.
-    #[tactic(auto, using(crate::proofs::KeysLemmas::room_kept))]
+    #[tactic(auto, using(crate::proofs::RowLaws::room_kept))]
     pub fn value(&self, tag: Tag) -> Option<&[u8]>
         ensures value { option_map (λ v. v.now) result ≡ value_of self.now.values (number tag) }
         ensures room { (room : ℕ) → room_of row_wants (number tag) ≡ Some room → optional_size (value_of self.now.values (number tag)) ≤ room }

@@ -10,7 +10,7 @@ ghost use Rattle.sequence.specs.Stored.{wanted_tags};
 ghost use Rattle.dicomdir.specs.declared.skip.Skip.TheVariants as skip;
 ghost use Rattle.dicomdir.specs.RowOf.{row_wants, with_value, values_for, RowRead};
 ghost use Rattle.dicomdir.specs.KeyTable.{want_of};
-ghost use Rattle.dicomdir.specs.KeysOf.{key_values};
+ghost use Rattle.dicomdir.specs.Keys.{key_values};
 ghost use Rattle.dicomdir.specs.machine.RowReading.{IsSameSet, TookWhole, WalkFails};
 
 use crate::data_set::walk_piece;

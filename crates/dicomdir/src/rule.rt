@@ -2,7 +2,6 @@
 ghost use Rattle.std.specs.Prelude.{◌≡◌};
 ghost use Rattle.std.specs.List.{find};
 ghost use Rattle.dicomdir.specs.FaultNumbers as numbers;
-ghost use Rattle.dicomdir.specs.Names as names;
 
 /// A rule of a directory's links and records (PS3.3 annex F; the limits and the numbers are this
 /// product's own profile). Its number is its discriminant.
@@ -70,7 +69,7 @@ impl DirRule {
 
     /// Returns its name, as it is printed.
     pub fn name(self) -> &'static str
-        ensures { result.now ≡ names.text_of_rule self }
+        ensures { result.now ≡ numbers.text_of_rule self }
     {
         match self {
             DirRule::BadOffset => "BadOffset",

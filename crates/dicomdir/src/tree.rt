@@ -1,6 +1,6 @@
 //! The tree of a directory that was checked.
 ghost use Rattle.std.specs.Prelude.{◌≡◌, map};
-ghost use Rattle.dicomdir.specs.TreeNodes.{node_of, tree_nodes};
+ghost use Rattle.dicomdir.specs.NodesInUse.{node_of, tree_nodes};
 
 use crate::file_id::FileId;
 use std::alloc::Allocator;

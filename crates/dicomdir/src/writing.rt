@@ -1,7 +1,7 @@
 //! Writes a text to any writer.
 ghost use Rattle.std.specs.Prelude.{◌≤◌, IfOk, OnOk, OnErr, length, take};
 ghost use Rattle.std.specs.Io.KnownBytes.{Appends, Keeps};
-ghost use Rattle.dicomdir.specs.Written.{AppendsFront};
+ghost use Rattle.dicomdir.specs.Built.{AppendsFront};
 
 use element::again::write_again;
 use std::io;

@@ -1,15 +1,71 @@
--- What a built directory keeps beside its rows: the records with their offsets, the size of the file, and the doubles.
-use Rattle.std.specs.Prelude.{◌≡◌, ℕ, ◌+◌, List, [], ◌++◌, length, Some, codes}
+-- What laying down records does, last record first: offsets are counted from the end of the file.
+use Rattle.std.specs.Prelude.{◌≡◌, ℕ, ◌+◌, ◌-◌, ◌^◌, ◌≤◌, Bool, true, false, List, [], ◌∷◌, ◌++◌, length, nat_eq, if◌then◌else◌, Some, codes}
+use Rattle.sequence.specs.Tree.{Elements, no_items}
+use Rattle.dicomdir.specs.declared.level.Level.{Level}
+use Rattle.dicomdir.specs.declared.build_plan.LaidRecord.{LaidRecord}
+use Rattle.dicomdir.specs.declared.build_plan.Stop.{Stop}
+use Rattle.dicomdir.specs.declared.build_plan.Stop.TheVariants.{TooLarge, OutOfMemory}
+use Rattle.dicomdir.specs.Directory.{Record}
+use Rattle.dicomdir.specs.Record.{spelled_items, record_item, record_text, tag, element_text}
+use Rattle.dicomdir.specs.Places.{forest_size, with_places, first_record_place, last_record_place, root_size, doubles_of}
+use Rattle.dicomdir.specs.Row.{Row}
+use Rattle.dicomdir.specs.TreeOf.{Forest, no_nodes, node, count_of, group_node, TreeOf}
 use Rattle.element.specs.Header.{header_bytes}
 use Rattle.element.specs.Numbers.{le}
-use Rattle.dicomdir.specs.declared.build_plan.LaidRecord.{LaidRecord}
 use Rattle.dicomdir.specs.Built.{directory_header}
-use Rattle.dicomdir.specs.Laying.{Lays}
-use Rattle.dicomdir.specs.Places.{root_size, doubles_of}
-use Rattle.dicomdir.specs.Record.{tag}
-use Rattle.dicomdir.specs.RecordText.{element_text}
-use Rattle.dicomdir.specs.Row.{Row}
-use Rattle.dicomdir.specs.TreeOf.{TreeOf}
+
+-- no directory of so many bytes is laid down
+abbrev pub StopsFor : ℕ → Stop → Type 0
+StopsFor size TooLarge = 2 ^ 32 ≤ size
+StopsFor size OutOfMemory = Unit {0}
+
+-- the place that is so far from the end
+abbrev pub place_from_end : ℕ → ℕ → ℕ
+place_from_end total distance = if nat_eq distance 0 then 0 else total - distance
+
+abbrev pub entry_text : {A : Type 0} → ℕ → LaidRecord A → List ℕ
+entry_text total e = record_text e.level e.row.now (place_from_end total e.next) (place_from_end total e.lower)
+
+-- the text of the records, of which the last comes first in the list
+abbrev pub laid_text : {A : Type 0} → ℕ → List (LaidRecord A) → List ℕ
+laid_text total [] = []
+laid_text total (e ∷ es) = laid_text total es ++ entry_text total e
+
+-- the text of records, depth first
+abbrev pub forest_text : Forest Record → List ℕ
+forest_text no_nodes = []
+forest_text (node r below next) =
+    spelled_items (record_item (first_record_place next) (first_record_place below) r.elements no_items)
+    ++ (forest_text below ++ forest_text next)
+
+abbrev pub has_none : Forest Elements → Bool
+has_none no_nodes = true
+has_none (node es below next) = false
+
+pub record Adds {A : Type 0} (level : Level) (row : Row) (next lower start : ℕ) (old new : List (LaidRecord A)) : Type 0 where
+  pub entry : LaidRecord A
+  pub level_is : entry.level ≡ level
+  pub row_is : entry.row.now ≡ row
+  pub start_is : entry.start ≡ start
+  pub next_is : entry.next ≡ next
+  pub lower_is : entry.lower ≡ lower
+  pub last : new ≡ old ++ entry ∷ []
+
+-- the nodes of groups of rows
+abbrev pub groups_forest : (Row → Elements) → (List Row → Forest Elements) → List (List Row) → Forest Elements
+groups_forest record_of below [] = no_nodes
+groups_forest record_of below (group ∷ groups) = group_node record_of below group (groups_forest record_of below groups)
+
+-- the forest was laid down before what there was
+pub record Lays {A : Type 0} (forest : Forest Elements) (old new : List (LaidRecord A)) (old_size new_size first last : ℕ) : Type 0 where
+  pub size : new_size ≡ old_size + forest_size forest
+  pub count : length new ≡ length old + count_of forest
+  pub text : (start : ℕ) → laid_text (start + new_size) new ≡ forest_text (with_places start forest) ++ laid_text (start + new_size) old
+  pub first_is : (start : ℕ) → place_from_end (start + new_size) first ≡ first_record_place (with_places start forest)
+  pub last_is : (start : ℕ) → place_from_end (start + new_size) last ≡ last_record_place (with_places start forest)
+  pub none : nat_eq first 0 ≡ has_none forest
+
+-- ---- what a built directory keeps beside its rows: the records with their offsets, the size of the file, and the doubles
 
 -- the records of `records_size` bytes are laid down to the end of a file of `file_size` bytes
 pub record IsBuilt {A : Type 0} (uid : List ℕ) (rows : List Row) (entries : List (LaidRecord A)) (records_size first last file_size : ℕ) (doubles : List ℕ) : Type 0 where

@@ -1,13 +1,18 @@
 -- What walking the data set of a file leaves.
-use Rattle.std.specs.Prelude.{◌≡◌, List, ℕ, ◌++◌, Option, None, IfSome}
+use Rattle.std.specs.Prelude.{◌≡◌, List, ℕ, ◌++◌, Option, None, IfSome, Some}
 use Rattle.element.specs.declared.syntax.Syntax.{Syntax}
 use Rattle.element.specs.Numbers.{IsBytes}
 use Rattle.sequence.specs.declared.fault.Fault.{Fault}
 use Rattle.sequence.specs.declared.walker.Walker.{Walker}
 use Rattle.sequence.specs.Ending.{IsWholeDataSet, Fails}
-use Rattle.sequence.specs.Rules.{Limits}
+use Rattle.sequence.specs.Rules.{Limits, no_tag}
 use Rattle.sequence.specs.Taken.{StandsAt, walker_syntax, limits_of, fault_of}
 use Rattle.dicomdir.specs.declared.skip.Skip.{Skip}
+use Rattle.part10.specs.declared.meta_fault.MetaFault.{MetaFault}
+use Rattle.part10.specs.declared.meta_fault.MetaFault.TheVariants.{NotPart10, BadMeta, OtherSyntax, ReadFailed}
+use Rattle.dicomdir.specs.declared.fault.DirFault.{DirFault}
+use Rattle.sequence.specs.declared.step.Step.{Step}
+use Rattle.sequence.specs.declared.step.Step.TheVariants.{More, Element, Run, Opened, Closed, Refused}
 use Rattle.dicomdir.specs.declared.skip.Skip.TheVariants as skip
 
 -- the walker took some bytes and refused none
@@ -35,3 +40,20 @@ TookWhole w old = IfSome old (λ text. StandsAt w text × IsWholeDataSet (walker
 pub data WalkFails {V D : ℕ} (w : Walker V D) (old : Option (List ℕ)) (reason : Skip) : Type 0 where
   read_failed : reason ≡ skip.Fault 54 → WalkFails w old reason
   text_fails : IfSome old (λ text. IsBytes text → FailsBy (walker_syntax w) (limits_of w) text reason) → WalkFails w old reason
+
+-- ---- the refusal that a step of a walk reports, if any, and the fault that a check reports of a file header
+
+abbrev pub refusal_of : Step → Option Fault
+refusal_of (Refused fault) = Some fault
+refusal_of More = None
+refusal_of (Run run) = None
+refusal_of (Element h) = None
+refusal_of (Opened h) = None
+refusal_of (Closed h) = None
+
+-- no read of a slice fails
+abbrev pub header_fault_of : MetaFault → DirFault
+header_fault_of NotPart10 = record { number = 50; place = 128; tag = no_tag }
+header_fault_of BadMeta = record { number = 51; place = 132; tag = no_tag }
+header_fault_of OtherSyntax = record { number = 53; place = 132; tag = no_tag }
+header_fault_of ReadFailed = record { number = 67; place = 0; tag = no_tag }

@@ -1,18 +1,31 @@
--- What a text spells from its front, and what is found in it under a tag.
-use Rattle.element.specs.Header.{item_end_tag, sequence_end_tag}
-use Rattle.std.specs.Prelude.{◌≡◌, ℕ, ◌≤◌, ◌+◌, Bool, true, false, not, ◌&&◌, List, [], ◌++◌, length, take, Option, Some, None, nat_eq, nat_le, if◌then◌else◌}
-use Rattle.byteorder.specs.Endian.{little_number}
+-- The header at the front of a text.
+use Rattle.std.specs.Prelude.{ℕ, List, length, Option, Some, None, nat_le, if◌then◌else◌, ◌≡◌, ◌≤◌, ◌+◌, Bool, true, false, not, ◌&&◌, [], ◌++◌, take, nat_eq}
 use Rattle.element.specs.declared.syntax.Syntax.{Syntax}
+use Rattle.element.specs.declared.size.Need.{Need}
+use Rattle.element.specs.declared.size.Need.TheVariants.{More, Size, BadVr}
+use Rattle.element.specs.Header.{need, header_at, item_end_tag, sequence_end_tag}
+use Rattle.dicomdir.specs.declared.found.Head.{Head}
+use Rattle.byteorder.specs.Endian.{little_number}
 use Rattle.element.specs.declared.tag.Tag.{Tag}
 use Rattle.element.specs.declared.header.Header.{Header}
 use Rattle.sequence.specs.Shape.{is_undefined, shape}
 use Rattle.sequence.specs.declared.shape.Shape.TheVariants.{Value, Sequence}
 use Rattle.sequence.specs.Tree.{Elements, Items, delimitation, IsValue, Ended, DataSet, ItemList}
 use Rattle.dicomdir.specs.declared.found.Element.{Element}
-use Rattle.dicomdir.specs.declared.found.Element.TheVariants as got
 use Rattle.dicomdir.specs.Directory.{Found, missing, value_at, items_at, header_size}
 use Rattle.dicomdir.specs.FileId.{file_id_of}
 use Rattle.dicomdir.specs.Row.{key}
+use Rattle.dicomdir.specs.declared.found.Element.TheVariants as got
+
+abbrev pub head_by : Syntax → List ℕ → Need → Option Head
+head_by s b More = None
+head_by s b BadVr = None
+head_by s b (Size k) = if nat_le k (length b) then Some (record { header = header_at s b; size = k }) else None
+
+abbrev pub head_at : Syntax → List ℕ → Option Head
+head_at s b = head_by s b (need s b)
+
+-- ---- what a text spells from its front, and what is found in it under a tag
 
 -- items that were found stand before a place
 abbrev pub EndsBefore : ℕ → Element → Type 0

@@ -1,12 +1,22 @@
 -- The path that is open while links are followed, and the paths that are still to come.
-use Rattle.std.specs.Prelude.{◌≡◌, ℕ, suc, ◌<◌, ◌-◌, min, Bool, true, false, ◌&&◌, List, [], ◌∷◌, ◌++◌, length, Option, Some, None, if◌then◌else◌}
+use Rattle.std.specs.Prelude.{◌≡◌, ℕ, suc, ◌<◌, ◌-◌, min, Bool, true, false, ◌&&◌, List, [], ◌∷◌, ◌++◌, length, Option, Some, None, if◌then◌else◌, ◌≢◌, ◌≤◌, map, slice_index_or, not, ◌||◌, is_some, nat_eq, codes}
 use Rattle.dicomdir.specs.declared.links.Mark.{Mark}
 use Rattle.dicomdir.specs.declared.links.Step.{Step}
 use Rattle.dicomdir.specs.declared.records.ReadRecord.{ReadRecord}
-use Rattle.dicomdir.specs.Directory.{Node, carried_node}
-use Rattle.dicomdir.specs.Linked.{elements_at, next_at}
-use Rattle.dicomdir.specs.NodesInUse.{LevelNode}
-use Rattle.dicomdir.specs.Paths.{Links, Turn, named_by, level_of, paths_from}
+use Rattle.dicomdir.specs.Directory.{Node, carried_node, found, Record, first_offset, last_offset, next_offset, lower_offset, has_record, has_file_id, or_zero, Found, number_in, records_of}
+use Rattle.dicomdir.specs.Linked.{elements_at, next_at, record_at, is_one_of}
+use Rattle.dicomdir.specs.NodesInUse.{LevelNode, node_of}
+use Rattle.dicomdir.specs.Paths.{Links, Turn, named_by, level_of, paths_from, paths_of}
+use Rattle.std.specs.List.{flat_map}
+use Rattle.sequence.specs.Rules.{no_tag}
+use Rattle.sequence.specs.Tree.{Elements}
+use Rattle.dicomdir.specs.declared.fault.DirFault.{DirFault}
+use Rattle.dicomdir.specs.declared.links.Root.{Root}
+use Rattle.dicomdir.specs.declared.tree.TreeRecord.{TreeRecord}
+use Rattle.dicomdir.specs.DirFault.{place_in, links_of, links_fault, path_fault, unreached_fault, Fault, offset_fault, directory_fault}
+use Rattle.std.specs.Str.{bytes_eq}
+use Rattle.dicomdir.specs.declared.found.Element.{Element}
+use Rattle.dicomdir.specs.machine.Texts.{got_none}
 
 -- Marks stand here with the last one first.
 
@@ -69,3 +79,152 @@ abbrev pub IsStep : Links → List Mark → Option Step → Type 0
 IsStep links ms None = Unit {0}
 IsStep links ms (Some step) =
     (0 < step.offset) × (step.offset ≡ named_by links (path_along step.begins ms)) × IsCounted links (path_along step.begins ms) step.level step.shown
+
+-- ---- the records that were read of a directory, as its links are followed
+
+-- what the node of an entry carries
+abbrev pub carried_by : ReadRecord → Node
+carried_by e = record { in_use = e.in_use; kind = e.kind.now; file_id = e.file_id }
+
+-- the entry says what the record says, which has what a record must have
+pub record IsEntry (e : ReadRecord) (r : Record) : Type 0 where
+  pub place : e.place ≡ r.place
+  pub next : e.next ≡ or_zero (next_offset r.elements)
+  pub lower : e.lower ≡ or_zero (lower_offset r.elements)
+  pub carries : carried_by e ≡ carried_node r.elements
+  pub has_record : has_record r.elements ≡ true
+  pub has_file_id : has_file_id r.elements ≡ true
+
+-- each entry is of one record, in their order
+pub data AreEntries : List ReadRecord → List Record → Type 0 where
+  no_entries : AreEntries [] []
+  entry_then : {e : ReadRecord} {r : Record} {es : List ReadRecord} {rs : List Record} → IsEntry e r → AreEntries es rs → AreEntries (e ∷ es) (r ∷ rs)
+
+-- the places rise, and none is below the first number
+abbrev pub Rise : ℕ → List Record → Type 0
+Rise least [] = Unit {0}
+Rise least (r ∷ records) = (least ≤ r.place) × Rise (suc r.place) records
+
+-- of a directory with these elements, of which the first stands at `start`, the root has the offsets, and the entries
+-- are of the records
+pub record AreRead (root : Root) (entries : List ReadRecord) (start : ℕ) (es : Elements) (records : List Record) : Type 0 where
+  pub first : root.first ≡ or_zero (first_offset start es)
+  pub last : root.last ≡ or_zero (last_offset start es)
+  pub first_place : root.first_place ≡ place_in (found 0x00041200 start es)
+  pub last_place : root.last_place ≡ place_in (found 0x00041202 start es)
+  pub entries_are : AreEntries entries records
+  pub rise : Rise 0 records
+
+-- their links have no fault, and to the nodes those in use were added
+abbrev pub AreFollowed : Root → List ReadRecord → List TreeRecord → List TreeRecord → Type 0
+AreFollowed root entries old new =
+    (start : ℕ) (es : Elements) (records : List Record) → AreRead root entries start es records
+    → (links_fault start es (links_of start es records) ≡ None)
+    × (map node_of new ≡ map node_of old ++ flat_map (node_on (links_of start es records)) (paths_of (links_of start es records)))
+
+-- memory ran out, or it is the first fault of their links
+pub record FailsToFollow (root : Root) (entries : List ReadRecord) (f : DirFault) : Type 0 where
+  pub tag : f.tag ≡ no_tag
+  pub memory : f.number ≡ 67 → f.place ≡ 0
+  pub fault : (start : ℕ) (es : Elements) (records : List Record) → f.number ≢ 67 → AreRead root entries start es records
+      → links_fault start es (links_of start es records) ≡ Some (record { number = f.number; place = f.place })
+
+-- ---- what the steps of following the links promise
+
+-- which of the records were reached
+abbrev pub flags_of : List ℕ → List Record → List Bool
+flags_of reached records = map (λ r. is_one_of r.place reached) records
+
+pub record AreFlagged (entries : List ReadRecord) (flags : List Bool) (records : List Record) (reached : List ℕ) : Type 0 where
+  pub are : AreEntries entries records
+  pub rise : Rise 0 records
+  pub flagged : flags ≡ flags_of reached records
+
+-- no record stands at the place
+abbrev pub IsNoPlace : List ReadRecord → ℕ → Type 0
+IsNoPlace entries place = (records : List Record) → AreEntries entries records → Rise 0 records → record_at place records ≡ None
+
+-- the entry is of the record that the open path names, which has no fault
+pub record IsTarget (links : Links) (entries : List ReadRecord) (ms : List Mark) (step : Step) (reached : List ℕ) (at : ℕ) : Type 0 where
+  pub place : (d : ReadRecord) → (slice_index_or entries at d).place ≡ step.offset
+  pub good : path_fault links reached (path_along step.begins ms) ≡ None
+
+-- the offset leads to this entry, and has no fault
+abbrev pub LeadsTo : List ReadRecord → List Bool → List Mark → Step → ℕ → Type 0
+LeadsTo entries flags ms step at =
+    (links : Links) (places : List ℕ) → AreFlagged entries flags links.records places → IsStep links ms (Some step) → IsTarget links entries ms step places at
+
+-- the offset has this fault
+abbrev pub IsWrongOffset : ℕ → List ReadRecord → List Bool → List Mark → Step → DirFault → Type 0
+IsWrongOffset root entries flags ms step f =
+    (links : Links) (places : List ℕ) → root ≡ links.place → AreFlagged entries flags links.records places → IsStep links ms (Some step)
+    → path_fault links places (path_along step.begins ms) ≡ Some (record { number = f.number; place = f.place })
+
+-- the first offset of all, or the end where there is none
+abbrev pub Begins : Root → Option Step → Type 0
+Begins root pending = (links : Links) → links.first ≡ root.first → (paths_of links ≡ to_come links [] pending) × IsStep links [] pending
+
+-- with the offset that comes next, just these paths are to come
+pub record IsToCome (links : Links) (paths : List (List Turn)) (ms ms2 : List Mark) (pending : Option Step) : Type 0 where
+  pub come : paths ≡ to_come links ms2 pending
+  pub fewer : length ms2 ≤ length ms
+  pub marks : AreMarks links ms2
+  pub step : IsStep links ms2 pending
+
+-- after all that is below the last mark, the next offset, or the end
+abbrev pub Climbs : List Mark → List Mark → Option Step → Type 0
+Climbs ms ms2 pending = (links : Links) → AreMarks links ms → IsToCome links (later links true ms) ms ms2 pending
+
+-- after a record that was reached by this step and has the last mark, the next offset, or the end
+abbrev pub GoesOn : List Mark → List Mark → Step → Option Step → ReadRecord → Type 0
+GoesOn ms ms2 step pending e =
+    (links : Links) (level : ℕ) → AreMarks links ms → e.lower ≡ named_by links (path_along true ms) → step.level ≡ min level 5 → level_of (path_along true ms) ≡ suc level
+    → (step.shown && e.in_use) ≡ is_shown links (path_along true ms)
+    → IsToCome links (paths_on links (path_along true ms) ++ later links true ms) ms ms2 pending
+
+-- no record in use is left over
+abbrev pub AreAllReached : List ReadRecord → List Bool → Type 0
+AreAllReached entries flags = (records : List Record) (places : List ℕ) → AreFlagged entries flags records places → unreached_fault places records ≡ None
+
+-- this is the fault of the first that is left over
+abbrev pub IsLeftOver : List ReadRecord → List Bool → DirFault → Type 0
+IsLeftOver entries flags f =
+    (records : List Record) (places : List ℕ) → AreFlagged entries flags records places
+    → unreached_fault places records ≡ Some (record { number = f.number; place = f.place })
+
+-- ---- what reading the root and the records of a directory comes to
+
+-- memory ran out, or it is this fault
+pub record FailsAs (first : Option Fault) (f : DirFault) : Type 0 where
+  pub tag : f.tag ≡ no_tag
+  pub memory : f.number ≡ 67 → f.place ≡ 0
+  pub fault : f.number ≢ 67 → first ≡ Some (record { number = f.number; place = f.place })
+
+-- an offset of the root and its place, from the element that has it
+pub record IsRootOffset (start : ℕ) (f : Found) (place offset : ℕ) : Type 0 where
+  pub place_is : place ≡ place_in f
+  pub offset_is : number_in 4 f ≡ Some offset
+  pub good : offset_fault start f ≡ None
+
+abbrev pub use_flag : Option ℕ → Option Bool
+use_flag None = None
+use_flag (Some flag) = if nat_eq flag 0xffff then Some true else (if nat_eq flag 0 then Some false else None)
+
+-- the entry is that of the elements of a record at this place
+pub record IsEntryOf (place : ℕ) (es : Elements) (e : ReadRecord) : Type 0 where
+  pub place_is : e.place ≡ place
+  pub next : e.next ≡ or_zero (next_offset es)
+  pub lower : e.lower ≡ or_zero (lower_offset es)
+  pub carries : carried_by e ≡ carried_node es
+  pub has_record : has_record es ≡ true
+
+-- whether an entry has the file ID that it needs, where this is found under its tag
+abbrev pub entry_has_file_id : ReadRecord → Element → Bool
+entry_has_file_id e found = not e.in_use || is_some e.file_id || (got_none found && not (bytes_eq e.kind.now (codes "IMAGE")))
+
+-- the nodes of a directory without a fault
+pub record ChecksAs (start : ℕ) (es : Elements) (nodes : List LevelNode) : Type 0 where
+  pub no_fault : directory_fault start es ≡ None
+  pub records : List Record
+  pub are : records_of start es ≡ Some records
+  pub nodes_are : nodes ≡ flat_map (node_on (links_of start es records)) (paths_of (links_of start es records))

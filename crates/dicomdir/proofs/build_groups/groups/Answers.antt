@@ -1,9 +1,8 @@
 use Rattle.std.proofs.Common.{add-one, arith}
-use Rattle.dicomdir.specs.Grouping.{row_groups}
+use Rattle.dicomdir.specs.TreeOf.{row_groups, key_for}
 use Rattle.dicomdir.specs.machine.FirstSeen.{texts}
-use Rattle.dicomdir.proofs.GroupingSteps.{as_many, step, finished}
+use Rattle.dicomdir.proofs.GroupingLemmas.{as_many, step, finished}
 use Rattle.dicomdir.proofs.build_groups.groups.Goals as goal
-use Rattle.dicomdir.specs.TreeOf.{key_for}
 
 pub put_by_key-requires : goal.put_by_key-requires
 put_by_key-requires g c = as_many _ _ _ _ c.loop-row.invariant

@@ -1,6 +1,6 @@
 use Rattle.std.proofs.Common.{◌∙◌, ◌<◌, ◌++◌, ◌∷◌, [], map, length, ap, arith}
 use Rattle.std.proofs.lemmas.List.{length-map}
-use Rattle.dicomdir.proofs.GroupingSteps.{row_put}
+use Rattle.dicomdir.proofs.GroupingLemmas.{row_put}
 use Rattle.dicomdir.proofs.build_groups.put_row.Goals as goal
 
 pub returns : goal.returns

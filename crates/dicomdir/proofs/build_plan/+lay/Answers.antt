@@ -1,9 +1,8 @@
 use Rattle.std.proofs.Common.{◌∙◌, ◌≤◌, ◌-◌, length, sym, arith}
 use Rattle.std.proofs.lemmas.List.{length-map}
 use Rattle.std.proofs.lemmas.Result.{err_from_is_err_and}
-use Rattle.dicomdir.specs.Grouping.{rows_at, row_groups}
+use Rattle.dicomdir.specs.TreeOf.{rows_at, row_groups, forest_for, lower_level}
 use Rattle.dicomdir.specs.Record.{record_for}
-use Rattle.dicomdir.specs.Levels.{forest_for, lower_level}
 use Rattle.dicomdir.proofs.LayingLemmas.{group_laid, below_stops, own_stops, empty_group, group_at, first_now, none_now, whole_laid}
 use Rattle.dicomdir.proofs.build_plan.+lay.Goals as goal
 

@@ -1,8 +1,7 @@
 use Rattle.std.proofs.Common.{◌≤◌, length, drop}
-use Rattle.dicomdir.specs.Grouping.{row_groups}
-use Rattle.dicomdir.specs.Laying.{Lays, groups_forest}
+use Rattle.dicomdir.specs.TreeOf.{row_groups, forest_for, lower_level, depth}
+use Rattle.dicomdir.specs.machine.Building.{Lays, groups_forest}
 use Rattle.dicomdir.specs.Record.{record_for}
-use Rattle.dicomdir.specs.Levels.{forest_for, lower_level, depth}
 use Rattle.dicomdir.proofs.build_plan.+lay.Given as goal
 
 abbrev pub invariant-loop-at : goal.invariant-loop-at

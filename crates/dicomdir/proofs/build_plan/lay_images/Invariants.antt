@@ -1,7 +1,6 @@
 use Rattle.std.proofs.Common.{◌≤◌, length, drop}
-use Rattle.dicomdir.specs.Grouping.{rows_at}
-use Rattle.dicomdir.specs.Laying.{Lays}
-use Rattle.dicomdir.specs.TreeOf.{images}
+use Rattle.dicomdir.specs.TreeOf.{rows_at, images}
+use Rattle.dicomdir.specs.machine.Building.{Lays}
 use Rattle.dicomdir.proofs.build_plan.lay_images.Given as goal
 
 abbrev pub invariant-loop-at : goal.invariant-loop-at

@@ -1,6 +1,6 @@
 use Rattle.std.proofs.Common.{◌∙◌, ◌≤◌, ◌+◌, ◌^◌, length, ap, arith}
 use Rattle.dicomdir.specs.Built.{too_large}
-use Rattle.dicomdir.specs.Grouping.{rows_at}
+use Rattle.dicomdir.specs.TreeOf.{rows_at}
 use Rattle.dicomdir.proofs.BuildingLemmas.{records_too_large, file_too_large, file_fits, lays_tree, size_with, at_least}
 use Rattle.dicomdir.proofs.WrittenLinked.{written_is_linked}
 use Rattle.dicomdir.proofs.built.build.Goals as goal

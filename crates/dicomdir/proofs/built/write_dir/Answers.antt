@@ -2,10 +2,8 @@ use Rattle.std.proofs.Common.{◌≡◌, ◌∙◌, ◌++◌, List, ℕ, ap, ap�
 use Rattle.std.proofs.lemmas.Result.{err_from_is_err_and, on_ok_weaker, on_err_weaker}
 use Rattle.std.proofs.KnownBytes.{Appends-trans}
 use Rattle.dicomdir.specs.Built.{directory_file, directory_header}
-use Rattle.dicomdir.specs.Laying.{place_from_end, laid_text}
-use Rattle.dicomdir.specs.machine.Building.{root_text}
-use Rattle.dicomdir.proofs.BuildingLemmas.{file_text}
-use Rattle.dicomdir.proofs.WritingLemmas.{front_after, front_more}
+use Rattle.dicomdir.specs.machine.Building.{place_from_end, laid_text, root_text}
+use Rattle.dicomdir.proofs.BuildingLemmas.{file_text, front_after, front_more}
 use Rattle.dicomdir.proofs.built.write_dir.Goals as goal
 
 pub returns-in_err-write_all-clause-front : goal.returns-in_err-write_all-clause-front

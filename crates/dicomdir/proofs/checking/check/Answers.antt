@@ -1,10 +1,9 @@
 use Rattle.std.proofs.Common.{refl, ◌-◌, length, arith}
 use Rattle.std.proofs.lemmas.Result.{IfOk-weaker, IfErr-weaker}
-use Rattle.dicomdir.specs.TreeNodes.{tree_nodes}
+use Rattle.dicomdir.specs.NodesInUse.{tree_nodes}
 use Rattle.dicomdir.proofs.CheckLemmas.{file_fails, file_nodes}
-use Rattle.dicomdir.proofs.HeaderChecks.{data_set_check}
+use Rattle.dicomdir.proofs.WalkLemmas.{data_set_check}
 use Rattle.dicomdir.proofs.checking.check.Goals as goal
-use Rattle.std.proofs.lemmas.Bool.Decides.{nat_tests}
 use Rattle.std.proofs.lemmas.Grind.{common_steps}
 
 pub returns-clause-nodes : goal.returns-clause-nodes
@@ -18,4 +17,4 @@ returns-clause-fault g c =
     IfErr-weaker c.check_elements.result _ _ (λ f fails other. file_fails c.in-Ok.ensures.read _ whole f refl (fails whole.elements whole.text) other) c.check_elements.ensures.fails
 
 pub returns-in-Err-walk-clause-fault : goal.returns-in-Err-walk-clause-fault
-returns-in-Err-walk-clause-fault g c other = grind (arith, nat_tests, common_steps, data_set_check c.in-Ok.ensures.read c.in-Err-walk.fault (length c.args.bytes.now - length c.in-Ok.text.now) refl c.in-Err-walk.ensures.fails)
+returns-in-Err-walk-clause-fault g c other = grind (arith, common_steps, data_set_check c.in-Ok.ensures.read c.in-Err-walk.fault (length c.args.bytes.now - length c.in-Ok.text.now) refl c.in-Err-walk.ensures.fails)

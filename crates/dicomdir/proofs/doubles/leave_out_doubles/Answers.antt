@@ -1,7 +1,7 @@
-use Rattle.dicomdir.specs.Grouping.{rows_at}
+use Rattle.dicomdir.specs.TreeOf.{rows_at}
 use Rattle.dicomdir.specs.Keys.{IsRow}
 use Rattle.dicomdir.specs.machine.FirstSeen.{texts}
-use Rattle.dicomdir.proofs.DoublesLemmas.{leaves_next, leaves_all, all_more, all_taken}
+use Rattle.dicomdir.proofs.GroupingLemmas.{leaves_next, leaves_all, all_more, all_taken}
 use Rattle.dicomdir.proofs.doubles.leave_out_doubles.Goals as goal
 
 pub loop-at-preserved : goal.loop-at-preserved

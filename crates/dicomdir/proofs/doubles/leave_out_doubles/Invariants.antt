@@ -1,9 +1,9 @@
 use Rattle.std.proofs.Common.{take}
 use Rattle.std.specs.List.{AllByRecursion}
 use Rattle.dicomdir.specs.Keys.{IsRow}
-use Rattle.dicomdir.specs.Grouping.{rows_at}
+use Rattle.dicomdir.specs.TreeOf.{rows_at}
 use Rattle.dicomdir.specs.machine.FirstSeen.{texts}
-use Rattle.dicomdir.proofs.DoublesLemmas.{newest_first, Leaves}
+use Rattle.dicomdir.proofs.GroupingLemmas.{newest_first, Leaves}
 use Rattle.dicomdir.proofs.doubles.leave_out_doubles.Given as goal
 
 abbrev pub invariant-loop-at : goal.invariant-loop-at

@@ -1,14 +1,13 @@
 use Rattle.element.specs.Header.{item_tag}
 use Rattle.std.proofs.Common.{◌∙◌, length, sym, ap, arith}
 use Rattle.std.proofs.lemmas.List.{length-drop}
-use Rattle.dicomdir.proofs.SkipLemmas.{content_drop, content_items, item_drop, item_elements, end_of_elements, always_elements, next_elements, end_of_items, always_items, next_items}
+use Rattle.dicomdir.proofs.FindLemmas.{content_drop, content_items, item_drop, item_elements, end_of_elements, always_elements, next_elements, end_of_items, always_items, next_items}
 use Rattle.dicomdir.proofs.TextLemmas.{same_tags, other_tag}
 use Rattle.dicomdir.proofs.found.+levels.Goals as goal
-use Rattle.std.proofs.lemmas.Bool.Decides.{nat_tests}
 use Rattle.std.proofs.lemmas.Grind.{common_steps}
 
 pub after_content-returns-then-header-clause-after : goal.after_content-returns-then-header-clause-after
-after_content-returns-then-header-clause-after t c place f content rest is whole = grind (arith, nat_tests, common_steps, content_drop c.args.syntax c.args.header place f content rest c.args.text.now c.if-header.true is whole)
+after_content-returns-then-header-clause-after t c place f content rest is whole = grind (arith, common_steps, content_drop c.args.syntax c.args.header place f content rest c.args.text.now c.if-header.true is whole)
 
 pub after_content-returns-in-Sequence-clause-after : goal.after_content-returns-in-Sequence-clause-after
 after_content-returns-in-Sequence-clause-after t c place f content rest is whole =
@@ -20,10 +19,10 @@ after_elements-returns-then-is_marker-clause-after t c es rest is =
     c.after-next.ensures ∙ end_of_elements c.args.syntax c.in-Some.head rest c.loop-head.rest.now (c.loop-head.invariant.left es rest is) (sym c.head_of.ensures.value ∙ c.in-Some.is) (sym c.is_marker.ensures ∙ c.if-is_marker.true)
 
 pub after_elements-returns-clause-after : goal.after_elements-returns-clause-after
-after_elements-returns-clause-after t c es rest is = grind (arith, nat_tests, common_steps, always_elements c.args.syntax rest c.loop-head.rest.now (c.loop-head.invariant.left es rest is) (sym c.head_of.ensures.value ∙ c.in_default.is))
+after_elements-returns-clause-after t c es rest is = grind (arith, common_steps, always_elements c.args.syntax rest c.loop-head.rest.now (c.loop-head.invariant.left es rest is) (sym c.head_of.ensures.value ∙ c.in_default.is))
 
 pub after_item-returns-then-header-ne-UNDEFINED-clause-after : goal.after_item-returns-then-header-ne-UNDEFINED-clause-after
-after_item-returns-then-header-ne-UNDEFINED-clause-after t c es content rest is whole = grind (arith, nat_tests, common_steps, item_drop c.args.syntax c.args.header es content rest c.args.text.now c.if-header-ne-UNDEFINED.true is whole)
+after_item-returns-then-header-ne-UNDEFINED-clause-after t c es content rest is whole = grind (arith, common_steps, item_drop c.args.syntax c.args.header es content rest c.args.text.now c.if-header-ne-UNDEFINED.true is whole)
 
 pub after_item-returns-clause-after : goal.after_item-returns-clause-after
 after_item-returns-clause-after t c es content rest is whole =
@@ -34,7 +33,7 @@ after_items-returns-then-ne-clause-after t c items rest is =
     c.after-next.ensures ∙ end_of_items c.args.syntax c.in-Some.head rest c.loop-head.rest.now (c.loop-head.invariant.left items rest is) (sym c.head_of.ensures.value ∙ c.in-Some.is) (other_tag c.in-Some.head.header.tag item_tag (sym c.ne.ensures ∙ c.if-ne.true))
 
 pub after_items-returns-clause-after : goal.after_items-returns-clause-after
-after_items-returns-clause-after t c items rest is = grind (arith, nat_tests, common_steps, always_items c.args.syntax rest c.loop-head.rest.now (c.loop-head.invariant.left items rest is) (sym c.head_of.ensures.value ∙ c.in_default.is))
+after_items-returns-clause-after t c items rest is = grind (arith, common_steps, always_items c.args.syntax rest c.loop-head.rest.now (c.loop-head.invariant.left items rest is) (sym c.head_of.ensures.value ∙ c.in_default.is))
 
 pub after_elements-loop-head-preserved : goal.after_elements-loop-head-preserved
 after_elements-loop-head-preserved t c =

@@ -4,17 +4,16 @@ use Rattle.element.specs.Header.{number}
 use Rattle.dicomdir.specs.Directory.{found}
 use Rattle.dicomdir.proofs.FindLemmas.{all_left, left_after, missing_at_mark, missing_at_end, stands_here, same_number, other_number}
 use Rattle.dicomdir.proofs.found.find.Goals as goal
-use Rattle.std.proofs.lemmas.Bool.Decides.{nat_tests}
 use Rattle.std.proofs.lemmas.Grind.{common_steps}
 
 pub loop-head-init : goal.loop-head-init
 loop-head-init c = record { fits = omega arith; left = λ es has. all_left c.args.syntax (number c.args.tag) c.args.place es c.args.text.now has }
 
 pub returns-then-is_marker-clause-found : goal.returns-then-is_marker-clause-found
-returns-then-is_marker-clause-found c es has = grind (arith, nat_tests, common_steps, missing_at_mark c.args.syntax (number c.args.tag) c.args.place es c.args.text.now c.loop-head.rest.now c.in-Some.head (c.loop-head.invariant.left es has) (sym c.head_of.ensures.value ∙ c.in-Some.is) (sym c.is_marker.ensures ∙ c.if-is_marker.true))
+returns-then-is_marker-clause-found c es has = grind (arith, common_steps, missing_at_mark c.args.syntax (number c.args.tag) c.args.place es c.args.text.now c.loop-head.rest.now c.in-Some.head (c.loop-head.invariant.left es has) (sym c.head_of.ensures.value ∙ c.in-Some.is) (sym c.is_marker.ensures ∙ c.if-is_marker.true))
 
 pub returns-clause-found : goal.returns-clause-found
-returns-clause-found c es has = grind (arith, nat_tests, common_steps, missing_at_end c.args.syntax (number c.args.tag) c.args.place es c.args.text.now c.loop-head.rest.now (c.loop-head.invariant.left es has) (sym c.head_of.ensures.value ∙ c.in_default.is))
+returns-clause-found c es has = grind (arith, common_steps, missing_at_end c.args.syntax (number c.args.tag) c.args.place es c.args.text.now c.loop-head.rest.now (c.loop-head.invariant.left es has) (sym c.head_of.ensures.value ∙ c.in_default.is))
 
 pub returns-then-eq-clause-found : goal.returns-then-eq-clause-found
 returns-then-eq-clause-found c es has =

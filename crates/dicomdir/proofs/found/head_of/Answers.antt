@@ -2,7 +2,7 @@ use Rattle.std.proofs.Common.{◌≡◌, arith}
 use Rattle.element.specs.Header.{need}
 use Rattle.element.specs.declared.size.Need.TheVariants.{Size}
 use Rattle.sequence.proofs.Public.{need_least}
-use Rattle.dicomdir.proofs.HeadLemmas.{head_whole}
+use Rattle.dicomdir.proofs.TextLemmas.{head_whole}
 use Rattle.dicomdir.proofs.found.head_of.Goals as goal
 
 pub read_header-requires : goal.read_header-requires

@@ -1,5 +1,5 @@
 use Rattle.std.proofs.Common.{◌≡◌, ◌++◌, map}
-use Rattle.dicomdir.specs.TreeNodes.{node_of, kept_in}
+use Rattle.dicomdir.specs.NodesInUse.{node_of, kept_in}
 use Rattle.dicomdir.proofs.KeptLemmas.{kept_from}
 use Rattle.dicomdir.proofs.kept_files.images.Given as goal
 

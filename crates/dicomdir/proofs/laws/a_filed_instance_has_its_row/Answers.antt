@@ -1,4 +1,4 @@
-use Rattle.dicomdir.proofs.FiledLaws.{filed_has_row}
+use Rattle.dicomdir.proofs.RowLaws.{filed_has_row}
 use Rattle.dicomdir.proofs.laws.a_filed_instance_has_its_row.Goals as goal
 
 pub returns : goal.returns

@@ -1,4 +1,4 @@
-use Rattle.dicomdir.proofs.OneCheck.{accepted_has_no_fault}
+use Rattle.dicomdir.proofs.NoFault.{accepted_has_no_fault}
 use Rattle.dicomdir.proofs.laws.accepted_has_no_fault.Goals as goal
 
 pub returns : goal.returns

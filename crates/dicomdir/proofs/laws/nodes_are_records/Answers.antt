@@ -1,4 +1,4 @@
-use Rattle.dicomdir.proofs.Within.{nodes_are_records}
+use Rattle.dicomdir.proofs.NoFault.{nodes_are_records}
 use Rattle.dicomdir.proofs.laws.nodes_are_records.Goals as goal
 
 pub returns : goal.returns

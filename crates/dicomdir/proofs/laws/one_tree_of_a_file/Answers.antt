@@ -1,4 +1,4 @@
-use Rattle.dicomdir.proofs.OneTree.{one_tree_of_file}
+use Rattle.dicomdir.proofs.NoFault.{one_tree_of_file}
 use Rattle.dicomdir.proofs.laws.one_tree_of_a_file.Goals as goal
 
 pub returns : goal.returns

@@ -1,4 +1,4 @@
-use Rattle.dicomdir.proofs.Sizes.{sizes_are_true}
+use Rattle.dicomdir.proofs.BuildingLemmas.{sizes_are_true}
 use Rattle.dicomdir.proofs.laws.sizes_are_true.Goals as goal
 
 pub returns : goal.returns

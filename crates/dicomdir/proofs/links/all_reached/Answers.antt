@@ -1,7 +1,7 @@
 use Rattle.std.proofs.Common.{◌≡◌, ◌+◌, ◌||◌, suc, not, Some, get_or, drop, true, false, inl, inr, Bool, sym, ap, ◌∙◌, arith, if◌then◌else◌}
 use Rattle.std.proofs.lemmas.Bool.{cond-true}
 use Rattle.dicomdir.specs.DirFault.{fault, unreached_fault}
-use Rattle.dicomdir.proofs.EntryLemmas.{left_at, passes}
+use Rattle.dicomdir.proofs.Trails.{left_at, passes}
 use Rattle.dicomdir.proofs.links.all_reached.Goals as goal
 use Rattle.dicomdir.proofs.links.all_reached.Goals.{else-entry-via-then-entry+else-not-reached-at, else-entry-via-else-entry}
 

@@ -3,10 +3,8 @@ use Rattle.std.proofs.lemmas.List.{length-replicate, length-set}
 use Rattle.std.proofs.lemmas.Result.{err_from_is_err_and}
 use Rattle.sequence.specs.Rules.{no_tag}
 use Rattle.dicomdir.specs.DirFault.{links_of}
-use Rattle.dicomdir.specs.TreeNodes.{node_of}
-use Rattle.dicomdir.specs.machine.Entries.{FailsToFollow}
-use Rattle.dicomdir.specs.machine.Trail.{mark_of}
-use Rattle.dicomdir.specs.machine.Turns.{AreFlagged, LeadsTo, IsWrongOffset}
+use Rattle.dicomdir.specs.NodesInUse.{node_of}
+use Rattle.dicomdir.specs.machine.Trail.{FailsToFollow, mark_of, AreFlagged, LeadsTo, IsWrongOffset}
 use Rattle.dicomdir.proofs.Trails.{push_reverse}
 use Rattle.dicomdir.proofs.Following.{Following, both_err, starts, turn, stops, ends_elsewhere, ends_there, nodes_of_all, none_is, ended, going, fault_fails}
 use Rattle.dicomdir.proofs.links.follow.Goals as goal

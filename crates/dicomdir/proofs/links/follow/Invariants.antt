@@ -2,9 +2,9 @@ use Rattle.std.proofs.Common.{◌≡◌, ℕ, List, length, map, reverse}
 use Rattle.sequence.specs.Tree.{Elements}
 use Rattle.dicomdir.specs.Directory.{Record}
 use Rattle.dicomdir.specs.DirFault.{links_of}
-use Rattle.dicomdir.specs.TreeNodes.{node_of}
-use Rattle.dicomdir.specs.machine.Entries.{AreRead}
-use Rattle.dicomdir.proofs.UnreachedLemmas.{left_in}
+use Rattle.dicomdir.specs.NodesInUse.{node_of}
+use Rattle.dicomdir.specs.machine.Trail.{AreRead}
+use Rattle.dicomdir.proofs.Trails.{left_in}
 use Rattle.dicomdir.proofs.Following.{Following}
 use Rattle.dicomdir.proofs.links.follow.Given as goal
 

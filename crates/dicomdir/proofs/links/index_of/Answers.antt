@@ -1,6 +1,6 @@
 use Rattle.std.proofs.Common.{rules, ◌∙◌}
 use Rattle.std.proofs.lemmas.List.Sorted.{answers_always}
-use Rattle.dicomdir.proofs.EntryLemmas.{place_found, place_absent}
+use Rattle.dicomdir.proofs.Trails.{place_found, place_absent}
 use Rattle.dicomdir.proofs.links.index_of.Goals as goal
 
 pub returns-in-Ok-clause-found : goal.returns-in-Ok-clause-found

@@ -1,8 +1,6 @@
 use Rattle.std.proofs.Common.{◌≡◌, ◌≤◌, ◌+◌, ◌++◌, drop}
 use Rattle.arrayvec.specs.ArrayVec.{array_vec_len}
-use Rattle.dicomdir.specs.Layout.{spelled}
-use Rattle.dicomdir.specs.Record.{key_fields}
-use Rattle.dicomdir.specs.RecordText.{keys_room}
+use Rattle.dicomdir.specs.Record.{spelled, key_fields, keys_room}
 use Rattle.dicomdir.proofs.record_bytes.put_keys.Given as goal
 
 abbrev pub invariant-loop-rule : goal.invariant-loop-rule

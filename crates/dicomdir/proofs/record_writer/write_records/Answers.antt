@@ -1,8 +1,8 @@
 use Rattle.std.proofs.Common.{◌≡◌, ◌∙◌, ◌-◌, ◌++◌, ap, take, sym, append_assoc, arith}
 use Rattle.std.proofs.lemmas.Result.{err_from_is_err_and}
 use Rattle.std.proofs.KnownBytes.{Appends-trans}
-use Rattle.dicomdir.specs.Laying.{entry_text, laid_text}
-use Rattle.dicomdir.proofs.WritingLemmas.{last_entry, front_after, front_more}
+use Rattle.dicomdir.specs.machine.Building.{entry_text, laid_text}
+use Rattle.dicomdir.proofs.BuildingLemmas.{last_entry, front_after, front_more}
 use Rattle.dicomdir.proofs.record_writer.write_records.Goals as goal
 
 pub loop-at-preserved : goal.loop-at-preserved

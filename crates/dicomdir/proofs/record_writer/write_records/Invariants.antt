@@ -1,6 +1,6 @@
 use Rattle.std.proofs.Common.{◌≡◌, ◌≤◌, ◌++◌, ℕ, List, length, take}
 use Rattle.std.specs.Io.KnownBytes.{Appends}
-use Rattle.dicomdir.specs.Laying.{laid_text}
+use Rattle.dicomdir.specs.machine.Building.{laid_text}
 use Rattle.dicomdir.proofs.record_writer.write_records.Given as goal
 
 abbrev pub invariant-loop-at : goal.invariant-loop-at

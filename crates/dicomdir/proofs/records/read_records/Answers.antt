@@ -6,7 +6,6 @@ use Rattle.dicomdir.specs.machine.Texts.{HasElements, content_at}
 use Rattle.dicomdir.proofs.TextLemmas.{same_tags, other_tag}
 use Rattle.dicomdir.proofs.RecordsLemmas.{read_none, read_next, read_fails, read_to_mark, read_to_end}
 use Rattle.dicomdir.proofs.records.read_records.Goals as goal
-use Rattle.std.proofs.lemmas.Bool.Decides.{nat_tests}
 use Rattle.std.proofs.lemmas.Grind.{common_steps}
 
 pub loop-head-init : goal.loop-head-init
@@ -16,10 +15,10 @@ loop-head-init g c = record {
 }
 
 pub returns-then-ne-clause-read : goal.returns-then-ne-clause-read
-returns-then-ne-clause-read g c ok items before has are = grind (arith, nat_tests, common_steps, read_to_mark c.args.syntax c.args.first items c.args.text.now c.loop-head.rest.now c.args.records.now.items c.loop-head.records.items before c.in-Some.head (c.loop-head.invariant.read items has) (sym c.head_of.ensures.value ∙ c.in-Some.is) (other_tag c.in-Some.head.header.tag item_tag (sym c.ne.ensures ∙ c.if-ne.true)) are)
+returns-then-ne-clause-read g c ok items before has are = grind (arith, common_steps, read_to_mark c.args.syntax c.args.first items c.args.text.now c.loop-head.rest.now c.args.records.now.items c.loop-head.records.items before c.in-Some.head (c.loop-head.invariant.read items has) (sym c.head_of.ensures.value ∙ c.in-Some.is) (other_tag c.in-Some.head.header.tag item_tag (sym c.ne.ensures ∙ c.if-ne.true)) are)
 
 pub returns-clause-read : goal.returns-clause-read
-returns-clause-read g c ok items before has are = grind (arith, nat_tests, common_steps, read_to_end c.args.syntax c.args.first items c.args.text.now c.loop-head.rest.now c.args.records.now.items c.loop-head.records.items before (c.loop-head.invariant.read items has) (sym c.head_of.ensures.value ∙ c.in_default.is) are)
+returns-clause-read g c ok items before has are = grind (arith, common_steps, read_to_end c.args.syntax c.args.first items c.args.text.now c.loop-head.rest.now c.args.records.now.items c.loop-head.records.items before (c.loop-head.invariant.read items has) (sym c.head_of.ensures.value ∙ c.in_default.is) are)
 
 pub returns-in-Err-clause-fails : goal.returns-in-Err-clause-fails
 returns-in-Err-clause-fails g c items has =

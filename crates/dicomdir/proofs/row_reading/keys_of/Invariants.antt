@@ -1,6 +1,6 @@
 use Rattle.std.proofs.Common.{◌≡◌, ◌++◌, drop}
 use Rattle.sequence.specs.Taken.{told_by}
-use Rattle.dicomdir.specs.KeysOf.{key_values}
+use Rattle.dicomdir.specs.Keys.{key_values}
 use Rattle.dicomdir.specs.RowOf.{values_for}
 use Rattle.dicomdir.proofs.row_reading.keys_of.Given as goal
 

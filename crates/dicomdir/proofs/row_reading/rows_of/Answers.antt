@@ -3,7 +3,7 @@ use Rattle.std.proofs.lemmas.Result.{err_from_is_err_and}
 use Rattle.sequence.specs.Taken.{limits_of, told_by}
 use Rattle.dicomdir.specs.RowOf.{row_limits, values_for}
 use Rattle.dicomdir.specs.Keys.{checked_row}
-use Rattle.dicomdir.proofs.RowLemmas.{refused_header, refused_data_set, whole_file}
+use Rattle.dicomdir.proofs.RowWalking.{refused_header, refused_data_set, whole_file}
 use Rattle.dicomdir.proofs.row_reading.rows_of.Goals as goal
 
 pub returns-in-Err : goal.returns-in-Err

@@ -1,6 +1,6 @@
 use Rattle.std.proofs.Common.{◌≡◌, drop, map}
 use Rattle.sequence.specs.Wanted.{value_of}
-use Rattle.dicomdir.specs.KeysOf.{entry_value, key_values}
+use Rattle.dicomdir.specs.Keys.{entry_value, key_values}
 use Rattle.dicomdir.proofs.keys.Keys.value.Given as goal
 
 abbrev pub invariant-loop-entry : goal.invariant-loop-entry

@@ -1,15 +1,19 @@
--- A directory of one image (PS3.3 annex F), byte by byte, and the row that it is built from.
-use Rattle.std.specs.Prelude.{◌≡◌, ℕ, List, [], ◌∷◌, ◌++◌, length, replicate, None, codes}
+-- Worked directories: of one image (PS3.3 annex F), byte by byte, with the row that it is built from, of two patients, and of none.
+use Rattle.std.specs.Prelude.{◌≡◌, ℕ, List, [], ◌∷◌, ◌++◌, length, replicate, None, codes, Some, ◌+◌}
 use Rattle.element.specs.declared.syntax.Syntax.TheVariants.{Explicit}
 use Rattle.element.specs.Numbers.{le}
-use Rattle.sequence.specs.Tree.{Elements, no_elements, no_items}
+use Rattle.sequence.specs.Tree.{Elements, no_elements, no_items, value, sequence}
 use Rattle.dicomdir.specs.Row.{Row}
-use Rattle.dicomdir.specs.Record.{tag, field, record_elements, patient_record, study_record, series_record, image_record}
-use Rattle.dicomdir.specs.TreeOf.{Forest, TreeOf}
-use Rattle.dicomdir.specs.Directory.{IsDirectoryFile, Node}
-use Rattle.dicomdir.specs.Layout.{item_of, record_item, root_elements, spelled}
+use Rattle.dicomdir.specs.Record.{tag, field, record_elements, patient_record, study_record, series_record, image_record, item_of, record_item, root_elements, spelled}
+use Rattle.dicomdir.specs.TreeOf.{Forest, TreeOf, no_nodes, node, count_of}
+use Rattle.dicomdir.specs.Directory.{IsDirectoryFile, Node, carried_node}
 use Rattle.dicomdir.specs.Linked.{Linked, LinkedElements, carried_forest}
-use Rattle.dicomdir.specs.DirFault.{directory_fault, fault}
+use Rattle.dicomdir.specs.DirFault.{directory_fault, fault, CheckFault}
+use Rattle.dicomdir.specs.FileId.{file_id_of}
+use Rattle.dicomdir.specs.Places.{record_size, root_size, with_places, flattened, place_each, directory_elements, directory_of, directory_size, doubles_of}
+use Rattle.dicomdir.specs.NodesInUse.{HasNodes, pruned, KeptOf}
+use Rattle.part10.specs.Examples.{least_header}
+use Rattle.sequence.specs.Rules.{no_tag}
 
 abbrev pub one_image_row : Row
 one_image_row = record {
@@ -178,3 +182,165 @@ NoRowsAreLinked =
     (length (one_image_header ++ spelled no_rows_elements) ≡ 320)
     × Linked (one_image_header ++ spelled no_rows_elements) (carried_forest (TreeOf []))
     × (directory_fault 266 no_rows_elements ≡ None)
+
+-- ---- rows of five files by which grouping, doubles and file IDs are tried (PS3.3 section F.4)
+
+-- a second image of the series; padding does not count in keys
+abbrev pub second_row : Row
+second_row = record one_image_row {
+  file_id = codes "I0000002";
+  instance = codes "1.2.3.1.2";
+  values =
+      (0x00100020, codes "P1  ")
+      ∷ (0x0020000d, codes "1.2.3" ++ (0 ∷ []))
+      ∷ (0x00200013, codes "2")
+      ∷ one_image_row.values;
+}
+
+-- an image of another series of the study
+abbrev pub third_row : Row
+third_row = record one_image_row {
+  file_id = codes "I0000003";
+  instance = codes "1.2.3.2.1";
+  values = (0x0020000e, codes "1.2.3.2") ∷ one_image_row.values;
+}
+
+-- the first instance once more
+abbrev pub double_row : Row
+double_row = record one_image_row { file_id = codes "I0000004" }
+
+-- an image of another patient
+abbrev pub fourth_row : Row
+fourth_row = record one_image_row {
+  file_id = codes "I0000005";
+  instance = codes "1.2.4.1.1";
+  values =
+      (0x00100020, codes "P2")
+      ∷ (0x0020000d, codes "1.2.4")
+      ∷ (0x0020000e, codes "1.2.4.1")
+      ∷ one_image_row.values;
+}
+
+-- of the first four, seven records; of all, in another order, the tree with each level in first-seen order, each
+-- group with the keys of its first row; of no rows, none
+abbrev pub RowsAreGrouped : Type 0
+RowsAreGrouped =
+    (count_of (TreeOf (one_image_row ∷ second_row ∷ third_row ∷ double_row ∷ [])) ≡ 7)
+    × (TreeOf (third_row ∷ fourth_row ∷ second_row ∷ one_image_row ∷ double_row ∷ [])
+    ≡ node (patient_record third_row)
+    (node (study_record third_row)
+    (node (series_record third_row) (node (image_record third_row) no_nodes no_nodes)
+    (node (series_record second_row)
+    (node (image_record second_row) no_nodes (node (image_record one_image_row) no_nodes no_nodes))
+    no_nodes))
+    no_nodes)
+    (node (patient_record fourth_row)
+    (node (study_record fourth_row)
+    (node (series_record fourth_row) (node (image_record fourth_row) no_nodes no_nodes) no_nodes)
+    no_nodes)
+    no_nodes))
+    × (TreeOf [] ≡ no_nodes)
+
+-- two components, and spaces at the end; then a small letter, a space in front, nine characters, nothing between
+-- two backslashes, nothing at all
+abbrev pub FileIdsAreRead : Type 0
+FileIdsAreRead =
+    (file_id_of (codes "S0000001" ++ 92 ∷ codes "I_1  ") ≡ Some (codes "S0000001" ++ 92 ∷ codes "I_1"))
+    × (file_id_of (codes "i1") ≡ None)
+    × (file_id_of (codes " I1") ≡ None)
+    × (file_id_of (codes "I00000001") ≡ None)
+    × (file_id_of (codes "S1" ++ 92 ∷ 92 ∷ codes "I1") ≡ None)
+    × (file_id_of [] ≡ None)
+
+-- ---- places of records, sizes and doubles of rows whose directories are known byte by byte
+
+-- of one image the sizes of its four records, their places, the elements and the whole file; of two images of a series
+-- the places and the size; of no rows the elements and the size; and the double among four rows
+abbrev pub PlacesAreAssigned : Type 0
+PlacesAreAssigned =
+    (root_size ≡ 54)
+    × (record_size (patient_record one_image_row) ≡ 84)
+    × (record_size (study_record one_image_row) ≡ 130)
+    × (record_size (series_record one_image_row) ≡ 92)
+    × (record_size (image_record one_image_row) ≡ 162)
+    × (place_each (flattened (with_places 320 (TreeOf (one_image_row ∷ [])))) ≡ 320 ∷ 404 ∷ 534 ∷ 626 ∷ [])
+    × (directory_size 266 (one_image_row ∷ []) ≡ 788)
+    × (directory_elements 266 (TreeOf (one_image_row ∷ [])) ≡ one_image_elements 320 320 0 404 534 626)
+    × (directory_of one_image_header (one_image_row ∷ []) ≡ one_image_file)
+    × (place_each (flattened (with_places 320 (TreeOf (one_image_row ∷ second_row ∷ [])))) ≡ 320 ∷ 404 ∷ 534 ∷ 626 ∷ 788 ∷ [])
+    × (directory_size 266 (one_image_row ∷ second_row ∷ []) ≡ 950)
+    × (directory_elements 266 (TreeOf []) ≡ no_rows_elements)
+    × (directory_size 266 [] ≡ 320)
+    × (doubles_of (one_image_row ∷ second_row ∷ third_row ∷ double_row ∷ []) ≡ 3 ∷ [])
+
+-- the directory of any rows has the size that the places count with, and as many records as the tree has nodes
+abbrev pub SizesAreTrue : Type 0
+SizesAreTrue =
+    (front : List ℕ) (rows : List Row)
+    → (length (directory_of front rows) ≡ directory_size (length front) rows)
+    × (length (flattened (with_places (length front + root_size) (TreeOf rows))) ≡ count_of (TreeOf rows))
+
+-- ---- the records of the directory of one image, with their places and levels
+
+abbrev pub OneImageHasNodes : Type 0
+OneImageHasNodes =
+    HasNodes one_image_file
+    (record { place = 320; level = 1; carries = carried_node (patient_record one_image_row) }
+    ∷ record { place = 404; level = 2; carries = carried_node (study_record one_image_row) }
+    ∷ record { place = 534; level = 3; carries = carried_node (series_record one_image_row) }
+    ∷ record { place = 626; level = 4; carries = carried_node (image_record one_image_row) }
+    ∷ [])
+
+-- ---- two images of a series, of which a record is inactive
+
+-- a record with another Record In-use Flag, which comes first
+abbrev pub flagged : ℕ → Elements → Elements
+flagged flag no_elements = no_elements
+flagged flag (value h v es) = value h (le flag 2) es
+flagged flag (sequence h is es) = sequence h is es
+
+-- with the flags of the series and of its first image
+abbrev pub two_images : ℕ → ℕ → Forest Elements
+two_images series image =
+    node (patient_record one_image_row)
+    (node (study_record one_image_row)
+    (node (flagged series (series_record one_image_row))
+    (node (flagged image (image_record one_image_row)) no_nodes
+    (node (image_record second_row) no_nodes no_nodes))
+    no_nodes)
+    no_nodes)
+    no_nodes
+
+-- one image, whose record has this flag and is named by no record
+abbrev pub unnamed_image : ℕ → Elements
+unnamed_image image =
+    root_elements 320 320
+    (record_item 0 404 (patient_record one_image_row)
+    (record_item 0 534 (study_record one_image_row)
+    (record_item 0 0 (series_record one_image_row)
+    (record_item 0 0 (flagged image (image_record one_image_row)) no_items))))
+
+-- all in use; the first image inactive; the series inactive; another flag; an image that no record names, in use and
+-- inactive
+abbrev pub InactiveRecords : Type 0
+InactiveRecords =
+    (directory_fault 266 (directory_elements 266 (two_images 0xffff 0xffff)) ≡ None)
+    × (KeptOf (carried_forest (two_images 0xffff 0xffff)) ≡ codes "I0000001" ∷ codes "I0000002" ∷ [])
+    × (directory_fault 266 (directory_elements 266 (two_images 0xffff 0)) ≡ None)
+    × (KeptOf (carried_forest (two_images 0xffff 0)) ≡ codes "I0000002" ∷ [])
+    × (count_of (pruned (carried_forest (two_images 0xffff 0))) ≡ 4)
+    × (directory_fault 266 (directory_elements 266 (two_images 0 0xffff)) ≡ None)
+    × (KeptOf (carried_forest (two_images 0 0xffff)) ≡ [])
+    × (count_of (pruned (carried_forest (two_images 0 0xffff))) ≡ 2)
+    × (directory_fault 266 (directory_elements 266 (two_images 0xffff 1)) ≡ fault 68 626)
+    × (directory_fault 266 (unnamed_image 0xffff) ≡ fault 63 626)
+    × (directory_fault 266 (unnamed_image 0) ≡ None)
+
+-- ---- faults of the file header, as a check of a directory tells them (this product's own profile)
+
+-- an empty file, and files of JPEG Baseline and of Implicit
+abbrev pub HeaderFaults : Type 0
+HeaderFaults =
+    CheckFault [] 50 128 no_tag
+    × CheckFault (least_header (codes "1.2.840.10008.1.2.4.50") ++ replicate 20 0) 53 132 no_tag
+    × CheckFault (least_header (codes "1.2.840.10008.1.2")) 53 132 no_tag

@@ -1,0 +1,144 @@
+-- What holds of the definitions.
+use Rattle.std.specs.Prelude.{◌≡◌, ℕ, true, List, Result, ◌≤◌, length, false, None, suc, ◌+◌, [], ◌∷◌, map, unwrap_or}
+use Rattle.element.specs.declared.syntax.Syntax.{Syntax}
+use Rattle.sequence.specs.Tree.{Elements, DataSet, no_items}
+use Rattle.sequence.specs.Within.{FitRooms, Within}
+use Rattle.sequence.specs.Wanted.{kept_of}
+use Rattle.dicomdir.specs.declared.skip.Skip.{Skip}
+use Rattle.dicomdir.specs.Row.{Row}
+use Rattle.dicomdir.specs.Keys.{fits_rooms, checked_row, IsRow}
+use Rattle.dicomdir.specs.RowOf.{RowOf, row_wants, row_from, row_limits}
+use Rattle.element.specs.Uid.{is_uid}
+use Rattle.part10.specs.declared.meta.Meta.{Meta}
+use Rattle.part10.specs.File.{File, meta_group}
+use Rattle.element.specs.declared.tag.Tag.{Tag}
+use Rattle.dicomdir.specs.NodesInUse.{LevelNode, HasNodes}
+use Rattle.dicomdir.specs.DirFault.{CheckFault, HasDataSet, directory_fault, fault, first_fault, links_of}
+use Rattle.dicomdir.specs.TreeOf.{Forest, count_of, TreeOf}
+use Rattle.dicomdir.specs.Directory.{Node, records_of}
+use Rattle.dicomdir.specs.Linked.{Linked, LinkedElements, IsAllReached, places_of, is_one_of, carried_forest}
+use Rattle.std.specs.List.{AllByRecursion}
+use Rattle.dicomdir.specs.Built.{directory_file, file_is_too_large}
+use Rattle.dicomdir.specs.Record.{patient_record, study_record, record_item, root_elements}
+use Rattle.dicomdir.specs.Paths.{Links, level_of, paths_from, paths_of, reached_by}
+use Rattle.dicomdir.specs.Examples.{one_image_row, one_image_elements}
+
+-- a file has one row at most, or one reason why it has none
+abbrev pub OneRow : Type 0
+OneRow = (file file_id : List ℕ) (result other : Result Row Skip) → RowOf file file_id result → RowOf file file_id other → result ≡ other
+
+-- values that fit the rooms of the walk fit those of a row
+abbrev pub KeysFit : Type 0
+KeysFit = (file_id class instance : List ℕ) (s : Syntax) (elements : Elements) → FitRooms row_wants elements → fits_rooms (row_from file_id class instance s (kept_of row_wants elements)) ≡ true
+
+-- ---- what a directory has of a file that was filed (PS3.10 section 7.1)
+
+-- the file of an instance whose data set is whole and within the limits of a row gives the row of that class, instance
+-- and syntax and of the data set's values, or the first key that is missing there
+abbrev pub FiledHasRow : Type 0
+FiledHasRow =
+    (meta : Meta) (file_id back : List ℕ) (elements : Elements)
+    → is_uid meta.class ≡ true → is_uid meta.instance ≡ true → length meta.calling.0 ≡ 16 → length (meta_group meta) ≤ 360
+    → DataSet meta.syntax 0 elements back → Within meta.syntax row_limits elements back
+    → RowOf (File meta back) file_id (checked_row (row_from file_id meta.class meta.instance meta.syntax (kept_of row_wants elements)))
+
+-- ---- what a check finds is determined by the file
+
+-- a directory whose records are linked, with none in use left out, has no fault
+abbrev pub AcceptedHasNoFault : Type 0
+AcceptedHasNoFault = (file : List ℕ) (nodes : List LevelNode) (number place : ℕ) (tag : Tag) → HasDataSet file → HasNodes file nodes → CheckFault file number place tag → ⊥
+
+-- a file has one first fault at most
+abbrev pub OneCheckFault : Type 0
+OneCheckFault = (file : List ℕ) (number number2 place place2 : ℕ) (tag tag2 : Tag) → CheckFault file number place tag → CheckFault file number2 place2 tag2 → (number ≡ number2) × (place ≡ place2) × (tag ≡ tag2)
+
+-- and one list of records at most
+abbrev pub OneListOfNodes : Type 0
+OneListOfNodes = (file : List ℕ) (nodes other : List LevelNode) → HasNodes file nodes → HasNodes file other → nodes ≡ other
+
+-- ---- what the faults of a directory have to do with its links (this product's own profile)
+
+-- of a linked directory the nodes are no more than the records, and none is at place 0
+abbrev pub NodesAreRecords : Type 0
+NodesAreRecords =
+    (start : ℕ) (elements : Elements) (tree : Forest Node) (linked : LinkedElements start elements tree)
+    → (count_of linked.placed ≤ length linked.records) × (is_one_of 0 (places_of linked.placed) ≡ false)
+
+-- a directory whose records are linked to a tree, which leaves none in use out, has no fault
+abbrev pub LinkedHasNoFault : Type 0
+LinkedHasNoFault =
+    (start : ℕ) (elements : Elements) (tree : Forest Node) (linked : LinkedElements start elements tree)
+    → IsAllReached linked
+    → directory_fault start elements ≡ None
+
+-- the records are linked to a tree, which leaves none in use out
+pub record IsSound (start : ℕ) (elements : Elements) : Type 0 where
+  pub tree : Forest Node
+  pub linked : LinkedElements start elements tree
+  pub all_reached : IsAllReached linked
+
+-- a directory without a fault has such a tree
+abbrev pub NoFaultIsLinked : Type 0
+NoFaultIsLinked = (start : ℕ) (elements : Elements) → directory_fault start elements ≡ None → IsSound start elements
+
+-- a file is linked to one tree at most
+abbrev pub OneTreeOfFile : Type 0
+OneTreeOfFile = (file : List ℕ) (tree other : Forest Node) → Linked file tree → Linked file other → tree ≡ other
+
+-- ---- what is true of each directory that this product writes
+
+-- the file is linked to the tree of the rows, with no record left over, and has no fault
+pub record IsDirectoryOf (file : List ℕ) (rows : List Row) : Type 0 where
+  pub linked : Linked file (carried_forest (TreeOf rows))
+  pub all_reached : IsAllReached linked.linked
+  pub no_fault : directory_fault linked.start linked.elements ≡ None
+
+-- of rows with a valid instance UID the file is such a directory, if it is not too large
+abbrev pub WrittenIsLinked : Type 0
+WrittenIsLinked =
+    (uid : List ℕ) (rows : List Row)
+    → is_uid uid ≡ true
+    → AllByRecursion IsRow rows
+    → file_is_too_large uid rows ≡ false
+    → IsDirectoryOf (directory_file (record { uid = uid; rows = rows })) rows
+
+-- ---- longer paths change nothing; paths name the nodes of a linked directory; and the paths of the directory of one image, and of one of two patients
+
+-- paths of however many records more have the same first fault, and are no others where they have none
+abbrev pub LongerPathsChangeNothing : Type 0
+LongerPathsChangeNothing =
+    (links : Links) (more : ℕ)
+    → (first_fault links [] (paths_from (suc (length links.records) + more) links []) ≡ first_fault links [] (paths_of links))
+    × (first_fault links [] (paths_of links) ≡ None → paths_from (suc (length links.records) + more) links [] ≡ paths_of links)
+
+-- the paths of a directory that is linked to a tree name its nodes, depth first
+abbrev pub PathsNameNodes : Type 0
+PathsNameNodes =
+    (start : ℕ) (elements : Elements) (tree : Forest Node) (linked : LinkedElements start elements tree)
+    → reached_by (links_of start elements linked.records) (paths_of (links_of start elements linked.records)) ≡ places_of linked.placed
+
+abbrev pub links_in : ℕ → Elements → Links
+links_in start es = links_of start es (unwrap_or (records_of start es) [])
+
+abbrev pub one_image_links : Links
+one_image_links = links_in 266 (one_image_elements 320 320 0 404 534 626)
+
+-- two patients at bytes 320 and 404, and a study of the second at byte 488 with this next offset
+abbrev pub two_patients : ℕ → Elements
+two_patients next =
+    root_elements 320 404
+    (record_item 404 0 (patient_record one_image_row)
+    (record_item 0 488 (patient_record one_image_row)
+    (record_item next 0 (study_record one_image_row) no_items)))
+
+-- the paths of one image name its records, each a level below the one before it; the study of the second patient is the
+-- last of its chain, or its next offset names the patient above it, the study itself, or the first patient, which is no
+-- cycle
+abbrev pub PathsNameRecords : Type 0
+PathsNameRecords =
+    (reached_by one_image_links (paths_of one_image_links) ≡ 320 ∷ 404 ∷ 534 ∷ 626 ∷ [])
+    × (map level_of (paths_of one_image_links) ≡ 1 ∷ 2 ∷ 3 ∷ 4 ∷ [])
+    × (directory_fault 266 (two_patients 0) ≡ None)
+    × (directory_fault 266 (two_patients 404) ≡ fault 61 488)
+    × (directory_fault 266 (two_patients 488) ≡ fault 61 488)
+    × (directory_fault 266 (two_patients 320) ≡ fault 62 488)
