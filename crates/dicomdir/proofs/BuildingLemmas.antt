@@ -143,10 +143,10 @@ unfolding directory_elements
 directory_text front rows = refl
 
 -- the file is its header, its root, and the records that are laid down
-pub file_text : {A : Type 0} (uid : List ℕ) (rows : List Row) (entries : List (LaidRecord A)) (records first last size : ℕ) (doubles : List ℕ) → IsBuilt uid rows entries records first last size doubles
-    → directory_file (record { uid = uid; rows = rows })
-    ≡ directory_header uid ++ (root_text (place_from_end size first) (place_from_end size last) records ++ laid_text size entries)
-file_text uid rows entries records first last size doubles b =
+pub file_text : {A : Type 0} {uid : List ℕ} {rows : List Row} {entries : List (LaidRecord A)} {records first last size : ℕ} {doubles top root : List ℕ} → IsBuilt uid rows entries records first last size doubles
+    → top ≡ directory_header uid → root ≡ root_text (place_from_end size first) (place_from_end size last) records
+    → directory_file (record { uid = uid; rows = rows }) ≡ top ++ (root ++ laid_text size entries)
+file_text {uid = uid} {rows = rows} {entries = entries} {records = records} {first = first} {last = last} {size = size} b top_is root_is =
     let header = directory_header uid in
     let start = length header + root_size in
     let placed = with_places start (TreeOf rows) in
@@ -157,7 +157,7 @@ file_text uid rows entries records first last size doubles b =
     let text : forest_text placed ≡ laid_text size entries = sym (append-nil (forest_text placed)) ∙ sym (b.laid.text start) ∙ ap (λ (n : ℕ). laid_text n entries) total in
     let root : root_text (first_record_place placed) (last_record_place placed) (forest_size (TreeOf rows)) ≡ root_text (place_from_end size first) (place_from_end size last) records =
     λ i. root_text (first_is i) (last_is i) (records_are i) in
-    directory_text header rows ∙ ap (λ (t : List ℕ). header ++ t) (placed_text (TreeOf rows) start ∙ ap₂ (λ (a : List ℕ) (b : List ℕ). a ++ b) root text)
+    rw (top_is, root_is) (directory_text header rows ∙ ap (λ (t : List ℕ). header ++ t) (placed_text (TreeOf rows) start ∙ ap₂ (λ (a : List ℕ) (b : List ℕ). a ++ b) root text))
 
 -- ---- what a writer has after several texts, or after a beginning of the last one
 

@@ -1,17 +1,17 @@
 -- Passing over what a header announces, and finding an element under its tag.
-use Rattle.std.proofs.Common.{◌≡◌, ◌≢◌, ℕ, ◌%◌, true, false, List, ◌++◌, length, drop, Some, None, refl, sym, ap, subst, ◌∙◌, arith, append_assoc, lit<, ◌+◌, ◌-◌, ◌≤◌, ◌<◌, Bool, not, ◌&&◌, [], take, ◌⊎◌, length-append, eqb-true, eq-eqb, nat_eq, nat_le}
+use Rattle.std.proofs.Common.{◌≡◌, ◌≢◌, ℕ, ◌%◌, true, false, List, ◌++◌, length, drop, Some, None, refl, sym, ap, subst, ◌∙◌, arith, append_assoc, ◌+◌, ◌-◌, ◌≤◌, ◌<◌, Bool, not, ◌&&◌, [], take, ◌⊎◌, length-append, eqb-true, eq-eqb, nat_eq, nat_le}
 use Rattle.std.proofs.Math.Seq.{drop-append_seam, take-append_seam}
 use Rattle.element.specs.declared.syntax.Syntax.{Syntax}
 use Rattle.element.specs.declared.tag.Tag.{Tag}
 use Rattle.element.specs.declared.header.Header.{Header}
-use Rattle.element.specs.Header.{number, is_marker, IsTag, item_tag, item_end_tag, sequence_end_tag, SpellsHeader}
+use Rattle.element.specs.Header.{number, is_marker, IsTag, item_tag, item_end_tag, sequence_end_tag}
 use Rattle.sequence.specs.declared.shape.Shape.TheVariants.{Sequence, Value, NotAllowed}
 use Rattle.sequence.specs.Shape.{undefined_length, shape, is_undefined}
 use Rattle.sequence.specs.Tree.{Elements, Items, delimitation, Ended, counted, delimited, no_elements}
 use Rattle.dicomdir.specs.declared.found.Head.{Head}
 use Rattle.dicomdir.specs.Directory.{Found, missing, found, header_size}
 use Rattle.dicomdir.specs.machine.Texts.{head_at, ElementsThen, ItemsThen, IsContent, of_value, of_items, IsItemContent, of_elements, IsAfter, nothing_after, end_after, HasElements, content_at, FindsItems}
-use Rattle.dicomdir.proofs.TextLemmas.{head_read, Front, at_end, at_element, front_of, FrontOfItems, no_item, at_item, front_of_items, mark_head, marked_head, is_head, header_length, no_head, same_tags}
+use Rattle.dicomdir.proofs.TextLemmas.{same_tags, element_here, after_mark, always_mark, item_here, no_elements_here, fits_end, fits_sequence_end, no_items_here}
 use Rattle.std.proofs.lemmas.Bool.Decides.{nat_tests}
 use Rattle.std.proofs.lemmas.Bool.{cond-true}
 use Rattle.std.proofs.lemmas.List.{append-nil}
@@ -72,56 +72,21 @@ item_elements s h es c rest text unsized (of_elements {b = b} elements end) whol
 
 -- ---- one element after the other, up to a delimitation
 
-pub fits_end : IsTag item_end_tag
-fits_end = (lit< tt, lit< tt)
-
-pub fits_sequence_end : IsTag sequence_end_tag
-fits_sequence_end = (lit< tt, lit< tt)
-
 pub next_elements : (s : Syntax) (head : Head) (rest after text : List ℕ) → SomeElements s (delimitation item_end_tag ++ rest) text → head_at s text ≡ Some head
     → is_marker head.header.tag ≡ false
     → ((place : ℕ) (f : Found) (c more : List ℕ) → IsContent s head.header place f c → drop head.size text ≡ c ++ more → after ≡ more)
     → SomeElements s (delimitation item_end_tag ++ rest) after
-next_elements s head rest after text some read plain passes = by (front_of (delimitation item_end_tag ++ rest) text some.spelled.data_set some.spelled.whole)
-  where
-    by : Front s some.last (delimitation item_end_tag ++ rest) text some.elements → SomeElements s (delimitation item_end_tag ++ rest) after
-    by (at_end none whole) =
-        let is = marked_head s item_end_tag rest text head refl fits_end whole read in
-        let marks : true ≡ false = ap (λ z. is_marker z.header.tag) is ∙ plain in
-        absurd cc
-    by (at_element f) =
-        let at = is_head s head f.header f.spelling (f.content ++ f.rest) text f.is_element.spelled f.whole read in
-        let content = subst (λ h. IsContent s h 0 (f.stands 0) f.content) (sym at.header) (f.content_is 0) in
-        let is : after ≡ f.rest = passes 0 (f.stands 0) f.content f.rest content at.rest_is in
-        record {
-          last = number f.header.tag;
-          elements = f.others;
-          spelled = subst (λ z. ElementsThen s (number f.header.tag) f.others (delimitation item_end_tag ++ rest) z) (sym is) f.spelled;
-        }
+next_elements s head rest after text some read plain passes =
+    let f = element_here head (end_after rest) some.spelled read plain in
+    let is : after ≡ f.rest = passes 0 (f.stands 0) f.content f.rest (f.content_is 0) f.rest_is in
+    record { last = number head.header.tag; elements = f.others; spelled = subst (λ z. ElementsThen s (number head.header.tag) f.others (delimitation item_end_tag ++ rest) z) (sym is) f.spelled }
 
 pub end_of_elements : (s : Syntax) (head : Head) (rest text : List ℕ) → SomeElements s (delimitation item_end_tag ++ rest) text → head_at s text ≡ Some head
     → is_marker head.header.tag ≡ true → drop head.size text ≡ rest
-end_of_elements s head rest text some read marks = by (front_of (delimitation item_end_tag ++ rest) text some.spelled.data_set some.spelled.whole)
-  where
-    by : Front s some.last (delimitation item_end_tag ++ rest) text some.elements → drop head.size text ≡ rest
-    by (at_end none whole) =
-        let is = marked_head s item_end_tag rest text head refl fits_end whole read in
-        ap (λ z. drop z.size text) (sym is) ∙ ap (λ z. drop 8 z) whole
-    by (at_element f) =
-        let at = is_head s head f.header f.spelling (f.content ++ f.rest) text f.is_element.spelled f.whole read in
-        let plain : true ≡ false = sym marks ∙ (ap (λ h. is_marker h.tag) at.header ∙ f.is_element.no_marker) in
-        absurd cc
+end_of_elements s head rest text some read marks = after_mark s item_end_tag rest text head refl fits_end (no_elements_here some.spelled (λ other there plain. absurd cc)).1 read
 
 pub always_elements : (s : Syntax) (rest text : List ℕ) → SomeElements s (delimitation item_end_tag ++ rest) text → head_at s text ≡ None → ⊥
-always_elements s rest text some read = by (front_of (delimitation item_end_tag ++ rest) text some.spelled.data_set some.spelled.whole)
-  where
-    by : Front s some.last (delimitation item_end_tag ++ rest) text some.elements → ⊥
-    by (at_end none whole) =
-        let there = mark_head s item_end_tag rest text refl fits_end whole in
-        absurd cc
-    by (at_element f) =
-        let there = head_read s f.header f.spelling (f.content ++ f.rest) text f.is_element.spelled f.whole in
-        absurd cc
+always_elements s rest text some read = always_mark s item_end_tag rest text refl fits_end (no_elements_here some.spelled (λ other there plain. absurd cc)).1 read
 
 -- ---- one item after the other
 
@@ -129,41 +94,17 @@ pub next_items : (s : Syntax) (head : Head) (rest after text : List ℕ) → Som
     → head.header.tag ≡ item_tag
     → ((es : Elements) (c more : List ℕ) → IsItemContent s head.header es c → drop head.size text ≡ c ++ more → after ≡ more)
     → SomeItems s (delimitation sequence_end_tag ++ rest) after
-next_items s head rest after text some read tagged passes = by (front_of_items (delimitation sequence_end_tag ++ rest) text some.spelled.items some.spelled.whole)
-  where
-    by : FrontOfItems s (delimitation sequence_end_tag ++ rest) text some.items → SomeItems s (delimitation sequence_end_tag ++ rest) after
-    by (no_item none whole) =
-        let is = marked_head s sequence_end_tag rest text head refl fits_sequence_end whole read in
-        let tags : 0xe0dd ≡ 0xe000 = ap (λ z. z.header.tag.1) is ∙ ap (λ t. t.1) tagged in
-        absurd (omega (arith, tags))
-    by (at_item f) =
-        let at = is_head s head f.header f.spelling (f.content ++ f.rest) text f.is_item.spelled f.whole read in
-        let content = subst (λ h. IsItemContent s h f.elements f.content) (sym at.header) f.content_is in
-        let is : after ≡ f.rest = passes f.elements f.content f.rest content at.rest_is in
-        record { items = f.others; spelled = subst (λ z. ItemsThen s f.others (delimitation sequence_end_tag ++ rest) z) (sym is) f.spelled }
+next_items s head rest after text some read tagged passes =
+    let f = item_here head (end_after rest) some.spelled read tagged in
+    let is : after ≡ f.rest = passes f.elements f.content f.rest f.content_is f.rest_is in
+    record { items = f.others; spelled = subst (λ z. ItemsThen s f.others (delimitation sequence_end_tag ++ rest) z) (sym is) f.spelled }
 
 pub end_of_items : (s : Syntax) (head : Head) (rest text : List ℕ) → SomeItems s (delimitation sequence_end_tag ++ rest) text → head_at s text ≡ Some head
     → head.header.tag ≢ item_tag → drop head.size text ≡ rest
-end_of_items s head rest text some read other = by (front_of_items (delimitation sequence_end_tag ++ rest) text some.spelled.items some.spelled.whole)
-  where
-    by : FrontOfItems s (delimitation sequence_end_tag ++ rest) text some.items → drop head.size text ≡ rest
-    by (no_item none whole) =
-        let is = marked_head s sequence_end_tag rest text head refl fits_sequence_end whole read in
-        ap (λ z. drop z.size text) (sym is) ∙ ap (λ z. drop 8 z) whole
-    by (at_item f) =
-        let at = is_head s head f.header f.spelling (f.content ++ f.rest) text f.is_item.spelled f.whole read in
-        absurd (other (ap (λ h. h.tag) at.header ∙ f.is_item.tagged))
+end_of_items s head rest text some read other = after_mark s sequence_end_tag rest text head refl fits_sequence_end (no_items_here some.spelled (λ one there tagged. other (let same : one ≡ head = cc in ap (λ z. z.header.tag) (sym same) ∙ tagged))).1 read
 
 pub always_items : (s : Syntax) (rest text : List ℕ) → SomeItems s (delimitation sequence_end_tag ++ rest) text → head_at s text ≡ None → ⊥
-always_items s rest text some read = by (front_of_items (delimitation sequence_end_tag ++ rest) text some.spelled.items some.spelled.whole)
-  where
-    by : FrontOfItems s (delimitation sequence_end_tag ++ rest) text some.items → ⊥
-    by (no_item none whole) =
-        let there = mark_head s sequence_end_tag rest text refl fits_sequence_end whole in
-        absurd cc
-    by (at_item f) =
-        let there = head_read s f.header f.spelling (f.content ++ f.rest) text f.is_item.spelled f.whole in
-        absurd cc
+always_items s rest text some read = always_mark s sequence_end_tag rest text refl fits_sequence_end (no_items_here some.spelled (λ one there tagged. absurd cc)).1 read
 
 -- ---- finding an element under its tag
 
@@ -214,9 +155,6 @@ no_sequence s h r v4 same inner is = grind (arith, nat_tests)
 
 -- ---- tags
 
-pub spelled_tag : {s : Syntax} {h : Header} {b : List ℕ} → SpellsHeader s h b → IsTag h.tag
-spelled_tag v1 = grind (arith, nat_tests)
-
 pub same_number : (t u : Tag) → same_tag t u ≡ true → nat_eq (number t) (number u) ≡ true
 same_number t u e = let same : t ≡ u = same_tags t u (ap not e) in eq-eqb (number t) (number u) (ap number same)
 
@@ -237,59 +175,35 @@ pub record LeftOf (s : Syntax) (tag place : ℕ) (es : Elements) (text rest : Li
 pub all_left : (s : Syntax) (tag place : ℕ) (es : Elements) (text : List ℕ) → HasElements s es text → LeftOf s tag place es text text
 all_left s tag place es text has = grind (arith, common_steps)
 
-after_head : (s : Syntax) (more text : List ℕ) (head : Head) → IsAfter item_end_tag more → text ≡ more → head_at s text ≡ Some head → is_marker head.header.tag ≡ true
-after_head s more text head (nothing_after) whole read = let none = no_head s text whole in absurd cc
-after_head s more text head (end_after rest) whole read = grind (arith, common_steps, marked_head s item_end_tag rest text head refl fits_end whole read)
-
 pub left_after : (s : Syntax) (tag place : ℕ) (es : Elements) (text rest after : List ℕ) (head : Head) → length rest ≤ length text → LeftOf s tag place es text rest
     → head_at s rest ≡ Some head → is_marker head.header.tag ≡ false → (IsTag head.header.tag → nat_eq (number head.header.tag) tag ≡ false)
     → ((p : ℕ) (f : Found) (c more : List ℕ) → IsContent s head.header p f c → drop head.size rest ≡ c ++ more → after ≡ more)
     → LeftOf s tag place es text after
-left_after s tag place es text rest after head fits left read plain_tag other passes = by (front_of left.more rest left.spelled.data_set left.spelled.whole)
-  where
-    by : Front s left.last left.more rest left.others → LeftOf s tag place es text after
-    by (at_end none whole) = let marks = after_head s left.more rest head left.after whole read in absurd cc
-    by (at_element f) =
-        let at = is_head s head f.header f.spelling (f.content ++ f.rest) rest f.is_element.spelled f.whole read in
-        let content = subst (λ h. IsContent s h 0 (f.stands 0) f.content) (sym at.header) (f.content_is 0) in
-        let is : after ≡ f.rest = passes 0 (f.stands 0) f.content f.rest content at.rest_is in
-        let fits_tag = spelled_tag f.is_element.spelled in
-        let not_it : nat_eq (number f.header.tag) tag ≡ false = subst (λ h. IsTag h.tag → nat_eq (number h.tag) tag ≡ false) at.header other fits_tag in
-        let here : ℕ = place + (length text - length rest) in
-        let long = ap length f.whole ∙ (length-append f.spelling (f.content ++ f.rest) ∙ ap (λ n. length f.spelling + n) (length-append f.content f.rest)) in
-        let short_of = ap length is in
-        let places : here + length f.spelling + length f.content ≡ place + (length text - length after) = omega (arith, long, short_of, fits) in
-        record {
-          last = number f.header.tag;
-          others = f.others;
-          more = left.more;
-          after = left.after;
-          spelled = subst (λ z. ElementsThen s (number f.header.tag) f.others left.more z) (sym is) f.spelled;
-          same = left.same ∙ (f.there tag here not_it ∙ ap (λ n. found tag n f.others) places);
-        }
+left_after s tag place es text rest after head fits left read plain other passes =
+    let f = element_here head left.after left.spelled read plain in
+    let is : after ≡ f.rest = passes 0 (f.stands 0) f.content f.rest (f.content_is 0) f.rest_is in
+    let here : ℕ = place + (length text - length rest) in
+    let long = f.long in
+    let short_of = ap length is in
+    let places : here + head.size + length f.content ≡ place + (length text - length after) = omega (arith, long, short_of, fits) in
+    record {
+      last = number head.header.tag;
+      others = f.others;
+      more = left.more;
+      after = left.after;
+      spelled = subst (λ z. ElementsThen s (number head.header.tag) f.others left.more z) (sym is) f.spelled;
+      same = left.same ∙ (f.there tag here (other f.is_tag) ∙ ap (λ n. found tag n f.others) places);
+    }
 
 none_left : (s : Syntax) (tag place : ℕ) (es : Elements) (text rest : List ℕ) (left : LeftOf s tag place es text rest) → left.others ≡ no_elements → found tag place es ≡ missing
 none_left s tag place es text rest left none = left.same ∙ ap (λ z. found tag (place + (length text - length rest)) z) none
 
 pub missing_at_mark : (s : Syntax) (tag place : ℕ) (es : Elements) (text rest : List ℕ) (head : Head) → LeftOf s tag place es text rest → head_at s rest ≡ Some head
     → is_marker head.header.tag ≡ true → found tag place es ≡ missing
-missing_at_mark s tag place es text rest head left read marks = by (front_of left.more rest left.spelled.data_set left.spelled.whole)
-  where
-    by : Front s left.last left.more rest left.others → found tag place es ≡ missing
-    by (at_end none whole) = none_left s tag place es text rest left none
-    by (at_element f) =
-        let at = is_head s head f.header f.spelling (f.content ++ f.rest) rest f.is_element.spelled f.whole read in
-        let other : true ≡ false = sym marks ∙ (ap (λ h. is_marker h.tag) at.header ∙ f.is_element.no_marker) in
-        absurd cc
+missing_at_mark s tag place es text rest head left read marks = none_left s tag place es text rest left (no_elements_here left.spelled (λ other there plain. absurd cc)).0
 
 pub missing_at_end : (s : Syntax) (tag place : ℕ) (es : Elements) (text rest : List ℕ) → LeftOf s tag place es text rest → head_at s rest ≡ None → found tag place es ≡ missing
-missing_at_end s tag place es text rest left read = by (front_of left.more rest left.spelled.data_set left.spelled.whole)
-  where
-    by : Front s left.last left.more rest left.others → found tag place es ≡ missing
-    by (at_end none whole) = none_left s tag place es text rest left none
-    by (at_element f) =
-        let there = head_read s f.header f.spelling (f.content ++ f.rest) rest f.is_element.spelled f.whole in
-        absurd cc
+missing_at_end s tag place es text rest left read = none_left s tag place es text rest left (no_elements_here left.spelled (λ other there plain. absurd cc)).0
 
 -- the element with the tag: what stands there, and what its header announces
 pub record Stands (s : Syntax) (head : Head) (place : ℕ) (text : List ℕ) (f : Found) : Type 0 where
@@ -302,19 +216,7 @@ pub record Stands (s : Syntax) (head : Head) (place : ℕ) (text : List ℕ) (f 
 pub stands_here : (s : Syntax) (tag place at : ℕ) (es : Elements) (text rest next : List ℕ) (head : Head) → LeftOf s tag place es text rest → head_at s rest ≡ Some head
     → is_marker head.header.tag ≡ false → nat_eq (number head.header.tag) tag ≡ true → at ≡ place + (length text - length rest) → next ≡ drop head.size rest
     → Stands s head at next (found tag place es)
-stands_here s tag place at es text rest next head left read plain_tag same at_is next_is = by (front_of left.more rest left.spelled.data_set left.spelled.whole)
-  where
-    by : Front s left.last left.more rest left.others → Stands s head at next (found tag place es)
-    by (at_end none whole) = let marks = after_head s left.more rest head left.after whole read in absurd cc
-    by (at_element f) =
-        let there = is_head s head f.header f.spelling (f.content ++ f.rest) rest f.is_element.spelled f.whole read in
-        let here : ℕ = place + (length text - length rest) in
-        let it : nat_eq (number f.header.tag) tag ≡ true = ap (λ h. nat_eq (number h.tag) tag) (sym there.header) ∙ same in
-        let is : found tag place es ≡ f.stands at = left.same ∙ (f.here tag here it ∙ ap f.stands (sym at_is)) in
-        record {
-          content = f.content;
-          more = f.rest;
-          size = there.size ∙ (header_length f.is_element.spelled ∙ ap header_size (sym there.header));
-          is = subst (λ h. IsContent s h at (found tag place es) f.content) (sym there.header) (subst (λ z. IsContent s f.header at z f.content) (sym is) (f.content_is at));
-          whole = next_is ∙ there.rest_is;
-        }
+stands_here s tag place at es text rest next head left read plain same at_is next_is =
+    let f = element_here head left.after left.spelled read plain in
+    let is : found tag place es ≡ f.stands at = left.same ∙ (f.here tag (place + (length text - length rest)) same ∙ ap f.stands (sym at_is)) in
+    record { content = f.content; more = f.rest; size = f.size; is = subst (λ z. IsContent s head.header at z f.content) (sym is) (f.content_is at); whole = next_is ∙ f.rest_is }

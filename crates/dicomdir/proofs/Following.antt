@@ -268,14 +268,6 @@ nodes_of_all links entries flags ms before nodes last at =
 pub none_is : (o : Option Step) → ((s : Step) → o ≡ Some s → ⊥) → o ≡ None
 none_is v1 other = grind (arith, nat_tests)
 
-pub ended : (links : Links) (entries : List ReadRecord) (flags : List Bool) (ms : List Mark) (pending : Option Step) (before nodes : List LevelNode) (last : ℕ)
-    → pending ≡ None → Following links entries flags ms pending before nodes last → Following links entries flags ms None before nodes last
-ended links entries flags ms pending before nodes last e f = subst (λ z. Following links entries flags ms z before nodes last) e f
-
-pub going : (links : Links) (entries : List ReadRecord) (flags : List Bool) (ms : List Mark) (pending : Option Step) (step : Step) (before nodes : List LevelNode) (last : ℕ)
-    → pending ≡ Some step → Following links entries flags ms pending before nodes last → Following links entries flags ms (Some step) before nodes last
-going links entries flags ms pending step before nodes last e f = subst (λ z. Following links entries flags ms z before nodes last) e f
-
 -- a fault of the links, and one of the allocator
 
 pub fault_fails : (root : Root) (entries : List ReadRecord) (f : DirFault) → f.tag ≡ no_tag → (f.number ≡ 67 → ⊥)

@@ -26,7 +26,7 @@ use Rattle.dicomdir.specs.Directory.{missing, found, carried_node, next_offset, 
 use Rattle.dicomdir.specs.FileId.{file_id_of}
 use Rattle.dicomdir.specs.KeyTable.{has_level, key_table}
 use Rattle.dicomdir.specs.Keys.{IsRow, optional_size, fits_room}
-use Rattle.dicomdir.specs.Record.{with_offsets, tag, record_elements, padding_for, key_field_of, written, key_fields, kind_of, file_fields, record_for, patient_record, study_record, series_record, image_record}
+use Rattle.dicomdir.specs.Record.{with_offsets, tag, record_elements, padding_for, key_field_of, written, key_fields, kind_of, file_fields, record_for}
 use Rattle.dicomdir.specs.TreeOf.{is_image}
 use Rattle.dicomdir.specs.Linked.{fits}
 use Rattle.dicomdir.specs.Row.{Row, key}
@@ -163,7 +163,7 @@ pub record IsNode (level : ℕ) (es : Elements) : Type 0 where
 pub number_back : (n : ℕ) → n < 2 ^ 32 → Some (little_number 4 (le n 4)) ≡ Some n
 number_back n small = ap (λ (x : ℕ). Some x) (ap (little_number 4) (sym (append-nil (le n 4))) ∙ little_number-reads_back 4 n [] small)
 
-abbrev node_level : Level → ℕ
+abbrev pub node_level : Level → ℕ
 node_level Patient = 1
 node_level Study = 2
 node_level Series = 3
@@ -197,17 +197,11 @@ plain_row : (level : Level) (row : Row) → is_image level ≡ false → IsRow r
     → IsNode (node_level level) (record_elements (kind_of level) (key_fields level key_table row.values))
 plain_row level row e is good = plain_node level (key_fields level key_table row.values) e good (λ place. no_file_id level key_table row.values place refl)
 
-pub patient_node : (row : Row) → IsRow row → IsNode 1 (patient_record row)
-patient_node row is = plain_row Patient row refl is (λ n l. good_record Patient row n l is)
-
-pub study_node : (row : Row) → IsRow row → IsNode 2 (study_record row)
-study_node row is = plain_row Study row refl is (λ n l. good_record Study row n l is)
-
-pub series_node : (row : Row) → IsRow row → IsNode 3 (series_record row)
-series_node row is = plain_row Series row refl is (λ n l. good_record Series row n l is)
-
-pub image_node : (row : Row) → IsRow row → IsNode 4 (image_record row)
-image_node row is = record {
+pub record_node : (level : Level) (row : Row) → IsRow row → IsNode (node_level level) (record_for level row)
+record_node Patient row is = plain_row Patient row refl is (λ n l. good_record Patient row n l is)
+record_node Study row is = plain_row Study row refl is (λ n l. good_record Study row n l is)
+record_node Series row is = plain_row Series row refl is (λ n l. good_record Series row n l is)
+record_node Image row is = record {
   good = λ n l. good_record Image row n l is;
   carries = λ n l. refl;
   names_next = λ n l small. number_back n small;

@@ -65,7 +65,7 @@ regrouped : (a b c d : List ℕ) → a ++ (b ++ (c ++ d)) ≡ (a ++ (b ++ c)) ++
 regrouped a b c d = simp append_assoc
 
 pub lays_node : {A : Type 0} (level : Level) (row : Row) (below next : Forest Elements) (e0 e1 e2 e3 : List (LaidRecord A)) (s0 s1 s2 s3 f1 l1 f2 l2 last : ℕ)
-    → Lays next e0 e1 s0 s1 f1 l1 → Lays below e1 e2 s1 s2 f2 l2 → Adds level row f1 f2 s3 e2 e3 → s3 ≡ s2 + record_size (record_for level row)
+    → Lays next e0 e1 s0 s1 f1 l1 → Lays below e1 e2 s1 s2 f2 l2 → Adds level row f1 f2 e2 e3 → s3 ≡ s2 + record_size (record_for level row)
     → last ≡ cond (nat_eq f1 0) s3 l1 → Lays (node (record_for level row) below next) e0 e3 s0 s3 s3 last
 lays_node level row below next e0 e1 e2 e3 s0 s1 s2 s3 f1 l1 f2 l2 last others under adds size last_is =
     let rs = record_size (record_for level row) in
@@ -135,13 +135,12 @@ last_row xs at x some le is = grind (arith, common_steps)
 
 pub image_laid : {A : Type 0} (rows : List (Bor Row)) (at : ℕ) (row : Bor Row) (e0 e1 e2 : List (LaidRecord A)) (s0 s1 s2 f l start first last : ℕ)
     → 0 < at → at ≤ length rows → row ≡ get_or rows (at - 1) row
-    → Lays (images (rows_at (drop at rows))) e0 e1 s0 s1 f l → Adds Image row.now f 0 start e1 e2 → s2 ≡ s1 + record_size (record_for Image row.now) → start ≡ s2
+    → Lays (images (rows_at (drop at rows))) e0 e1 s0 s1 f l → Adds Image row.now f 0 e1 e2 → s2 ≡ s1 + record_size (record_for Image row.now) → start ≡ s2
     → first ≡ start → last ≡ cond (nat_eq f 0) start l
     → Lays (images (rows_at (drop (at - 1) rows))) e0 e2 s0 s2 first last
 image_laid rows at row e0 e1 e2 s0 s1 s2 f l start first last some le is lays adds size starts firsts lasts =
-    let adds' : Adds Image row.now f 0 s2 e1 e2 = rw (← starts) adds in
     let last' : last ≡ cond (nat_eq f 0) s2 l = lasts ∙ ap (λ (n : ℕ). cond (nat_eq f 0) n l) starts in
-    let one = lays_node Image row.now no_nodes (images (rows_at (drop at rows))) e0 e1 e1 e2 s0 s1 s1 s2 f l 0 0 last lays (lays_none e1 s1) adds' size last' in
+    let one = lays_node Image row.now no_nodes (images (rows_at (drop at rows))) e0 e1 e1 e2 s0 s1 s1 s2 f l 0 0 last lays (lays_none e1 s1) adds size last' in
     rw (last_row rows at row some le is) (named _ e0 e2 s0 s2 s2 last first last one (firsts ∙ starts) refl)
 
 images_dropped : (rows : List Row) (n : ℕ) → forest_size (images (drop n rows)) ≤ forest_size (images rows)
@@ -176,13 +175,12 @@ module _ (level : Level) (groups : List (List Row)) (at : ℕ) (group : List Row
 
   pub group_laid : {A : Type 0} (e0 e1 e2 e3 : List (LaidRecord A)) (s0 s1 s2 s3 f1 l1 f2 l2 start first last : ℕ)
       → Lays (forest (drop at groups)) e0 e1 s0 s1 f1 l1 → Lays (forest_for (lower_level level) group) e1 e2 s1 s2 f2 l2
-      → Adds level row f1 f2 start e2 e3 → s3 ≡ s2 + record_size (record_for level row) → start ≡ s3
+      → Adds level row f1 f2 e2 e3 → s3 ≡ s2 + record_size (record_for level row) → start ≡ s3
       → first ≡ start → last ≡ cond (nat_eq f1 0) start l1
       → Lays (forest (drop (at - 1) groups)) e0 e3 s0 s3 first last
   group_laid e0 e1 e2 e3 s0 s1 s2 s3 f1 l1 f2 l2 start first last others under adds size starts firsts lasts =
-      let adds' : Adds level row f1 f2 s3 e2 e3 = rw (← starts) adds in
       let last' : last ≡ cond (nat_eq f1 0) s3 l1 = lasts ∙ ap (λ (n : ℕ). cond (nat_eq f1 0) n l1) starts in
-      let one = lays_node level row (forest_for (lower_level level) group) (forest (drop at groups)) e0 e1 e2 e3 s0 s1 s2 s3 f1 l1 f2 l2 last others under adds' size last' in
+      let one = lays_node level row (forest_for (lower_level level) group) (forest (drop at groups)) e0 e1 e2 e3 s0 s1 s2 s3 f1 l1 f2 l2 last others under adds size last' in
       let laid : Lays (node (record_for level row) (forest_for (lower_level level) group) (forest (drop at groups))) e0 e3 s0 s3 first last = named _ e0 e3 s0 s3 s3 last first last one (firsts ∙ starts) refl in
       subst (λ (f : Forest Elements). Lays f e0 e3 s0 s3 first last) (sym here) laid
 

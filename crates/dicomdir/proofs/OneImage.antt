@@ -7,11 +7,12 @@ use Rattle.part10.specs.File.{head, meta_group, identity_elements, implementatio
 use Rattle.part10.specs.MetaText.{SpellsMeta, said_of, HasMeta}
 use Rattle.part10.proofs.Public.{head_is_read, no_headers, other_syntax_is_a_fault, least_read}
 use Rattle.sequence.specs.Tree.{Elements}
+use Rattle.dicomdir.specs.declared.level.Level.TheVariants.{Patient, Study, Series, Image}
 use Rattle.dicomdir.specs.TreeOf.{Forest, no_nodes, node, TreeOf}
 use Rattle.dicomdir.specs.Directory.{IsExplicitFile, IsDirectoryFile, Record, carried_node, records_of}
 use Rattle.dicomdir.specs.Linked.{Linked, PlacedNode, carried_forest, record_at, first_place, AreLinked, elements_at}
 use Rattle.dicomdir.specs.DirFault.{directory_fault, in_header, in_syntax}
-use Rattle.dicomdir.specs.Record.{spelled, patient_record, study_record, series_record, image_record}
+use Rattle.dicomdir.specs.Record.{spelled, record_for}
 use Rattle.dicomdir.specs.Examples.{one_image_row, one_image_header, one_image_file, one_image_elements, OneImageIsLinked, OneImageFaults, preamble_left_out, PreambleCounts, RecordFaults, no_rows_elements, NoRowsAreLinked, OneImageHasNodes, RowsAreGrouped, FileIdsAreRead, InactiveRecords, PlacesAreAssigned, HeaderFaults}
 use Rattle.dicomdir.proofs.Laid.{laid_elements}
 use Rattle.dicomdir.specs.Places.{directory_elements}
@@ -68,10 +69,10 @@ placed place es = record { place = place; carries = carried_node es }
 
 the_places : Forest PlacedNode
 the_places =
-    node (placed 320 (patient_record one_image_row))
-    (node (placed 404 (study_record one_image_row))
-    (node (placed 534 (series_record one_image_row))
-    (node (placed 626 (image_record one_image_row)) no_nodes no_nodes)
+    node (placed 320 (record_for Patient one_image_row))
+    (node (placed 404 (record_for Study one_image_row))
+    (node (placed 534 (record_for Series one_image_row))
+    (node (placed 626 (record_for Image one_image_row)) no_nodes no_nodes)
     no_nodes)
     no_nodes)
     no_nodes

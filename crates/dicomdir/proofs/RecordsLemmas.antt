@@ -1,12 +1,12 @@
 -- Reading one record after the other: what is read of a record is what its elements say.
-use Rattle.std.proofs.Common.{◌≡◌, ℕ, Bool, true, false, not, ◌&&◌, ◌||◌, List, [], ◌∷◌, length, Option, Some, None, is_some, refl, sym, ap, ◌∙◌, nat_eq, if◌then◌else◌, arith, ◌≢◌, suc, ◌+◌, ◌-◌, ◌≤◌, ◌++◌, drop, subst, append_assoc, length-append}
+use Rattle.std.proofs.Common.{◌≡◌, ℕ, Bool, true, false, not, ◌&&◌, ◌||◌, List, [], ◌∷◌, length, Option, Some, None, is_some, refl, sym, ap, ◌∙◌, nat_eq, if◌then◌else◌, arith, ◌≢◌, suc, ◌+◌, ◌-◌, ◌≤◌, ◌++◌, drop, subst, append_assoc}
 use Rattle.std.specs.Str.{bytes_eq}
 use Rattle.sequence.specs.Tree.{Elements, Items, no_items, item}
 use Rattle.dicomdir.specs.declared.found.Element.{Element}
 use Rattle.dicomdir.specs.declared.records.ReadRecord.{ReadRecord}
 use Rattle.dicomdir.specs.Directory.{Found, found, number_in, kind_in, file_id_in, is_missing, is_in_use, is_use_flag, carried_node, next_offset, lower_offset, has_file_id, or_zero, Record, header_size, size_of, end_size, records_at}
 use Rattle.dicomdir.specs.machine.Trail.{IsEntryOf, use_flag, entry_has_file_id, FailsAs, IsEntry, AreEntries, no_entries, entry_then, Rise}
-use Rattle.dicomdir.specs.machine.Texts.{Finds, got_number, got_kind, got_file_id, got_none, ItemsThen, IsAfter, nothing_after, end_after, HasElements, HasItems, IsItemContent, content_at, head_at}
+use Rattle.dicomdir.specs.machine.Texts.{Finds, shown, got_none, ItemsThen, IsAfter, HasElements, HasItems, IsItemContent, content_at, head_at}
 use Rattle.std.proofs.lemmas.Bool.Decides.{nat_tests}
 use Rattle.std.proofs.lemmas.Grind.{common_steps}
 use Rattle.element.specs.Header.{item_tag, sequence_end_tag}
@@ -15,16 +15,16 @@ use Rattle.element.specs.declared.syntax.Syntax.{Syntax}
 use Rattle.dicomdir.specs.declared.fault.DirFault.{DirFault}
 use Rattle.dicomdir.specs.declared.found.Head.{Head}
 use Rattle.dicomdir.specs.DirFault.{◌or_else◌, record_fault, each_fault}
-use Rattle.dicomdir.proofs.TextLemmas.{head_read, FrontOfItems, no_item, at_item, front_of_items, header_length, is_head, marked_head, no_head}
-use Rattle.dicomdir.proofs.FindLemmas.{fits_sequence_end, item_content}
+use Rattle.dicomdir.proofs.TextLemmas.{item_here, no_items_here}
+use Rattle.dicomdir.proofs.FindLemmas.{item_content}
 
-pub finds_number : (n : ℕ) (e : Element) (f : Found) → Finds e f → got_number n e ≡ number_in n f
+pub finds_number : (n : ℕ) (e : Element) (f : Found) → Finds e f → number_in n (shown e) ≡ number_in n f
 finds_number n v2 f is = grind (arith, nat_tests)
 
-pub finds_kind : (e : Element) (f : Found) → Finds e f → got_kind e ≡ kind_in f
+pub finds_kind : (e : Element) (f : Found) → Finds e f → kind_in (shown e) ≡ kind_in f
 finds_kind v1 f is = grind (arith, nat_tests)
 
-pub finds_file_id : (e : Element) (f : Found) → Finds e f → got_file_id e ≡ file_id_in f
+pub finds_file_id : (e : Element) (f : Found) → Finds e f → file_id_in (shown e) ≡ file_id_in f
 finds_file_id v1 f is = grind (arith, nat_tests)
 
 pub finds_missing : (e : Element) (f : Found) → Finds e f → got_none e ≡ is_missing f
@@ -118,49 +118,35 @@ read_none s first items text old has =
       all = ap (λ n. records_at n items) none;
     }
 
-no_item_head : (s : Syntax) (more text : List ℕ) (head : Head) → IsAfter sequence_end_tag more → text ≡ more → head_at s text ≡ Some head → head.header.tag ≢ item_tag
-no_item_head s more text head (nothing_after) whole read tagged = let none = no_head s text whole in absurd cc
-no_item_head s more text head (end_after rest) whole read tagged = grind (arith, common_steps, marked_head s sequence_end_tag rest text head refl fits_sequence_end whole read)
-
 pub read_next : (s : Syntax) (first : ℕ) (items : Items) (text rest after : List ℕ) (old now new : List ReadRecord) (head : Head) (e : ReadRecord) → length rest ≤ length text
     → ReadUpTo s first items text rest old now → head_at s rest ≡ Some head → head.header.tag ≡ item_tag
     → ((es : Elements) → HasElements s es (content_at head.header (drop head.size rest)) → IsEntry e (record { place = first + (length text - length rest); elements = es }))
     → ((es : Elements) (c more : List ℕ) → IsItemContent s head.header es c → drop head.size rest ≡ c ++ more → after ≡ more)
     → new ≡ now ++ e ∷ []
     → ReadUpTo s first items text after old new
-read_next s first items text rest after old now new head e fits r read tagged entry passes pushed = by (front_of_items r.more rest r.spelled.items r.spelled.whole)
-  where
-    by : FrontOfItems s r.more rest r.left → ReadUpTo s first items text after old new
-    by (no_item none whole) = absurd (no_item_head s r.more rest head r.after whole read tagged)
-    by (at_item f) =
-        let at = is_head s head f.header f.spelling (f.content ++ f.rest) rest f.is_item.spelled f.whole read in
-        let content = subst (λ h. IsItemContent s h f.elements f.content) (sym at.header) f.content_is in
-        let is : after ≡ f.rest = passes f.elements f.content f.rest content at.rest_is in
-        let has = item_content s head.header f.elements f.content f.rest (drop head.size rest) content at.rest_is in
-        let here : ℕ = first + (length text - length rest) in
-        let one : Record = record { place = here; elements = f.elements } in
-        let entered : IsEntry e one = entry f.elements has in
-        let long = ap length f.whole ∙ (length-append f.spelling (f.content ++ f.rest) ∙ ap (λ n. length f.spelling + n) (length-append f.content f.rest)) in
-        let head_long = header_length f.is_item.spelled in
-        let short_of = ap length is in
-        let size = f.size in
-        let next_place : ℕ = here + header_size f.header + size_of f.elements + end_size f.header.length in
-        let places : next_place ≡ first + (length text - length after) = omega (arith, long, head_long, short_of, size, fits) in
-        record {
-          done = r.done ++ one ∷ [];
-          left = f.others;
-          more = r.more;
-          after = r.after;
-          spelled = subst (λ z. ItemsThen s f.others r.more z) (sym is) f.spelled;
-          entries_are = λ before are.
-              subst (λ z. AreEntries z (before ++ (r.done ++ one ∷ []))) (sym pushed)
-              (subst (λ z. AreEntries (now ++ e ∷ []) z) (append_assoc before r.done (one ∷ [])) (are_more (r.entries_are before are) entered));
-          good = each_append r.done (one ∷ []) r.good ∙ ap (λ o. o or_else None) (no_fault entered);
-          all = r.all
-              ∙ (ap (λ z. r.done ++ records_at here z) f.first
-              ∙ (ap (λ n. r.done ++ (one ∷ records_at n f.others)) places
-              ∙ sym (append_assoc r.done (one ∷ []) (records_at (first + (length text - length after)) f.others))));
-        }
+read_next s first items text rest after old now new head e fits r read tagged entry passes pushed =
+    let f = item_here head r.after r.spelled read tagged in
+    let is : after ≡ f.rest = passes f.elements f.content f.rest f.content_is f.rest_is in
+    let here : ℕ = first + (length text - length rest) in
+    let one : Record = record { place = here; elements = f.elements } in
+    let entered : IsEntry e one = entry f.elements (item_content s head.header f.elements f.content f.rest (drop head.size rest) f.content_is f.rest_is) in
+    let next_place : ℕ = here + header_size head.header + size_of f.elements + end_size head.header.length in
+    let places : next_place ≡ first + (length text - length after) = omega (arith, f.long, f.size, f.content_size, ap length is, fits) in
+    record {
+      done = r.done ++ one ∷ [];
+      left = f.others;
+      more = r.more;
+      after = r.after;
+      spelled = subst (λ z. ItemsThen s f.others r.more z) (sym is) f.spelled;
+      entries_are = λ before are.
+          subst (λ z. AreEntries z (before ++ (r.done ++ one ∷ []))) (sym pushed)
+          (subst (λ z. AreEntries (now ++ e ∷ []) z) (append_assoc before r.done (one ∷ [])) (are_more (r.entries_are before are) entered));
+      good = each_append r.done (one ∷ []) r.good ∙ ap (λ o. o or_else None) (no_fault entered);
+      all = r.all
+          ∙ (ap (λ z. r.done ++ records_at here z) f.first
+          ∙ (ap (λ n. r.done ++ (one ∷ records_at n f.others)) places
+          ∙ sym (append_assoc r.done (one ∷ []) (records_at (first + (length text - length after)) f.others))));
+    }
 
 -- ---- the first record with a fault
 
@@ -168,21 +154,15 @@ pub read_fails : (s : Syntax) (first : ℕ) (items : Items) (text rest : List �
     → ReadUpTo s first items text rest old now → head_at s rest ≡ Some head → head.header.tag ≡ item_tag
     → ((es : Elements) → HasElements s es (content_at head.header (drop head.size rest)) → FailsAs (record_fault (record { place = first + (length text - length rest); elements = es })) f)
     → FailsAs (each_fault (records_at first items)) f
-read_fails s first items text rest old now head f r read tagged fails = by (front_of_items r.more rest r.spelled.items r.spelled.whole)
-  where
-    by : FrontOfItems s r.more rest r.left → FailsAs (each_fault (records_at first items)) f
-    by (no_item none whole) = absurd (no_item_head s r.more rest head r.after whole read tagged)
-    by (at_item i) =
-        let at = is_head s head i.header i.spelling (i.content ++ i.rest) rest i.is_item.spelled i.whole read in
-        let content = subst (λ h. IsItemContent s h i.elements i.content) (sym at.header) i.content_is in
-        let has = item_content s head.header i.elements i.content i.rest (drop head.size rest) content at.rest_is in
-        let here : ℕ = first + (length text - length rest) in
-        let one : Record = record { place = here; elements = i.elements } in
-        let told = fails i.elements has in
-        let others : List Record = records_at (here + header_size i.header + size_of i.elements + end_size i.header.length) i.others in
-        let all : each_fault (records_at first items) ≡ (record_fault one or_else each_fault others) =
-        ap each_fault (r.all ∙ ap (λ z. r.done ++ records_at here z) i.first) ∙ each_append r.done (one ∷ others) r.good in
-        record { tag = told.tag; memory = told.memory; fault = λ other. all ∙ ap (λ o. o or_else each_fault others) (told.fault other) }
+read_fails s first items text rest old now head f r read tagged fails =
+    let i = item_here head r.after r.spelled read tagged in
+    let here : ℕ = first + (length text - length rest) in
+    let one : Record = record { place = here; elements = i.elements } in
+    let told = fails i.elements (item_content s head.header i.elements i.content i.rest (drop head.size rest) i.content_is i.rest_is) in
+    let others : List Record = records_at (here + header_size head.header + size_of i.elements + end_size head.header.length) i.others in
+    let all : each_fault (records_at first items) ≡ (record_fault one or_else each_fault others) =
+    ap each_fault (r.all ∙ ap (λ z. r.done ++ records_at here z) i.first) ∙ each_append r.done (one ∷ others) r.good in
+    record { tag = told.tag; memory = told.memory; fault = λ other. all ∙ ap (λ o. o or_else each_fault others) (told.fault other) }
 
 -- ---- all records
 
@@ -192,23 +172,12 @@ all_read s first items text rest old now before r none are = grind (arith, commo
 
 pub read_to_mark : (s : Syntax) (first : ℕ) (items : Items) (text rest : List ℕ) (old now : List ReadRecord) (before : List Record) (head : Head) → ReadUpTo s first items text rest old now
     → head_at s rest ≡ Some head → head.header.tag ≢ item_tag → AreEntries old before → AreEntries now (before ++ records_at first items)
-read_to_mark s first items text rest old now before head r read other are = by (front_of_items r.more rest r.spelled.items r.spelled.whole)
-  where
-    by : FrontOfItems s r.more rest r.left → AreEntries now (before ++ records_at first items)
-    by (no_item none whole) = all_read s first items text rest old now before r none are
-    by (at_item f) =
-        let at = is_head s head f.header f.spelling (f.content ++ f.rest) rest f.is_item.spelled f.whole read in
-        absurd (other (ap (λ h. h.tag) at.header ∙ f.is_item.tagged))
+read_to_mark s first items text rest old now before head r read other are =
+    all_read s first items text rest old now before r (no_items_here r.spelled (λ one there tagged. other (let same : one ≡ head = cc in ap (λ z. z.header.tag) (sym same) ∙ tagged))).0 are
 
 pub read_to_end : (s : Syntax) (first : ℕ) (items : Items) (text rest : List ℕ) (old now : List ReadRecord) (before : List Record) → ReadUpTo s first items text rest old now
     → head_at s rest ≡ None → AreEntries old before → AreEntries now (before ++ records_at first items)
-read_to_end s first items text rest old now before r read are = by (front_of_items r.more rest r.spelled.items r.spelled.whole)
-  where
-    by : FrontOfItems s r.more rest r.left → AreEntries now (before ++ records_at first items)
-    by (no_item none whole) = all_read s first items text rest old now before r none are
-    by (at_item f) =
-        let there = head_read s f.header f.spelling (f.content ++ f.rest) rest f.is_item.spelled f.whole in
-        absurd cc
+read_to_end s first items text rest old now before r read are = all_read s first items text rest old now before r (no_items_here r.spelled (λ one there tagged. absurd cc)).0 are
 
 -- ---- their places rise
 

@@ -1,22 +1,22 @@
 -- What stands at the front of a text that spells elements or items.
-use Rattle.std.proofs.Common.{◌≡◌, ℕ, ◌≤◌, Bool, true, List, ◌++◌, length, Some, None, refl, arith, nat_le, if◌then◌else◌, ◌≢◌, ◌+◌, false, [], drop, sym, ap, ◌∙◌, append_assoc, length-append, eqb-true, eq-eqb, not, ◌&&◌, nat_eq, lit<}
+use Rattle.std.proofs.Common.{◌≡◌, ℕ, ◌≤◌, Bool, true, List, ◌++◌, length, Some, None, refl, arith, nat_le, if◌then◌else◌, ◌≢◌, ◌+◌, false, [], drop, sym, ap, ◌∙◌, append_assoc, length-append, eqb-true, eq-eqb, not, ◌&&◌, nat_eq, lit<, subst}
 use Rattle.std.proofs.lemmas.Bool.Decides.{nat_tests}
 use Rattle.element.specs.declared.syntax.Syntax.{Syntax}
 use Rattle.element.specs.declared.header.Header.{Header}
 use Rattle.element.specs.declared.size.Need.{Need}
 use Rattle.element.specs.declared.size.Need.TheVariants.{More, Size, BadVr}
-use Rattle.element.specs.Header.{need, is_whole, header_at, SpellsHeader, number, is_marker, is_plain, IsTag, plain}
+use Rattle.element.specs.Header.{need, is_whole, header_at, SpellsHeader, number, is_marker, is_plain, IsTag, plain, item_end_tag, sequence_end_tag, item_tag}
 use Rattle.element.proofs.Public.{spelled_need, spelled_header}
 use Rattle.sequence.proofs.Public.{need_least}
 use Rattle.dicomdir.specs.declared.found.Head.{Head}
-use Rattle.dicomdir.specs.machine.Texts.{head_by, head_at, ElementsThen, ItemsThen, IsContent, of_value, of_items, IsItemContent, of_elements}
+use Rattle.dicomdir.specs.machine.Texts.{nothing_after, end_after, head_by, head_at, ElementsThen, ItemsThen, IsContent, of_value, of_items, IsItemContent, of_elements, IsAfter}
 use Rattle.std.proofs.lemmas.Grind.{common_steps}
 use Rattle.std.proofs.lemmas.Bool.{cond-true, cond-false}
 use Rattle.std.proofs.Math.Seq.{drop-append_seam}
 use Rattle.element.specs.declared.tag.Tag.{Tag}
 use Rattle.sequence.specs.Shape.{undefined_length, is_undefined}
 use Rattle.sequence.specs.Rules.{same_tag}
-use Rattle.sequence.specs.Tree.{Elements, no_elements, Items, no_items, item, delimitation, IsElement, IsItem, Ended, counted, delimited, DataSet, nothing, value_then, sequence_then, ItemList, no_more, item_then}
+use Rattle.sequence.specs.Tree.{Elements, no_elements, Items, no_items, item, delimitation, Ended, counted, delimited, DataSet, nothing, value_then, sequence_then, ItemList, no_more, item_then}
 use Rattle.dicomdir.specs.Directory.{Found, value_at, items_at, found, header_size, end_size, size_of, size_of_items}
 
 pub head_whole : (s : Syntax) (b : List ℕ) (k : ℕ) → need s b ≡ Size k → k ≤ length b → is_whole s b ≡ true
@@ -82,103 +82,6 @@ mutual
       let y = length-append cb b in
       omega (arith, a, i, n, r, x, y)
 
--- ---- the first element, and the first item
-
-pub record FrontElement (s : Syntax) (last : ℕ) (more text : List ℕ) (es : Elements) : Type 0 where
-  pub header : Header
-  pub spelling : List ℕ
-  pub content : List ℕ
-  pub rest : List ℕ
-  pub others : Elements
-  pub stands : ℕ → Found
-  pub is_element : IsElement s last header spelling
-  pub content_is : (place : ℕ) → IsContent s header place (stands place) content
-  pub whole : text ≡ spelling ++ (content ++ rest)
-  pub spelled : ElementsThen s (number header.tag) others more rest
-  pub here : (tag place : ℕ) → nat_eq (number header.tag) tag ≡ true → found tag place es ≡ stands place
-  pub there : (tag place : ℕ) → nat_eq (number header.tag) tag ≡ false → found tag place es ≡ found tag (place + length spelling + length content) others
-
-pub data Front (s : Syntax) (last : ℕ) (more text : List ℕ) (es : Elements) : Type 0 where
-  at_end : es ≡ no_elements → text ≡ more → Front s last more text es
-  at_element : FrontElement s last more text es → Front s last more text es
-
-regrouped : (a b c more text : List ℕ) → text ≡ (a ++ (b ++ c)) ++ more → text ≡ a ++ (b ++ (c ++ more))
-regrouped a b c more text e = e ∙ (append_assoc a (b ++ c) more ∙ ap (λ z. a ++ z) (append_assoc b c more))
-
-pub front_of : {s : Syntax} {last : ℕ} {es : Elements} {b : List ℕ} (more text : List ℕ) → DataSet s last es b → text ≡ b ++ more → Front s last more text es
-front_of more text nothing whole = at_end refl whole
-front_of more text (value_then {h = h} {hb = hb} {v = v} {es = es} {b = b} e sh val rest) whole = at_element (record {
-  header = h;
-  spelling = hb;
-  content = v;
-  rest = b ++ more;
-  others = es;
-  stands = λ place. value_at place v;
-  is_element = e;
-  content_is = λ place. of_value sh val;
-  whole = regrouped hb v b more text whole;
-  spelled = record { bytes = b; data_set = rest; whole = refl };
-  here = λ tag place same. cond-true (nat_eq (number h.tag) tag) (value_at place v) (found tag (place + header_size h + length v) es) same;
-  there = λ tag place other.
-      cond-false (nat_eq (number h.tag) tag) (value_at place v) (found tag (place + header_size h + length v) es) other
-      ∙ ap (λ n. found tag (place + n + length v) es) (sym (header_length e.spelled));
-})
-front_of more text (sequence_then {h = h} {hb = hb} {is = is} {ib = ib} {cb = cb} {es = es} {b = b} e sh items end rest) whole =
-    let size : length cb ≡ size_of_items is + end_size h.length = let i = items_length items in let n = ended_size end in omega (arith, i, n) in
-    at_element (record {
-      header = h;
-      spelling = hb;
-      content = cb;
-      rest = b ++ more;
-      others = es;
-      stands = λ place. items_at place h is;
-      is_element = e;
-      content_is = λ place. of_items sh items end;
-      whole = regrouped hb cb b more text whole;
-      spelled = record { bytes = b; data_set = rest; whole = refl };
-      here = λ tag place same. cond-true (nat_eq (number h.tag) tag) (items_at place h is) (found tag (place + header_size h + size_of_items is + end_size h.length) es) same;
-      there = λ tag place other.
-          let a = header_length e.spelled in
-          let at : place + header_size h + size_of_items is + end_size h.length ≡ place + length hb + length cb = omega (arith, a, size) in
-          cond-false (nat_eq (number h.tag) tag) (items_at place h is) (found tag (place + header_size h + size_of_items is + end_size h.length) es) other
-          ∙ ap (λ n. found tag n es) at;
-    })
-
-pub record FrontItem (s : Syntax) (more text : List ℕ) (is : Items) : Type 0 where
-  pub header : Header
-  pub spelling : List ℕ
-  pub content : List ℕ
-  pub rest : List ℕ
-  pub elements : Elements
-  pub others : Items
-  pub is_item : IsItem s header spelling
-  pub content_is : IsItemContent s header elements content
-  pub whole : text ≡ spelling ++ (content ++ rest)
-  pub spelled : ItemsThen s others more rest
-  pub first : is ≡ item header elements others
-  pub size : length content ≡ size_of elements + end_size header.length
-
-pub data FrontOfItems (s : Syntax) (more text : List ℕ) (is : Items) : Type 0 where
-  no_item : is ≡ no_items → text ≡ more → FrontOfItems s more text is
-  at_item : FrontItem s more text is → FrontOfItems s more text is
-
-pub front_of_items : {s : Syntax} {is : Items} {b : List ℕ} (more text : List ℕ) → ItemList s is b → text ≡ b ++ more → FrontOfItems s more text is
-front_of_items more text no_more whole = no_item refl whole
-front_of_items more text (item_then {h = h} {hb = hb} {es = es} {eb = eb} {cb = cb} {is = is} {b = b} e elements end rest) whole = at_item (record {
-  header = h;
-  spelling = hb;
-  content = cb;
-  rest = b ++ more;
-  elements = es;
-  others = is;
-  is_item = e;
-  content_is = of_elements elements end;
-  whole = regrouped hb cb b more text whole;
-  spelled = record { bytes = b; items = rest; whole = refl };
-  first = refl;
-  size = let i = elements_length elements in let n = ended_size end in omega (arith, i, n);
-})
-
 -- ---- the header there
 
 marker_plain : (s : Syntax) (t : Tag) → is_marker t ≡ true → is_plain s t ≡ true
@@ -199,23 +102,176 @@ pub no_head : (s : Syntax) (text : List ℕ) → text ≡ [] → head_at s text 
 unfolding need
 no_head s text e = ap (head_at s) e
 
--- a header that was read is the one that is spelled
-pub record IsHead (s : Syntax) (head : Head) (h : Header) (spelling rest text : List ℕ) : Type 0 where
-  pub header : head.header ≡ h
-  pub size : head.size ≡ length spelling
-  pub rest_is : drop head.size text ≡ rest
+-- after the elements of an item, or the items of a sequence, its delimitation is read
+pub tag_after : (s : Syntax) (mark : Tag) (more text : List ℕ) (head : Head) → is_marker mark ≡ true → IsTag mark → IsAfter mark more → text ≡ more → head_at s text ≡ Some head
+    → head.header.tag ≡ mark
+tag_after s mark more text head marks fits (nothing_after) whole read = let none = no_head s text whole in absurd cc
+tag_after s mark more text head marks fits (end_after rest) whole read = ap (λ z. z.header.tag) (sym (marked_head s mark rest text head marks fits whole read))
 
-pub is_head : (s : Syntax) (head : Head) (h : Header) (spelling rest text : List ℕ) → SpellsHeader s h spelling → text ≡ spelling ++ rest → head_at s text ≡ Some head
-    → IsHead s head h spelling rest text
-is_head s head h spelling rest text spelled whole read =
-    let is : Some (record { header = h; size = length spelling }) ≡ Some head = sym (head_read s h spelling rest text spelled whole) ∙ read in
-    let same : record { header = h; size = length spelling } ≡ head = cc in
-    let size : head.size ≡ length spelling = sym (ap (λ z. z.size) same) in
-    record {
-      header = sym (ap (λ z. z.header) same);
-      size = size;
-      rest_is = ap (λ n. drop n text) size ∙ (ap (λ z. drop (length spelling) z) whole ∙ drop-append_seam spelling rest);
-    }
+-- the bytes after a delimitation that was read, and one is always read
+pub after_mark : (s : Syntax) (mark : Tag) (rest text : List ℕ) (head : Head) → is_marker mark ≡ true → IsTag mark → text ≡ delimitation mark ++ rest → head_at s text ≡ Some head
+    → drop head.size text ≡ rest
+after_mark s mark rest text head marks fits whole read =
+    ap (λ z. drop z.size text) (sym (marked_head s mark rest text head marks fits whole read)) ∙ ap (λ z. drop 8 z) whole
+
+pub always_mark : (s : Syntax) (mark : Tag) (rest text : List ℕ) → is_marker mark ≡ true → IsTag mark → text ≡ delimitation mark ++ rest → head_at s text ≡ None → ⊥
+always_mark s mark rest text marks fits whole read = let there = mark_head s mark rest text marks fits whole in absurd cc
+
+pub fits_end : IsTag item_end_tag
+fits_end = (lit< tt, lit< tt)
+
+pub fits_sequence_end : IsTag sequence_end_tag
+fits_sequence_end = (lit< tt, lit< tt)
+
+pub spelled_tag : {s : Syntax} {h : Header} {b : List ℕ} → SpellsHeader s h b → IsTag h.tag
+spelled_tag v1 = grind (arith, nat_tests)
+
+-- ---- the first element, and the first item
+
+-- behind a header that was read, the first of these elements, before the others and `more`
+pub record ElementHere (s : Syntax) (head : Head) (more text : List ℕ) (es : Elements) : Type 0 where
+  pub content : List ℕ
+  pub rest : List ℕ
+  pub others : Elements
+  pub stands : ℕ → Found
+  pub size : head.size ≡ header_size head.header
+  pub is_tag : IsTag head.header.tag
+  pub content_is : (place : ℕ) → IsContent s head.header place (stands place) content
+  pub rest_is : drop head.size text ≡ content ++ rest
+  pub long : length text ≡ head.size + (length content + length rest)
+  pub spelled : ElementsThen s (number head.header.tag) others more rest
+  pub here : (tag place : ℕ) → nat_eq (number head.header.tag) tag ≡ true → found tag place es ≡ stands place
+  pub there : (tag place : ℕ) → nat_eq (number head.header.tag) tag ≡ false → found tag place es ≡ found tag (place + head.size + length content) others
+
+data Front (s : Syntax) (more text : List ℕ) (es : Elements) : Type 0 where
+  at_end : es ≡ no_elements → text ≡ more → Front s more text es
+  at_element : (head : Head) → head_at s text ≡ Some head → is_marker head.header.tag ≡ false → ElementHere s head more text es → Front s more text es
+
+regrouped : (a b c more text : List ℕ) → text ≡ (a ++ (b ++ c)) ++ more → text ≡ a ++ (b ++ (c ++ more))
+regrouped a b c more text e = e ∙ (append_assoc a (b ++ c) more ∙ ap (λ z. a ++ z) (append_assoc b c more))
+
+length_of : (a b c text : List ℕ) → text ≡ a ++ (b ++ c) → length text ≡ length a + (length b + length c)
+length_of a b c text e = ap length e ∙ (length-append a (b ++ c) ∙ ap (λ n. length a + n) (length-append b c))
+
+dropped : (a b text : List ℕ) → text ≡ a ++ b → drop (length a) text ≡ b
+dropped a b text e = ap (λ z. drop (length a) z) e ∙ drop-append_seam a b
+
+front_of : {s : Syntax} {last : ℕ} {es : Elements} {b : List ℕ} (more text : List ℕ) → DataSet s last es b → text ≡ b ++ more → Front s more text es
+front_of more text nothing whole = at_end refl whole
+front_of {s = s} more text (value_then {h = h} {hb = hb} {v = v} {es = es} {b = b} e sh val rest) whole =
+    let parts = regrouped hb v b more text whole in
+    at_element (record { header = h; size = length hb }) (head_read s h hb (v ++ (b ++ more)) text e.spelled parts) e.no_marker (record {
+      content = v;
+      rest = b ++ more;
+      others = es;
+      stands = λ place. value_at place v;
+      size = header_length e.spelled;
+      is_tag = spelled_tag e.spelled;
+      content_is = λ place. of_value sh val;
+      rest_is = dropped hb (v ++ (b ++ more)) text parts;
+      long = length_of hb v (b ++ more) text parts;
+      spelled = record { bytes = b; data_set = rest; whole = refl };
+      here = λ tag place same. cond-true (nat_eq (number h.tag) tag) (value_at place v) (found tag (place + header_size h + length v) es) same;
+      there = λ tag place other.
+          cond-false (nat_eq (number h.tag) tag) (value_at place v) (found tag (place + header_size h + length v) es) other
+          ∙ ap (λ n. found tag (place + n + length v) es) (sym (header_length e.spelled));
+    })
+front_of {s = s} more text (sequence_then {h = h} {hb = hb} {is = is} {ib = ib} {cb = cb} {es = es} {b = b} e sh items end rest) whole =
+    let size : length cb ≡ size_of_items is + end_size h.length = let i = items_length items in let n = ended_size end in omega (arith, i, n) in
+    let parts = regrouped hb cb b more text whole in
+    at_element (record { header = h; size = length hb }) (head_read s h hb (cb ++ (b ++ more)) text e.spelled parts) e.no_marker (record {
+      content = cb;
+      rest = b ++ more;
+      others = es;
+      stands = λ place. items_at place h is;
+      size = header_length e.spelled;
+      is_tag = spelled_tag e.spelled;
+      content_is = λ place. of_items sh items end;
+      rest_is = dropped hb (cb ++ (b ++ more)) text parts;
+      long = length_of hb cb (b ++ more) text parts;
+      spelled = record { bytes = b; data_set = rest; whole = refl };
+      here = λ tag place same. cond-true (nat_eq (number h.tag) tag) (items_at place h is) (found tag (place + header_size h + size_of_items is + end_size h.length) es) same;
+      there = λ tag place other.
+          let a = header_length e.spelled in
+          let at : place + header_size h + size_of_items is + end_size h.length ≡ place + length hb + length cb = omega (arith, a, size) in
+          cond-false (nat_eq (number h.tag) tag) (items_at place h is) (found tag (place + header_size h + size_of_items is + end_size h.length) es) other
+          ∙ ap (λ n. found tag n es) at;
+    })
+
+-- where a header was read that is no delimitation, an element stands there
+pub element_here : {s : Syntax} {last : ℕ} {more text : List ℕ} {es : Elements} (head : Head) → IsAfter item_end_tag more → ElementsThen s last es more text → head_at s text ≡ Some head
+    → is_marker head.header.tag ≡ false → ElementHere s head more text es
+element_here {s = s} {more = more} {text = text} {es = es} head after spelled read no_mark = by (front_of more text spelled.data_set spelled.whole)
+  where
+    by : Front s more text es → ElementHere s head more text es
+    by (at_end none whole) =
+        let marks : true ≡ false = ap is_marker (sym (tag_after s item_end_tag more text head refl fits_end after whole read)) ∙ no_mark in
+        absurd cc
+    by (at_element other there no_marker e) = let same : other ≡ head = cc in subst (λ z. ElementHere s z more text es) same e
+
+-- where there is none, or a delimitation, no elements are left
+pub no_elements_here : {s : Syntax} {last : ℕ} {more text : List ℕ} {es : Elements} → ElementsThen s last es more text
+    → ((head : Head) → head_at s text ≡ Some head → is_marker head.header.tag ≡ false → ⊥) → (es ≡ no_elements) × (text ≡ more)
+no_elements_here {s = s} {more = more} {text = text} {es = es} spelled other = by (front_of more text spelled.data_set spelled.whole)
+  where
+    by : Front s more text es → (es ≡ no_elements) × (text ≡ more)
+    by (at_end none whole) = (none, whole)
+    by (at_element head there no_marker e) = absurd (other head there no_marker)
+
+pub record ItemHere (s : Syntax) (head : Head) (more text : List ℕ) (is : Items) : Type 0 where
+  pub content : List ℕ
+  pub rest : List ℕ
+  pub elements : Elements
+  pub others : Items
+  pub size : head.size ≡ header_size head.header
+  pub content_is : IsItemContent s head.header elements content
+  pub content_size : length content ≡ size_of elements + end_size head.header.length
+  pub rest_is : drop head.size text ≡ content ++ rest
+  pub long : length text ≡ head.size + (length content + length rest)
+  pub spelled : ItemsThen s others more rest
+  pub first : is ≡ item head.header elements others
+
+data FrontOfItems (s : Syntax) (more text : List ℕ) (is : Items) : Type 0 where
+  no_item : is ≡ no_items → text ≡ more → FrontOfItems s more text is
+  at_item : (head : Head) → head_at s text ≡ Some head → head.header.tag ≡ item_tag → ItemHere s head more text is → FrontOfItems s more text is
+
+front_of_items : {s : Syntax} {is : Items} {b : List ℕ} (more text : List ℕ) → ItemList s is b → text ≡ b ++ more → FrontOfItems s more text is
+front_of_items more text no_more whole = no_item refl whole
+front_of_items {s = s} more text (item_then {h = h} {hb = hb} {es = es} {eb = eb} {cb = cb} {is = is} {b = b} e elements end rest) whole =
+    let parts = regrouped hb cb b more text whole in
+    at_item (record { header = h; size = length hb }) (head_read s h hb (cb ++ (b ++ more)) text e.spelled parts) e.tagged (record {
+      content = cb;
+      rest = b ++ more;
+      elements = es;
+      others = is;
+      size = header_length e.spelled;
+      content_is = of_elements elements end;
+      content_size = let i = elements_length elements in let n = ended_size end in omega (arith, i, n);
+      rest_is = dropped hb (cb ++ (b ++ more)) text parts;
+      long = length_of hb cb (b ++ more) text parts;
+      spelled = record { bytes = b; items = rest; whole = refl };
+      first = refl;
+    })
+
+-- where the header of an item was read, an item stands there
+pub item_here : {s : Syntax} {more text : List ℕ} {is : Items} (head : Head) → IsAfter sequence_end_tag more → ItemsThen s is more text → head_at s text ≡ Some head
+    → head.header.tag ≡ item_tag → ItemHere s head more text is
+item_here {s = s} {more = more} {text = text} {is = is} head after spelled read tagged = by (front_of_items more text spelled.items spelled.whole)
+  where
+    by : FrontOfItems s more text is → ItemHere s head more text is
+    by (no_item none whole) =
+        let tags : 0xe0dd ≡ 0xe000 = ap (λ t. t.1) (sym (tag_after s sequence_end_tag more text head refl fits_sequence_end after whole read) ∙ tagged) in
+        absurd (omega (arith, tags))
+    by (at_item other there its_tag e) = let same : other ≡ head = cc in subst (λ z. ItemHere s z more text is) same e
+
+-- where none was, no items are left
+pub no_items_here : {s : Syntax} {more text : List ℕ} {is : Items} → ItemsThen s is more text → ((head : Head) → head_at s text ≡ Some head → head.header.tag ≡ item_tag → ⊥)
+    → (is ≡ no_items) × (text ≡ more)
+no_items_here {s = s} {more = more} {text = text} {is = is} spelled other = by (front_of_items more text spelled.items spelled.whole)
+  where
+    by : FrontOfItems s more text is → (is ≡ no_items) × (text ≡ more)
+    by (no_item none whole) = (none, whole)
+    by (at_item head there its_tag e) = absurd (other head there its_tag)
 
 -- ---- tags
 

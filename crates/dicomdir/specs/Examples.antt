@@ -3,8 +3,9 @@ use Rattle.std.specs.Prelude.{◌≡◌, ℕ, List, [], ◌∷◌, ◌++◌, len
 use Rattle.element.specs.declared.syntax.Syntax.TheVariants.{Explicit}
 use Rattle.element.specs.Numbers.{le}
 use Rattle.sequence.specs.Tree.{Elements, no_elements, no_items, value, sequence}
+use Rattle.dicomdir.specs.declared.level.Level.TheVariants.{Patient, Study, Series, Image}
 use Rattle.dicomdir.specs.Row.{Row}
-use Rattle.dicomdir.specs.Record.{tag, field, record_elements, patient_record, study_record, series_record, image_record, item_of, record_item, root_elements, spelled}
+use Rattle.dicomdir.specs.Record.{tag, field, record_elements, item_of, record_item, root_elements, spelled, record_for}
 use Rattle.dicomdir.specs.TreeOf.{Forest, TreeOf, no_nodes, node, count_of}
 use Rattle.dicomdir.specs.Directory.{IsDirectoryFile, Node, carried_node}
 use Rattle.dicomdir.specs.Linked.{Linked, LinkedElements, carried_forest}
@@ -119,10 +120,10 @@ one_image_file =
 abbrev pub one_image_elements : ℕ → ℕ → ℕ → ℕ → ℕ → ℕ → Elements
 one_image_elements first last next study series image =
     root_elements first last
-    (record_item next study (patient_record one_image_row)
-    (record_item 0 series (study_record one_image_row)
-    (record_item 0 image (series_record one_image_row)
-    (record_item 0 0 (image_record one_image_row) no_items))))
+    (record_item next study (record_for Patient one_image_row)
+    (record_item 0 series (record_for Study one_image_row)
+    (record_item 0 image (record_for Series one_image_row)
+    (record_item 0 0 (record_for Image one_image_row) no_items))))
 
 -- what has to be true of a directory that is laid down so: its offsets count from the file's first byte
 abbrev pub OneImageIsLinked : Type 0
@@ -154,23 +155,23 @@ PreambleCounts =
 abbrev pub with_image : Row → Elements
 with_image row =
     root_elements 320 320
-    (record_item 0 404 (patient_record one_image_row)
-    (record_item 0 534 (study_record one_image_row)
-    (record_item 0 626 (series_record one_image_row)
-    (record_item 0 0 (image_record row) no_items))))
+    (record_item 0 404 (record_for Patient one_image_row)
+    (record_item 0 534 (record_for Study one_image_row)
+    (record_item 0 626 (record_for Series one_image_row)
+    (record_item 0 0 (record_for Image row) no_items))))
 
 -- a study at the root, a file ID in small letters, and a series that a patient names; in the root nothing behind a
 -- first offset of two bytes, nothing behind a good one, and one of two bytes behind another element; a record without
 -- offsets, and an image without a file ID
 abbrev pub RecordFaults : Type 0
 RecordFaults =
-    (directory_fault 266 (root_elements 320 320 (record_item 0 0 (study_record one_image_row) no_items)) ≡ fault 64 320)
+    (directory_fault 266 (root_elements 320 320 (record_item 0 0 (record_for Study one_image_row) no_items)) ≡ fault 64 320)
     × (directory_fault 266 (with_image (record one_image_row { file_id = codes "i0000001" })) ≡ fault 65 626)
     × (directory_fault 266 (one_image_elements 320 320 0 534 0 626) ≡ fault 64 534)
     × (directory_fault 266 (field (tag 0x0004 0x1200) (codes "UL") (le 0 2) no_elements) ≡ fault 68 266)
     × (directory_fault 266 (field (tag 0x0004 0x1200) (codes "UL") (le 0 4) no_elements) ≡ fault 68 266)
     × (directory_fault 266 (field (tag 0x0004 0x1130) (codes "CS") [] (field (tag 0x0004 0x1200) (codes "UL") (le 0 2) no_elements)) ≡ fault 68 274)
-    × (directory_fault 266 (root_elements 320 320 (item_of (patient_record one_image_row) no_items)) ≡ fault 68 320)
+    × (directory_fault 266 (root_elements 320 320 (item_of (record_for Patient one_image_row) no_items)) ≡ fault 68 320)
     × (directory_fault 266 (root_elements 320 320 (record_item 0 0 (record_elements (codes "IMAGE") no_elements) no_items)) ≡ fault 65 320)
 
 -- the directory of no rows has 320 bytes, and is linked to no node
@@ -227,16 +228,16 @@ abbrev pub RowsAreGrouped : Type 0
 RowsAreGrouped =
     (count_of (TreeOf (one_image_row ∷ second_row ∷ third_row ∷ double_row ∷ [])) ≡ 7)
     × (TreeOf (third_row ∷ fourth_row ∷ second_row ∷ one_image_row ∷ double_row ∷ [])
-    ≡ node (patient_record third_row)
-    (node (study_record third_row)
-    (node (series_record third_row) (node (image_record third_row) no_nodes no_nodes)
-    (node (series_record second_row)
-    (node (image_record second_row) no_nodes (node (image_record one_image_row) no_nodes no_nodes))
+    ≡ node (record_for Patient third_row)
+    (node (record_for Study third_row)
+    (node (record_for Series third_row) (node (record_for Image third_row) no_nodes no_nodes)
+    (node (record_for Series second_row)
+    (node (record_for Image second_row) no_nodes (node (record_for Image one_image_row) no_nodes no_nodes))
     no_nodes))
     no_nodes)
-    (node (patient_record fourth_row)
-    (node (study_record fourth_row)
-    (node (series_record fourth_row) (node (image_record fourth_row) no_nodes no_nodes) no_nodes)
+    (node (record_for Patient fourth_row)
+    (node (record_for Study fourth_row)
+    (node (record_for Series fourth_row) (node (record_for Image fourth_row) no_nodes no_nodes) no_nodes)
     no_nodes)
     no_nodes))
     × (TreeOf [] ≡ no_nodes)
@@ -259,10 +260,10 @@ FileIdsAreRead =
 abbrev pub PlacesAreAssigned : Type 0
 PlacesAreAssigned =
     (root_size ≡ 54)
-    × (record_size (patient_record one_image_row) ≡ 84)
-    × (record_size (study_record one_image_row) ≡ 130)
-    × (record_size (series_record one_image_row) ≡ 92)
-    × (record_size (image_record one_image_row) ≡ 162)
+    × (record_size (record_for Patient one_image_row) ≡ 84)
+    × (record_size (record_for Study one_image_row) ≡ 130)
+    × (record_size (record_for Series one_image_row) ≡ 92)
+    × (record_size (record_for Image one_image_row) ≡ 162)
     × (place_each (flattened (with_places 320 (TreeOf (one_image_row ∷ [])))) ≡ 320 ∷ 404 ∷ 534 ∷ 626 ∷ [])
     × (directory_size 266 (one_image_row ∷ []) ≡ 788)
     × (directory_elements 266 (TreeOf (one_image_row ∷ [])) ≡ one_image_elements 320 320 0 404 534 626)
@@ -285,10 +286,10 @@ SizesAreTrue =
 abbrev pub OneImageHasNodes : Type 0
 OneImageHasNodes =
     HasNodes one_image_file
-    (record { place = 320; level = 1; carries = carried_node (patient_record one_image_row) }
-    ∷ record { place = 404; level = 2; carries = carried_node (study_record one_image_row) }
-    ∷ record { place = 534; level = 3; carries = carried_node (series_record one_image_row) }
-    ∷ record { place = 626; level = 4; carries = carried_node (image_record one_image_row) }
+    (record { place = 320; level = 1; carries = carried_node (record_for Patient one_image_row) }
+    ∷ record { place = 404; level = 2; carries = carried_node (record_for Study one_image_row) }
+    ∷ record { place = 534; level = 3; carries = carried_node (record_for Series one_image_row) }
+    ∷ record { place = 626; level = 4; carries = carried_node (record_for Image one_image_row) }
     ∷ [])
 
 -- ---- two images of a series, of which a record is inactive
@@ -302,11 +303,11 @@ flagged flag (sequence h is es) = sequence h is es
 -- with the flags of the series and of its first image
 abbrev pub two_images : ℕ → ℕ → Forest Elements
 two_images series image =
-    node (patient_record one_image_row)
-    (node (study_record one_image_row)
-    (node (flagged series (series_record one_image_row))
-    (node (flagged image (image_record one_image_row)) no_nodes
-    (node (image_record second_row) no_nodes no_nodes))
+    node (record_for Patient one_image_row)
+    (node (record_for Study one_image_row)
+    (node (flagged series (record_for Series one_image_row))
+    (node (flagged image (record_for Image one_image_row)) no_nodes
+    (node (record_for Image second_row) no_nodes no_nodes))
     no_nodes)
     no_nodes)
     no_nodes
@@ -315,10 +316,10 @@ two_images series image =
 abbrev pub unnamed_image : ℕ → Elements
 unnamed_image image =
     root_elements 320 320
-    (record_item 0 404 (patient_record one_image_row)
-    (record_item 0 534 (study_record one_image_row)
-    (record_item 0 0 (series_record one_image_row)
-    (record_item 0 0 (flagged image (image_record one_image_row)) no_items))))
+    (record_item 0 404 (record_for Patient one_image_row)
+    (record_item 0 534 (record_for Study one_image_row)
+    (record_item 0 0 (record_for Series one_image_row)
+    (record_item 0 0 (flagged image (record_for Image one_image_row)) no_items))))
 
 -- all in use; the first image inactive; the series inactive; another flag; an image that no record names, in use and
 -- inactive

@@ -4,6 +4,7 @@ use Rattle.element.specs.declared.syntax.Syntax.{Syntax}
 use Rattle.sequence.specs.Tree.{Elements, DataSet, no_items}
 use Rattle.sequence.specs.Within.{FitRooms, Within}
 use Rattle.sequence.specs.Wanted.{kept_of}
+use Rattle.dicomdir.specs.declared.level.Level.TheVariants.{Patient, Study}
 use Rattle.dicomdir.specs.declared.skip.Skip.{Skip}
 use Rattle.dicomdir.specs.Row.{Row}
 use Rattle.dicomdir.specs.Keys.{fits_rooms, checked_row, IsRow}
@@ -19,7 +20,7 @@ use Rattle.dicomdir.specs.Directory.{Node, records_of}
 use Rattle.dicomdir.specs.Linked.{Linked, LinkedElements, IsAllReached, places_of, is_one_of, carried_forest}
 use Rattle.std.specs.List.{AllByRecursion}
 use Rattle.dicomdir.specs.Built.{directory_file, file_is_too_large}
-use Rattle.dicomdir.specs.Record.{patient_record, study_record, record_item, root_elements}
+use Rattle.dicomdir.specs.Record.{record_item, root_elements, record_for}
 use Rattle.dicomdir.specs.Paths.{Links, level_of, paths_from, paths_of, reached_by}
 use Rattle.dicomdir.specs.Examples.{one_image_row, one_image_elements}
 
@@ -127,9 +128,9 @@ one_image_links = links_in 266 (one_image_elements 320 320 0 404 534 626)
 abbrev pub two_patients : ℕ → Elements
 two_patients next =
     root_elements 320 404
-    (record_item 404 0 (patient_record one_image_row)
-    (record_item 0 488 (patient_record one_image_row)
-    (record_item next 0 (study_record one_image_row) no_items)))
+    (record_item 404 0 (record_for Patient one_image_row)
+    (record_item 0 488 (record_for Patient one_image_row)
+    (record_item next 0 (record_for Study one_image_row) no_items)))
 
 -- the paths of one image name its records, each a level below the one before it; the study of the second patient is the
 -- last of its chain, or its next offset names the patient above it, the study itself, or the first patient, which is no

@@ -82,7 +82,7 @@ abbrev pub doubles_after : ℕ → List (List ℕ) → List Row → List ℕ
 doubles_after at before [] = []
 doubles_after at before (row ∷ rows) =
     if list_any (bytes_eq row.instance) before then at ∷ doubles_after (suc at) before rows
-    else doubles_after (suc at) (row.instance ∷ before) rows
+    else doubles_after (suc at) (before ++ row.instance ∷ []) rows
 
 abbrev pub doubles_of : List Row → List ℕ
 doubles_of rows = doubles_after 0 [] rows

@@ -78,18 +78,6 @@ file_fields Image row behind =
 abbrev pub record_for : Level → Row → Elements
 record_for level row = record_elements (kind_of level) (file_fields level row (key_fields level key_table row.values))
 
-abbrev pub patient_record : Row → Elements
-patient_record row = record_for Patient row
-
-abbrev pub study_record : Row → Elements
-study_record row = record_for Study row
-
-abbrev pub series_record : Row → Elements
-series_record row = record_for Series row
-
-abbrev pub image_record : Row → Elements
-image_record row = record_for Image row
-
 -- ---- how this product lays a directory down (PS3.3 section F.3): sequence and items have defined lengths (PS3.5
 -- section 7.5.1), which is this product's own profile.
 

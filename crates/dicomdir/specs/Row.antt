@@ -1,6 +1,6 @@
 -- What a directory is built from: a row for each file. Which keys a record has is that of PS3.3 section F.5;
 -- which of them must not be empty is this product's own profile.
-use Rattle.std.specs.Prelude.{ℕ, List, [], ◌∷◌, unwrap_or, if◌then◌else◌}
+use Rattle.std.specs.Prelude.{ℕ, List, [], ◌∷◌, ◌++◌, unwrap_or, if◌then◌else◌}
 use Rattle.std.specs.List.{list_any}
 use Rattle.std.specs.Str.{bytes_eq}
 use Rattle.element.specs.declared.syntax.Syntax.{Syntax}
@@ -31,4 +31,4 @@ abbrev pub without_doubles : List (List ℕ) → List Row → List Row
 without_doubles before [] = []
 without_doubles before (row ∷ rows) =
     if list_any (bytes_eq row.instance) before then without_doubles before rows
-    else row ∷ without_doubles (row.instance ∷ before) rows
+    else row ∷ without_doubles (before ++ row.instance ∷ []) rows

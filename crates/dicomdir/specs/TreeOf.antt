@@ -8,7 +8,7 @@ use Rattle.dicomdir.specs.declared.level.Level.{Level}
 use Rattle.dicomdir.specs.declared.level.Level.TheVariants.{Patient, Study, Series, Image}
 use Rattle.dicomdir.specs.Row.{Row, key, key_in, without_doubles}
 use Rattle.dicomdir.specs.KeyTable.{groups, key_table}
-use Rattle.dicomdir.specs.Record.{patient_record, study_record, series_record, image_record}
+use Rattle.dicomdir.specs.Record.{record_for}
 use Rattle.std.specs.Borrow.{Bor}
 
 -- siblings: each node carries something, and has nodes below it
@@ -57,16 +57,16 @@ key_for level row = key (key_or_instance row (find (groups level) key_table))
 
 abbrev pub images : List Row → Forest Elements
 images [] = no_nodes
-images (row ∷ rows) = node (image_record row) no_nodes (images rows)
+images (row ∷ rows) = node (record_for Image row) no_nodes (images rows)
 
 abbrev pub series : List Row → Forest Elements
-series rows = grouped (key_for Series) series_record images rows
+series rows = grouped (key_for Series) (record_for Series) images rows
 
 abbrev pub studies : List Row → Forest Elements
-studies rows = grouped (key_for Study) study_record series rows
+studies rows = grouped (key_for Study) (record_for Study) series rows
 
 abbrev pub patients : List Row → Forest Elements
-patients rows = grouped (key_for Patient) patient_record studies rows
+patients rows = grouped (key_for Patient) (record_for Patient) studies rows
 
 -- the tree of these rows; a node is its record's elements but for the two offsets
 unfoldable pub TreeOf : List Row → Forest Elements

@@ -26,7 +26,6 @@ pub(crate) enum Stop {
 pub(crate) struct LaidRecord<'r, A: Allocator> {
     pub(crate) level: Level,
     pub(crate) row: &'r Row<A>,
-    pub(crate) start: u32,
     pub(crate) next: u32,
     pub(crate) lower: u32,
 }
@@ -72,7 +71,7 @@ impl<'r, A: Allocator> Plan<'r, A> {
     /// Puts a record before those that are laid down, and returns where it starts.
     #[tactic(auto, using(crate::proofs::LayingLemmas::record_length))]
     fn add(&mut self, level: Level, row: &'r Row<A>, next: u32, lower: u32) -> Result<u32, Stop>
-        ensures added { IfOk result (λ start. Adds level row.now next lower start self.old.entries.items self.new.entries.items) }
+        ensures added { IfOk result (λ start. Adds level row.now next lower self.old.entries.items self.new.entries.items) }
         ensures size { IfOk result (λ start. self.new.size ≡ self.old.size + record_size (record_for level row.now)) }
         ensures start { IfOk result (λ start. start ≡ self.new.size) }
         ensures stops { IfErr result (StopsFor (self.old.size + record_size (record_for level row.now))) }
@@ -84,7 +83,6 @@ impl<'r, A: Allocator> Plan<'r, A> {
         let entry = LaidRecord {
             level,
             row,
-            start: size,
             next,
             lower,
         };

@@ -2,7 +2,7 @@
 ghost use Rattle.std.specs.Prelude.{◌≡◌, ◌≤◌, ◌<◌, ◌+◌, ◌^◌, ℕ, List, ◌++◌, length, drop, IfSome, Some, option_map};
 ghost use Rattle.element.specs.Header.{number, IsTag, item_end_tag, sequence_end_tag};
 ghost use Rattle.sequence.specs.Tree.{Elements, Items, delimitation};
-ghost use Rattle.dicomdir.specs.Directory.{Found, header_size, found};
+ghost use Rattle.dicomdir.specs.Directory.{Found, header_size, found, number_in};
 ghost use Rattle.dicomdir.specs.machine.Texts.{head_at, EndsBefore, ElementsThen, ItemsThen, HasElements, IsContent, IsItemContent, content_at, Finds};
 ghost use Rattle.dicomdir.specs.machine.Texts as texts;
 
@@ -184,7 +184,7 @@ pub(crate) fn find<'a>(syntax: Syntax, tag: Tag, place: u64, text: &'a [u8]) -> 
 impl<'a> Element<'a> {
     /// Returns the number in a value of four bytes.
     pub fn long(&self) -> Option<u32>
-        ensures { result ≡ texts.got_number 4 self.now }
+        ensures { result ≡ number_in 4 (texts.shown self.now) }
     {
         match self {
             Element::Value { value, .. } if value.len() == 4 => Some(LittleEndian::read_u32(value)),
@@ -194,7 +194,7 @@ impl<'a> Element<'a> {
 
     /// Returns the number in a value of two bytes.
     pub fn short(&self) -> Option<u16>
-        ensures { result ≡ texts.got_number 2 self.now }
+        ensures { result ≡ number_in 2 (texts.shown self.now) }
     {
         match self {
             Element::Value { value, .. } if value.len() == 2 => Some(LittleEndian::read_u16(value)),

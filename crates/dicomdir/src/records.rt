@@ -1,10 +1,10 @@
 //! The records of a directory, with what a check needs of them.
 ghost use Rattle.std.specs.Prelude.{◌≡◌, ◌≤◌, ◌<◌, ◌+◌, ◌^◌, ◌++◌, List, length, false, IsOk, IfOk, IfErr, IfSome, IsNone};
 ghost use Rattle.sequence.specs.Tree.{Elements, Items};
-ghost use Rattle.dicomdir.specs.Directory.{Record, records_at, has_record};
+ghost use Rattle.dicomdir.specs.Directory.{Record, records_at, has_record, kind_in, file_id_in};
 ghost use Rattle.dicomdir.specs.DirFault.{record_fault, each_fault};
-ghost use Rattle.dicomdir.specs.machine.Trail.{IsEntry, AreEntries, FailsAs, IsEntryOf, use_flag, entry_has_file_id};
-ghost use Rattle.dicomdir.specs.machine.Texts.{HasElements, HasItems, got_kind, got_file_id};
+ghost use Rattle.dicomdir.specs.machine.Trail.{IsEntry, AddsEntries, FailsAs, IsEntryOf, use_flag, entry_has_file_id};
+ghost use Rattle.dicomdir.specs.machine.Texts.{HasElements, HasItems, shown};
 ghost use Rattle.std.specs.Str.{bytes_eq};
 
 use crate::fault::DirFault;
@@ -43,7 +43,7 @@ fn use_of(flag: Option<u16>) -> Option<bool>
 }
 
 fn kind_of<'a>(element: &Element<'a>) -> &'a [u8]
-    ensures { result.now ≡ got_kind element.now }
+    ensures { result.now ≡ kind_in (shown element.now) }
 {
     match element.value() {
         Some(value) => unpadded(value),
@@ -52,7 +52,7 @@ fn kind_of<'a>(element: &Element<'a>) -> &'a [u8]
 }
 
 fn file_id_of<'a>(element: &Element<'a>) -> Option<FileId>
-    ensures { result ≡ got_file_id element.now }
+    ensures { result ≡ file_id_in (shown element.now) }
 {
     match element.value() {
         Some(value) => FileId::read(value),
@@ -114,7 +114,7 @@ pub(crate) fn read_records<'a, A: Allocator + Copy>(
     records: &mut Vec<ReadRecord<'a>, A>,
 ) -> Result<(), DirFault>
     requires { first + length text.now < 2 ^ 64 }
-    ensures read { IsOk result → (items : Items) (before : List Record) → HasItems syntax items text.now → AreEntries records.old.items before → AreEntries records.new.items (before ++ records_at first items) }
+    ensures read { IsOk result → AddsEntries syntax first text.now records.old.items records.new.items }
     ensures fails { IfErr result (λ f. (items : Items) → HasItems syntax items text.now → FailsAs (each_fault (records_at first items)) f) }
 {
     let mut rest = text;

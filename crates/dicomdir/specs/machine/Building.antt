@@ -42,11 +42,10 @@ abbrev pub has_none : Forest Elements → Bool
 has_none no_nodes = true
 has_none (node es below next) = false
 
-pub record Adds {A : Type 0} (level : Level) (row : Row) (next lower start : ℕ) (old new : List (LaidRecord A)) : Type 0 where
+pub record Adds {A : Type 0} (level : Level) (row : Row) (next lower : ℕ) (old new : List (LaidRecord A)) : Type 0 where
   pub entry : LaidRecord A
   pub level_is : entry.level ≡ level
   pub row_is : entry.row.now ≡ row
-  pub start_is : entry.start ≡ start
   pub next_is : entry.next ≡ next
   pub lower_is : entry.lower ≡ lower
   pub last : new ≡ old ++ entry ∷ []

@@ -3,6 +3,7 @@ use Rattle.std.specs.Prelude.{◌≡◌, ℕ, Bool, cond, not, List, [], ◌∷�
 use Rattle.std.specs.List.{list_any, position_or_len}
 use Rattle.std.specs.Str.{bytes_eq}
 use Rattle.dicomdir.specs.Row.{Row}
+use Rattle.dicomdir.specs.TreeOf.{with_key}
 
 abbrev pub texts : {A : Type 0} → List (Vec ℕ A) → List (List ℕ)
 texts keys = map (λ v. v.items) keys
@@ -10,12 +11,9 @@ texts keys = map (λ v. v.items) keys
 abbrev pub is_seen : List ℕ → List (List ℕ) → Bool
 is_seen key keys = list_any (bytes_eq key) keys
 
-abbrev pub with_one : Bool → List ℕ → List (List ℕ) → List (List ℕ)
-with_one seen key keys = cond seen keys (keys ++ key ∷ [])
-
 -- the keys after one more, its number, and whether it is new
 pub record Sees (key : List ℕ) (keys new : List (List ℕ)) (number : ℕ) (is_new : Bool) : Type 0 where
-  pub keys_are : new ≡ with_one (is_seen key keys) key keys
+  pub keys_are : new ≡ with_key key keys
   pub number_is : number ≡ position_or_len (bytes_eq key) keys
   pub newness : is_new ≡ not (is_seen key keys)
 
@@ -24,11 +22,11 @@ put_in groups number row = set groups number (get_or groups number [] ++ row ∷
 
 -- the row is in the group of its key, which is opened where the key is new
 pub record Puts (key : List ℕ) (row : Row) (keys new : List (List ℕ)) (groups after : List (List Row)) : Type 0 where
-  pub keys_are : new ≡ with_one (is_seen key keys) key keys
+  pub keys_are : new ≡ with_key key keys
   pub groups_are : after ≡ put_in (cond (not (is_seen key keys)) (groups ++ [] ∷ []) groups) (position_or_len (bytes_eq key) keys) row
 
 -- the row is kept, or its place is one of the doubles where its instance was seen
 pub record TakesRow (at : ℕ) (row : Row) (keys new : List (List ℕ)) (rows after : List Row) (doubles more : List ℕ) : Type 0 where
-  pub keys_are : new ≡ with_one (is_seen row.instance keys) row.instance keys
+  pub keys_are : new ≡ with_key row.instance keys
   pub rows_are : after ≡ cond (is_seen row.instance keys) rows (rows ++ row ∷ [])
   pub doubles_are : more ≡ cond (is_seen row.instance keys) (doubles ++ at ∷ []) doubles

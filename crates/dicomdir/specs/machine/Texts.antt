@@ -1,11 +1,10 @@
 -- The header at the front of a text.
-use Rattle.std.specs.Prelude.{ℕ, List, length, Option, Some, None, nat_le, if◌then◌else◌, ◌≡◌, ◌≤◌, ◌+◌, Bool, true, false, not, ◌&&◌, [], ◌++◌, take, nat_eq}
+use Rattle.std.specs.Prelude.{ℕ, List, length, Option, Some, None, nat_le, if◌then◌else◌, ◌≡◌, ◌≤◌, ◌+◌, Bool, true, false, not, ◌&&◌, [], ◌++◌, take}
 use Rattle.element.specs.declared.syntax.Syntax.{Syntax}
 use Rattle.element.specs.declared.size.Need.{Need}
 use Rattle.element.specs.declared.size.Need.TheVariants.{More, Size, BadVr}
 use Rattle.element.specs.Header.{need, header_at, item_end_tag, sequence_end_tag}
 use Rattle.dicomdir.specs.declared.found.Head.{Head}
-use Rattle.byteorder.specs.Endian.{little_number}
 use Rattle.element.specs.declared.tag.Tag.{Tag}
 use Rattle.element.specs.declared.header.Header.{Header}
 use Rattle.sequence.specs.Shape.{is_undefined, shape}
@@ -13,8 +12,6 @@ use Rattle.sequence.specs.declared.shape.Shape.TheVariants.{Value, Sequence}
 use Rattle.sequence.specs.Tree.{Elements, Items, delimitation, IsValue, Ended, DataSet, ItemList}
 use Rattle.dicomdir.specs.declared.found.Element.{Element}
 use Rattle.dicomdir.specs.Directory.{Found, missing, value_at, items_at, header_size}
-use Rattle.dicomdir.specs.FileId.{file_id_of}
-use Rattle.dicomdir.specs.Row.{key}
 use Rattle.dicomdir.specs.declared.found.Element.TheVariants as got
 
 abbrev pub head_by : Syntax → List ℕ → Need → Option Head
@@ -90,25 +87,16 @@ Finds (got.Items p first s t) f = FindsItems p first s t.now f
 
 -- what a value that was found says
 
-abbrev pub got_number : ℕ → Element → Option ℕ
-got_number size got.Missing = None
-got_number size (got.Value p v) = if nat_eq (length v.now) size then Some (little_number size v.now) else None
-got_number size (got.Items p first s t) = None
+-- what was found; items have no number, no type and no file ID, as where nothing is
+abbrev pub shown : Element → Found
+shown got.Missing = missing
+shown (got.Value p v) = value_at p v.now
+shown (got.Items p first s t) = missing
 
 abbrev pub got_value : Element → Option (List ℕ)
 got_value got.Missing = None
 got_value (got.Value p v) = Some v.now
 got_value (got.Items p first s t) = None
-
-abbrev pub got_kind : Element → List ℕ
-got_kind got.Missing = []
-got_kind (got.Value p v) = key v.now
-got_kind (got.Items p first s t) = []
-
-abbrev pub got_file_id : Element → Option (List ℕ)
-got_file_id got.Missing = None
-got_file_id (got.Value p v) = file_id_of v.now
-got_file_id (got.Items p first s t) = None
 
 abbrev pub got_none : Element → Bool
 got_none got.Missing = true

@@ -3,20 +3,21 @@ use Rattle.std.specs.Prelude.{◌≡◌, ℕ, suc, ◌<◌, ◌-◌, min, Bool, 
 use Rattle.dicomdir.specs.declared.links.Mark.{Mark}
 use Rattle.dicomdir.specs.declared.links.Step.{Step}
 use Rattle.dicomdir.specs.declared.records.ReadRecord.{ReadRecord}
-use Rattle.dicomdir.specs.Directory.{Node, carried_node, found, Record, first_offset, last_offset, next_offset, lower_offset, has_record, has_file_id, or_zero, Found, number_in, records_of}
+use Rattle.dicomdir.specs.Directory.{records_at, Node, carried_node, found, Record, first_offset, last_offset, next_offset, lower_offset, has_record, has_file_id, or_zero, Found, number_in, records_of}
 use Rattle.dicomdir.specs.Linked.{elements_at, next_at, record_at, is_one_of}
 use Rattle.dicomdir.specs.NodesInUse.{LevelNode, node_of}
 use Rattle.dicomdir.specs.Paths.{Links, Turn, named_by, level_of, paths_from, paths_of}
 use Rattle.std.specs.List.{flat_map}
 use Rattle.sequence.specs.Rules.{no_tag}
-use Rattle.sequence.specs.Tree.{Elements}
+use Rattle.element.specs.declared.syntax.Syntax.{Syntax}
+use Rattle.sequence.specs.Tree.{Elements, Items}
 use Rattle.dicomdir.specs.declared.fault.DirFault.{DirFault}
 use Rattle.dicomdir.specs.declared.links.Root.{Root}
 use Rattle.dicomdir.specs.declared.tree.TreeRecord.{TreeRecord}
 use Rattle.dicomdir.specs.DirFault.{place_in, links_of, links_fault, path_fault, unreached_fault, Fault, offset_fault, directory_fault}
 use Rattle.std.specs.Str.{bytes_eq}
 use Rattle.dicomdir.specs.declared.found.Element.{Element}
-use Rattle.dicomdir.specs.machine.Texts.{got_none}
+use Rattle.dicomdir.specs.machine.Texts.{got_none, HasItems}
 
 -- Marks stand here with the last one first.
 
@@ -99,6 +100,11 @@ pub record IsEntry (e : ReadRecord) (r : Record) : Type 0 where
 pub data AreEntries : List ReadRecord → List Record → Type 0 where
   no_entries : AreEntries [] []
   entry_then : {e : ReadRecord} {r : Record} {es : List ReadRecord} {rs : List Record} → IsEntry e r → AreEntries es rs → AreEntries (e ∷ es) (r ∷ rs)
+
+-- to the entries those of the records of a sequence were added
+abbrev pub AddsEntries : Syntax → ℕ → List ℕ → List ReadRecord → List ReadRecord → Type 0
+AddsEntries s first text old new =
+    (items : Items) (before : List Record) → HasItems s items text → AreEntries old before → AreEntries new (before ++ records_at first items)
 
 -- the places rise, and none is below the first number
 abbrev pub Rise : ℕ → List Record → Type 0

@@ -7,8 +7,8 @@ use Rattle.dicomdir.proofs.doubles.leave_out_doubles.Goals as goal
 pub loop-at-preserved : goal.loop-at-preserved
 loop-at-preserved g c = record {
   leaves =
-      leaves_next c.args.rows.now c.loop-at.at c.index-rows-at.result c.loop-at-test.true c.index-rows-at.is (texts c.loop-at.seen.keys) (texts c.take_row.new.seen.keys)
-      (rows_at c.loop-at.kept.rows.items) (rows_at c.take_row.new.kept.rows.items) c.loop-at.kept.doubles.items c.take_row.new.kept.doubles.items c.loop-at.invariant.leaves c.in_ok-take_row.ensures;
+      leaves_next c.args.rows.now c.loop-at.at c.index-rows-at.result (texts c.loop-at.seen.keys) (texts c.take_row.new.seen.keys)
+      (rows_at c.loop-at.kept.rows.items) (rows_at c.take_row.new.kept.rows.items) c.loop-at.kept.doubles.items c.take_row.new.kept.doubles.items c.loop-at-test.true c.index-rows-at.is c.loop-at.invariant.leaves c.in_ok-take_row.ensures;
   valid = all_more IsRow c.args.rows.now c.loop-at.at c.index-rows-at.result c.loop-at-test.true c.index-rows-at.is c.keeps.ensures c.loop-at.invariant.valid;
 }
 

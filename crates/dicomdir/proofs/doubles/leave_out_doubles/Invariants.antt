@@ -3,11 +3,11 @@ use Rattle.std.specs.List.{AllByRecursion}
 use Rattle.dicomdir.specs.Keys.{IsRow}
 use Rattle.dicomdir.specs.TreeOf.{rows_at}
 use Rattle.dicomdir.specs.machine.FirstSeen.{texts}
-use Rattle.dicomdir.proofs.GroupingLemmas.{newest_first, Leaves}
+use Rattle.dicomdir.proofs.GroupingLemmas.{Leaves}
 use Rattle.dicomdir.proofs.doubles.leave_out_doubles.Given as goal
 
 abbrev pub invariant-loop-at : goal.invariant-loop-at
 invariant-loop-at g l = record {
-  leaves : Leaves l.rows l.at (newest_first (texts l.seen.keys)) (rows_at l.kept.rows.items) l.kept.doubles.items;
+  leaves : Leaves l.rows l.at (texts l.seen.keys) (rows_at l.kept.rows.items) l.kept.doubles.items;
   valid : AllByRecursion IsRow (take l.at l.rows);
 }
