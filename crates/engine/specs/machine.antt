@@ -1,4 +1,5 @@
 -- What the code is proved against, beside the definitions.
+pub mod Lent
 pub mod HeadEvents
 pub mod Answers
 pub mod Accepted

@@ -9,6 +9,7 @@ ghost use Rattle.engine.specs.machine.Skips.{in_pdv_head};
 mod fields;
 mod taking;
 
+use crate::devices::Devices;
 use crate::phase::Phase;
 use crate::provider::Provider;
 use crate::sending::Answering;
@@ -54,6 +55,7 @@ impl<const A: usize, const C: usize, const V: usize, const D: usize> Association
     ghost use Rattle.engine.specs.Timeline.{Entry, Happened};
     ghost use Rattle.engine.specs.machine.DoesDue.{Stays};
     ghost use Rattle.engine.specs.machine.Events.{Outside};
+    ghost use Rattle.engine.specs.machine.Lent.{before, after};
     ghost use Rattle.engine.specs.Run.{rooms_of};
 
     /// The transport connection is open: a request is due, and the ARTIM timer runs.
@@ -145,7 +147,7 @@ impl<const A: usize, const C: usize, const V: usize, const D: usize> Association
         if self.is_ended() {
             return;
         }
-        self.take_all(piece, wire, filing);
+        self.take_all(piece, Devices { wire, filing });
         self.drop_heads();
     }
 
@@ -161,7 +163,7 @@ impl<const A: usize, const C: usize, const V: usize, const D: usize> Association
         ensures ended { state_of self.old ≡ Sta1
             → StaysEnded (fields_of self.old) (fields_of self.new) (devices (W.line wire.old) (F.store filing.old)) (devices (W.line wire.new) (F.store filing.new)) }
     {
-        self.happens(Event::Closed, wire, filing);
+        self.happens(Event::Closed, Devices { wire, filing });
     }
 
     /// The ARTIM timer ran out. A draft is still in `filing`, as in `feed`.
@@ -176,7 +178,7 @@ impl<const A: usize, const C: usize, const V: usize, const D: usize> Association
         ensures ended { state_of self.old ≡ Sta1
             → StaysEnded (fields_of self.old) (fields_of self.new) (devices (W.line wire.old) (F.store filing.old)) (devices (W.line wire.new) (F.store filing.new)) }
     {
-        self.happens(Event::Expired, wire, filing);
+        self.happens(Event::Expired, Devices { wire, filing });
     }
 
     /// The local user aborts the association. A draft is still in `filing`, as in `feed`.
@@ -191,7 +193,7 @@ impl<const A: usize, const C: usize, const V: usize, const D: usize> Association
         ensures ended { state_of self.old ≡ Sta1
             → StaysEnded (fields_of self.old) (fields_of self.new) (devices (W.line wire.old) (F.store filing.old)) (devices (W.line wire.new) (F.store filing.new)) }
     {
-        self.happens(Event::UserAborts, wire, filing);
+        self.happens(Event::UserAborts, Devices { wire, filing });
     }
 
     /// Whether the association has ended.
@@ -203,23 +205,22 @@ impl<const A: usize, const C: usize, const V: usize, const D: usize> Association
     }
 
     /// An event happens that no byte of the stream brings.
-    fn happens<W: Wire, F: Filing>(&mut self, event: Event, wire: &mut W, filing: &mut F)
-        requires draft { IsThere (drafting_of self.old) (F.store filing.old) }
+    fn happens<W: Wire, F: Filing>(&mut self, event: Event, devices: Devices<'_, W, F>)
+        requires draft { IsThere (drafting_of self.old) (F.store devices.filing.now) }
         requires stays { Stays (state_of self.old) event }
-        ensures draft { IsThere (drafting_of self.new) (F.store filing.new) }
+        ensures draft { IsThere (drafting_of self.new) (F.store devices.exit.1.0.now) }
         ensures settings { settings_in self.new ≡ settings_in self.old }
         ensures moved { (input : Received) (entry : Entry) → Outside event input entry → (inputs : List Received) (story : List Happened) (failed : Bool)
-            → Stands (rooms_of A C V D) (settings_in self.old) inputs story failed (fields_of self.old) (F.store filing.old)
+            → Stands (rooms_of A C V D) (settings_in self.old) inputs story failed (fields_of self.old) (F.store devices.entry.filing.now)
             → Moved (rooms_of A C V D) (settings_in self.old) inputs story failed input (fields_of self.old) (fields_of self.new)
-            (devices (W.line wire.old) (F.store filing.old)) (devices (W.line wire.new) (F.store filing.new)) }
+            (before W.line F.store devices.entry) (after W.line F.store devices.exit) }
         ensures ended { state_of self.old ≡ Sta1
-            → StaysEnded (fields_of self.old) (fields_of self.new) (devices (W.line wire.old) (F.store filing.old)) (devices (W.line wire.new) (F.store filing.new)) }
+            → StaysEnded (fields_of self.old) (fields_of self.new) (before W.line F.store devices.entry) (after W.line F.store devices.exit) }
     {
         if self.is_ended() {
             return;
         }
-        self.provider
-            .happens(event, Answering::Nothing, wire, filing);
+        self.provider.happens(event, Answering::Nothing, devices);
         self.provider.skip_uncounted(&mut self.deframer);
         self.drop_heads();
     }

@@ -1,13 +1,14 @@
 //! What each event of the stream does to an association.
 ghost use Rattle.std.specs.Prelude.{◌≡◌, ◌-◌};
 
+use crate::devices::Devices;
 use crate::provider::Provider;
 use part10::Filing;
 use pdu::{Event, Wire};
 
 impl<const A: usize, const C: usize, const V: usize, const D: usize> Provider<A, C, V, D> {
-    ghost use Rattle.engine.specs.Devices.{devices};
-    ghost use Rattle.engine.specs.Drafts.{IsThere, Drafts};
+    ghost use Rattle.engine.specs.machine.Lent.{before, after, KeepsDraft};
+    ghost use Rattle.engine.specs.Drafts.{IsThere};
     ghost use Rattle.engine.specs.StoredData.{drafting_in};
     ghost use Rattle.engine.specs.machine.Events.{Takes, HasRoom, LeavesRoom};
     ghost use Rattle.engine.specs.Kept.{kept_of, settings_in};
@@ -18,26 +19,25 @@ impl<const A: usize, const C: usize, const V: usize, const D: usize> Provider<A,
         &mut self,
         event: Event<'_>,
         kind: u8,
-        wire: &mut W,
-        filing: &mut F,
+        devices: Devices<'_, W, F>,
     )
-        requires draft { IsThere (drafting_in (kept_of self.old).storing) (F.store filing.old) }
+        requires draft { IsThere (drafting_in (kept_of self.old).storing) (F.store devices.filing.now) }
         requires room { HasRoom (A - 12) (kept_of self.old) kind event }
         ensures settings { settings_in self.new ≡ settings_in self.old }
-        ensures drafts { Drafts (drafting_in (kept_of self.old).storing) (F.store filing.old) (drafting_in (kept_of self.new).storing) (F.store filing.new) }
+        ensures drafts { KeepsDraft (kept_of self.old) (kept_of self.new) (before W.line F.store devices.entry) (after W.line F.store devices.exit) }
         ensures room { LeavesRoom (A - 12) (kept_of self.old) (kept_of self.new) kind event.entry }
         ensures takes { Takes (rooms_of A C V D) (settings_in self.old) (kept_of self.old) (kept_of self.new) kind event.entry
-            (devices (W.line wire.old) (F.store filing.old)) (devices (W.line wire.new) (F.store filing.new)) }
+            (before W.line F.store devices.entry) (after W.line F.store devices.exit) }
     {
         match event {
-            Event::PduHead(head) => self.on_head(head.kind, head.length, wire, filing),
+            Event::PduHead(head) => self.on_head(head.kind, head.length, devices),
             Event::Body(part) => self.on_body(kind, part),
-            Event::PdvHead(head) => self.on_pdv_head(head, wire, filing),
-            Event::Fragment(part) => self.on_data(part, filing),
-            Event::PdvEnd => self.on_pdv(wire, filing),
-            Event::BadPdv => self.on_invalid(wire, filing),
-            Event::Leftover => self.on_invalid(wire, filing),
-            Event::PduEnd(kind) => self.on_end(kind, wire, filing),
+            Event::PdvHead(head) => self.on_pdv_head(head, devices),
+            Event::Fragment(part) => self.on_data(part, devices.filing),
+            Event::PdvEnd => self.on_pdv(devices),
+            Event::BadPdv => self.on_invalid(devices),
+            Event::Leftover => self.on_invalid(devices),
+            Event::PduEnd(kind) => self.on_end(kind, devices),
         }
     }
 }

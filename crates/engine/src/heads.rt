@@ -5,6 +5,7 @@ ghost use Rattle.acceptor.specs.declared.state.State.TheVariants.{Sta2};
 ghost use Rattle.engine.specs.Heads as spelling;
 ghost use Rattle.engine.specs.machine.HeadEvents.{brings};
 
+use crate::devices::Devices;
 use crate::provider::Provider;
 use crate::sending::Answering;
 use acceptor::{Action, Event, State, act};
@@ -130,10 +131,10 @@ impl<const A: usize, const C: usize, const V: usize, const D: usize> Provider<A,
     ghost use Rattle.pdu.specs.Marks.{Head};
     ghost use Rattle.engine.specs.Progress.{Progress};
     ghost use Rattle.engine.specs.Timeline.{At};
-    ghost use Rattle.engine.specs.Devices.{devices};
+    ghost use Rattle.engine.specs.machine.Lent.{before, after, KeepsDraft};
     ghost use Rattle.engine.specs.Kept.{Pends, kept_of, settings_in};
     ghost use Rattle.engine.specs.machine.Capacity.{BodyFits};
-    ghost use Rattle.engine.specs.Drafts.{IsThere, Drafts};
+    ghost use Rattle.engine.specs.Drafts.{IsThere};
     ghost use Rattle.engine.specs.StoredData.{drafting_in};
     ghost use Rattle.engine.specs.machine.Does.{Does};
     ghost use Rattle.engine.specs.Run.{rooms_of};
@@ -143,16 +144,15 @@ impl<const A: usize, const C: usize, const V: usize, const D: usize> Provider<A,
         &mut self,
         kind: u8,
         length: u32,
-        wire: &mut W,
-        filing: &mut F,
+        devices: Devices<'_, W, F>,
     )
-        requires draft { IsThere (drafting_in (kept_of self.old).storing) (F.store filing.old) }
+        requires draft { IsThere (drafting_in (kept_of self.old).storing) (F.store devices.filing.now) }
         ensures body { (kept_of self.new).body ≡ [] }
         ensures fits { BodyFits (A - 12) (kept_of self.new) kind length }
         ensures settings { settings_in self.new ≡ settings_in self.old }
-        ensures drafts { Drafts (drafting_in (kept_of self.old).storing) (F.store filing.old) (drafting_in (kept_of self.new).storing) (F.store filing.new) }
-        ensures does { (p : Progress) → Pends (kept_of self.old) (F.store filing.old) p [] [] → Does (rooms_of A C V D) (settings_in self.old) p (At (Head kind length)) (kept_of self.new) [] []
-            (devices (W.line wire.old) (F.store filing.old)) (devices (W.line wire.new) (F.store filing.new)) }
+        ensures drafts { KeepsDraft (kept_of self.old) (kept_of self.new) (before W.line F.store devices.entry) (after W.line F.store devices.exit) }
+        ensures does { (p : Progress) → Pends (kept_of self.old) (F.store devices.entry.filing.now) p [] [] → Does (rooms_of A C V D) (settings_in self.old) p (At (Head kind length)) (kept_of self.new) [] []
+            (before W.line F.store devices.entry) (after W.line F.store devices.exit) }
     {
         let state = self.phase.state();
         let event = head_event(A - HEADS, self.config.max_pdu, state, kind, length);
@@ -161,10 +161,10 @@ impl<const A: usize, const C: usize, const V: usize, const D: usize> Provider<A,
         match event {
             HeadEvent::Nothing => {}
             HeadEvent::AtOnce(event, reason) => {
-                self.refuse(event, Answering::Abort(reason), wire, filing);
+                self.refuse(event, Answering::Abort(reason), devices);
             }
             HeadEvent::TooLong => {
-                self.refuse(Event::Request(false), Answering::TooLong, wire, filing);
+                self.refuse(Event::Request(false), Answering::TooLong, devices);
             }
         }
     }

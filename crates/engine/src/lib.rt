@@ -2,6 +2,7 @@
 #![tactic(auto)]
 
 mod association;
+mod devices;
 mod events;
 mod given;
 mod heads;

@@ -8,6 +8,7 @@ ghost use Rattle.dimse.specs.Command.{CommandRecord};
 ghost use Rattle.dimse.specs.Reading.{command_in};
 ghost use Rattle.dimse.specs.Messages as messages;
 
+use crate::devices::Devices;
 use crate::heads::INVALID_PARAMETER;
 use crate::phase::{Message, Peer, Phase};
 use crate::provider::Provider;
@@ -111,6 +112,7 @@ impl<const A: usize, const C: usize, const V: usize, const D: usize> Provider<A,
     ghost use Rattle.engine.specs.Progress.{Progress};
     ghost use Rattle.engine.specs.Timeline.{At};
     ghost use Rattle.engine.specs.Devices.{devices};
+    ghost use Rattle.engine.specs.machine.Lent.{before, after, KeepsDraft};
     ghost use Rattle.engine.specs.Kept.{Pends, kept_of, settings_in};
     ghost use Rattle.engine.specs.machine.Capacity.{FragmentFits};
     ghost use Rattle.engine.specs.Drafts.{IsThere, Drafts};
@@ -122,17 +124,16 @@ impl<const A: usize, const C: usize, const V: usize, const D: usize> Provider<A,
     pub(crate) fn on_pdv_head<W: Wire, F: Filing>(
         &mut self,
         head: PdvHead,
-        wire: &mut W,
-        filing: &mut F,
+        devices: Devices<'_, W, F>,
     )
-        requires draft { IsThere (drafting_in (kept_of self.old).storing) (F.store filing.old) }
+        requires draft { IsThere (drafting_in (kept_of self.old).storing) (F.store devices.filing.now) }
         requires two { 2 ≤ head.length }
         ensures settings { settings_in self.new ≡ settings_in self.old }
-        ensures drafts { Drafts (drafting_in (kept_of self.old).storing) (F.store filing.old) (drafting_in (kept_of self.new).storing) (F.store filing.new) }
+        ensures drafts { KeepsDraft (kept_of self.old) (kept_of self.new) (before W.line F.store devices.entry) (after W.line F.store devices.exit) }
         ensures fits { FragmentFits (kept_of self.new) (head.length - 2) }
-        ensures does { (p : Progress) (begun : List ℕ) → length begun ≡ 6 → head ≡ pdv_head_of begun → Pends (kept_of self.old) (F.store filing.old) p [] []
+        ensures does { (p : Progress) (begun : List ℕ) → length begun ≡ 6 → head ≡ pdv_head_of begun → Pends (kept_of self.old) (F.store devices.entry.filing.now) p [] []
             → Does (rooms_of A C V D) (settings_in self.old) p (At (head_mark begun)) (kept_of self.new) [] begun
-            (devices (W.line wire.old) (F.store filing.old)) (devices (W.line wire.new) (F.store filing.new)) }
+            (before W.line F.store devices.entry) (after W.line F.store devices.exit) }
     {
         if self.refused {
             return;
@@ -140,12 +141,12 @@ impl<const A: usize, const C: usize, const V: usize, const D: usize> Provider<A,
         if let Phase::Established { peer, message } = &mut self.phase {
             let Some(_) = peer.context(&self.config, head.context) else {
                 let answering = Answering::Abort(INVALID_PARAMETER);
-                self.refuse(Event::Invalid, answering, wire, filing);
+                self.refuse(Event::Invalid, answering, devices);
                 return;
             };
             match message.join.head(&head) {
                 Ok(()) => {}
-                Err(_) => self.refuse(Event::UserAborts, Answering::Nothing, wire, filing),
+                Err(_) => self.refuse(Event::UserAborts, Answering::Nothing, devices),
             }
         }
     }
@@ -171,13 +172,13 @@ impl<const A: usize, const C: usize, const V: usize, const D: usize> Provider<A,
     }
 
     /// A PDV is whole.
-    pub(crate) fn on_pdv<W: Wire, F: Filing>(&mut self, wire: &mut W, filing: &mut F)
-        requires draft { IsThere (drafting_in (kept_of self.old).storing) (F.store filing.old) }
+    pub(crate) fn on_pdv<W: Wire, F: Filing>(&mut self, devices: Devices<'_, W, F>)
+        requires draft { IsThere (drafting_in (kept_of self.old).storing) (F.store devices.filing.now) }
         ensures settings { settings_in self.new ≡ settings_in self.old }
-        ensures drafts { Drafts (drafting_in (kept_of self.old).storing) (F.store filing.old) (drafting_in (kept_of self.new).storing) (F.store filing.new) }
-        ensures does { (p : Progress) (begun : List ℕ) → 6 ≤ length begun → length begun ≡ pdv_size begun → Pends (kept_of self.old) (F.store filing.old) p [] begun
+        ensures drafts { KeepsDraft (kept_of self.old) (kept_of self.new) (before W.line F.store devices.entry) (after W.line F.store devices.exit) }
+        ensures does { (p : Progress) (begun : List ℕ) → 6 ≤ length begun → length begun ≡ pdv_size begun → Pends (kept_of self.old) (F.store devices.entry.filing.now) p [] begun
             → Does (rooms_of A C V D) (settings_in self.old) p (At (Pdv (get_or begun 4 0) (get_or begun 5 0) (drop 6 begun))) (kept_of self.new) [] []
-            (devices (W.line wire.old) (F.store filing.old)) (devices (W.line wire.new) (F.store filing.new)) }
+            (before W.line F.store devices.entry) (after W.line F.store devices.exit) }
     {
         if self.refused {
             return;
@@ -191,13 +192,14 @@ impl<const A: usize, const C: usize, const V: usize, const D: usize> Provider<A,
             match message.join.end() {
                 Ok(Joined::More) => {}
                 Ok(Joined::Message) => {
+                    let Devices { wire, filing } = devices;
                     let sent = message.reply(origin, wire, filing);
                     message.join.clear();
                     message.storing.leave(filing);
                     self.settle(State::Sta6, sent, filing);
                 }
-                Ok(Joined::DataDue) => message.begin(origin, filing),
-                Err(_) => self.refuse(Event::UserAborts, Answering::Nothing, wire, filing),
+                Ok(Joined::DataDue) => message.begin(origin, devices.filing),
+                Err(_) => self.refuse(Event::UserAborts, Answering::Nothing, devices),
             }
         }
     }

@@ -4,6 +4,7 @@ ghost use Rattle.acceptor.specs.declared.state.State.TheVariants.{Sta6};
 ghost use Rattle.engine.specs.Phases.{taken_in};
 ghost use Rattle.engine.specs.StoredData.{drafting_in};
 
+use crate::devices::Devices;
 use crate::heads::INVALID_PARAMETER;
 use crate::phase::Phase;
 use crate::sending::{Answering, state_after, step};
@@ -37,7 +38,7 @@ impl<const A: usize, const C: usize, const V: usize, const D: usize> Provider<A,
     ghost use Rattle.engine.specs.Progress.{Progress, nothing, done, refusing, at_start};
     ghost use Rattle.engine.specs.Reached.{takes_pdvs};
     ghost use Rattle.engine.specs.Replies.{invalid};
-    ghost use Rattle.engine.specs.Devices.{devices};
+    ghost use Rattle.engine.specs.machine.Lent.{before, after, KeepsDraft};
     ghost use Rattle.engine.specs.machine.Answers.{answer_text, reason_of};
     ghost use Rattle.negotiate.specs.Settings.{settings_of};
     ghost use Rattle.part10.specs.Store.{Store};
@@ -176,24 +177,23 @@ impl<const A: usize, const C: usize, const V: usize, const D: usize> Provider<A,
         &mut self,
         event: Event,
         answering: Answering,
-        wire: &mut W,
-        filing: &mut F,
+        devices: Devices<'_, W, F>,
     )
-        requires draft { IsThere (drafting_in (kept_of self.old).storing) (F.store filing.old) }
+        requires draft { IsThere (drafting_in (kept_of self.old).storing) (F.store devices.filing.now) }
         requires stays { Stays (kept_of self.old).state event }
-        ensures drafts { Drafts (drafting_in (kept_of self.old).storing) (F.store filing.old) (drafting_in (kept_of self.new).storing) (F.store filing.new) }
+        ensures drafts { KeepsDraft (kept_of self.old) (kept_of self.new) (before W.line F.store devices.entry) (after W.line F.store devices.exit) }
         ensures settings { settings_in self.new ≡ settings_in self.old }
         ensures refused { self.new.refused ≡ self.old.refused }
         ensures body { (kept_of self.old).body ≡ [] → (kept_of self.new).body ≡ [] }
         ensures body_fits { (kind m : ℕ) → BodyFits (A - 12) (kept_of self.old) kind m → BodyFits (A - 12) (kept_of self.new) kind m }
         ensures fragment_fits { (m : ℕ) → FragmentFits (kept_of self.old) m → FragmentFits (kept_of self.new) m }
         ensures uncounted { (kind : ℕ) → IsUncounted (kept_of self.old) kind → IsUncounted (kept_of self.new) kind }
-        ensures tries { (p : Progress) (body begun : List ℕ) → Pends (kept_of self.old) (F.store filing.old) p body begun
+        ensures tries { (p : Progress) (body begun : List ℕ) → Pends (kept_of self.old) (F.store devices.entry.filing.now) p body begun
             → DoesDue p (done (answer_text answering.entry) (reason_of answering.entry) p event) (kept_of self.new) body begun
-            (devices (W.line wire.old) (F.store filing.old)) (devices (W.line wire.new) (F.store filing.new)) }
+            (before W.line F.store devices.entry) (after W.line F.store devices.exit) }
     {
-        let (next, sent) = step(self.phase.state(), event, answering, wire);
-        self.settle(next, sent, filing);
+        let (next, sent) = step(self.phase.state(), event, answering, devices.wire);
+        self.settle(next, sent, devices.filing);
     }
 
     /// An event happens, and the later marks of the PDU count for nothing.
@@ -201,36 +201,35 @@ impl<const A: usize, const C: usize, const V: usize, const D: usize> Provider<A,
         &mut self,
         event: Event,
         answering: Answering,
-        wire: &mut W,
-        filing: &mut F,
+        devices: Devices<'_, W, F>,
     )
-        requires draft { IsThere (drafting_in (kept_of self.old).storing) (F.store filing.old) }
+        requires draft { IsThere (drafting_in (kept_of self.old).storing) (F.store devices.filing.now) }
         requires stays { Stays (kept_of self.old).state event }
-        ensures drafts { Drafts (drafting_in (kept_of self.old).storing) (F.store filing.old) (drafting_in (kept_of self.new).storing) (F.store filing.new) }
+        ensures drafts { KeepsDraft (kept_of self.old) (kept_of self.new) (before W.line F.store devices.entry) (after W.line F.store devices.exit) }
         ensures settings { settings_in self.new ≡ settings_in self.old }
         ensures refused { self.new.refused ≡ true }
         ensures body { (kept_of self.old).body ≡ [] → (kept_of self.new).body ≡ [] }
-        ensures tries { (p : Progress) (body begun body_then begun_then : List ℕ) → Pends (kept_of self.old) (F.store filing.old) p body begun
+        ensures tries { (p : Progress) (body begun body_then begun_then : List ℕ) → Pends (kept_of self.old) (F.store devices.entry.filing.now) p body begun
             → counted_body (done (answer_text answering.entry) (reason_of answering.entry) p event).next body ≡ [] → counted_pdv (done (answer_text answering.entry) (reason_of answering.entry) p event).next begun ≡ []
             → DoesDue p (refusing (done (answer_text answering.entry) (reason_of answering.entry) p event)) (kept_of self.new) body_then begun_then
-            (devices (W.line wire.old) (F.store filing.old)) (devices (W.line wire.new) (F.store filing.new)) }
+            (before W.line F.store devices.entry) (after W.line F.store devices.exit) }
     {
-        self.happens(event, answering, wire, filing);
+        self.happens(event, answering, devices);
         self.refused = true;
     }
 
     /// The head of a PDV is bad, or bytes are left over after a PDV.
-    pub(crate) fn on_invalid<W: Wire, F: Filing>(&mut self, wire: &mut W, filing: &mut F)
-        requires draft { IsThere (drafting_in (kept_of self.old).storing) (F.store filing.old) }
+    pub(crate) fn on_invalid<W: Wire, F: Filing>(&mut self, devices: Devices<'_, W, F>)
+        requires draft { IsThere (drafting_in (kept_of self.old).storing) (F.store devices.filing.now) }
         ensures settings { settings_in self.new ≡ settings_in self.old }
-        ensures drafts { Drafts (drafting_in (kept_of self.old).storing) (F.store filing.old) (drafting_in (kept_of self.new).storing) (F.store filing.new) }
-        ensures tries { (p : Progress) → Pends (kept_of self.old) (F.store filing.old) p [] []
+        ensures drafts { KeepsDraft (kept_of self.old) (kept_of self.new) (before W.line F.store devices.entry) (after W.line F.store devices.exit) }
+        ensures tries { (p : Progress) → Pends (kept_of self.old) (F.store devices.entry.filing.now) p [] []
             → DoesDue p (if takes_pdvs p then invalid p else nothing p) (kept_of self.new) [] []
-            (devices (W.line wire.old) (F.store filing.old)) (devices (W.line wire.new) (F.store filing.new)) }
+            (before W.line F.store devices.entry) (after W.line F.store devices.exit) }
     {
         if self.takes_pdvs() {
             let answering = Answering::Abort(INVALID_PARAMETER);
-            self.refuse(Event::Invalid, answering, wire, filing);
+            self.refuse(Event::Invalid, answering, devices);
         }
     }
 }

@@ -12,6 +12,7 @@ ghost use Rattle.engine.specs.machine.Accepted.{IsPeerOf};
 ghost use Rattle.engine.specs.Progress.{at_start};
 ghost use Rattle.engine.specs.Requests.{at_request};
 
+use crate::devices::Devices;
 use crate::heads::INVALID_PARAMETER;
 use crate::phase::{Message, Peer, Phase};
 use crate::provider::Provider;
@@ -102,11 +103,11 @@ impl<const A: usize, const C: usize, const V: usize, const D: usize> Provider<A,
     ghost use Rattle.engine.specs.Progress.{Progress, nothing, is_due, is_established};
     ghost use Rattle.engine.specs.Run.{at_entry, released, rooms_of};
     ghost use Rattle.engine.specs.Timeline.{At, good};
-    ghost use Rattle.engine.specs.Devices.{devices};
+    ghost use Rattle.engine.specs.machine.Lent.{before, after, KeepsDraft};
     ghost use Rattle.engine.specs.Kept.{Pends, body_in, takes_body_in, kept_of, settings_in};
     ghost use Rattle.engine.specs.machine.Capacity.{BodyFits};
     ghost use Rattle.part10.specs.Store.{Store};
-    ghost use Rattle.engine.specs.Drafts.{IsThere, Drafts};
+    ghost use Rattle.engine.specs.Drafts.{IsThere};
     ghost use Rattle.engine.specs.StoredData.{drafting_in};
     ghost use Rattle.engine.specs.machine.DoesDue.{DoesDue};
     ghost use Rattle.engine.specs.machine.Does.{Does};
@@ -139,18 +140,18 @@ impl<const A: usize, const C: usize, const V: usize, const D: usize> Provider<A,
 
     /// An association request is whole: where one is due, it is read, judged and answered, and then
     /// given up.
-    fn on_request<W: Wire, F: Filing>(&mut self, wire: &mut W, filing: &mut F)
-        requires draft { IsThere (drafting_in (kept_of self.old).storing) (F.store filing.old) }
+    fn on_request<W: Wire, F: Filing>(&mut self, devices: Devices<'_, W, F>)
+        requires draft { IsThere (drafting_in (kept_of self.old).storing) (F.store devices.filing.now) }
         ensures settings { settings_in self.new ≡ settings_in self.old }
-        ensures drafts { Drafts (drafting_in (kept_of self.old).storing) (F.store filing.old) (drafting_in (kept_of self.new).storing) (F.store filing.new) }
-        ensures tries { (p : Progress) (body : List ℕ) → Pends (kept_of self.old) (F.store filing.old) p body [] → p.refused ≡ false
+        ensures drafts { KeepsDraft (kept_of self.old) (kept_of self.new) (before W.line F.store devices.entry) (after W.line F.store devices.exit) }
+        ensures tries { (p : Progress) (body : List ℕ) → Pends (kept_of self.old) (F.store devices.entry.filing.now) p body [] → p.refused ≡ false
             → DoesDue p (if is_due p.state then at_request (settings_in self.old) p body else nothing p) (kept_of self.new) body []
-            (devices (W.line wire.old) (F.store filing.old)) (devices (W.line wire.new) (F.store filing.new)) }
+            (before W.line F.store devices.entry) (after W.line F.store devices.exit) }
     {
         let Phase::AwaitingRequest { body } = &self.phase else {
             return;
         };
-        let (peer, next, sent) = answer_request(&self.config, body.as_slice(), wire);
+        let (peer, next, sent) = answer_request(&self.config, body.as_slice(), devices.wire);
         match peer {
             Some(peer) => {
                 let message = Message {
@@ -158,36 +159,36 @@ impl<const A: usize, const C: usize, const V: usize, const D: usize> Provider<A,
                     storing: Storing::Nothing,
                 };
                 self.phase = Phase::Established { peer, message };
-                self.settle(next, sent, filing);
+                self.settle(next, sent, devices.filing);
             }
-            None => self.settle(next, sent, filing),
+            None => self.settle(next, sent, devices.filing),
         }
     }
 
     /// A release request is whole: the local user of an established association agrees to it at once.
-    fn on_release<W: Wire, F: Filing>(&mut self, wire: &mut W, filing: &mut F)
-        requires draft { IsThere (drafting_in (kept_of self.old).storing) (F.store filing.old) }
+    fn on_release<W: Wire, F: Filing>(&mut self, devices: Devices<'_, W, F>)
+        requires draft { IsThere (drafting_in (kept_of self.old).storing) (F.store devices.filing.now) }
         ensures settings { settings_in self.new ≡ settings_in self.old }
-        ensures drafts { Drafts (drafting_in (kept_of self.old).storing) (F.store filing.old) (drafting_in (kept_of self.new).storing) (F.store filing.new) }
-        ensures tries { (p : Progress) (body begun : List ℕ) → Pends (kept_of self.old) (F.store filing.old) p body begun
+        ensures drafts { KeepsDraft (kept_of self.old) (kept_of self.new) (before W.line F.store devices.entry) (after W.line F.store devices.exit) }
+        ensures tries { (p : Progress) (body begun : List ℕ) → Pends (kept_of self.old) (F.store devices.entry.filing.now) p body begun
             → DoesDue p (if is_established p.state then released p else nothing p) (kept_of self.new) body begun
-            (devices (W.line wire.old) (F.store filing.old)) (devices (W.line wire.new) (F.store filing.new)) }
+            (before W.line F.store devices.entry) (after W.line F.store devices.exit) }
     {
         let Phase::Established { .. } = &self.phase else {
             return;
         };
         let (_, asked) = act(State::Sta6, Event::ReleaseRq);
-        let (next, sent) = step(asked, Event::UserReleases, Answering::Nothing, wire);
-        self.settle(next, sent, filing);
+        let (next, sent) = step(asked, Event::UserReleases, Answering::Nothing, devices.wire);
+        self.settle(next, sent, devices.filing);
     }
 
     /// A PDU is whole: a request, a release request and an abort act where they are due, others do not.
-    fn on_whole<W: Wire, F: Filing>(&mut self, kind: u8, wire: &mut W, filing: &mut F)
-        requires draft { IsThere (drafting_in (kept_of self.old).storing) (F.store filing.old) }
+    fn on_whole<W: Wire, F: Filing>(&mut self, kind: u8, devices: Devices<'_, W, F>)
+        requires draft { IsThere (drafting_in (kept_of self.old).storing) (F.store devices.filing.now) }
         ensures settings { settings_in self.new ≡ settings_in self.old }
-        ensures drafts { Drafts (drafting_in (kept_of self.old).storing) (F.store filing.old) (drafting_in (kept_of self.new).storing) (F.store filing.new) }
-        ensures tries { (p : Progress) (body : List ℕ) → Pends (kept_of self.old) (F.store filing.old) p (body_in kind body) []
-            → DoesDue p (at_entry (rooms_of A C V D) (settings_in self.old) p good (At (End kind body))) (kept_of self.new) (body_in kind body) [] (devices (W.line wire.old) (F.store filing.old)) (devices (W.line wire.new) (F.store filing.new)) }
+        ensures drafts { KeepsDraft (kept_of self.old) (kept_of self.new) (before W.line F.store devices.entry) (after W.line F.store devices.exit) }
+        ensures tries { (p : Progress) (body : List ℕ) → Pends (kept_of self.old) (F.store devices.entry.filing.now) p (body_in kind body) []
+            → DoesDue p (at_entry (rooms_of A C V D) (settings_in self.old) p good (At (End kind body))) (kept_of self.new) (body_in kind body) [] (before W.line F.store devices.entry) (after W.line F.store devices.exit) }
     {
         if let Phase::Ended = &self.phase {
             return;
@@ -196,22 +197,22 @@ impl<const A: usize, const C: usize, const V: usize, const D: usize> Provider<A,
             return;
         }
         match kind {
-            pdu_type::A_ABORT => self.happens(Event::Abort, Answering::Nothing, wire, filing),
-            pdu_type::A_ASSOCIATE_RQ => self.on_request(wire, filing),
-            pdu_type::A_RELEASE_RQ => self.on_release(wire, filing),
+            pdu_type::A_ABORT => self.happens(Event::Abort, Answering::Nothing, devices),
+            pdu_type::A_ASSOCIATE_RQ => self.on_request(devices),
+            pdu_type::A_RELEASE_RQ => self.on_release(devices),
             _ => {}
         }
     }
 
     /// A PDU of this type is whole; nothing is kept of its body.
-    pub(crate) fn on_end<W: Wire, F: Filing>(&mut self, kind: u8, wire: &mut W, filing: &mut F)
-        requires draft { IsThere (drafting_in (kept_of self.old).storing) (F.store filing.old) }
+    pub(crate) fn on_end<W: Wire, F: Filing>(&mut self, kind: u8, devices: Devices<'_, W, F>)
+        requires draft { IsThere (drafting_in (kept_of self.old).storing) (F.store devices.filing.now) }
         ensures settings { settings_in self.new ≡ settings_in self.old }
-        ensures drafts { Drafts (drafting_in (kept_of self.old).storing) (F.store filing.old) (drafting_in (kept_of self.new).storing) (F.store filing.new) }
-        ensures does { (p : Progress) (body : List ℕ) → Pends (kept_of self.old) (F.store filing.old) p (body_in kind body) [] → Does (rooms_of A C V D) (settings_in self.old) p (At (End kind body)) (kept_of self.new) [] []
-            (devices (W.line wire.old) (F.store filing.old)) (devices (W.line wire.new) (F.store filing.new)) }
+        ensures drafts { KeepsDraft (kept_of self.old) (kept_of self.new) (before W.line F.store devices.entry) (after W.line F.store devices.exit) }
+        ensures does { (p : Progress) (body : List ℕ) → Pends (kept_of self.old) (F.store devices.entry.filing.now) p (body_in kind body) [] → Does (rooms_of A C V D) (settings_in self.old) p (At (End kind body)) (kept_of self.new) [] []
+            (before W.line F.store devices.entry) (after W.line F.store devices.exit) }
     {
-        self.on_whole(kind, wire, filing);
+        self.on_whole(kind, devices);
         self.clear_body();
     }
 }

@@ -3,14 +3,15 @@ ghost use Rattle.std.specs.Prelude.{◌≡◌, ◌≤◌, ◌<◌, ◌+◌, ◌*
 ghost use Rattle.pdu.specs.Deframed.{position_of};
 ghost use Rattle.pdu.specs.Marks.{Mark};
 ghost use Rattle.pdu.specs.Steps.{events_due};
-ghost use Rattle.engine.specs.Devices.{devices};
+ghost use Rattle.engine.specs.machine.Lent.{before, after, KeepsDraft};
 ghost use Rattle.engine.specs.Progress.{Progress};
-ghost use Rattle.engine.specs.Drafts.{IsThere, Drafts};
+ghost use Rattle.engine.specs.Drafts.{IsThere};
 ghost use Rattle.engine.specs.StoredData.{drafting_in};
 ghost use Rattle.engine.specs.Kept.{kept_of, settings_in};
 ghost use Rattle.engine.specs.Run.{rooms_of};
 
 use super::Association;
+use crate::devices::Devices;
 use part10::Filing;
 use pdu::Wire;
 
@@ -26,47 +27,42 @@ impl<const A: usize, const C: usize, const V: usize, const D: usize> Association
     fn take_event<W: Wire, F: Filing>(
         &mut self,
         piece: &[u8],
-        wire: &mut W,
-        filing: &mut F,
+        devices: Devices<'_, W, F>,
     ) -> (usize, bool)
-        requires draft { IsThere (drafting_in (kept_of self.old.provider).storing) (F.store filing.old) }
+        requires draft { IsThere (drafting_in (kept_of self.old.provider).storing) (F.store devices.filing.now) }
         ensures within { result.0 ≤ length piece.now }
         ensures used_up { result.1 ≡ false → result.0 ≡ length piece.now }
         ensures fewer { result.1 ≡ true → events_due (position_of self.new.deframer) < events_due (position_of self.old.deframer) + 4 * result.0 }
         ensures settings { settings_in self.new.provider ≡ settings_in self.old.provider }
-        ensures drafts { Drafts (drafting_in (kept_of self.old.provider).storing) (F.store filing.old) (drafting_in (kept_of self.new.provider).storing) (F.store filing.new) }
-        ensures handles { (p : Progress) (r : List ℕ) (due : List Mark) → ShowsDue (fields_of self.old) (F.store filing.old) p r due
+        ensures drafts { KeepsDraft (kept_of self.old.provider) (kept_of self.new.provider) (before W.line F.store devices.entry) (after W.line F.store devices.exit) }
+        ensures handles { (p : Progress) (r : List ℕ) (due : List Mark) → ShowsDue (fields_of self.old) (F.store devices.entry.filing.now) p r due
             → Handles (rooms_of A C V D) (settings_in self.old.provider) (fields_of self.new) p r due (take result.0 piece.now) result.1
-            (devices (W.line wire.old) (F.store filing.old)) (devices (W.line wire.new) (F.store filing.new)) }
+            (before W.line F.store devices.entry) (after W.line F.store devices.exit) }
     {
         let (count, event) = self.deframer.next(piece);
         let Some(event) = event else {
             return (count, false);
         };
         let kind = self.deframer.kind();
-        self.provider.on_event(event, kind, wire, filing);
+        self.provider.on_event(event, kind, devices);
         self.provider.skip_uncounted(&mut self.deframer);
         (count, true)
     }
 
     /// Takes all bytes of a piece.
-    pub(super) fn take_all<W: Wire, F: Filing>(
-        &mut self,
-        piece: &[u8],
-        wire: &mut W,
-        filing: &mut F,
-    )
-        requires draft { IsThere (drafting_in (kept_of self.old.provider).storing) (F.store filing.old) }
+    pub(super) fn take_all<W: Wire, F: Filing>(&mut self, piece: &[u8], devices: Devices<'_, W, F>)
+        requires draft { IsThere (drafting_in (kept_of self.old.provider).storing) (F.store devices.filing.now) }
         ensures settings { settings_in self.new.provider ≡ settings_in self.old.provider }
-        ensures drafts { Drafts (drafting_in (kept_of self.old.provider).storing) (F.store filing.old) (drafting_in (kept_of self.new.provider).storing) (F.store filing.new) }
-        ensures took { (p : Progress) (r : List ℕ) → IsRest r → is_ended p.state ≡ false → ShowsFrame (fields_of self.old) (F.store filing.old) p r
+        ensures drafts { KeepsDraft (kept_of self.old.provider) (kept_of self.new.provider) (before W.line F.store devices.entry) (after W.line F.store devices.exit) }
+        ensures took { (p : Progress) (r : List ℕ) → IsRest r → is_ended p.state ≡ false → ShowsFrame (fields_of self.old) (F.store devices.entry.filing.now) p r
             → DoesPart (rooms_of A C V D) (settings_in self.old.provider) (fields_of self.new) p r piece.now
-            (devices (W.line wire.old) (F.store filing.old)) (devices (W.line wire.new) (F.store filing.new)) }
+            (before W.line F.store devices.entry) (after W.line F.store devices.exit) }
     {
+        let Devices { wire, filing } = devices;
         let mut at = 0;
         let mut more = true;
         while more {
-            let (count, found) = self.take_event(&piece[at..], wire, filing);
+            let (count, found) = self.take_event(&piece[at..], Devices { wire, filing });
             at += count;
             more = found;
         }

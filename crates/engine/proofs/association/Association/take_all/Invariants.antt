@@ -19,10 +19,10 @@ invariant-loop-more g l = record {
   within : l.at ≤ length l.piece;
   used_up : l.more ≡ false → l.at ≡ length l.piece;
   settings : settings_in l.self.provider ≡ settings_in l.fn.self.provider;
-  drafts : Drafts (drafting_in (kept_of l.fn.self.provider).storing) (g.F.Filing.store l.fn.filing) (drafting_in (kept_of l.self.provider).storing) (g.F.Filing.store l.filing);
-  took : (p : Progress) (r : List ℕ) → IsRest r → is_ended p.state ≡ false → ShowsFrame (fields_of l.fn.self) (g.F.Filing.store l.fn.filing) p r
+  drafts : Drafts (drafting_in (kept_of l.fn.self.provider).storing) (g.F.Filing.store l.fn.devices.filing.now) (drafting_in (kept_of l.self.provider).storing) (g.F.Filing.store l.filing);
+  took : (p : Progress) (r : List ℕ) → IsRest r → is_ended p.state ≡ false → ShowsFrame (fields_of l.fn.self) (g.F.Filing.store l.fn.devices.filing.now) p r
       → Handles (rooms_of g.row.A g.row.C g.row.V g.row.D) (settings_in l.fn.self.provider) (fields_of l.self) p r [] (take l.at l.piece) l.more
-      (devices (g.W.Wire.line l.fn.wire) (g.F.Filing.store l.fn.filing)) (devices (g.W.Wire.line l.wire) (g.F.Filing.store l.filing));
+      (devices (g.W.Wire.line l.fn.devices.wire.now) (g.F.Filing.store l.fn.devices.filing.now)) (devices (g.W.Wire.line l.wire) (g.F.Filing.store l.filing));
 }
 
 abbrev pub decreases-loop-more : goal.decreases-loop-more

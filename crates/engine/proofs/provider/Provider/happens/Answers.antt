@@ -18,8 +18,8 @@ returns-clause-tries g c = λ p body begun h.
     let r = c.step-next.result.1 in
     happened p e (reason_of c.args.answering) (answer_text c.args.answering) r (kept_of c.args.self.now) (kept_of c.settle.new.self) body begun _ _ _ _ h
     (subst (λ (st : State). Stays st e) h.state_is c.requires.stays)
-    (subst (λ (st : State). ComesTo st r (kept_of c.args.self.now) (kept_of c.settle.new.self) (g.F.Filing.store c.args.filing.now) (g.F.Filing.store c.settle.new.filing)) (c.step-next.ensures.state ∙ ap (λ (st : State). (table st e).1) is) c.settle.ensures.settles)
-    (subst (λ (st : State). Sends (text st) r (g.W.Wire.line c.args.wire.now) (g.W.Wire.line c.step-next.new.wire)) is c.step-next.ensures.sends)
+    (subst (λ (st : State). ComesTo st r (kept_of c.args.self.now) (kept_of c.settle.new.self) (g.F.Filing.store c.args.devices.filing.now) (g.F.Filing.store c.settle.new.filing)) (c.step-next.ensures.state ∙ ap (λ (st : State). (table st e).1) is) c.settle.ensures.settles)
+    (subst (λ (st : State). Sends (text st) r (g.W.Wire.line c.args.devices.wire.now) (g.W.Wire.line c.step-next.new.wire)) is c.step-next.ensures.sends)
     (subst (λ (st : State). OnErr r (0 < length (text st))) is c.step-next.ensures.due)
 
 pub returns-clause-body : goal.returns-clause-body

@@ -34,7 +34,7 @@ returns-in-Nothing g c =
       body = ap (λ (k : Kept). k.body) kept;
       fits = λ due taken one. let few = c.head_event-event.ensures.fits c.in-Nothing.is (c.state-state.ensures ∙ sym (ap (λ (k : Kept). k.state) kept) ∙ due) one in omega (arith, few, ap (λ (k : Kept). length k.body) kept);
       settings = c.clear_body.ensures.settings;
-      drafts = subst (λ (k : Kept). Drafts (drafting_in (kept_of c.args.self.now).storing) (g.F.Filing.store c.args.filing.now) (drafting_in k.storing) (g.F.Filing.store c.args.filing.now)) (sym kept) (same_drafts _ _ c.requires.draft);
+      drafts = subst (λ (k : Kept). Drafts (drafting_in (kept_of c.args.self.now).storing) (g.F.Filing.store c.args.devices.filing.now) (drafting_in k.storing) (g.F.Filing.store c.args.devices.filing.now)) (sym kept) (same_drafts _ _ c.requires.draft);
       does = λ p h.
           let rooms = rooms_of g.row.A g.row.C g.row.V g.row.D in
           let s = settings_in c.args.self.now in
@@ -53,7 +53,7 @@ returns-in-AtOnce g c =
       body = c.refuse.ensures.body (ap (λ (k : Kept). k.body) kept);
       fits = λ due taken one. is_refused _ c.refuse.ensures.refused taken;
       settings = c.refuse.ensures.settings ∙ c.clear_body.ensures.settings;
-      drafts = subst (λ (k : Kept). Drafts (drafting_in k.storing) (g.F.Filing.store c.args.filing.now) (drafting_in (kept_of c.refuse.new.self).storing) (g.F.Filing.store c.refuse.new.filing)) kept c.refuse.ensures.drafts;
+      drafts = subst (λ (k : Kept). Drafts (drafting_in k.storing) (g.F.Filing.store c.args.devices.filing.now) (drafting_in (kept_of c.refuse.new.self).storing) (g.F.Filing.store c.refuse.new.devices.1.0)) kept c.refuse.ensures.drafts;
       does = λ p h.
           let rooms = rooms_of g.row.A g.row.C g.row.V g.row.D in
           let s = settings_in c.args.self.now in
@@ -74,7 +74,7 @@ returns-in-TooLong g c =
       body = c.refuse-in-TooLong.ensures.body (ap (λ (k : Kept). k.body) kept);
       fits = λ due taken one. is_refused _ c.refuse-in-TooLong.ensures.refused taken;
       settings = c.refuse-in-TooLong.ensures.settings ∙ c.clear_body.ensures.settings;
-      drafts = subst (λ (k : Kept). Drafts (drafting_in k.storing) (g.F.Filing.store c.args.filing.now) (drafting_in (kept_of c.refuse-in-TooLong.new.self).storing) (g.F.Filing.store c.refuse-in-TooLong.new.filing)) kept c.refuse-in-TooLong.ensures.drafts;
+      drafts = subst (λ (k : Kept). Drafts (drafting_in k.storing) (g.F.Filing.store c.args.devices.filing.now) (drafting_in (kept_of c.refuse-in-TooLong.new.self).storing) (g.F.Filing.store c.refuse-in-TooLong.new.devices.1.0)) kept c.refuse-in-TooLong.ensures.drafts;
       does = λ p h.
           let rooms = rooms_of g.row.A g.row.C g.row.V g.row.D in
           let s = settings_in c.args.self.now in
@@ -92,7 +92,7 @@ refuse-requires g c =
     let kept = c.clear_body.ensures.kept in (
       provider_small c.args.self.now,
       (
-        subst (λ (k : Kept). IsThere (drafting_in k.storing) (g.F.Filing.store c.args.filing.now)) (sym kept) c.requires.draft,
+        subst (λ (k : Kept). IsThere (drafting_in k.storing) (g.F.Filing.store c.args.devices.filing.now)) (sym kept) c.requires.draft,
         subst (λ (st : State). Stays st c.in-AtOnce.event) (c.state-state.ensures ∙ sym (ap (λ (k : Kept). k.state) kept)) (c.head_event-event.ensures.stays c.in-AtOnce.event c.in-AtOnce.reason c.in-AtOnce.is),
       ),
     )

@@ -52,7 +52,7 @@ returns-in-Ok-More-clause-does g c = rw c.in-Established.is (λ p begun six whol
     let rooms = rooms_of g.row.A g.row.C g.row.V g.row.D in
     let s = settings_in c.args.self.now in
     let k = kept_by c.args.self.now c.in-Established.peer c.in-Established.message in
-    let so = g.F.Filing.store c.args.filing.now in
+    let so = g.F.Filing.store c.args.devices.filing.now in
     let taken = sym (takes_shown k so p [] begun h) ∙ ap not c.if-self.false in
     let was : ShowsMessage g.row.C k.join p.message begun = subst (λ (xs : List ℕ). ShowsMessage g.row.C k.join p.message xs) (counted_taken p begun taken) h.join_is in
     let j = c.end.new.self in
@@ -70,7 +70,7 @@ returns-in-Ok-Message-clause-does g c = rw c.in-Established.is (λ p begun six w
     let rooms = rooms_of g.row.A g.row.C g.row.V g.row.D in
     let s = settings_in c.args.self.now in
     let k = kept_by c.args.self.now c.in-Established.peer c.in-Established.message in
-    let so = g.F.Filing.store c.args.filing.now in
+    let so = g.F.Filing.store c.args.devices.filing.now in
     let taken = sym (takes_shown k so p [] begun h) ∙ ap not c.if-self.false in
     let was : ShowsMessage g.row.C k.join p.message begun = subst (λ (xs : List ℕ). ShowsMessage g.row.C k.join p.message xs) (counted_taken p begun taken) h.join_is in
     let j = c.end.new.self in
@@ -103,7 +103,7 @@ returns-in-Ok-DataDue-clause-does g c = rw c.in-Established.is (λ p begun six w
     let rooms = rooms_of g.row.A g.row.C g.row.V g.row.D in
     let s = settings_in c.args.self.now in
     let k = kept_by c.args.self.now c.in-Established.peer c.in-Established.message in
-    let so = g.F.Filing.store c.args.filing.now in
+    let so = g.F.Filing.store c.args.devices.filing.now in
     let taken = sym (takes_shown k so p [] begun h) ∙ ap not c.if-self.false in
     let was : ShowsMessage g.row.C k.join p.message begun = subst (λ (xs : List ℕ). ShowsMessage g.row.C k.join p.message xs) (counted_taken p begun taken) h.join_is in
     let j = c.end.new.self in
@@ -120,7 +120,7 @@ returns-in-Ok-DataDue-clause-does g c = rw c.in-Established.is (λ p begun six w
     let same : InSet c.context.result j.command [] ≡ later = ap (λ (n : ℕ). InSet n j.command []) (pdv_context g.row.C k.join p.message begun c.context.result six was c.context.ensures) ∙ ap (λ (xs : List ℕ). InSet (get_or begun 4 0) xs []) command ∙ sym due.later_is in
     let agreed = (aside_joined k p j (aside_of k so p begun h)).agreed (taken_state p taken) in
     let proceeds = c.begin.ensures.proceeds p.request agreed none (λ x e. due.announced x (ap command_in (sym command) ∙ e)) in
-    subst (λ (x : Joining). Does rooms s p (At (entry_of begun)) (with_storing z (with_join x k)) [] [] (devices (g.W.Wire.line c.args.wire.now) so) (devices (g.W.Wire.line c.args.wire.now) (g.F.Filing.store c.begin.new.filing)))
+    subst (λ (x : Joining). Does rooms s p (At (entry_of begun)) (with_storing z (with_join x k)) [] [] (devices (g.W.Wire.line c.args.devices.wire.now) so) (devices (g.W.Wire.line c.args.devices.wire.now) (g.F.Filing.store c.begin.new.filing)))
     (sym c.begin.ensures.join)
     (does_due rooms s p begun g.row.C k j z _ so _ later h taken got.1 got.2 due
     (subst (λ (x : Begun). Proceeds g.row.D c.args.self.now.config.max_data p.request x false z so (g.F.Filing.store c.begin.new.filing)) same proceeds)))
@@ -130,7 +130,7 @@ returns-in-Err-clause-does g c = rw c.in-Established.is (λ p begun six whole h.
     let rooms = rooms_of g.row.A g.row.C g.row.V g.row.D in
     let s = settings_in c.args.self.now in
     let k = kept_by c.args.self.now c.in-Established.peer c.in-Established.message in
-    let so = g.F.Filing.store c.args.filing.now in
+    let so = g.F.Filing.store c.args.devices.filing.now in
     let taken = sym (takes_shown k so p [] begun h) ∙ ap not c.if-self.false in
     let was : ShowsMessage g.row.C k.join p.message begun = subst (λ (xs : List ℕ). ShowsMessage g.row.C k.join p.message xs) (counted_taken p begun taken) h.join_is in
     let j = c.end.new.self in

@@ -72,7 +72,7 @@ returns-in-Err-clause-does g c = rw c.in-Established.is (λ p begun six head h.
     let wrong : head_refusal g.row.C p.message (pdv_head_of begun) ≡ Some c.in-Err.field-0 =
     ap (head_refusal g.row.C p.message) (sym head) ∙ judged_some (head_refusal g.row.C p.message c.args.head) c.in-Err.field-0 (sym (c.head.ensures.judged p.message message) ∙ c.in-Err.is) in
     let same = c.in-Err.ensures.refused in
-    let pends : Pends (with_join c.head.new.self k) (g.F.Filing.store c.args.filing.now) p [] [] = subst (λ (j : Joining). Pends (with_join j k) (g.F.Filing.store c.args.filing.now) p [] []) (sym same) h in
+    let pends : Pends (with_join c.head.new.self k) (g.F.Filing.store c.args.devices.filing.now) p [] [] = subst (λ (j : Joining). Pends (with_join j k) (g.F.Filing.store c.args.devices.filing.now) p [] []) (sym same) h in
     does_by rooms s p (At (head_mark begun)) (user_aborts p) (kept_of c.refuse-in-Err.new.self) [] begun _ _
     (head_taken rooms s p _ _ _ taken ∙ head_accepted g.row.C p _ (get_or begun 4 0) _ c.in-Some.field-0 (Some c.in-Err.field-0) some wrong) refl tt
     (c.refuse-in-Err.ensures.tries p [] [] [] begun pends (none_counted_body (done [] 0 p event.UserAborts).next) (none_counted_pdv (done [] 0 p event.UserAborts).next)))

@@ -34,7 +34,7 @@ returns-in-Some g c =
     let nothing = sym (awaiting_stored c.args.self.now.phase due) in
     record {
       settings = c.settle.ensures.settings;
-      drafts = subst (λ (z : Stored). Drafts (drafting_in z) (g.F.Filing.store c.args.filing.now) (drafting_in (kept_of c.settle.new.self).storing) (g.F.Filing.store c.settle.new.filing)) nothing c.settle.ensures.drafts;
+      drafts = subst (λ (z : Stored). Drafts (drafting_in z) (g.F.Filing.store c.args.devices.filing.now) (drafting_in (kept_of c.settle.new.self).storing) (g.F.Filing.store c.settle.new.filing)) nothing c.settle.ensures.drafts;
       tries = λ p body h unrefused.
           let s = settings_in c.args.self.now in
           let given = kept_by c.args.self.now c.in-Some.peer (record { join = c.new.result; storing = Nothing }) in
@@ -47,7 +47,7 @@ returns-in-Some g c =
             storing = refl;
             agreed = subst (λ (b : List ℕ). IsPeerOf c.in-Some.peer s.further (request_record (asked s.further b))) bytes accepted.1;
           })
-          (subst (λ (b : List ℕ). Sends (at_request s at_start b).sent a.result.2 (g.W.Wire.line c.args.wire.now) (g.W.Wire.line a.new.wire)) bytes a.ensures.sends)
+          (subst (λ (b : List ℕ). Sends (at_request s at_start b).sent a.result.2 (g.W.Wire.line c.args.devices.wire.now) (g.W.Wire.line a.new.wire)) bytes a.ensures.sends)
           (subst (λ (b : List ℕ). OnErr a.result.2 (0 < length (at_request s at_start b).sent)) bytes a.ensures.due));
     }
 
@@ -66,7 +66,7 @@ returns-in-None g c =
           tries_where (is_due p.state) p (at_request s p body) _ body [] _ _ (ap is_due (sym h.state_is ∙ due)) (request_tries s p body a.result.1 a.result.2 old old (kept_of c.settle-in-None.new.self) _ _ _ _ h due unrefused refl
           (a.ensures.state ∙ ap (λ (b : List ℕ). (at_request s at_start b).next.state) bytes) c.settle-in-None.ensures.settles
           (λ six. let wrong : is_left Sta6 ≡ true = sym (ap is_left six) ∙ gone in absurd cc)
-          (subst (λ (b : List ℕ). Sends (at_request s at_start b).sent a.result.2 (g.W.Wire.line c.args.wire.now) (g.W.Wire.line a.new.wire)) bytes a.ensures.sends)
+          (subst (λ (b : List ℕ). Sends (at_request s at_start b).sent a.result.2 (g.W.Wire.line c.args.devices.wire.now) (g.W.Wire.line a.new.wire)) bytes a.ensures.sends)
           (subst (λ (b : List ℕ). OnErr a.result.2 (0 < length (at_request s at_start b).sent)) bytes a.ensures.due));
     }
 
