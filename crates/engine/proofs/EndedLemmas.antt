@@ -87,7 +87,7 @@ replied_absorbed p b f m (Err x) = refl
 -- ---- a command that does not read, and an echo
 
 module _ (rooms : Rooms) (s : Settings) (p : Progress) (m : Message) (come : Begun) (store : Store) where
-  pub unread_ended : (l : Line) (f : DimseFault) → command_in m.command ≡ Err f → Ended rooms s p m come (Ok tt) l l store store
+  pub unread_ended : (l : Line) (f : DimseFault) → command_in m.command ≡ Err f → Ended rooms s p m come (Ok tt) (devices l store) (devices l store)
   unread_ended l f e = record {
     finding = good;
     failed = false;
@@ -105,7 +105,7 @@ module _ (rooms : Rooms) (s : Settings) (p : Progress) (m : Message) (come : Beg
 
   pub echo_ended : (r : Result (Unit {0}) WireFailed) (lo ln : Line) (c : CommandRecord) (status id maximum : ℕ) (accepted : Option Context) → command_in m.command ≡ Ok c → c.field ≡ 0x0030
       → status ≡ echo_status accepted c → accepted ≡ context_of (request_record p.request) m.context → id ≡ m.context → maximum ≡ (request_record p.request).maximum
-      → Sends (reply_bytes c status None id maximum) r lo ln → Ended rooms s p m come r lo ln store store
+      → Sends (reply_bytes c status None id maximum) r lo ln → Ended rooms s p m come r (devices lo store) (devices ln store)
   echo_ended r lo ln c status id maximum accepted e field st a i x sends =
       let is : finding_on accepted c good ≡ record { status = echo_status accepted c; detail = None } = ap (λ (n : ℕ). if nat_eq n 0x0030 then record { status = echo_status accepted c; detail = None } else good) field in
       let text : reply_bytes c status None id maximum ≡ (replied p good m (command_in m.command)).sent =
@@ -240,7 +240,7 @@ module _ (depth most : ℕ) (request : Requested) (m : Message) (come : Begun) (
 -- the store is answered
 pub store_ended : (rooms : Rooms) (s : Settings) (p : Progress) (m : Message) (come : Begun) (c : CommandRecord) (f : Finding) (old new : Store) (r : Result (Unit {0}) WireFailed) (lo ln : Line) (id maximum : ℕ)
     → command_in m.command ≡ Ok c → c.field ≡ 0x0001 → id ≡ m.context → maximum ≡ (request_record p.request).maximum → StoreEnds rooms.depth s.max_data p.request m come c p.filing_failed f old new
-    → Sends (reply_bytes c f.status f.detail id maximum) r lo ln → Ended rooms s p m come r lo ln old new
+    → Sends (reply_bytes c f.status f.detail id maximum) r lo ln → Ended rooms s p m come r (devices lo old) (devices ln new)
 store_ended rooms s p m come c f old new r lo ln id maximum e field i x ends sends =
     let accepted = context_of (request_record p.request) m.context in
     let is : finding_on accepted c f ≡ f = ap (λ (n : ℕ). if nat_eq n 0x0030 then record { status = echo_status accepted c; detail = None } else f) field in
@@ -311,7 +311,7 @@ ended_pends p old j z store h six quiet none =
     }
 
 pub concludes : (rooms : Rooms) (s : Settings) (p : Progress) (m : Message) (come : Begun) (r : Result (Unit {0}) WireFailed) (old new : Kept) (j : Joining) (z : Stored) (lo ln : Line) (so sm sl sn : Store)
-    → Aside old p → old.state ≡ Sta6 → ShowsMessage old.room j NoMessage [] → z ≡ Nothing → Ended rooms s p m come r lo ln so sm → Unfiled sm sl
+    → Aside old p → old.state ≡ Sta6 → ShowsMessage old.room j NoMessage [] → z ≡ Nothing → Ended rooms s p m come r (devices lo so) (devices ln sm) → Unfiled sm sl
     → ComesTo Sta6 r (record old { join = j; storing = z }) new sl sn → Concludes rooms s p m come new (devices lo so) (devices ln sn)
 concludes rooms s p m come (Ok u) old new j z lo ln so sm sl sn h six quiet none e left settles = record {
   finding = e.finding;

@@ -208,7 +208,7 @@ impl<const A: usize, const C: usize, const V: usize, const D: usize> Association
     fn happens<W: Wire, F: Filing>(&mut self, event: Event, devices: Devices<'_, W, F>)
         requires draft { IsThere (drafting_of self.old) (F.store devices.filing.now) }
         requires stays { Stays (state_of self.old) event }
-        ensures draft { IsThere (drafting_of self.new) (F.store devices.exit.1.0.now) }
+        ensures draft { IsThere (drafting_of self.new) (after W.line F.store devices.exit).store }
         ensures settings { settings_in self.new ≡ settings_in self.old }
         ensures moved { (input : Received) (entry : Entry) → Outside event input entry → (inputs : List Received) (story : List Happened) (failed : Bool)
             → Stands (rooms_of A C V D) (settings_in self.old) inputs story failed (fields_of self.old) (F.store devices.entry.filing.now)

@@ -39,6 +39,7 @@ impl<const C: usize, const V: usize, const D: usize> Message<C, V, D> {
     ghost use Rattle.engine.specs.Requested.{Requested, request_record};
     ghost use Rattle.engine.specs.Run.{rooms_of};
     ghost use Rattle.engine.specs.machine.Accepted.{IsPeerOf};
+    ghost use Rattle.engine.specs.machine.Lent.{before, after};
     ghost use Rattle.engine.specs.machine.Messages.{HasCome, Proceeds, Ended};
 
     /// A command that announces a data set is whole: where its class is that of its context, the data
@@ -75,16 +76,15 @@ impl<const C: usize, const V: usize, const D: usize> Message<C, V, D> {
     fn reply<W: Wire, F: Filing>(
         &mut self,
         origin: Origin,
-        wire: &mut W,
-        filing: &mut F,
+        devices: Devices<'_, W, F>,
     ) -> Result<(), WireFailed>
-        requires draft { IsThere (drafting_in (stored_of self.old.storing)) (F.store filing.old) }
+        requires draft { IsThere (drafting_in (stored_of self.old.storing)) (F.store devices.filing.now) }
         ensures join { self.new.join ≡ self.old.join }
-        ensures drafts { Drafts (drafting_in (stored_of self.old.storing)) (F.store filing.old) (drafting_in (stored_of self.new.storing)) (F.store filing.new) }
+        ensures drafts { Drafts (drafting_in (stored_of self.old.storing)) (F.store devices.entry.filing.now) (drafting_in (stored_of self.new.storing)) (after W.line F.store devices.exit).store }
         ensures ended { (A : ℕ) (p : Progress) (m : messages.Message) (come : messages.Begun) → IsPeerOf origin.entry.peer.now (settings_of origin.entry.config.now).further (request_record p.request) → HasCome m come
             → self.old.join.command ≡ m.command → origin.entry.context ≡ m.context → Walks D origin.entry.config.now.max_data p.request come (stored_of self.old.storing)
-            → IsDraft p.request come p.filing_failed (F.store filing.old) (drafting_in (stored_of self.old.storing))
-            → Ended (rooms_of A C V D) (settings_of origin.entry.config.now) p m come result (W.line wire.old) (W.line wire.new) (F.store filing.old) (F.store filing.new) }
+            → IsDraft p.request come p.filing_failed (F.store devices.entry.filing.now) (drafting_in (stored_of self.old.storing))
+            → Ended (rooms_of A C V D) (settings_of origin.entry.config.now) p m come result (before W.line F.store devices.entry) (after W.line F.store devices.exit) }
     {
         let Ok(command) = read_command(self.join.command()) else {
             return Ok(());
@@ -94,16 +94,16 @@ impl<const C: usize, const V: usize, const D: usize> Message<C, V, D> {
         if command.field() == Command::C_ECHO {
             let accepted = origin.peer.context(origin.config, context);
             let status = echo_status(accepted, &command);
-            return write_response(&command, status, None, context, max_length, wire);
+            return write_response(&command, status, None, context, max_length, devices.wire);
         }
-        let ended = self.storing.end(&command, filing);
+        let ended = self.storing.end(&command, devices.filing);
         write_response(
             &command,
             ended.status,
             ended.detail,
             context,
             max_length,
-            wire,
+            devices.wire,
         )
     }
 }
@@ -193,7 +193,7 @@ impl<const A: usize, const C: usize, const V: usize, const D: usize> Provider<A,
                 Ok(Joined::More) => {}
                 Ok(Joined::Message) => {
                     let Devices { wire, filing } = devices;
-                    let sent = message.reply(origin, wire, filing);
+                    let sent = message.reply(origin, Devices { wire, filing });
                     message.join.clear();
                     message.storing.leave(filing);
                     self.settle(State::Sta6, sent, filing);

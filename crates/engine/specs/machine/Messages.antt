@@ -3,7 +3,7 @@ use Rattle.std.specs.Prelude.{◌≡◌, ◌⊎◌, ℕ, ◌+◌, ◌<◌, Bool,
 use Rattle.acceptor.specs.declared.state.State.TheVariants.{Sta6}
 use Rattle.pdu.specs.declared.wire.WireFailed.{WireFailed}
 use Rattle.engine.specs.Requested.{Requested, request_record}
-use Rattle.pdu.specs.Sent.{Line, Sends}
+use Rattle.pdu.specs.Sent.{Sends}
 use Rattle.negotiate.specs.Settings.{Settings}
 use Rattle.dimse.specs.Command.{CommandRecord}
 use Rattle.dimse.specs.Reading.{command_in}
@@ -55,15 +55,15 @@ HasCome m come = (come ≡ InSet m.context m.command m.set) ⊎ ((come ≡ InCom
 
 -- A whole message was answered, or the wire failed: there is a finding on it such that this was sent and these files were
 -- put.
-pub record Ended (rooms : Rooms) (s : Settings) (p : Progress) (m : Message) (come : Begun) (result : Result (Unit {0}) WireFailed) (line_old line_new : Line) (old new : Store) : Type 0 where
+pub record Ended (rooms : Rooms) (s : Settings) (p : Progress) (m : Message) (come : Begun) (result : Result (Unit {0}) WireFailed) (devices_old devices_new : Devices) : Type 0 where
   pub finding : Finding
   pub failed : Bool
   pub may : failed ≡ true → (p.filing_failed ≡ false) × InStore p.request come
   pub verdict : IsVerdict rooms s (absorb failed p) finding (Some m)
-  pub sends : Sends (replied p finding m (command_in m.command)).sent result line_old line_new
+  pub sends : Sends (replied p finding m (command_in m.command)).sent result devices_old.line devices_new.line
   pub due : OnErr result (0 < length (replied p finding m (command_in m.command)).sent)
-  pub files : files_in new ≡ with_files (replied p finding m (command_in m.command)).files (files_in old)
-  pub count : new.failures ≡ old.failures + counted failed
+  pub files : files_in devices_new.store ≡ with_files (replied p finding m (command_in m.command)).files (files_in devices_old.store)
+  pub count : devices_new.store.failures ≡ devices_old.store.failures + counted failed
 
 -- and the fields show what comes after it
 pub record Concludes (rooms : Rooms) (s : Settings) (p : Progress) (m : Message) (come : Begun) (new : Kept) (devices_old devices_new : Devices) : Type 0 where
