@@ -1,12 +1,12 @@
 -- The file that is built and written has the size and the text of the definitions.
-use Rattle.std.proofs.Common.{◌≡◌, ℕ, ◌+◌, [], ◌++◌, length, codes, refl, arith, ◌^◌, ◌<◌, ◌≤◌, true, false, List, Some, sym, ap, ap₂, ◌∙◌, append_assoc, suc, ◌-◌, Bool, take, get_or, Option, take-add, ltb-true, nat_lt}
+use Rattle.std.proofs.Common.{◌≡◌, ℕ, ◌+◌, [], ◌++◌, length, codes, refl, arith, ◌^◌, ◌<◌, ◌≤◌, true, false, List, sym, ap, ap₂, ◌∙◌, suc, ◌-◌, Bool, take, get_or, Option, take-add, ltb-true, nat_lt}
 use Rattle.std.proofs.lemmas.List.{length-append, append-nil, take_all, take_at, drop_at, take-append-le}
 use Rattle.element.specs.Numbers.{le}
 use Rattle.element.specs.Vr.{is_short}
 use Rattle.element.specs.Header.{header_bytes}
 use Rattle.sequence.specs.Tree.{Elements, no_elements, value, sequence, Items, no_items}
 use Rattle.dicomdir.specs.TreeOf.{Forest, no_nodes, node, count_of, TreeOf, forest_for}
-use Rattle.dicomdir.specs.Record.{tag, field, spelled, spelled_items, with_offsets, root_elements, element_text}
+use Rattle.dicomdir.specs.Record.{tag, field, spelled, spelled_items, with_offsets, root_elements}
 use Rattle.dicomdir.specs.Places.{record_size, root_size, forest_size, with_places, flattened, first_record_place, record_items, directory_elements, last_record_place, elements_with_places, directory_of}
 use Rattle.dicomdir.specs.Examples.{SizesAreTrue}
 use Rattle.std.proofs.lemmas.Grind.{common_steps}
@@ -108,19 +108,9 @@ pub lays_tree : {A : Type 0} (rows kept : List Row) (e0 e1 : List (LaidRecord A)
     → Lays (forest_for Patient kept) e0 e1 s0 s1 first last → Lays (TreeOf rows) [] e1 0 s1 first last
 lays_tree rows kept e0 e1 s0 s1 first last e none zero_is lays = rw (← same_tree kept rows e, ← none, ← zero_is) lays
 
-joined : (a b c d e : List ℕ) → ((((([] ++ a) ++ b) ++ c) ++ d) ++ e) ≡ a ++ (b ++ (c ++ (d ++ e)))
-joined a b c d e = simp append_assoc
-
-pub root_laid : (first last size : ℕ)
-    → (((([] ++ element_text (tag 0x0004 0x1130) (codes "CS") []) ++ element_text (tag 0x0004 0x1200) (codes "UL") (le first 4)) ++ element_text (tag 0x0004 0x1202) (codes "UL") (le last 4))
-    ++ element_text (tag 0x0004 0x1212) (codes "US") (le 0 2)) ++ header_bytes (record { tag = tag 0x0004 0x1220; vr = Some (codes "SQ"); length = size })
-    ≡ root_text first last size
-unfolding root_text
-root_laid first last size = grind (arith, common_steps, joined (element_text (tag 0x0004 0x1130) (codes "CS") []) (element_text (tag 0x0004 0x1200) (codes "UL") (le first 4)) (element_text (tag 0x0004 0x1202) (codes "UL") (le last 4)) (element_text (tag 0x0004 0x1212) (codes "US") (le 0 2)) (header_bytes (record { tag = tag 0x0004 0x1220; vr = Some (codes "SQ"); length = size })))
-
 -- the root's elements, and the text of the items
 root_elements_are : (first last : ℕ) (is : Items) → spelled (root_elements first last is) ≡ root_text first last (length (spelled_items is)) ++ spelled_items is
-unfolding root_text element_text is_short
+unfolding root_text is_short
 root_elements_are first last is = rw (append-nil (spelled_items is)) refl
 
 items_are : (f : Forest Record) (others : Items) → spelled_items (record_items f others) ≡ forest_text f ++ spelled_items others

@@ -1,5 +1,5 @@
 -- Elements that are laid down in Explicit, with defined lengths, spell themselves.
-use Rattle.std.proofs.Common.{◌≡◌, ◌≢◌, ℕ, ◌%◌, ◌^◌, ◌<◌, Bool, true, false, not, ◌&&◌, List, length, get_or, Option, Some, None, sym, arith, eqb-true, ltb-true, false-eqb, nat_eq, nat_lt, ◌+◌, ◌≤◌, refl, codes}
+use Rattle.std.proofs.Common.{◌≡◌, ◌≢◌, ℕ, ◌%◌, Bool, true, false, not, ◌&&◌, List, length, get_or, Option, Some, None, sym, arith, eqb-true, ltb-true, false-eqb, nat_eq, nat_lt, ◌+◌, ◌≤◌, refl, codes}
 use Rattle.std.proofs.lemmas.Bool.{and_parts}
 use Rattle.element.specs.declared.header.Header.{Header}
 use Rattle.element.specs.Vr.{is_capital, IsVrOrNone, is_short_vr}
@@ -19,8 +19,6 @@ use Rattle.element.specs.declared.tag.Tag.{Tag}
 use Rattle.element.specs.Padding.{padded}
 use Rattle.element.specs.Numbers.{le}
 use Rattle.dicomdir.specs.Directory.{header_size, size_of}
-use Rattle.dicomdir.specs.Row.{key}
-use Rattle.dicomdir.proofs.RecordLemmas.{key_length}
 use Rattle.std.proofs.lemmas.Grind.{common_steps}
 
 abbrev pub is_vr_or_none : Option (List ℕ) → Bool
@@ -84,21 +82,7 @@ record IsLaidHeader (h : Header) : Type 0 where
   pub even : h.length % 2 ≡ 0
 
 laid_header : (h : Header) → is_header h ≡ true → IsLaidHeader h
-laid_header h e =
-    let parts = and_parts _ _ e in
-    let front = and_parts _ _ parts.0 in
-    let back = and_parts _ _ parts.1 in
-    let tag = and_parts _ _ front.0 in
-    let vr = and_parts _ _ front.1 in
-    let short : h.length < undefined_length = ltb-true _ _ back.0 in
-    let small : h.length < 2 ^ 32 = omega (arith, short) in
-    let group : h.tag.0 < 2 ^ 16 = ltb-true _ _ tag.0 in
-    let element : h.tag.1 < 2 ^ 16 = ltb-true _ _ tag.1 in
-    record {
-      spells = written_spells Explicit h (group, element) small (named h.vr vr.0) vr.1;
-      defined = λ same. absurd (omega (arith, short, same));
-      even = eqb-true _ _ back.1;
-    }
+laid_header h e = grind (arith, common_steps, written_spells Explicit h, named h.vr)
 
 apart : (a b : ℕ) → not (nat_eq a b) ≡ true → a ≢ b
 apart a b e = false-eqb a b (sym (not_true (nat_eq a b) e))
@@ -118,15 +102,7 @@ laid_element last h e =
     }
 
 laid_item : (h : Header) → is_item h ≡ true → IsItem Explicit h (header_bytes h)
-laid_item h e =
-    let parts = and_parts _ _ e in
-    let tag = and_parts _ _ parts.1 in
-    let first : h.tag.0 ≡ 0xfffe = eqb-true _ _ tag.0 in
-    let second : h.tag.1 ≡ 0xe000 = eqb-true _ _ tag.1 in
-    record {
-      spelled = (laid_header h parts.0).spells;
-      tagged = λ i. record { 0 = first i; 1 = second i };
-    }
+laid_item h e = grind (arith, common_steps, laid_header h)
 
 element_header : (last : ℕ) (h : Header) → is_element last h ≡ true → is_header h ≡ true
 element_header last h e = (and_parts _ _ (and_parts _ _ e).0).0
@@ -171,20 +147,7 @@ mutual
 
 -- ---- elements that are written with a VR whose length takes two bytes, and with even values, are laid down as the standard has it
 
--- the tag and the VR of an element after the tag with number `last`
-pub record IsFixed (last : ℕ) (t : Tag) (vr : List ℕ) : Type 0 where
-  pub group : nat_lt t.0 65536 ≡ true
-  pub element : nat_lt t.1 65536 ≡ true
-  pub vr_good : is_vr_or_none (Some vr) ≡ true
-  pub plain : is_plain Explicit t ≡ false
-  pub rising : nat_lt last (number t) ≡ true
-  pub no_marker : not (is_marker t) ≡ true
-  pub no_command : not (nat_eq t.0 0) ≡ true
-  pub no_file : not (nat_eq t.0 2) ≡ true
-  pub no_sequence : is_vr (codes "SQ") vr ≡ false
-  pub eight : (n : ℕ) → header_size (record { tag = t; vr = Some vr; length = n }) ≡ 8
-
--- whether they are so: the VR's length takes two bytes
+-- whether an element with this tag and this VR, whose length takes two bytes, can follow the tag with number `last`
 abbrev pub is_fixed : ℕ → Tag → List ℕ → Bool
 is_fixed last t vr =
     ((nat_lt t.0 65536 && nat_lt t.1 65536) && (is_vr_or_none (Some vr) && not (is_plain Explicit t)))
@@ -193,31 +156,6 @@ is_fixed last t vr =
 
 short_header : (t : Tag) (vr : List ℕ) (n : ℕ) → is_short_vr vr ≡ true → length vr ≡ 2 → header_size (record { tag = t; vr = Some vr; length = n }) ≡ 8
 short_header t vr n short two = grind (arith, common_steps, length-append vr (le n 2))
-
-pub fixed_from : (last : ℕ) (t : Tag) (vr : List ℕ) → is_fixed last t vr ≡ true → IsFixed last t vr
-fixed_from last t vr e =
-    let whole = and_parts ((nat_lt t.0 65536 && nat_lt t.1 65536) && (is_vr_or_none (Some vr) && not (is_plain Explicit t))) _ e in
-    let front = and_parts (nat_lt t.0 65536 && nat_lt t.1 65536) (is_vr_or_none (Some vr) && not (is_plain Explicit t)) whole.0 in
-    let tag = and_parts _ _ front.0 in
-    let letters = and_parts (is_vr_or_none (Some vr)) (not (is_plain Explicit t)) front.1 in
-    let back = and_parts ((nat_lt last (number t) && not (is_marker t)) && (not (nat_eq t.0 0) && not (nat_eq t.0 2))) _ whole.1 in
-    let place = and_parts (nat_lt last (number t) && not (is_marker t)) _ back.0 in
-    let order = and_parts (nat_lt last (number t)) (not (is_marker t)) place.0 in
-    let groups = and_parts _ _ place.1 in
-    let kind = and_parts (not (is_vr (codes "SQ") vr)) (is_short_vr vr) back.1 in
-    let two = and_parts (is_capital (get_or vr 0 0) && is_capital (get_or vr 1 0)) (nat_eq (length vr) 2) letters.0 in
-    record {
-      group = tag.0;
-      element = tag.1;
-      vr_good = letters.0;
-      plain = not_true (is_plain Explicit t) letters.1;
-      rising = order.0;
-      no_marker = order.1;
-      no_command = groups.0;
-      no_file = groups.1;
-      no_sequence = not_true (is_vr (codes "SQ") vr) kind.0;
-      eight = λ n. short_header t vr n kind.1 (eqb-true (length vr) 2 two.1);
-    }
 
 -- these elements are laid down after the tag with number `last`, and take an even count of bytes
 pub record IsGood (last : ℕ) (es : Elements) : Type 0 where
@@ -233,8 +171,5 @@ padded_short p v = grind (arith, common_steps)
 
 -- a value that is padded, and a key that is padded anew
 
-pub good_value : (last : ℕ) (t : Tag) (vr : List ℕ) (p : ℕ) (v : List ℕ) (es : Elements) → IsFixed last t vr → length v ≤ 1024 → IsGood (number t) es → IsGood last (field t vr (padded p v) es)
-good_value last t vr p v es f short good = grind (arith, common_steps, padded_short p v)
-
-pub good_key : (last : ℕ) (t : Tag) (vr : List ℕ) (p : ℕ) (v : List ℕ) (es : Elements) → IsFixed last t vr → length v ≤ 1024 → IsGood (number t) es → IsGood last (field t vr (padded p (key v)) es)
-good_key last t vr p v es f short good = grind (arith, common_steps, key_length v)
+pub good_value : (last : ℕ) (t : Tag) (vr : List ℕ) (p : ℕ) (v : List ℕ) (es : Elements) → is_fixed last t vr ≡ true → length v ≤ 1024 → IsGood (number t) es → IsGood last (field t vr (padded p v) es)
+good_value last t vr p v es f short good = grind (arith, common_steps, padded_short p v, short_header t vr (length (padded p v)))

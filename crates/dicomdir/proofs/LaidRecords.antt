@@ -1,13 +1,12 @@
 -- The records of a row are laid down as the standard has it, with any offsets.
-use Rattle.std.proofs.Common.{◌≡◌, ℕ, ◌<◌, ◌≤◌, ◌^◌, Bool, true, false, not, cond, ◌&&◌, ◌||◌, List, [], ◌∷◌, length, nat_le, nat_lt, nat_eq, ltb-true, Option, Some, None, is_some, refl, sym, ap, ◌∙◌, arith, codes, rules}
+use Rattle.std.proofs.Common.{◌≡◌, ℕ, ◌<◌, ◌≤◌, ◌^◌, Bool, true, false, not, cond, ◌&&◌, ◌||◌, List, [], ◌∷◌, length, nat_le, nat_lt, nat_eq, Option, Some, None, is_some, refl, sym, ap, ◌∙◌, arith, codes, rules}
 use Rattle.std.specs.List.{list_all}
 use Rattle.std.specs.Str.{bytes_eq}
-use Rattle.std.proofs.lemmas.Bool.{and_parts, and_from, leb-true}
+use Rattle.std.proofs.lemmas.Bool.{and_parts, leb-true}
 use Rattle.std.proofs.lemmas.Bool.Decides.{nat_tests}
 use Rattle.element.specs.declared.header.Header.{Header}
-use Rattle.element.specs.declared.syntax.Syntax.TheVariants.{Explicit}
+use Rattle.element.specs.declared.tag.Tag.{Tag}
 use Rattle.element.specs.Header.{number}
-use Rattle.sequence.specs.Shape.{shape}
 use Rattle.std.proofs.lemmas.List.{append-nil}
 use Rattle.byteorder.specs.Numbers.{little_number-reads_back}
 use Rattle.byteorder.specs.Endian.{little_number}
@@ -30,10 +29,9 @@ use Rattle.dicomdir.specs.Record.{with_offsets, tag, record_elements, padding_fo
 use Rattle.dicomdir.specs.TreeOf.{is_image}
 use Rattle.dicomdir.specs.Linked.{fits}
 use Rattle.dicomdir.specs.Row.{Row, key}
-use Rattle.dicomdir.proofs.Distinct.{not_true}
 use Rattle.dicomdir.proofs.FileIds.{file_id_room, file_id_back}
-use Rattle.dicomdir.proofs.Laid.{is_laid, is_header, is_element, is_value, is_sequence, IsFixed, IsGood, is_fixed, fixed_from, good_none, good_value, good_key}
-use Rattle.dicomdir.proofs.RecordLemmas.{syntax_uid_short}
+use Rattle.dicomdir.proofs.Laid.{is_laid, is_header, is_element, IsGood, is_fixed, good_none, good_value}
+use Rattle.dicomdir.proofs.RecordLemmas.{syntax_uid_short, key_length, kind_short}
 use Rattle.std.proofs.lemmas.Grind.{common_steps}
 
 uid_room : (text : List ℕ) → is_uid text ≡ true → length text ≤ 1024
@@ -52,24 +50,21 @@ rising_more : (last more : ℕ) (es : Elements) → last ≤ more → IsGood mor
 rising_more last more es le good = record { laid = later last more es le good.laid; size = good.size; even = good.even }
   where
     above : (last more n : ℕ) → last ≤ more → nat_lt more n ≡ true → nat_lt last n ≡ true
-    above last more n le e = let lt = ltb-true more n e in grind (arith, nat_tests)
+    above last more n le e = grind (arith, nat_tests)
+
+    first : (a b c d : Bool) → (a ≡ true → b ≡ true) → ((a && c) && d) ≡ true → ((b && c) && d) ≡ true
+    first v1 b c d f e = grind (arith, nat_tests)
+
+    second : (a b c d : Bool) → (a ≡ true → b ≡ true) → ((c && a) && d) ≡ true → ((c && b) && d) ≡ true
+    second v1 b c d f e = grind (arith, nat_tests)
 
     before : (last more : ℕ) (h : Header) → last ≤ more → is_element more h ≡ true → is_element last h ≡ true
-    before last more h le e =
-        let parts = and_parts (is_header h && nat_lt more (number h.tag)) _ e in
-        let front = and_parts (is_header h) (nat_lt more (number h.tag)) parts.0 in
-        and_from _ _ (and_from _ _ front.0 (above last more (number h.tag) le front.1)) parts.1
+    before last more h le e = second (nat_lt more (number h.tag)) (nat_lt last (number h.tag)) (is_header h) _ (above last more (number h.tag) le) e
 
     later : (last more : ℕ) (es : Elements) → last ≤ more → is_laid more es ≡ true → is_laid last es ≡ true
     later last more no_elements le e = refl
-    later last more (value h v es) le e =
-        let parts = and_parts (is_element more h && is_value (shape Explicit h)) _ e in
-        let front = and_parts (is_element more h) _ parts.0 in
-        and_from _ _ (and_from _ _ (before last more h le front.0) front.1) parts.1
-    later last more (sequence h is es) le e =
-        let parts = and_parts (is_element more h && is_sequence (shape Explicit h)) _ e in
-        let front = and_parts (is_element more h) _ parts.0 in
-        and_from _ _ (and_from _ _ (before last more h le front.0) front.1) parts.1
+    later last more (value h v es) le e = first (is_element more h) (is_element last h) _ _ (before last more h le) e
+    later last more (sequence h is es) le e = first (is_element more h) (is_element last h) _ _ (before last more h le) e
 
 -- the keys rise, their VRs are short, and none has more than 1024 bytes
 abbrev are_fixed : ℕ → List KeyRule → Bool
@@ -80,12 +75,18 @@ table_fixed : are_fixed 0x00041512 key_table ≡ true
 unfolding is_short
 table_fixed = refl
 
+rises : (last : ℕ) (t : Tag) (vr : List ℕ) → is_fixed last t vr ≡ true → last ≤ number t
+rises last t vr e = grind (arith, nat_tests)
+
+either : {last : ℕ} {es others : Elements} (b : Bool) → IsGood last es → IsGood last others → IsGood last (cond b es others)
+either v1 one other = grind (arith, nat_tests)
+
 written_size : (kind : KeyType) (o : Option (List ℕ)) → optional_size (written kind o) ≤ optional_size o
 written_size v1 o = grind (arith, nat_tests)
 
-good_key_of : (last : ℕ) (rule : KeyRule) (o : Option (List ℕ)) (es : Elements) → IsFixed last rule.tag rule.vr → optional_size o ≤ 1024 → IsGood (number rule.tag) es → IsGood last (key_field_of rule o es)
-good_key_of last rule None es fixed short good = rising_more last (number rule.tag) es (let lt = ltb-true last (number rule.tag) fixed.rising in omega (arith, lt)) good
-good_key_of last rule (Some v) es fixed short good = good_key last rule.tag rule.vr (padding_for rule.vr) v es fixed short good
+good_key_of : (last : ℕ) (rule : KeyRule) (o : Option (List ℕ)) (es : Elements) → is_fixed last rule.tag rule.vr ≡ true → optional_size o ≤ 1024 → IsGood (number rule.tag) es → IsGood last (key_field_of rule o es)
+good_key_of last rule None es fixed short good = rising_more last (number rule.tag) es (rises last rule.tag rule.vr fixed) good
+good_key_of last rule (Some v) es fixed short good = good_value last rule.tag rule.vr (padding_for rule.vr) (key v) es fixed (let less = key_length v in omega (arith, short, less)) good
 
 good_keys : (level : Level) (last : ℕ) (rules : List KeyRule) (values : Values) → are_fixed last rules ≡ true → list_all (fits_room values) rules ≡ true → IsGood last (key_fields level rules values)
 good_keys level last [] values f e = good_none last
@@ -93,20 +94,13 @@ good_keys level last (rule ∷ rules) values f e =
     let parts = and_parts (is_fixed last rule.tag rule.vr && nat_le rule.room 1024) _ f in
     let here = and_parts (is_fixed last rule.tag rule.vr) (nat_le rule.room 1024) parts.0 in
     let fits = and_parts (fits_room values rule) _ e in
-    let fixed = fixed_from last rule.tag rule.vr here.0 in
     let more = good_keys level (number rule.tag) rules values parts.1 fits.1 in
-    let lt = ltb-true last (number rule.tag) fixed.rising in
     let room : rule.room ≤ 1024 = leb-true rule.room 1024 here.1 in
     let size : optional_size (value_of values (number rule.tag)) ≤ rule.room = leb-true _ _ fits.0 in
     let less = written_size rule.kind (value_of values (number rule.tag)) in
-    by (has_level rule.levels level)
-    (good_key_of last rule (written rule.kind (value_of values (number rule.tag))) _ fixed (omega (arith, room, size, less)) more)
-    (rising_more last (number rule.tag) _ (omega (arith, lt)) more)
-  where
-    by : (b : Bool) → IsGood last (key_field_of rule (written rule.kind (value_of values (number rule.tag))) (key_fields level rules values)) → IsGood last (key_fields level rules values)
-        → IsGood last (cond b (key_field_of rule (written rule.kind (value_of values (number rule.tag))) (key_fields level rules values)) (key_fields level rules values))
-    by true one none = one
-    by false one none = none
+    either (has_level rule.levels level)
+    (good_key_of last rule (written rule.kind (value_of values (number rule.tag))) _ here.0 (omega (arith, room, size, less)) more)
+    (rising_more last (number rule.tag) _ (rises last rule.tag rule.vr here.0) more)
 
 good_row : (level : Level) (row : Row) → IsRow row → IsGood 0x00041512 (key_fields level key_table row.values)
 good_row level row is = good_keys level 0x00041512 key_table row.values table_fixed is.fits
@@ -117,20 +111,14 @@ good_file Patient row is = rising_more 0x00041430 0x00041512 _ (omega arith) (go
 good_file Study row is = rising_more 0x00041430 0x00041512 _ (omega arith) (good_row Study row is)
 good_file Series row is = rising_more 0x00041430 0x00041512 _ (omega arith) (good_row Series row is)
 good_file Image row is =
-    good_value 0x00041430 (tag 0x0004 0x1500) (codes "CS") 32 row.file_id _ (fixed_from _ _ _ refl) (let room = file_id_room row.file_id is.file_id in omega (arith, room))
-    (good_value 0x00041500 (tag 0x0004 0x1510) (codes "UI") 0 row.class _ (fixed_from _ _ _ refl) (uid_room row.class is.class)
-    (good_value 0x00041510 (tag 0x0004 0x1511) (codes "UI") 0 row.instance _ (fixed_from _ _ _ refl) (uid_room row.instance is.instance)
-    (good_value 0x00041511 (tag 0x0004 0x1512) (codes "UI") 0 (syntax_uid row.syntax) _ (fixed_from _ _ _ refl) (let room = syntax_uid_short row.syntax in omega (arith, room))
+    good_value 0x00041430 (tag 0x0004 0x1500) (codes "CS") 32 row.file_id _ refl (let room = file_id_room row.file_id is.file_id in omega (arith, room))
+    (good_value 0x00041500 (tag 0x0004 0x1510) (codes "UI") 0 row.class _ refl (uid_room row.class is.class)
+    (good_value 0x00041510 (tag 0x0004 0x1511) (codes "UI") 0 row.instance _ refl (uid_room row.instance is.instance)
+    (good_value 0x00041511 (tag 0x0004 0x1512) (codes "UI") 0 (syntax_uid row.syntax) _ refl (let room = syntax_uid_short row.syntax in omega (arith, room))
     (good_row Image row is))))
 
 good_record : (level : Level) (row : Row) (next lower : ℕ) → IsRow row → IsGood 0 (with_offsets next lower (record_for level row))
-good_record level row next lower is = good_start next lower (kind_of level) _ (short level) (good_file level row is)
-  where
-    short : (level : Level) → length (kind_of level) ≤ 1024
-    short Patient = omega arith
-    short Study = omega arith
-    short Series = omega arith
-    short Image = omega arith
+good_record level row next lower is = good_start next lower (kind_of level) _ (let short = kind_short level in omega (arith, short)) (good_file level row is)
 
 -- no key is a file ID
 
@@ -139,17 +127,7 @@ are_others rules = list_all (λ rule. not (nat_eq (number rule.tag) 0x00041500))
 
 no_file_id : (level : Level) (rules : List KeyRule) (values : Values) (place : ℕ) → are_others rules ≡ true → found 0x00041500 place (key_fields level rules values) ≡ missing
 no_file_id level [] values place e = refl
-no_file_id level (rule ∷ rules) values place e =
-    let parts = and_parts (not (nat_eq (number rule.tag) 0x00041500)) _ e in
-    by (has_level rule.levels level) (written rule.kind (value_of values (number rule.tag)))
-    (not_true (nat_eq (number rule.tag) 0x00041500) parts.0)
-    (λ p. no_file_id level rules values p parts.1)
-  where
-    by : (b : Bool) (o : Option (List ℕ)) → nat_eq (number rule.tag) 0x00041500 ≡ false → ((p : ℕ) → found 0x00041500 p (key_fields level rules values) ≡ missing)
-        → found 0x00041500 place (cond b (key_field_of rule o (key_fields level rules values)) (key_fields level rules values)) ≡ missing
-    by false o other none = none place
-    by true None other none = none place
-    by true (Some v) other none = rw other (none _)
+no_file_id level (rule ∷ rules) values place e = grind (arith, common_steps, no_file_id level rules values)
 
 -- what the tree's nodes are: with any offsets they are good, and say what they say without them
 pub record IsNode (level : ℕ) (es : Elements) : Type 0 where

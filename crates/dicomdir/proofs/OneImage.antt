@@ -1,32 +1,31 @@
 -- Worked directories: what is linked, the faults, the places and what is kept compute.
-use Rattle.std.proofs.Common.{◌≡◌, ℕ, ◌≤◌, List, [], ◌∷◌, ◌++◌, length, replicate, Option, Some, None, refl, subst, arith, codes, sym}
-use Rattle.element.specs.declared.syntax.Syntax.TheVariants.{Explicit}
+use Rattle.std.proofs.Common.{◌≡◌, ℕ, ◌≤◌, false, List, [], ◌∷◌, ◌++◌, length, Option, Some, None, refl, subst, arith, codes, sym}
 use Rattle.element.specs.Vr.{is_short}
 use Rattle.part10.specs.declared.meta.Meta.{Meta}
 use Rattle.part10.specs.File.{head, meta_group, identity_elements, implementation_elements, title_element}
 use Rattle.part10.specs.MetaText.{SpellsMeta, said_of, HasMeta}
 use Rattle.part10.proofs.Public.{head_is_read, no_headers, other_syntax_is_a_fault, least_read}
 use Rattle.sequence.specs.Tree.{Elements}
-use Rattle.dicomdir.specs.declared.level.Level.TheVariants.{Patient, Study, Series, Image}
 use Rattle.dicomdir.specs.TreeOf.{Forest, no_nodes, node, TreeOf}
-use Rattle.dicomdir.specs.Directory.{IsExplicitFile, IsDirectoryFile, Record, carried_node, records_of}
-use Rattle.dicomdir.specs.Linked.{Linked, PlacedNode, carried_forest, record_at, first_place, AreLinked, elements_at}
+use Rattle.dicomdir.specs.Directory.{IsExplicitFile, IsDirectoryFile, Record, records_of}
+use Rattle.dicomdir.specs.Linked.{Linked, PlacedNode, carried_forest, record_at, first_place, AreLinked}
 use Rattle.dicomdir.specs.DirFault.{directory_fault, in_header, in_syntax}
-use Rattle.dicomdir.specs.Record.{spelled, record_for}
+use Rattle.dicomdir.specs.Record.{spelled}
 use Rattle.dicomdir.specs.Examples.{one_image_row, one_image_header, one_image_file, one_image_elements, OneImageIsLinked, OneImageFaults, preamble_left_out, PreambleCounts, RecordFaults, no_rows_elements, NoRowsAreLinked, OneImageHasNodes, RowsAreGrouped, FileIdsAreRead, InactiveRecords, PlacesAreAssigned, HeaderFaults}
 use Rattle.dicomdir.proofs.Laid.{laid_elements}
+use Rattle.dicomdir.proofs.CheckLemmas.{file_nodes}
+use Rattle.dicomdir.proofs.WrittenLinked.{written_is_linked}
+use Rattle.dicomdir.specs.Built.{directory_meta, directory_header, directory_file, file_is_too_large}
+use Rattle.dicomdir.specs.Keys.{IsRow}
+use Rattle.dicomdir.specs.Row.{Row}
+use Rattle.std.specs.List.{AllByRecursion}
 use Rattle.dicomdir.specs.Places.{directory_elements}
 use Rattle.std.proofs.lemmas.List.{append-nil}
 use Rattle.part10.specs.declared.meta_fault.MetaFault.TheVariants.{NotPart10, OtherSyntax}
 use Rattle.part10.specs.Examples.{least_header, least_said}
 
 one_image_meta : Meta
-one_image_meta = record {
-  class = codes "1.2.840.10008.1.3.10";
-  instance = codes "2.25.1";
-  syntax = Explicit;
-  calling = record { 0 = replicate 16 32 };
-}
+one_image_meta = directory_meta (codes "2.25.1")
 
 header_is : head one_image_meta ≡ one_image_header
 unfolding one_image_meta identity_elements implementation_elements title_element is_short
@@ -64,62 +63,23 @@ the_elements = one_image_elements 320 320 0 404 534 626
 the_records : List Record
 the_records = records_or_none (records_of 266 the_elements)
 
-placed : ℕ → Elements → PlacedNode
-placed place es = record { place = place; carries = carried_node es }
-
-the_places : Forest PlacedNode
-the_places =
-    node (placed 320 (record_for Patient one_image_row))
-    (node (placed 404 (record_for Study one_image_row))
-    (node (placed 534 (record_for Series one_image_row))
-    (node (placed 626 (record_for Image one_image_row)) no_nodes no_nodes)
-    no_nodes)
-    no_nodes)
-    no_nodes
+-- a directory that is written is linked
+linked_as : (rows : List Row) (file : List ℕ) → AllByRecursion IsRow rows → file_is_too_large (codes "2.25.1") rows ≡ false → directory_file (record { uid = codes "2.25.1"; rows = rows }) ≡ file
+    → Linked file (carried_forest (TreeOf rows))
+linked_as rows file all fits is = subst (λ f. Linked f (carried_forest (TreeOf rows))) is (written_is_linked (codes "2.25.1") rows refl all fits).linked
 
 pub one_image_is_linked : OneImageIsLinked
-unfolding records_or_none the_elements the_records placed the_places TreeOf one_image_meta is_short
-one_image_is_linked = record {
-  start = 266;
-  elements = the_elements;
-  is_file = record {
-    front = one_image_header;
-    back = spelled the_elements;
-    explicit = explicit_file one_image_file (spelled the_elements) elements_are;
-    data_set = laid_elements 0 the_elements refl;
-    begins = refl;
-  };
-  linked = record {
-    records = the_records;
-    placed = the_places;
-    has_records = refl;
-    good = refl;
-    tree_is = refl;
-    linked = (
-      record { elements = elements_at the_records 320; stands = refl; carries = refl; fits_there = refl; names_lower = refl; names_next = refl },
-      (
-        record { elements = elements_at the_records 404; stands = refl; carries = refl; fits_there = refl; names_lower = refl; names_next = refl },
-        (
-          record { elements = elements_at the_records 534; stands = refl; carries = refl; fits_there = refl; names_lower = refl; names_next = refl },
-          (
-            record { elements = elements_at the_records 626; stands = refl; carries = refl; fits_there = refl; names_lower = refl; names_next = refl },
-            tt,
-            tt,
-          ),
-          tt,
-        ),
-        tt,
-      ),
-      tt,
-    );
-    distinct = refl;
-    names_first = refl;
-    names_last = refl;
-  };
-}
+unfolding directory_header directory_elements TreeOf identity_elements implementation_elements title_element is_short
+one_image_is_linked = linked_as (one_image_row ∷ []) one_image_file (record { file_id = refl; class = refl; instance = refl; fits = refl; full = refl }, tt) refl refl
+
+pub one_image_has_nodes : OneImageHasNodes
+unfolding records_or_none the_elements the_records directory_fault is_short
+one_image_has_nodes =
+    file_nodes (record { front = one_image_header; explicit = explicit_file one_image_file (spelled the_elements) elements_are }) 266 the_elements _ refl (laid_elements 0 the_elements refl)
+    (record { no_fault = refl; records = the_records; are = refl; nodes_are = refl })
 
 preamble_is_file : IsDirectoryFile (one_image_header ++ spelled preamble_left_out) 266 preamble_left_out
-unfolding one_image_meta is_short
+unfolding is_short
 preamble_is_file = record {
   front = one_image_header;
   back = spelled preamble_left_out;
@@ -171,29 +131,8 @@ unfolding is_short
 no_rows_size = refl
 
 no_rows_linked : Linked (one_image_header ++ spelled no_rows_elements) (carried_forest (TreeOf []))
-unfolding TreeOf is_short
-no_rows_linked = record {
-  start = 266;
-  elements = no_rows_elements;
-  is_file = record {
-    front = one_image_header;
-    back = spelled no_rows_elements;
-    explicit = explicit_file (one_image_header ++ spelled no_rows_elements) (spelled no_rows_elements) refl;
-    data_set = laid_elements 0 no_rows_elements refl;
-    begins = refl;
-  };
-  linked = record {
-    records = [];
-    placed = no_nodes;
-    has_records = refl;
-    good = refl;
-    tree_is = refl;
-    linked = tt;
-    distinct = refl;
-    names_first = refl;
-    names_last = refl;
-  };
-}
+unfolding directory_header directory_elements TreeOf identity_elements implementation_elements title_element is_short
+no_rows_linked = linked_as [] _ tt refl refl
 
 no_rows_fault : directory_fault 266 no_rows_elements ≡ None
 unfolding directory_fault is_short
@@ -201,18 +140,6 @@ no_rows_fault = refl
 
 pub no_rows_are_linked : NoRowsAreLinked
 no_rows_are_linked = (no_rows_size, no_rows_linked, no_rows_fault)
-
-pub one_image_has_nodes : OneImageHasNodes
-unfolding one_image_is_linked records_or_none the_elements the_records placed the_places TreeOf one_image_meta is_short
-one_image_has_nodes = record {
-  start = one_image_is_linked.start;
-  elements = one_image_is_linked.elements;
-  tree = carried_forest (TreeOf (one_image_row ∷ []));
-  is_file = one_image_is_linked.is_file;
-  linked = one_image_is_linked.linked;
-  all_reached = refl;
-  nodes_are = refl;
-}
 
 -- ---- inactive records are followed, and what they keep computes
 

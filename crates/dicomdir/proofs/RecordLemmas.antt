@@ -14,7 +14,6 @@ use Rattle.sequence.specs.Tree.{Elements, no_elements}
 use Rattle.sequence.specs.Wanted.{Values, value_of}
 use Rattle.dicomdir.specs.declared.key_table.KeyRule.{KeyRule}
 use Rattle.dicomdir.specs.declared.level.Level.{Level}
-use Rattle.dicomdir.specs.declared.level.Level.TheVariants.{Image}
 use Rattle.dicomdir.specs.KeyTable.{has_level, key_table}
 use Rattle.dicomdir.specs.Record.{spelled, with_offsets, tag, field, record_elements, padding_for, key_field, key_field_of, written, key_fields, kind_of, file_fields, record_for}
 use Rattle.dicomdir.specs.Row.{Row, key}
@@ -47,6 +46,11 @@ field_then t vr v {es} {rest} e = grind (arith, common_steps)
 
 field_last : (t : Tag) (vr v : List ℕ) → Spells (field t vr v no_elements) (text.element_text t vr v)
 field_last t vr v = record { is = (field_then t vr v {es = no_elements} {rest = []} (record { is = refl })).is ∙ append-nil (text.element_text t vr v) }
+
+pub four_fields : (old : List ℕ) (t t2 t3 t4 : Tag) (vr v vr2 v2 vr3 v3 vr4 v4 : List ℕ)
+    → (((old ++ text.element_text t vr v) ++ text.element_text t2 vr2 v2) ++ text.element_text t3 vr3 v3) ++ text.element_text t4 vr4 v4
+    ≡ old ++ spelled (field t vr v (field t2 vr2 v2 (field t3 vr3 v3 (field t4 vr4 v4 no_elements))))
+four_fields old t t2 t3 t4 vr v vr2 v2 vr3 v3 vr4 v4 = grind (arith, common_steps, field_then t vr v (field_then t2 vr2 v2 (field_then t3 vr3 v3 (field_last t4 vr4 v4))))
 
 -- a key of a record, and those behind it
 
@@ -83,25 +87,21 @@ pub room_skip : (level : Level) (rules : List KeyRule) (i : ℕ) (d : KeyRule) (
     → before + text.keys_room level (drop i rules) ≤ most → before + text.keys_room level (drop (i + 1) rules) ≤ most
 room_skip level rules i d before most lt has h = let step = room_step level rules i d lt in omega (arith, step, h)
 
--- what an image's record says of its file
-pub file_text : (row : Row) → spelled (file_fields Image row no_elements) ≡ text.file row
-file_text row = grind (arith, common_steps, field_then (tag 0x0004 0x1500) (codes "CS") (padded 32 row.file_id) (field_then (tag 0x0004 0x1510) (codes "UI") (padded 0 row.class) (field_then (tag 0x0004 0x1511) (codes "UI") (padded 0 row.instance) (field_last (tag 0x0004 0x1512) (codes "UI") (padded 0 (syntax_uid row.syntax))))))
-
 file_then : (level : Level) (row : Row) (es : Elements) → spelled (file_fields level row es) ≡ spelled (file_fields level row no_elements) ++ spelled es
 file_then v1 row es = grind (arith, common_steps, field_then)
 
 started : (next lower : ℕ) (kind : List ℕ) (es : Elements) (rest : List ℕ) → Spells es rest
-    → spelled (with_offsets next lower (record_elements kind es)) ≡ text.start_text next lower (padded 32 kind) ++ rest
-started next lower kind es rest e = grind (arith, common_steps, field_then (tag 0x0004 0x1400) (codes "UL") (le next 4) (field_then (tag 0x0004 0x1410) (codes "US") (le 0xffff 2) (field_then (tag 0x0004 0x1420) (codes "UL") (le lower 4) (field_then (tag 0x0004 0x1430) (codes "CS") (padded 32 kind) e))))
+    → spelled (with_offsets next lower (record_elements kind es)) ≡ spelled (with_offsets next lower (record_elements kind no_elements)) ++ rest
+started next lower kind es rest e = grind (arith, common_steps, field_then (tag 0x0004 0x1400) (codes "UL") (le next 4) (field_then (tag 0x0004 0x1410) (codes "US") (le 0xffff 2) (field_then (tag 0x0004 0x1420) (codes "UL") (le lower 4) (field_then (tag 0x0004 0x1430) (codes "CS") (padded 32 kind) e))), four_fields [] (tag 0x0004 0x1400) (tag 0x0004 0x1410) (tag 0x0004 0x1420) (tag 0x0004 0x1430) (codes "UL") (le next 4) (codes "US") (le 0xffff 2) (codes "UL") (le lower 4) (codes "CS") (padded 32 kind))
 
 pub record_spelled : (level : Level) (next lower : ℕ) (row : Row) → spelled (with_offsets next lower (record_for level row))
-    ≡ text.start_text next lower (padded 32 (kind_of level)) ++ (spelled (file_fields level row no_elements) ++ spelled (key_fields level key_table row.values))
+    ≡ spelled (with_offsets next lower (record_elements (kind_of level) no_elements)) ++ (spelled (file_fields level row no_elements) ++ spelled (key_fields level key_table row.values))
 record_spelled level next lower row =
     started next lower (kind_of level) (file_fields level row (key_fields level key_table row.values)) _ (record { is = file_then level row (key_fields level key_table row.values) })
 
 -- a record that is written by its parts
 pub record_whole : (level : Level) (next lower : ℕ) (row : Row) (empty kind start file whole : List ℕ) (rules : List KeyRule)
-    → empty ≡ [] → kind ≡ kind_of level → rules ≡ key_table → start ≡ empty ++ text.start_text next lower (padded 32 kind)
+    → empty ≡ [] → kind ≡ kind_of level → rules ≡ key_table → start ≡ empty ++ spelled (with_offsets next lower (record_elements kind no_elements))
     → file ≡ start ++ spelled (file_fields level row no_elements) → whole ≡ file ++ spelled (key_fields level rules row.values)
     → whole ≡ spelled (with_offsets next lower (record_for level row))
 record_whole level next lower row empty kind start file whole rules none is table a b c = grind (arith, common_steps, record_spelled level next lower row)

@@ -49,10 +49,7 @@ key_table =
 -- by a unique key, which is of type 1, too, the records of its level are told apart
 abbrev pub is_unique : KeyType → Bool
 is_unique Unique = true
-is_unique Type1 = false
-is_unique Type1C = false
-is_unique Type2 = false
-is_unique Type3 = false
+is_unique kind = false
 
 -- whether rows are grouped by a key at a level
 abbrev pub groups : Level → KeyRule → Bool

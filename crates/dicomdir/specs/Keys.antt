@@ -9,7 +9,7 @@ use Rattle.element.specs.Uid.{is_uid}
 use Rattle.sequence.specs.Wanted.{Values, value_of}
 use Rattle.dicomdir.specs.declared.key_table.KeyRule.{KeyRule}
 use Rattle.dicomdir.specs.declared.key_table.KeyType.{KeyType}
-use Rattle.dicomdir.specs.declared.key_table.KeyType.TheVariants.{Unique, Type1, Type1C, Type2, Type3}
+use Rattle.dicomdir.specs.declared.key_table.KeyType.TheVariants.{Unique, Type1}
 use Rattle.dicomdir.specs.declared.skip.Skip.{Skip}
 use Rattle.dicomdir.specs.declared.skip.Skip.TheVariants.{Fault, Missing}
 use Rattle.dicomdir.specs.FileId.{is_file_id}
@@ -38,9 +38,7 @@ is_empty_key value = is_empty (key value)
 abbrev pub needs_value : KeyType → Bool
 needs_value Unique = true
 needs_value Type1 = true
-needs_value Type1C = false
-needs_value Type2 = false
-needs_value Type3 = false
+needs_value kind = false
 
 abbrev pub is_missing : Values → KeyRule → Bool
 is_missing values rule = needs_value rule.kind && is_empty_key (key_in values rule.tag)

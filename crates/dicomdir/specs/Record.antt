@@ -107,39 +107,26 @@ item_of es is = item (record { tag = item_tag; vr = None; length = length (spell
 abbrev pub record_item : ℕ → ℕ → Elements → Items → Items
 record_item next lower es is = item_of (with_offsets next lower es) is
 
-abbrev pub records_header : Items → Header
-records_header is = record { tag = tag 0x0004 0x1220; vr = Some (codes "SQ"); length = length (spelled_items is) }
+-- the header of the records, which take this many bytes
+abbrev pub records_header : ℕ → Header
+records_header size = record { tag = tag 0x0004 0x1220; vr = Some (codes "SQ"); length = size }
 
--- the elements of a directory: an empty File-set ID, the offsets of the first and the last record of the root, the
--- consistency flag, and the records
-abbrev pub root_elements : ℕ → ℕ → Items → Elements
-root_elements first last is =
+-- an empty File-set ID, the offsets of the first and the last record of the root, and the consistency flag
+abbrev pub root_fields : ℕ → ℕ → Elements → Elements
+root_fields first last behind =
     field (tag 0x0004 0x1130) (codes "CS") []
     (field (tag 0x0004 0x1200) (codes "UL") (le first 4)
     (field (tag 0x0004 0x1202) (codes "UL") (le last 4)
-    (field (tag 0x0004 0x1212) (codes "US") (le 0 2)
-    (sequence (records_header is) is no_elements))))
+    (field (tag 0x0004 0x1212) (codes "US") (le 0 2) behind)))
+
+-- the elements of a directory: those of the root, and the records
+abbrev pub root_elements : ℕ → ℕ → Items → Elements
+root_elements first last is = root_fields first last (sequence (records_header (length (spelled_items is))) is no_elements)
 
 -- ---- the bytes of a directory record, element after element (PS3.5 section 7.1.2, PS3.3 section F.5)
 
 unfoldable pub element_text : Tag → List ℕ → List ℕ → List ℕ
 element_text t vr v = header_bytes (record { tag = t; vr = Some vr; length = length v }) ++ v
-
--- the offsets round Record In-use Flag, and Directory Record Type
-abbrev pub start_text : ℕ → ℕ → List ℕ → List ℕ
-start_text next lower kind =
-    element_text (tag 0x0004 0x1400) (codes "UL") (le next 4)
-    ++ (element_text (tag 0x0004 0x1410) (codes "US") (le 0xffff 2)
-    ++ (element_text (tag 0x0004 0x1420) (codes "UL") (le lower 4)
-    ++ element_text (tag 0x0004 0x1430) (codes "CS") kind))
-
--- what the record of an image says of its file
-abbrev pub file : Row → List ℕ
-file row =
-    element_text (tag 0x0004 0x1500) (codes "CS") (padded 32 row.file_id)
-    ++ (element_text (tag 0x0004 0x1510) (codes "UI") (padded 0 row.class)
-    ++ (element_text (tag 0x0004 0x1511) (codes "UI") (padded 0 row.instance)
-    ++ element_text (tag 0x0004 0x1512) (codes "UI") (padded 0 (syntax_uid row.syntax))))
 
 -- a record with its offsets
 unfoldable pub record_text : Level → Row → ℕ → ℕ → List ℕ
@@ -162,7 +149,5 @@ is_element rule = not (is_marker rule.tag)
 
 -- how many bytes the record of an image takes at most for what it says of its file
 abbrev pub file_room : Level → ℕ
-file_room Patient = 0
-file_room Study = 0
-file_room Series = 0
 file_room Image = 400
+file_room level = 0

@@ -1,5 +1,5 @@
 //! Lays down directory records.
-ghost use Rattle.std.specs.Prelude.{◌≡◌, ◌+◌, ◌≤◌, ◌++◌, length, true, false, IsTrue};
+ghost use Rattle.std.specs.Prelude.{◌≡◌, ◌+◌, ◌≤◌, ◌++◌, length, true, false, codes, IsTrue};
 ghost use Rattle.std.specs.List.{list_all};
 ghost use Rattle.arrayvec.specs.ArrayVec.{array_vec_len};
 ghost use Rattle.element.specs.Numbers.{le};
@@ -11,7 +11,7 @@ ghost use Rattle.element.specs.Header.{number, is_marker, header_bytes, header_f
 ghost use Rattle.sequence.specs.Wanted.{value_of};
 ghost use Rattle.dicomdir.specs.declared.level.Level.TheVariants.{Image};
 ghost use Rattle.dicomdir.specs.Keys.{fits_room};
-ghost use Rattle.dicomdir.specs.Record.{spelled, with_offsets, key_field, key_field_of, written, key_fields, file_fields, record_for, keys_room, has_short_vr, is_element};
+ghost use Rattle.dicomdir.specs.Record.{spelled, with_offsets, key_field, key_field_of, written, key_fields, record_elements, file_fields, record_for, keys_room, has_short_vr, is_element};
 ghost use Rattle.dicomdir.specs.Record as text;
 
 use crate::Row;
@@ -66,6 +66,19 @@ pub(crate) fn put_element(out: &mut RecordBytes, tag: Tag, vr: Vr, value: &[u8],
     if odd == 1 {
         out.push(padding);
     }
+}
+
+/// Appends an offset.
+#[tactic(auto, unfolding(element::specs::Vr::is_short))]
+pub(crate) fn put_offset(out: &mut RecordBytes, tag: Tag, offset: u32)
+    requires room { array_vec_len out.old + 16 ≤ 1024 }
+    requires plain { is_marker tag ≡ false }
+    ensures items { out.new.items ≡ out.old.items ++ text.element_text tag (codes "UL") (le offset 4) }
+    ensures bound { array_vec_len out.new ≤ array_vec_len out.old + 13 }
+{
+    let mut bytes = [0; 4];
+    LittleEndian::write_u32(&mut bytes, offset);
+    put_element(out, tag, Vr::UL, &bytes, 0);
 }
 
 /// Appends a key, padded anew: an identifier by 00H, text by a space.
@@ -124,23 +137,20 @@ fn put_keys<A: Allocator>(out: &mut RecordBytes, rules: &[KeyRule], level: Level
 #[tactic(auto, unfolding(element::specs::Vr::is_short))]
 fn put_start(out: &mut RecordBytes, next: u32, lower: u32, kind: &[u8])
     requires room { array_vec_len out.old + length kind.now + 49 ≤ 1024 }
-    ensures items { out.new.items ≡ out.old.items ++ text.start_text next lower (padded 32 kind.now) }
+    ensures items { out.new.items ≡ out.old.items ++ spelled (with_offsets next lower (record_elements kind.now no_elements)) }
     ensures bound { array_vec_len out.new ≤ array_vec_len out.old + length kind.now + 46 }
 {
-    let mut offset = [0; 4];
-    LittleEndian::write_u32(&mut offset, next);
-    put_element(out, Tag(0x0004, 0x1400), Vr::UL, &offset, 0);
+    put_offset(out, Tag(0x0004, 0x1400), next);
     put_element(out, Tag(0x0004, 0x1410), Vr::US, &[0xff, 0xff], 0);
-    LittleEndian::write_u32(&mut offset, lower);
-    put_element(out, Tag(0x0004, 0x1420), Vr::UL, &offset, 0);
+    put_offset(out, Tag(0x0004, 0x1420), lower);
     put_element(out, Tag(0x0004, 0x1430), Vr::CS, kind, b' ');
 }
 
 /// Appends the file ID and what the file header says of the file.
-#[tactic(auto, using(crate::proofs::RecordLemmas::syntax_uid_short), unfolding(element::specs::Vr::is_short))]
+#[tactic(auto, using(crate::proofs::RecordLemmas::syntax_uid_short, crate::proofs::RecordLemmas::four_fields), unfolding(element::specs::Vr::is_short))]
 fn put_image_file<A: Allocator>(out: &mut RecordBytes, row: &Row<A>)
     requires room { array_vec_len out.old ≤ 100 }
-    ensures items { out.new.items ≡ out.old.items ++ text.file row.now }
+    ensures items { out.new.items ≡ out.old.items ++ spelled (file_fields Image row.now no_elements) }
     ensures bound { array_vec_len out.new ≤ array_vec_len out.old + 400 }
 {
     let file_id = row.file_id();

@@ -4,9 +4,8 @@ ghost use Rattle.element.specs.Uid.{is_uid};
 ghost use Rattle.dicomdir.specs.Built.{directory_header};
 ghost use Rattle.dicomdir.specs.machine.Building.{root_text};
 
-use crate::record_bytes::{RecordBytes, put_element, put_header};
+use crate::record_bytes::{RecordBytes, put_element, put_header, put_offset};
 use arrayvec::ArrayVec;
-use byteorder::{ByteOrder, LittleEndian};
 use element::{AeTitle, Header, Syntax, Tag, Uid, Vr};
 use part10::{Meta, meta_bytes};
 
@@ -36,17 +35,14 @@ pub(crate) fn file_header(uid: &Uid) -> ArrayVec<u8, 512>
 /// Returns the elements of the root up to the first record (PS3.3 section F.3): an empty File-set
 /// ID, the offsets of the first and the last record of the root, the consistency flag, and the header
 /// of the records, which take `size` bytes.
-#[tactic(auto, using(crate::proofs::BuildingLemmas::root_laid), unfolding(element::specs::Vr::is_short, crate::specs::machine::Building::root_text))]
+#[tactic(auto, using(crate::proofs::RecordLemmas::four_fields), unfolding(element::specs::Vr::is_short, crate::specs::machine::Building::root_text))]
 pub(crate) fn root_bytes(first: u32, last: u32, size: u32) -> RecordBytes
     ensures { result.items ≡ root_text first last size }
 {
     let mut out = RecordBytes::new();
-    let mut number = [0; 4];
     put_element(&mut out, Tag(0x0004, 0x1130), Vr::CS, &[], b' ');
-    LittleEndian::write_u32(&mut number, first);
-    put_element(&mut out, Tag(0x0004, 0x1200), Vr::UL, &number, 0);
-    LittleEndian::write_u32(&mut number, last);
-    put_element(&mut out, Tag(0x0004, 0x1202), Vr::UL, &number, 0);
+    put_offset(&mut out, Tag(0x0004, 0x1200), first);
+    put_offset(&mut out, Tag(0x0004, 0x1202), last);
     put_element(&mut out, Tag(0x0004, 0x1212), Vr::US, &[0, 0], 0);
     let records = Header {
         tag: Tag(0x0004, 0x1220),

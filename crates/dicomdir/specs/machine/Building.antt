@@ -1,17 +1,16 @@
 -- What laying down records does, last record first: offsets are counted from the end of the file.
-use Rattle.std.specs.Prelude.{◌≡◌, ℕ, ◌+◌, ◌-◌, ◌^◌, ◌≤◌, Bool, true, false, List, [], ◌∷◌, ◌++◌, length, nat_eq, if◌then◌else◌, Some, codes}
-use Rattle.sequence.specs.Tree.{Elements, no_items}
+use Rattle.std.specs.Prelude.{◌≡◌, ℕ, ◌+◌, ◌-◌, ◌^◌, ◌≤◌, Bool, true, false, List, [], ◌∷◌, ◌++◌, length, nat_eq, if◌then◌else◌}
+use Rattle.sequence.specs.Tree.{Elements, no_elements, no_items}
 use Rattle.dicomdir.specs.declared.level.Level.{Level}
 use Rattle.dicomdir.specs.declared.build_plan.LaidRecord.{LaidRecord}
 use Rattle.dicomdir.specs.declared.build_plan.Stop.{Stop}
 use Rattle.dicomdir.specs.declared.build_plan.Stop.TheVariants.{TooLarge, OutOfMemory}
 use Rattle.dicomdir.specs.Directory.{Record}
-use Rattle.dicomdir.specs.Record.{spelled_items, record_item, record_text, tag, element_text}
+use Rattle.dicomdir.specs.Record.{spelled, spelled_items, record_item, record_text, root_fields, records_header}
 use Rattle.dicomdir.specs.Places.{forest_size, with_places, first_record_place, last_record_place, root_size, doubles_of}
 use Rattle.dicomdir.specs.Row.{Row}
 use Rattle.dicomdir.specs.TreeOf.{Forest, no_nodes, node, count_of, group_node, TreeOf}
 use Rattle.element.specs.Header.{header_bytes}
-use Rattle.element.specs.Numbers.{le}
 use Rattle.dicomdir.specs.Built.{directory_header}
 
 -- no directory of so many bytes is laid down
@@ -75,9 +74,4 @@ pub record IsBuilt {A : Type 0} (uid : List ℕ) (rows : List Row) (entries : Li
 -- the elements of the root, up to the first record: the offsets of the first and the last record of the root, and the
 -- size of all records
 unfoldable pub root_text : ℕ → ℕ → ℕ → List ℕ
-root_text first last size =
-    element_text (tag 0x0004 0x1130) (codes "CS") []
-    ++ (element_text (tag 0x0004 0x1200) (codes "UL") (le first 4)
-    ++ (element_text (tag 0x0004 0x1202) (codes "UL") (le last 4)
-    ++ (element_text (tag 0x0004 0x1212) (codes "US") (le 0 2)
-    ++ header_bytes (record { tag = tag 0x0004 0x1220; vr = Some (codes "SQ"); length = size }))))
+root_text first last size = spelled (root_fields first last no_elements) ++ header_bytes (records_header size)

@@ -12,7 +12,7 @@ use Rattle.part10.specs.declared.meta_fault.MetaFault.{MetaFault}
 use Rattle.part10.specs.declared.meta_fault.MetaFault.TheVariants.{NotPart10, BadMeta, OtherSyntax, ReadFailed}
 use Rattle.dicomdir.specs.declared.fault.DirFault.{DirFault}
 use Rattle.sequence.specs.declared.step.Step.{Step}
-use Rattle.sequence.specs.declared.step.Step.TheVariants.{More, Element, Run, Opened, Closed, Refused}
+use Rattle.sequence.specs.declared.step.Step.TheVariants.{Refused}
 use Rattle.dicomdir.specs.declared.skip.Skip.TheVariants as skip
 
 -- the walker took some bytes and refused none
@@ -45,11 +45,7 @@ pub data WalkFails {V D : ℕ} (w : Walker V D) (old : Option (List ℕ)) (reaso
 
 abbrev pub refusal_of : Step → Option Fault
 refusal_of (Refused fault) = Some fault
-refusal_of More = None
-refusal_of (Run run) = None
-refusal_of (Element h) = None
-refusal_of (Opened h) = None
-refusal_of (Closed h) = None
+refusal_of step = None
 
 -- no read of a slice fails
 abbrev pub header_fault_of : MetaFault → DirFault
