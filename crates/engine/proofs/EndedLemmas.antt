@@ -3,7 +3,6 @@ use Rattle.std.proofs.Common.{◌≡◌, ◌⊎◌, nat_lt, ℕ, zero, suc, ◌+
 use Rattle.std.proofs.lemmas.Bool.Decides.{nat_tests}
 use Rattle.acceptor.specs.declared.state.State.{State}
 use Rattle.acceptor.specs.declared.state.State.TheVariants.{Sta6}
-use Rattle.sequence.specs.declared.walker.Walker.{Walker}
 use Rattle.pdu.specs.declared.wire.WireFailed.{WireFailed}
 use Rattle.pdu.specs.Sent.{Line, Sends}
 use Rattle.engine.specs.Requested.{Requested, request_record}
@@ -27,15 +26,16 @@ use Rattle.engine.specs.Drafts.{IsDraft, TellsDraft}
 use Rattle.engine.specs.Progress.{Progress, Advance, absorb}
 use Rattle.engine.specs.Reached.{takes_pdvs}
 use Rattle.engine.specs.Replies.{replied, ended_message, finding_on, echo_status, file_in, file_put}
-use Rattle.engine.specs.Stores.{IsOfContext, Verdict, other_class, no_room, faulty, cut, names_class, names_instance, unfiled, filed, limits}
+use Rattle.engine.specs.Stores.{IsOfContext, Verdict, other_class, no_room, faulty, cut, names_class, names_instance, unfiled, filed}
 use Rattle.engine.specs.Run.{Rooms, at_entry, fails, counted}
 use Rattle.engine.specs.Run as run
 use Rattle.engine.specs.Fair.{InStore}
 use Rattle.engine.specs.Kept.{Kept, Pends, counted_pdv}
 use Rattle.engine.specs.machine.Messages.{Aside, HasCome, Ended, Concludes}
 use Rattle.engine.specs.machine.Storing as storing
-use Rattle.engine.specs.StoredData.{Stored, Nothing, Walking, HasWalked, Walks, not_walked, walked, drafting_in}
+use Rattle.engine.specs.StoredData.{Stored, Nothing, Walks, not_walked, walked, drafting_in}
 use Rattle.engine.specs.machine.Storing.{BeginsStore, Begins, Drops, EndsDraft, commit_failed, dropped, EndsStore}
+use Rattle.engine.specs.machine.Verdicts.{EndsAs}
 use Rattle.engine.specs.machine.DoesDue.{ComesTo, Unfiled, is_left}
 use Rattle.engine.specs.machine.Does.{Does}
 use Rattle.engine.proofs.StoreLemmas.{none_carried, meta_by, file_due, undrafted, drafted, drops_unfiled, files_kept}
@@ -262,13 +262,11 @@ store_ended rooms s p m come c f old new r lo ln id maximum e field i x ends sen
 pub judged_store : (depth most : ℕ) (request : Requested) (m : Message) (come : Begun) (c : CommandRecord) (before : Bool) (f : Finding) (old new : Store) (stored : Stored) → Walks depth most request come stored
     → IsDraft request come before old (drafting_in stored) → HasCome m come → command_in m.command ≡ Ok c → (c.field ≡ 0x0001) × (c.with_data ≡ true)
     → (stored ≡ Nothing → (f ≡ record { status = class_not_supported; detail = None }) × (new ≡ old))
-    → ((W E : ℕ) (walker : Walker W E) (drafting : Bool) (context : Context) (levels bytes : ℕ) (set : List ℕ) → stored ≡ Walking walker drafting → HasWalked walker context.syntax (limits levels bytes) set
-    → EndsStore levels bytes context c set drafting f old new)
-    → StoreEnds depth most request m come c before f old new
+    → EndsAs c f old new stored → StoreEnds depth most request m come c before f old new
 judged_store depth most request m come c before f old new stored w h (inr (is, alone)) e (field, with_set) none ends = let wrong : true ≡ false = sym with_set ∙ alone c e in absurd cc
 judged_store depth most request m come c before f old new _ (not_walked idle) h (inl is) e (field, with_set) none ends = unwalked_ends depth most request m come c before f old new is e idle (none refl).0 (none refl).1
-judged_store depth most request m come c before f old new _ (walked {V = V} {D = D} {walker = walker} {drafting = drafting} store takes) h (inl is) e (field, with_set) none ends =
-    walked_ends depth most request m come c before f old new is e field store drafting h (ends V D walker drafting store.context depth most store.set refl takes)
+judged_store depth most request m come c before f old new _ (walked {drafting = drafting} store takes) h (inl is) e (field, with_set) none ends =
+    walked_ends depth most request m come c before f old new is e field store drafting h (ends store.context depth most store.set takes)
 
 -- a request that is no echo is a store, and has data
 pub is_store : (field : ℕ) (announced : Bool) (instance : Option (List ℕ)) → is_request field announced instance ≡ true → (field ≡ 0x0030 → ⊥) → (field ≡ 0x0001) × (announced ≡ true)

@@ -131,9 +131,3 @@ ends_failed command s old new (Walking w drafting) k d = λ context depth most s
   draft = ends.dropped k.0 d;
   verdict = λ of. k.1 context depth most set takes of _;
 }
-
--- the same, of the walker that it is
-pub ends_of : (command : CommandRecord) (finding : Finding) (old new : Store) (stored : Stored) → EndsAs command finding old new stored
-    → (W E : ℕ) (walker : Walker W E) (drafting : Bool) (context : Context) (depth most : ℕ) (set : List ℕ) → stored ≡ Walking walker drafting → HasWalked walker context.syntax (limits depth most) set
-    → EndsStore depth most context command set drafting finding old new
-ends_of command finding old new stored k W E walker drafting context depth most set e takes = (subst (EndsAs command finding old new) e k) context depth most set takes

@@ -7,6 +7,7 @@ pub mod Storing
 pub mod Verdicts
 pub mod Capacity
 pub mod DoesDue
+pub mod Tries
 pub mod Messages
 pub mod Does
 pub mod Events

@@ -36,7 +36,7 @@ pub struct Association<const A: usize, const C: usize, const V: usize, const D: 
 }
 
 impl<const A: usize, const C: usize, const V: usize, const D: usize> Association<A, C, V, D> {
-    ghost use Rattle.std.specs.Prelude.{Bool, List, [], ◌∷◌, ◌++◌, true, false};
+    ghost use Rattle.std.specs.Prelude.{Bool, List, [], true, false};
     ghost use Rattle.acceptor.specs.declared.state.State.TheVariants.{Sta1, Sta6};
     ghost use Rattle.acceptor.specs.Effect.{timer_runs};
     ghost use Rattle.negotiate.specs.Settings.{settings_of};
@@ -52,9 +52,9 @@ impl<const A: usize, const C: usize, const V: usize, const D: usize> Association
     ghost use Rattle.engine.specs.OutputLaws.{SendsFew};
     ghost use Rattle.engine.specs.Reached.{reached};
     ghost use Rattle.engine.specs.Stands.{Stands};
-    ghost use Rattle.engine.specs.Timeline.{Entry, Happened};
+    ghost use Rattle.engine.specs.Timeline.{Happened};
     ghost use Rattle.engine.specs.machine.DoesDue.{Stays};
-    ghost use Rattle.engine.specs.machine.Events.{Outside};
+    ghost use Rattle.engine.specs.machine.Events.{MovesOutside};
     ghost use Rattle.engine.specs.machine.Lent.{before, after};
     ghost use Rattle.engine.specs.Run.{rooms_of};
 
@@ -210,10 +210,7 @@ impl<const A: usize, const C: usize, const V: usize, const D: usize> Association
         requires stays { Stays (state_of self.old) event }
         ensures draft { IsThere (drafting_of self.new) (after W.line F.store devices.exit).store }
         ensures settings { settings_in self.new ≡ settings_in self.old }
-        ensures moved { (input : Received) (entry : Entry) → Outside event input entry → (inputs : List Received) (story : List Happened) (failed : Bool)
-            → Stands (rooms_of A C V D) (settings_in self.old) inputs story failed (fields_of self.old) (F.store devices.entry.filing.now)
-            → Moved (rooms_of A C V D) (settings_in self.old) inputs story failed input (fields_of self.old) (fields_of self.new)
-            (before W.line F.store devices.entry) (after W.line F.store devices.exit) }
+        ensures moved { MovesOutside (rooms_of A C V D) (settings_in self.old) event (fields_of self.old) (fields_of self.new) (before W.line F.store devices.entry) (after W.line F.store devices.exit) }
         ensures ended { state_of self.old ≡ Sta1
             → StaysEnded (fields_of self.old) (fields_of self.new) (before W.line F.store devices.entry) (after W.line F.store devices.exit) }
     {

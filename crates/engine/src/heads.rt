@@ -127,16 +127,13 @@ pub(crate) fn head_event(room: usize, most: u32, state: State, kind: u8, length:
 }
 
 impl<const A: usize, const C: usize, const V: usize, const D: usize> Provider<A, C, V, D> {
-    ghost use Rattle.std.specs.Prelude.{ℕ, ◌-◌, []};
-    ghost use Rattle.pdu.specs.Marks.{Head};
-    ghost use Rattle.engine.specs.Progress.{Progress};
-    ghost use Rattle.engine.specs.Timeline.{At};
+    ghost use Rattle.std.specs.Prelude.{◌-◌, []};
     ghost use Rattle.engine.specs.machine.Lent.{before, after, KeepsDraft};
-    ghost use Rattle.engine.specs.Kept.{Pends, kept_of, settings_in};
+    ghost use Rattle.engine.specs.Kept.{kept_of, settings_in};
     ghost use Rattle.engine.specs.machine.Capacity.{BodyFits};
     ghost use Rattle.engine.specs.Drafts.{IsThere};
     ghost use Rattle.engine.specs.StoredData.{drafting_in};
-    ghost use Rattle.engine.specs.machine.Does.{Does};
+    ghost use Rattle.engine.specs.machine.Events.{TakesHead};
     ghost use Rattle.engine.specs.Run.{rooms_of};
 
     /// The head of a PDU: it is judged by its type, its length and the state.
@@ -151,8 +148,7 @@ impl<const A: usize, const C: usize, const V: usize, const D: usize> Provider<A,
         ensures fits { BodyFits (A - 12) (kept_of self.new) kind length }
         ensures settings { settings_in self.new ≡ settings_in self.old }
         ensures drafts { KeepsDraft (kept_of self.old) (kept_of self.new) (before W.line F.store devices.entry) (after W.line F.store devices.exit) }
-        ensures does { (p : Progress) → Pends (kept_of self.old) (F.store devices.entry.filing.now) p [] [] → Does (rooms_of A C V D) (settings_in self.old) p (At (Head kind length)) (kept_of self.new) [] []
-            (before W.line F.store devices.entry) (after W.line F.store devices.exit) }
+        ensures does { TakesHead (rooms_of A C V D) (settings_in self.old) (kept_of self.old) (kept_of self.new) kind length (before W.line F.store devices.entry) (after W.line F.store devices.exit) }
     {
         let state = self.phase.state();
         let event = head_event(A - HEADS, self.config.max_pdu, state, kind, length);

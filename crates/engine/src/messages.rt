@@ -1,12 +1,7 @@
 //! What the PDVs of an established association do: fragments are joined to messages, and the commands
 //! are answered.
-ghost use Rattle.std.specs.Prelude.{◌≡◌, ◌≤◌, ◌+◌, ◌-◌, ◌^◌, ◌++◌, [], List, ℕ, length, drop, get_or, false, Ok};
-ghost use Rattle.pdu.specs.Heads.{pdv_head_of};
-ghost use Rattle.pdu.specs.Marks.{Pdv, head_mark, pdv_size};
+ghost use Rattle.std.specs.Prelude.{◌≡◌, ◌≤◌, ◌+◌, ◌-◌, ◌^◌, ℕ, length, Ok};
 ghost use Rattle.pdu.specs.Sent.{Line};
-ghost use Rattle.dimse.specs.Command.{CommandRecord};
-ghost use Rattle.dimse.specs.Reading.{command_in};
-ghost use Rattle.dimse.specs.Messages as messages;
 
 use crate::devices::Devices;
 use crate::heads::INVALID_PARAMETER;
@@ -31,16 +26,10 @@ struct Origin<'a> {
 }
 
 impl<const C: usize, const V: usize, const D: usize> Message<C, V, D> {
-    ghost use Rattle.std.specs.Prelude.{true};
-    ghost use Rattle.negotiate.specs.Settings.{settings_of};
-    ghost use Rattle.engine.specs.Progress.{Progress};
-    ghost use Rattle.engine.specs.Drafts.{IsThere, IsDraft, Drafts};
-    ghost use Rattle.engine.specs.StoredData.{Nothing, Walks, drafting_in, stored_of};
-    ghost use Rattle.engine.specs.Requested.{Requested, request_record};
-    ghost use Rattle.engine.specs.Run.{rooms_of};
-    ghost use Rattle.engine.specs.machine.Accepted.{IsPeerOf};
+    ghost use Rattle.engine.specs.Drafts.{IsThere, Drafts};
+    ghost use Rattle.engine.specs.StoredData.{drafting_in, stored_of};
     ghost use Rattle.engine.specs.machine.Lent.{before, after};
-    ghost use Rattle.engine.specs.machine.Messages.{HasCome, Proceeds, Ended};
+    ghost use Rattle.engine.specs.machine.Messages.{BeginsData, EndsMessage};
 
     /// A command that announces a data set is whole: where its class is that of its context, the data
     /// are walked and go to a draft.
@@ -52,9 +41,7 @@ impl<const C: usize, const V: usize, const D: usize> Message<C, V, D> {
         requires greatest_levels { D ≤ 2 ^ 24 }
         ensures join { self.new.join ≡ self.old.join }
         ensures drafts { Drafts (drafting_in (stored_of self.old.storing)) (F.store filing.old) (drafting_in (stored_of self.new.storing)) (F.store filing.new) }
-        ensures proceeds { (request : Requested) → IsPeerOf origin.entry.peer.now (settings_of origin.entry.config.now).further (request_record request) → stored_of self.old.storing ≡ Nothing
-            → ((c : CommandRecord) → command_in self.old.join.command ≡ Ok c → c.with_data ≡ true)
-            → Proceeds D origin.entry.config.now.max_data request (messages.InSet origin.entry.context self.old.join.command []) false (stored_of self.new.storing) (F.store filing.old) (F.store filing.new) }
+        ensures proceeds { BeginsData D origin.entry self.old.join.command (stored_of self.old.storing) (stored_of self.new.storing) (F.store filing.old) (F.store filing.new) }
     {
         let Ok(command) = read_command(self.join.command()) else {
             return;
@@ -81,10 +68,7 @@ impl<const C: usize, const V: usize, const D: usize> Message<C, V, D> {
         requires draft { IsThere (drafting_in (stored_of self.old.storing)) (F.store devices.filing.now) }
         ensures join { self.new.join ≡ self.old.join }
         ensures drafts { Drafts (drafting_in (stored_of self.old.storing)) (F.store devices.entry.filing.now) (drafting_in (stored_of self.new.storing)) (after W.line F.store devices.exit).store }
-        ensures ended { (A : ℕ) (p : Progress) (m : messages.Message) (come : messages.Begun) → IsPeerOf origin.entry.peer.now (settings_of origin.entry.config.now).further (request_record p.request) → HasCome m come
-            → self.old.join.command ≡ m.command → origin.entry.context ≡ m.context → Walks D origin.entry.config.now.max_data p.request come (stored_of self.old.storing)
-            → IsDraft p.request come p.filing_failed (F.store devices.entry.filing.now) (drafting_in (stored_of self.old.storing))
-            → Ended (rooms_of A C V D) (settings_of origin.entry.config.now) p m come result (before W.line F.store devices.entry) (after W.line F.store devices.exit) }
+        ensures ended { EndsMessage C V D origin.entry self.old.join.command (stored_of self.old.storing) result (before W.line F.store devices.entry) (after W.line F.store devices.exit) }
     {
         let Ok(command) = read_command(self.join.command()) else {
             return Ok(());
@@ -109,15 +93,13 @@ impl<const C: usize, const V: usize, const D: usize> Message<C, V, D> {
 }
 
 impl<const A: usize, const C: usize, const V: usize, const D: usize> Provider<A, C, V, D> {
-    ghost use Rattle.engine.specs.Progress.{Progress};
-    ghost use Rattle.engine.specs.Timeline.{At};
     ghost use Rattle.engine.specs.Devices.{devices};
     ghost use Rattle.engine.specs.machine.Lent.{before, after, KeepsDraft};
-    ghost use Rattle.engine.specs.Kept.{Pends, kept_of, settings_in};
+    ghost use Rattle.engine.specs.Kept.{kept_of, settings_in};
     ghost use Rattle.engine.specs.machine.Capacity.{FragmentFits};
     ghost use Rattle.engine.specs.Drafts.{IsThere, Drafts};
     ghost use Rattle.engine.specs.StoredData.{drafting_in};
-    ghost use Rattle.engine.specs.machine.Does.{Does, Appends};
+    ghost use Rattle.engine.specs.machine.Events.{TakesFragment, TakesPdvEnd, TakesPdvHead};
     ghost use Rattle.engine.specs.Run.{rooms_of};
 
     /// The head of a PDV: its context has to be an accepted one, and it has to go on with the message.
@@ -131,9 +113,7 @@ impl<const A: usize, const C: usize, const V: usize, const D: usize> Provider<A,
         ensures settings { settings_in self.new ≡ settings_in self.old }
         ensures drafts { KeepsDraft (kept_of self.old) (kept_of self.new) (before W.line F.store devices.entry) (after W.line F.store devices.exit) }
         ensures fits { FragmentFits (kept_of self.new) (head.length - 2) }
-        ensures does { (p : Progress) (begun : List ℕ) → length begun ≡ 6 → head ≡ pdv_head_of begun → Pends (kept_of self.old) (F.store devices.entry.filing.now) p [] []
-            → Does (rooms_of A C V D) (settings_in self.old) p (At (head_mark begun)) (kept_of self.new) [] begun
-            (before W.line F.store devices.entry) (after W.line F.store devices.exit) }
+        ensures does { TakesPdvHead (rooms_of A C V D) (settings_in self.old) (kept_of self.old) (kept_of self.new) head (before W.line F.store devices.entry) (after W.line F.store devices.exit) }
     {
         if self.refused {
             return;
@@ -158,9 +138,7 @@ impl<const A: usize, const C: usize, const V: usize, const D: usize> Provider<A,
         ensures settings { settings_in self.new ≡ settings_in self.old }
         ensures drafts { Drafts (drafting_in (kept_of self.old).storing) (F.store filing.old) (drafting_in (kept_of self.new).storing) (F.store filing.new) }
         ensures fits { (m : ℕ) → FragmentFits (kept_of self.old) (length part.now + m) → FragmentFits (kept_of self.new) m }
-        ensures appends { (line : Line) (p : Progress) (begun : List ℕ) → 6 ≤ length begun → Pends (kept_of self.old) (F.store filing.old) p [] begun
-            → Appends (rooms_of A C V D) (settings_in self.old) p (kept_of self.new) [] (begun ++ part.now)
-            (devices line (F.store filing.old)) (devices line (F.store filing.new)) }
+        ensures appends { (line : Line) → TakesFragment (rooms_of A C V D) (settings_in self.old) (kept_of self.old) (kept_of self.new) part.now (devices line (F.store filing.old)) (devices line (F.store filing.new)) }
     {
         if self.refused {
             return;
@@ -176,9 +154,7 @@ impl<const A: usize, const C: usize, const V: usize, const D: usize> Provider<A,
         requires draft { IsThere (drafting_in (kept_of self.old).storing) (F.store devices.filing.now) }
         ensures settings { settings_in self.new ≡ settings_in self.old }
         ensures drafts { KeepsDraft (kept_of self.old) (kept_of self.new) (before W.line F.store devices.entry) (after W.line F.store devices.exit) }
-        ensures does { (p : Progress) (begun : List ℕ) → 6 ≤ length begun → length begun ≡ pdv_size begun → Pends (kept_of self.old) (F.store devices.entry.filing.now) p [] begun
-            → Does (rooms_of A C V D) (settings_in self.old) p (At (Pdv (get_or begun 4 0) (get_or begun 5 0) (drop 6 begun))) (kept_of self.new) [] []
-            (before W.line F.store devices.entry) (after W.line F.store devices.exit) }
+        ensures does { TakesPdvEnd (rooms_of A C V D) (settings_in self.old) (kept_of self.old) (kept_of self.new) (before W.line F.store devices.entry) (after W.line F.store devices.exit) }
     {
         if self.refused {
             return;

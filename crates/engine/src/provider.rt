@@ -1,5 +1,5 @@
 //! What an association does at each mark of its stream, above the framing.
-ghost use Rattle.std.specs.Prelude.{◌≡◌, ◌≤◌, ◌<◌, ◌+◌, ◌*◌, ◌-◌, ◌^◌, [], false};
+ghost use Rattle.std.specs.Prelude.{◌≡◌, ◌≤◌, ◌+◌, ◌*◌, ◌-◌, ◌^◌, [], false};
 ghost use Rattle.acceptor.specs.declared.state.State.TheVariants.{Sta6};
 ghost use Rattle.engine.specs.Phases.{taken_in};
 ghost use Rattle.engine.specs.StoredData.{drafting_in};
@@ -34,22 +34,21 @@ pub(crate) struct Provider<const A: usize, const C: usize, const V: usize, const
 }
 
 impl<const A: usize, const C: usize, const V: usize, const D: usize> Provider<A, C, V, D> {
-    ghost use Rattle.std.specs.Prelude.{ℕ, List, true, if◌then◌else◌};
-    ghost use Rattle.engine.specs.Progress.{Progress, nothing, done, refusing, at_start};
-    ghost use Rattle.engine.specs.Reached.{takes_pdvs};
-    ghost use Rattle.engine.specs.Replies.{invalid};
+    ghost use Rattle.std.specs.Prelude.{ℕ, true};
+    ghost use Rattle.engine.specs.Progress.{at_start};
     ghost use Rattle.engine.specs.machine.Lent.{before, after, KeepsDraft};
-    ghost use Rattle.engine.specs.machine.Answers.{answer_text, reason_of};
+    ghost use Rattle.engine.specs.machine.Answers.{done_by};
     ghost use Rattle.negotiate.specs.Settings.{settings_of};
     ghost use Rattle.part10.specs.Store.{Store};
     ghost use Rattle.engine.specs.Drafts.{IsThere, Drafts};
-    ghost use Rattle.engine.specs.Kept.{Pends, held_by, takes_pdvs_in, counted_body, counted_pdv, kept_of, settings_in};
+    ghost use Rattle.engine.specs.Kept.{Pends, held_by, takes_pdvs_in, kept_of, settings_in};
     ghost use Rattle.engine.specs.machine.Capacity.{BodyFits, FragmentFits};
     ghost use Rattle.pdu.specs.Deframed.{position_of};
     ghost use Rattle.pdu.specs.Steps.{events_due};
     ghost use Rattle.engine.specs.FrameFields.{IsUncounted};
     ghost use Rattle.engine.specs.machine.Skips.{passed};
-    ghost use Rattle.engine.specs.machine.DoesDue.{DoesDue, ComesTo, Stays, is_left};
+    ghost use Rattle.engine.specs.machine.DoesDue.{ComesTo, Stays, is_left};
+    ghost use Rattle.engine.specs.machine.Tries.{TriesDue, TriesInvalid, TriesRefusing};
     ghost use Rattle.engine.specs.machine.Messages.{with_body, with_storing};
     ghost use Rattle.engine.specs.machine.Storing.{Drops};
 
@@ -188,9 +187,7 @@ impl<const A: usize, const C: usize, const V: usize, const D: usize> Provider<A,
         ensures body_fits { (kind m : ℕ) → BodyFits (A - 12) (kept_of self.old) kind m → BodyFits (A - 12) (kept_of self.new) kind m }
         ensures fragment_fits { (m : ℕ) → FragmentFits (kept_of self.old) m → FragmentFits (kept_of self.new) m }
         ensures uncounted { (kind : ℕ) → IsUncounted (kept_of self.old) kind → IsUncounted (kept_of self.new) kind }
-        ensures tries { (p : Progress) (body begun : List ℕ) → Pends (kept_of self.old) (F.store devices.entry.filing.now) p body begun
-            → DoesDue p (done (answer_text answering.entry) (reason_of answering.entry) p event) (kept_of self.new) body begun
-            (before W.line F.store devices.entry) (after W.line F.store devices.exit) }
+        ensures tries { TriesDue (done_by answering.entry event) (kept_of self.old) (kept_of self.new) (before W.line F.store devices.entry) (after W.line F.store devices.exit) }
     {
         let (next, sent) = step(self.phase.state(), event, answering, devices.wire);
         self.settle(next, sent, devices.filing);
@@ -209,10 +206,7 @@ impl<const A: usize, const C: usize, const V: usize, const D: usize> Provider<A,
         ensures settings { settings_in self.new ≡ settings_in self.old }
         ensures refused { self.new.refused ≡ true }
         ensures body { (kept_of self.old).body ≡ [] → (kept_of self.new).body ≡ [] }
-        ensures tries { (p : Progress) (body begun body_then begun_then : List ℕ) → Pends (kept_of self.old) (F.store devices.entry.filing.now) p body begun
-            → counted_body (done (answer_text answering.entry) (reason_of answering.entry) p event).next body ≡ [] → counted_pdv (done (answer_text answering.entry) (reason_of answering.entry) p event).next begun ≡ []
-            → DoesDue p (refusing (done (answer_text answering.entry) (reason_of answering.entry) p event)) (kept_of self.new) body_then begun_then
-            (before W.line F.store devices.entry) (after W.line F.store devices.exit) }
+        ensures tries { TriesRefusing (done_by answering.entry event) (kept_of self.old) (kept_of self.new) (before W.line F.store devices.entry) (after W.line F.store devices.exit) }
     {
         self.happens(event, answering, devices);
         self.refused = true;
@@ -223,9 +217,7 @@ impl<const A: usize, const C: usize, const V: usize, const D: usize> Provider<A,
         requires draft { IsThere (drafting_in (kept_of self.old).storing) (F.store devices.filing.now) }
         ensures settings { settings_in self.new ≡ settings_in self.old }
         ensures drafts { KeepsDraft (kept_of self.old) (kept_of self.new) (before W.line F.store devices.entry) (after W.line F.store devices.exit) }
-        ensures tries { (p : Progress) → Pends (kept_of self.old) (F.store devices.entry.filing.now) p [] []
-            → DoesDue p (if takes_pdvs p then invalid p else nothing p) (kept_of self.new) [] []
-            (before W.line F.store devices.entry) (after W.line F.store devices.exit) }
+        ensures tries { TriesInvalid (kept_of self.old) (kept_of self.new) (before W.line F.store devices.entry) (after W.line F.store devices.exit) }
     {
         if self.takes_pdvs() {
             let answering = Answering::Abort(INVALID_PARAMETER);

@@ -1,5 +1,5 @@
 //! Association requests, and the other PDUs that act when they are whole.
-ghost use Rattle.std.specs.Prelude.{◌≡◌, ◌≤◌, ◌<◌, ◌+◌, ◌*◌, ◌-◌, ◌++◌, [], List, ℕ, length, true, false, OnErr, IfSome, IfNone};
+ghost use Rattle.std.specs.Prelude.{◌≡◌, ◌≤◌, ◌<◌, ◌+◌, ◌*◌, ◌-◌, ℕ, length, true, false, OnErr, IfSome, IfNone};
 ghost use Rattle.acceptor.specs.declared.state.State.TheVariants.{Sta2, Sta6};
 ghost use Rattle.arrayvec.specs.ArrayVec.{array_vec_len};
 ghost use Rattle.pdu.specs.Items.{request_record};
@@ -98,19 +98,17 @@ fn answer_request<W: Wire>(
 }
 
 impl<const A: usize, const C: usize, const V: usize, const D: usize> Provider<A, C, V, D> {
-    ghost use Rattle.pdu.specs.Marks.{End};
     ghost use Rattle.std.specs.Prelude.{if◌then◌else◌};
-    ghost use Rattle.engine.specs.Progress.{Progress, nothing, is_due, is_established};
-    ghost use Rattle.engine.specs.Run.{at_entry, released, rooms_of};
-    ghost use Rattle.engine.specs.Timeline.{At, good};
+    ghost use Rattle.engine.specs.Progress.{nothing, is_established};
+    ghost use Rattle.engine.specs.Run.{released, rooms_of};
     ghost use Rattle.engine.specs.machine.Lent.{before, after, KeepsDraft};
-    ghost use Rattle.engine.specs.Kept.{Pends, body_in, takes_body_in, kept_of, settings_in};
+    ghost use Rattle.engine.specs.Kept.{takes_body_in, kept_of, settings_in};
     ghost use Rattle.engine.specs.machine.Capacity.{BodyFits};
     ghost use Rattle.part10.specs.Store.{Store};
     ghost use Rattle.engine.specs.Drafts.{IsThere};
     ghost use Rattle.engine.specs.StoredData.{drafting_in};
-    ghost use Rattle.engine.specs.machine.DoesDue.{DoesDue};
-    ghost use Rattle.engine.specs.machine.Does.{Does};
+    ghost use Rattle.engine.specs.machine.Events.{TakesBody, TakesEnd};
+    ghost use Rattle.engine.specs.machine.Tries.{TriesDue, TriesRequest, TriesWhole};
 
     /// Whether the body of a PDU of this type is kept.
     pub(crate) fn takes_body(&self, kind: u8) -> bool
@@ -128,7 +126,7 @@ impl<const A: usize, const C: usize, const V: usize, const D: usize> Provider<A,
         ensures settings { settings_in self.new ≡ settings_in self.old }
         ensures storing { (kept_of self.new).storing ≡ (kept_of self.old).storing }
         ensures fits { (m : ℕ) → BodyFits (A - 12) (kept_of self.old) kind (length part.now + m) → BodyFits (A - 12) (kept_of self.new) kind m }
-        ensures pends { (store : Store) (p : Progress) (body : List ℕ) → Pends (kept_of self.old) store p (body_in kind body) [] → Pends (kept_of self.new) store p (body_in kind (body ++ part.now)) [] }
+        ensures pends { (store : Store) → TakesBody (kept_of self.old) (kept_of self.new) kind part.now store }
     {
         if self.refused || kind != pdu_type::A_ASSOCIATE_RQ {
             return;
@@ -144,9 +142,7 @@ impl<const A: usize, const C: usize, const V: usize, const D: usize> Provider<A,
         requires draft { IsThere (drafting_in (kept_of self.old).storing) (F.store devices.filing.now) }
         ensures settings { settings_in self.new ≡ settings_in self.old }
         ensures drafts { KeepsDraft (kept_of self.old) (kept_of self.new) (before W.line F.store devices.entry) (after W.line F.store devices.exit) }
-        ensures tries { (p : Progress) (body : List ℕ) → Pends (kept_of self.old) (F.store devices.entry.filing.now) p body [] → p.refused ≡ false
-            → DoesDue p (if is_due p.state then at_request (settings_in self.old) p body else nothing p) (kept_of self.new) body []
-            (before W.line F.store devices.entry) (after W.line F.store devices.exit) }
+        ensures tries { TriesRequest (settings_in self.old) (kept_of self.old) (kept_of self.new) (before W.line F.store devices.entry) (after W.line F.store devices.exit) }
     {
         let Phase::AwaitingRequest { body } = &self.phase else {
             return;
@@ -170,9 +166,7 @@ impl<const A: usize, const C: usize, const V: usize, const D: usize> Provider<A,
         requires draft { IsThere (drafting_in (kept_of self.old).storing) (F.store devices.filing.now) }
         ensures settings { settings_in self.new ≡ settings_in self.old }
         ensures drafts { KeepsDraft (kept_of self.old) (kept_of self.new) (before W.line F.store devices.entry) (after W.line F.store devices.exit) }
-        ensures tries { (p : Progress) (body begun : List ℕ) → Pends (kept_of self.old) (F.store devices.entry.filing.now) p body begun
-            → DoesDue p (if is_established p.state then released p else nothing p) (kept_of self.new) body begun
-            (before W.line F.store devices.entry) (after W.line F.store devices.exit) }
+        ensures tries { TriesDue (λ p. if is_established p.state then released p else nothing p) (kept_of self.old) (kept_of self.new) (before W.line F.store devices.entry) (after W.line F.store devices.exit) }
     {
         let Phase::Established { .. } = &self.phase else {
             return;
@@ -187,8 +181,7 @@ impl<const A: usize, const C: usize, const V: usize, const D: usize> Provider<A,
         requires draft { IsThere (drafting_in (kept_of self.old).storing) (F.store devices.filing.now) }
         ensures settings { settings_in self.new ≡ settings_in self.old }
         ensures drafts { KeepsDraft (kept_of self.old) (kept_of self.new) (before W.line F.store devices.entry) (after W.line F.store devices.exit) }
-        ensures tries { (p : Progress) (body : List ℕ) → Pends (kept_of self.old) (F.store devices.entry.filing.now) p (body_in kind body) []
-            → DoesDue p (at_entry (rooms_of A C V D) (settings_in self.old) p good (At (End kind body))) (kept_of self.new) (body_in kind body) [] (before W.line F.store devices.entry) (after W.line F.store devices.exit) }
+        ensures tries { TriesWhole (rooms_of A C V D) (settings_in self.old) (kept_of self.old) (kept_of self.new) kind (before W.line F.store devices.entry) (after W.line F.store devices.exit) }
     {
         if let Phase::Ended = &self.phase {
             return;
@@ -209,8 +202,7 @@ impl<const A: usize, const C: usize, const V: usize, const D: usize> Provider<A,
         requires draft { IsThere (drafting_in (kept_of self.old).storing) (F.store devices.filing.now) }
         ensures settings { settings_in self.new ≡ settings_in self.old }
         ensures drafts { KeepsDraft (kept_of self.old) (kept_of self.new) (before W.line F.store devices.entry) (after W.line F.store devices.exit) }
-        ensures does { (p : Progress) (body : List ℕ) → Pends (kept_of self.old) (F.store devices.entry.filing.now) p (body_in kind body) [] → Does (rooms_of A C V D) (settings_in self.old) p (At (End kind body)) (kept_of self.new) [] []
-            (before W.line F.store devices.entry) (after W.line F.store devices.exit) }
+        ensures does { TakesEnd (rooms_of A C V D) (settings_in self.old) (kept_of self.old) (kept_of self.new) kind (before W.line F.store devices.entry) (after W.line F.store devices.exit) }
     {
         self.on_whole(kind, devices);
         self.clear_body();

@@ -1,17 +1,15 @@
 //! The data of a C-STORE: they are walked as they come, and go to the draft of a file.
-ghost use Rattle.std.specs.Prelude.{◌≡◌, ◌≤◌, ◌+◌, ◌*◌, ◌^◌, ◌++◌, List, ℕ, Bool, true, false, Some, None};
+ghost use Rattle.std.specs.Prelude.{◌≡◌, ◌≤◌, ◌+◌, ◌*◌, ◌^◌, ◌++◌, List, ℕ, true, false, Some, None};
 ghost use Rattle.element.specs.declared.syntax.Syntax.{Syntax};
-ghost use Rattle.part10.specs.File.{head};
 ghost use Rattle.sequence.specs.Rules.{Limits};
 ghost use Rattle.sequence.specs.Taken.{told_by};
 ghost use Rattle.sequence.specs.Stored.{wanted_tags};
 ghost use Rattle.engine.specs.Drafts.{IsThere, Drafts};
-ghost use Rattle.engine.specs.Replies.{some_or_nothing};
 ghost use Rattle.negotiate.specs.declared.proposals.Service.TheVariants as services;
 ghost use Rattle.engine.specs.Stores as spelling;
 ghost use Rattle.engine.specs.Stores.{IsOfContext, NamesUid, NamesInstance, limits};
 ghost use Rattle.engine.specs.StoredData.{Nothing, HasWalked, stored_of, held_in};
-ghost use Rattle.engine.specs.machine.Storing.{Begins, BeginsStore, Grows, finding_of};
+ghost use Rattle.engine.specs.machine.Storing.{Begins, BeginsStore, Grows, finding_of, header_of};
 ghost use Rattle.engine.specs.machine.Verdicts.{Commits, Compared, WalkHasVerdict, of_fault};
 
 use dictionary::{Class, class_of};
@@ -151,9 +149,7 @@ pub(crate) fn begin_store<const V: usize, const D: usize, F: Filing>(
     requires least_levels { 2 ≤ D }
     requires greatest_levels { D ≤ 2 ^ 24 }
     requires most_data { max_data ≤ 2 ^ 48 }
-    ensures begins { command.now.with_data ≡ true → BeginsStore context.now.syntax (limits D max_data)
-        (head (record { class = command.now.class; instance = some_or_nothing command.now.instance; syntax = context.now.syntax; calling = caller }))
-        (stored_of result) (F.store filing.old) (F.store filing.new) }
+    ensures begins { command.now.with_data ≡ true → BeginsStore context.now.syntax (limits D max_data) (header_of command.now context.now.syntax caller) (stored_of result) (F.store filing.old) (F.store filing.new) }
     ensures no_store { command.now.with_data ≡ false → (stored_of result ≡ Nothing) × (F.store filing.new ≡ F.store filing.old) }
 {
     if command.field() != Command::C_STORE {
@@ -279,13 +275,11 @@ fn commit<F: Filing>(filing: &mut F) -> StoreStatus
 }
 
 impl<const V: usize, const D: usize> Storing<V, D> {
-    ghost use Rattle.std.specs.Prelude.{◌≡◌, ◌≤◌, ◌+◌, ◌*◌, List, ℕ, Bool, None};
-    ghost use Rattle.sequence.specs.declared.walker.Walker.{Walker};
+    ghost use Rattle.std.specs.Prelude.{◌≡◌, ◌≤◌, ◌+◌, ◌*◌, None};
     ghost use Rattle.dimse.specs.Status.{class_not_supported};
-    ghost use Rattle.negotiate.specs.declared.proposals.Context.{Context};
-    ghost use Rattle.engine.specs.machine.Verdicts.{HasVerdict};
-    ghost use Rattle.engine.specs.StoredData.{Nothing, Walking, HasWalked, stored_of, drafting_in};
-    ghost use Rattle.engine.specs.machine.Storing.{GoesOn, Drops, EndsStore, finding_of};
+    ghost use Rattle.engine.specs.machine.Verdicts.{EndsAs, HasVerdict};
+    ghost use Rattle.engine.specs.StoredData.{Nothing, stored_of, drafting_in};
+    ghost use Rattle.engine.specs.machine.Storing.{GoesOn, Drops, finding_of};
 
     /// Whether the draft is in the filing.
     pub(crate) fn drafting(&self) -> bool
@@ -337,9 +331,7 @@ impl<const V: usize, const D: usize> Storing<V, D> {
         requires there { IsThere (drafting_in (stored_of self.old)) (F.store filing.old) }
         ensures nothing { stored_of self.new ≡ Nothing }
         ensures unsupported { stored_of self.old ≡ Nothing → (finding_of result ≡ record { status = class_not_supported; detail = None }) × (F.store filing.new ≡ F.store filing.old) }
-        ensures ends { (W E : ℕ) (walker : Walker W E) (drafting : Bool) (context : Context) (depth most : ℕ) (set : List ℕ) → stored_of self.old ≡ Walking walker drafting
-            → HasWalked walker context.syntax (spelling.limits depth most) set
-            → EndsStore depth most context command.now set drafting (finding_of result) (F.store filing.old) (F.store filing.new) }
+        ensures ends { EndsAs command.now (finding_of result) (F.store filing.old) (F.store filing.new) (stored_of self.old) }
         ensures drafts { Drafts (drafting_in (stored_of self.old)) (F.store filing.old) (drafting_in (stored_of self.new)) (F.store filing.new) }
     {
         let drafting = self.drafting();

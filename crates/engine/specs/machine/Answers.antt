@@ -5,6 +5,8 @@ use Rattle.negotiate.specs.Settings.{settings_of}
 use Rattle.negotiate.specs.Accept.{answer_bytes}
 use Rattle.engine.specs.declared.sending.Answering.{Answering}
 use Rattle.engine.specs.declared.sending.Answering.TheVariants as answering
+use Rattle.acceptor.specs.declared.event.Event.{Event}
+use Rattle.engine.specs.Progress.{Progress, Advance, done}
 
 abbrev pub answer_text : Answering → List ℕ
 answer_text answering.Nothing = []
@@ -15,3 +17,7 @@ answer_text (answering.Request config request) = answer_bytes (settings_of confi
 abbrev pub reason_of : Answering → ℕ
 reason_of (answering.Abort reason) = reason
 reason_of other = 0
+
+-- what an event brings that is answered so
+abbrev pub done_by : Answering → Event → Progress → Advance
+done_by a event p = done (answer_text a) (reason_of a) p event

@@ -1,6 +1,7 @@
 -- What a call does that takes an event of the stream, and the room that it needs and leaves.
-use Rattle.std.specs.Prelude.{◌≡◌, ℕ, ◌+◌, ◌-◌, ◌≤◌, List, [], ◌++◌, length, drop, get_or}
+use Rattle.std.specs.Prelude.{◌≡◌, ℕ, ◌+◌, ◌-◌, ◌≤◌, Bool, List, [], ◌++◌, length, drop, get_or}
 use Rattle.pdu.specs.declared.event.Event.{Event}
+use Rattle.pdu.specs.declared.head.PdvHead.{PdvHead}
 use Rattle.pdu.specs.declared.event.Event.TheVariants as event
 use Rattle.pdu.specs.Heads.{pdv_head_of}
 use Rattle.pdu.specs.Marks.{Head, Pdv, BadPdv, Leftover, End, head_mark, pdv_size}
@@ -8,25 +9,53 @@ use Rattle.acceptor.specs.declared.event.Event as acceptor
 use Rattle.acceptor.specs.declared.event.Event.TheVariants as happened
 use Rattle.negotiate.specs.Settings.{Settings}
 use Rattle.engine.specs.Inputs.{Received, Close, Expiry, UserAbort}
-use Rattle.engine.specs.Timeline.{Entry, At, Shut, TimedOut, Aborted}
+use Rattle.engine.specs.Timeline.{Entry, Happened, At, Shut, TimedOut, Aborted}
 use Rattle.engine.specs.Progress.{Progress}
 use Rattle.engine.specs.Devices.{Devices}
+use Rattle.part10.specs.Store.{Store}
 use Rattle.engine.specs.Run.{Rooms}
 use Rattle.engine.specs.Kept.{Kept, Pends, body_in}
+use Rattle.engine.specs.FrameFields.{Fields}
+use Rattle.engine.specs.Stands.{Stands}
+use Rattle.engine.specs.Moves.{Moved}
 use Rattle.engine.specs.machine.Capacity.{BodyFits, FragmentFits}
 use Rattle.engine.specs.machine.Does.{Does, Appends}
 
+-- the head of a PDU, of this type and length
+abbrev pub TakesHead : Rooms → Settings → Kept → Kept → ℕ → ℕ → Devices → Devices → Type 0
+TakesHead rooms s old new kind size d e = (p : Progress) → Pends old d.store p [] [] → Does rooms s p (At (Head kind size)) new [] [] d e
+
+-- a part of the body of a PDU of this type
+abbrev pub TakesBody : Kept → Kept → ℕ → List ℕ → Store → Type 0
+TakesBody old new kind part store = (p : Progress) (body : List ℕ) → Pends old store p (body_in kind body) [] → Pends new store p (body_in kind (body ++ part)) []
+
+-- the head of a PDV
+abbrev pub TakesPdvHead : Rooms → Settings → Kept → Kept → PdvHead → Devices → Devices → Type 0
+TakesPdvHead rooms s old new head d e = (p : Progress) (begun : List ℕ) → length begun ≡ 6 → head ≡ pdv_head_of begun → Pends old d.store p [] [] → Does rooms s p (At (head_mark begun)) new [] begun d e
+
+-- a part of a fragment
+abbrev pub TakesFragment : Rooms → Settings → Kept → Kept → List ℕ → Devices → Devices → Type 0
+TakesFragment rooms s old new part d e = (p : Progress) (begun : List ℕ) → 6 ≤ length begun → Pends old d.store p [] begun → Appends rooms s p new [] (begun ++ part) d e
+
+-- the end of a PDV
+abbrev pub TakesPdvEnd : Rooms → Settings → Kept → Kept → Devices → Devices → Type 0
+TakesPdvEnd rooms s old new d e = (p : Progress) (begun : List ℕ) → 6 ≤ length begun → length begun ≡ pdv_size begun → Pends old d.store p [] begun
+    → Does rooms s p (At (Pdv (get_or begun 4 0) (get_or begun 5 0) (drop 6 begun))) new [] [] d e
+
+-- the end of a PDU of this type
+abbrev pub TakesEnd : Rooms → Settings → Kept → Kept → ℕ → Devices → Devices → Type 0
+TakesEnd rooms s old new kind d e = (p : Progress) (body : List ℕ) → Pends old d.store p (body_in kind body) [] → Does rooms s p (At (End kind body)) new [] [] d e
+
 -- by the event, where bodies of PDUs of this type are lent
 abbrev pub Takes : Rooms → Settings → Kept → Kept → ℕ → Event → Devices → Devices → Type 0
-Takes rooms s old new kind (event.PduHead head) d e = (p : Progress) → Pends old d.store p [] [] → Does rooms s p (At (Head head.kind head.length)) new [] [] d e
-Takes rooms s old new kind (event.Body part) d e = (e ≡ d) × ((p : Progress) (body : List ℕ) → Pends old d.store p (body_in kind body) [] → Pends new d.store p (body_in kind (body ++ part.now)) [])
-Takes rooms s old new kind (event.PdvHead head) d e = (p : Progress) (begun : List ℕ) → length begun ≡ 6 → head ≡ pdv_head_of begun → Pends old d.store p [] [] → Does rooms s p (At (head_mark begun)) new [] begun d e
-Takes rooms s old new kind (event.Fragment part) d e = (p : Progress) (begun : List ℕ) → 6 ≤ length begun → Pends old d.store p [] begun → Appends rooms s p new [] (begun ++ part.now) d e
-Takes rooms s old new kind event.PdvEnd d e = (p : Progress) (begun : List ℕ) → 6 ≤ length begun → length begun ≡ pdv_size begun → Pends old d.store p [] begun
-    → Does rooms s p (At (Pdv (get_or begun 4 0) (get_or begun 5 0) (drop 6 begun))) new [] [] d e
+Takes rooms s old new kind (event.PduHead head) d e = TakesHead rooms s old new head.kind head.length d e
+Takes rooms s old new kind (event.Body part) d e = (e ≡ d) × TakesBody old new kind part.now d.store
+Takes rooms s old new kind (event.PdvHead head) d e = TakesPdvHead rooms s old new head d e
+Takes rooms s old new kind (event.Fragment part) d e = TakesFragment rooms s old new part.now d e
+Takes rooms s old new kind event.PdvEnd d e = TakesPdvEnd rooms s old new d e
 Takes rooms s old new kind event.BadPdv d e = (p : Progress) → Pends old d.store p [] [] → Does rooms s p (At BadPdv) new [] [] d e
 Takes rooms s old new kind event.Leftover d e = (p : Progress) → Pends old d.store p [] [] → Does rooms s p (At Leftover) new [] [] d e
-Takes rooms s old new kind (event.PduEnd whole) d e = (p : Progress) (body : List ℕ) → Pends old d.store p (body_in whole body) [] → Does rooms s p (At (End whole body)) new [] [] d e
+Takes rooms s old new kind (event.PduEnd whole) d e = TakesEnd rooms s old new whole d e
 
 abbrev pub HasRoom : ℕ → Kept → ℕ → Event → Type 0
 HasRoom room kept kind (event.Body part) = BodyFits room kept kind (length part.now)
@@ -46,3 +75,8 @@ pub data Outside : acceptor.Event → Received → Entry → Type 0 where
   closed : Outside happened.Closed Close Shut
   expired : Outside happened.Expired Expiry TimedOut
   aborted : Outside happened.UserAborts UserAbort Aborted
+
+-- the input that tells such an event came
+abbrev pub MovesOutside : Rooms → Settings → acceptor.Event → Fields → Fields → Devices → Devices → Type 0
+MovesOutside rooms s event old new d e = (input : Received) (entry : Entry) → Outside event input entry → (inputs : List Received) (story : List Happened) (failed : Bool)
+    → Stands rooms s inputs story failed old d.store → Moved rooms s inputs story failed input old new d e

@@ -4,7 +4,7 @@ use Rattle.acceptor.specs.declared.state.State.TheVariants.{Sta6}
 use Rattle.pdu.specs.declared.wire.WireFailed.{WireFailed}
 use Rattle.engine.specs.Requested.{Requested, request_record}
 use Rattle.pdu.specs.Sent.{Sends}
-use Rattle.negotiate.specs.Settings.{Settings}
+use Rattle.negotiate.specs.Settings.{Settings, settings_of}
 use Rattle.dimse.specs.Command.{CommandRecord}
 use Rattle.dimse.specs.Reading.{command_in}
 use Rattle.dimse.specs.Messages.{Message, Begun, NoMessage, InCommand, InSet}
@@ -15,10 +15,12 @@ use Rattle.engine.specs.Timeline.{Finding}
 use Rattle.engine.specs.Progress.{Progress, absorb, is_established}
 use Rattle.engine.specs.Devices.{Devices, files_in, with_files, line_after, IsFront}
 use Rattle.engine.specs.Replies.{replied}
-use Rattle.engine.specs.Run.{Rooms, cut, counted}
+use Rattle.engine.specs.Run.{Rooms, rooms_of, cut, counted}
 use Rattle.engine.specs.Fair.{InStore, IsVerdict}
 use Rattle.engine.specs.Drafts.{IsDraft}
-use Rattle.engine.specs.StoredData.{Stored, Walks, drafting_in}
+use Rattle.engine.specs.StoredData.{Stored, Nothing, Walks, drafting_in}
+use Rattle.engine.specs.declared.messages.Origin.{Origin}
+use Rattle.engine.specs.machine.Accepted.{IsPeerOf}
 use Rattle.engine.specs.Kept.{Kept, Pends, Agreed, IsUnagreed, counted_body}
 
 abbrev pub with_body : List ℕ → Kept → Kept
@@ -49,6 +51,19 @@ pub record Proceeds (depth most : ℕ) (request : Requested) (message : Begun) (
   pub files : files_in new ≡ files_in old
   pub count : new.failures ≡ old.failures + counted failed
 
+-- what the settings are where a message came
+abbrev pub origin_settings : Origin → Settings
+origin_settings origin = settings_of origin.config.now
+
+-- it came in the association of this request
+abbrev pub IsFrom : Requested → Origin → Type 0
+IsFrom request origin = IsPeerOf origin.peer.now (origin_settings origin).further (request_record request)
+
+-- a command that announces a data set is whole, and no data are stored
+abbrev pub BeginsData : ℕ → Origin → List ℕ → Stored → Stored → Store → Store → Type 0
+BeginsData depth origin command stored_old stored_new old new = (request : Requested) → IsFrom request origin → stored_old ≡ Nothing → ((c : CommandRecord) → command_in command ≡ Ok c → c.with_data ≡ true)
+    → Proceeds depth origin.config.now.max_data request (InSet origin.context command []) false stored_new old new
+
 -- what had come of a whole message: its command and its data set, or its command alone, which announces none
 abbrev pub HasCome : Message → Begun → Type 0
 HasCome m come = (come ≡ InSet m.context m.command m.set) ⊎ ((come ≡ InCommand m.context m.command) × ((c : CommandRecord) → command_in m.command ≡ Ok c → c.with_data ≡ false))
@@ -64,6 +79,11 @@ pub record Ended (rooms : Rooms) (s : Settings) (p : Progress) (m : Message) (co
   pub due : OnErr result (0 < length (replied p finding m (command_in m.command)).sent)
   pub files : files_in devices_new.store ≡ with_files (replied p finding m (command_in m.command)).files (files_in devices_old.store)
   pub count : devices_new.store.failures ≡ devices_old.store.failures + counted failed
+
+-- whatever message of this command it is, and whatever had come of it, in an association with these limits
+abbrev pub EndsMessage : ℕ → ℕ → ℕ → Origin → List ℕ → Stored → Result (Unit {0}) WireFailed → Devices → Devices → Type 0
+EndsMessage C V D origin command stored result d e = (A : ℕ) (p : Progress) (m : Message) (come : Begun) → IsFrom p.request origin → HasCome m come → command ≡ m.command → origin.context ≡ m.context
+    → Walks D origin.config.now.max_data p.request come stored → IsDraft p.request come p.filing_failed d.store (drafting_in stored) → Ended (rooms_of A C V D) (origin_settings origin) p m come result d e
 
 -- and the fields show what comes after it
 pub record Concludes (rooms : Rooms) (s : Settings) (p : Progress) (m : Message) (come : Begun) (new : Kept) (devices_old devices_new : Devices) : Type 0 where

@@ -1,6 +1,6 @@
 -- What an association shows of the PDU that has begun: where its deframer stands, and what is kept.
 use Rattle.std.specs.Prelude.{◌≡◌, ℕ, ◌≤◌, Bool, true, false, List, [], ◌∷◌, ◌++◌, length, map}
-use Rattle.pdu.specs.Frames.{rest_of}
+use Rattle.pdu.specs.Frames.{IsRest, rest_of}
 use Rattle.pdu.specs.Marks.{Mark, Head, PdvHead, Pdv, BadPdv, Leftover, End, pdv_size, pdv_mark, new_marks}
 use Rattle.pdu.specs.Spot.{spot}
 use Rattle.negotiate.specs.Settings.{Settings}
@@ -10,6 +10,7 @@ use Rattle.engine.specs.Progress.{Progress, absorb}
 use Rattle.engine.specs.Devices.{Devices}
 use Rattle.engine.specs.Run.{Rooms, progress_of}
 use Rattle.engine.specs.Fair.{MayFail, AreFair}
+use Rattle.engine.specs.Held.{is_ended}
 use Rattle.engine.specs.Reached.{begun_in}
 use Rattle.engine.specs.FrameFields.{Fields, StandsAt, ShowsFrame, body_of}
 use Rattle.engine.specs.Gains.{Gains}
@@ -61,3 +62,11 @@ pub record Handles (rooms : Rooms) (s : Settings) (f : Fields) (p : Progress) (r
   pub pending : Pending (rest_of (r ++ c)) later body begun
   pub is_at : StandsAt f.position f.kept (rest_of (r ++ c)) later
   pub none_due : more ≡ false → later ≡ []
+
+-- bytes up to the next event were taken, and what it brings was done
+abbrev pub HandlesNext : Rooms → Settings → Fields → Fields → List ℕ → Bool → Devices → Devices → Type 0
+HandlesNext rooms s old new c more d e = (p : Progress) (r : List ℕ) (due : List Mark) → ShowsDue old d.store p r due → Handles rooms s new p r due c more d e
+
+-- a piece was taken
+abbrev pub HandlesAll : Rooms → Settings → Fields → Fields → List ℕ → Devices → Devices → Type 0
+HandlesAll rooms s old new c d e = (p : Progress) (r : List ℕ) → IsRest r → is_ended p.state ≡ false → ShowsFrame old d.store p r → DoesPart rooms s new p r c d e

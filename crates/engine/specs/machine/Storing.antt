@@ -1,30 +1,37 @@
 -- What the calls on the data of a message do.
 use Rattle.std.specs.Prelude.{◌≡◌, ℕ, Bool, true, false, not, ◌||◌, List, [], ◌++◌}
 use Rattle.element.specs.declared.syntax.Syntax.{Syntax}
+use Rattle.element.specs.declared.title.AeTitle.{AeTitle}
 use Rattle.sequence.specs.Rules.{Limits}
 use Rattle.dimse.specs.Command.{CommandRecord}
 use Rattle.dimse.specs.Status.{success}
 use Rattle.negotiate.specs.declared.proposals.Context.{Context}
+use Rattle.part10.specs.File.{head}
 use Rattle.part10.specs.Store.{Store, stepped, appended, committed, without_draft, failed}
 use Rattle.engine.specs.declared.stores.StoreStatus.{StoreStatus}
 use Rattle.engine.specs.StoredData.{Stored, Nothing, Walking, HasWalked}
 use Rattle.engine.specs.Stores.{IsOfContext, Verdict}
 use Rattle.engine.specs.Timeline.{Finding}
+use Rattle.engine.specs.Replies.{some_or_nothing}
 
 abbrev pub finding_of : StoreStatus → Finding
 finding_of s = record { status = s.status; detail = s.detail }
+
+-- the file header of the instance that a store sends, from this caller
+abbrev pub header_of : CommandRecord → Syntax → AeTitle → List ℕ
+header_of command syntax caller = head (record { class = command.class; instance = some_or_nothing command.instance; syntax = syntax; calling = caller })
 
 -- ---- calls
 
 -- a draft is begun and gets these bytes; or a filing call failed
 abbrev pub Begins : List ℕ → Bool → Store → Store → Type 0
-Begins head true old new = new ≡ stepped (λ shelf. record { files = shelf.files; draft = head }) true old
-Begins head false old new = new ≡ failed old
+Begins header true old new = new ≡ stepped (λ shelf. record { files = shelf.files; draft = header }) true old
+Begins header false old new = new ≡ failed old
 
 -- a walk with its draft begins
 abbrev pub BeginsStore : Syntax → Limits → List ℕ → Stored → Store → Store → Type 0
-BeginsStore syntax lim head Nothing old new = ⊥
-BeginsStore syntax lim head (Walking walker drafting) old new = HasWalked walker syntax lim [] × Begins head drafting old new
+BeginsStore syntax lim header Nothing old new = ⊥
+BeginsStore syntax lim header (Walking walker drafting) old new = HasWalked walker syntax lim [] × Begins header drafting old new
 
 -- a draft gets these bytes more, or the filing fails in it; without a draft the filing stays as it is
 abbrev pub Grows : List ℕ → Bool → Bool → Store → Store → Type 0

@@ -1,10 +1,8 @@
 //! Takes a piece of the stream, event by event.
-ghost use Rattle.std.specs.Prelude.{◌≡◌, ◌≤◌, ◌<◌, ◌+◌, ◌*◌, ℕ, List, length, take, true, false};
+ghost use Rattle.std.specs.Prelude.{◌≡◌, ◌≤◌, ◌<◌, ◌+◌, ◌*◌, length, take, true, false};
 ghost use Rattle.pdu.specs.Deframed.{position_of};
-ghost use Rattle.pdu.specs.Marks.{Mark};
 ghost use Rattle.pdu.specs.Steps.{events_due};
 ghost use Rattle.engine.specs.machine.Lent.{before, after, KeepsDraft};
-ghost use Rattle.engine.specs.Progress.{Progress};
 ghost use Rattle.engine.specs.Drafts.{IsThere};
 ghost use Rattle.engine.specs.StoredData.{drafting_in};
 ghost use Rattle.engine.specs.Kept.{kept_of, settings_in};
@@ -16,10 +14,7 @@ use part10::Filing;
 use pdu::Wire;
 
 impl<const A: usize, const C: usize, const V: usize, const D: usize> Association<A, C, V, D> {
-    ghost use Rattle.pdu.specs.Frames.{IsRest};
-    ghost use Rattle.engine.specs.Held.{is_ended};
-    ghost use Rattle.engine.specs.FrameFields.{ShowsFrame};
-    ghost use Rattle.engine.specs.machine.Shows.{ShowsDue, Handles, DoesPart};
+    ghost use Rattle.engine.specs.machine.Shows.{HandlesAll, HandlesNext};
     ghost use Rattle.engine.specs.Fields.{fields_of};
 
     /// Takes bytes up to the next event, and does what it brings. Returns how many, and whether there
@@ -35,8 +30,7 @@ impl<const A: usize, const C: usize, const V: usize, const D: usize> Association
         ensures fewer { result.1 ≡ true → events_due (position_of self.new.deframer) < events_due (position_of self.old.deframer) + 4 * result.0 }
         ensures settings { settings_in self.new.provider ≡ settings_in self.old.provider }
         ensures drafts { KeepsDraft (kept_of self.old.provider) (kept_of self.new.provider) (before W.line F.store devices.entry) (after W.line F.store devices.exit) }
-        ensures handles { (p : Progress) (r : List ℕ) (due : List Mark) → ShowsDue (fields_of self.old) (F.store devices.entry.filing.now) p r due
-            → Handles (rooms_of A C V D) (settings_in self.old.provider) (fields_of self.new) p r due (take result.0 piece.now) result.1
+        ensures handles { HandlesNext (rooms_of A C V D) (settings_in self.old.provider) (fields_of self.old) (fields_of self.new) (take result.0 piece.now) result.1
             (before W.line F.store devices.entry) (after W.line F.store devices.exit) }
     {
         let (count, event) = self.deframer.next(piece);
@@ -54,8 +48,7 @@ impl<const A: usize, const C: usize, const V: usize, const D: usize> Association
         requires draft { IsThere (drafting_in (kept_of self.old.provider).storing) (F.store devices.filing.now) }
         ensures settings { settings_in self.new.provider ≡ settings_in self.old.provider }
         ensures drafts { KeepsDraft (kept_of self.old.provider) (kept_of self.new.provider) (before W.line F.store devices.entry) (after W.line F.store devices.exit) }
-        ensures took { (p : Progress) (r : List ℕ) → IsRest r → is_ended p.state ≡ false → ShowsFrame (fields_of self.old) (F.store devices.entry.filing.now) p r
-            → DoesPart (rooms_of A C V D) (settings_in self.old.provider) (fields_of self.new) p r piece.now
+        ensures took { HandlesAll (rooms_of A C V D) (settings_in self.old.provider) (fields_of self.old) (fields_of self.new) piece.now
             (before W.line F.store devices.entry) (after W.line F.store devices.exit) }
     {
         let Devices { wire, filing } = devices;
