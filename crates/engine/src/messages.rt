@@ -138,7 +138,7 @@ impl<const A: usize, const C: usize, const V: usize, const D: usize> Provider<A,
         ensures settings { settings_in self.new ≡ settings_in self.old }
         ensures drafts { Drafts (drafting_in (kept_of self.old).storing) (F.store filing.old) (drafting_in (kept_of self.new).storing) (F.store filing.new) }
         ensures fits { (m : ℕ) → FragmentFits (kept_of self.old) (length part.now + m) → FragmentFits (kept_of self.new) m }
-        ensures appends { (line : Line) → TakesFragment (rooms_of A C V D) (settings_in self.old) (kept_of self.old) (kept_of self.new) part.now (devices line (F.store filing.old)) (devices line (F.store filing.new)) }
+        ensures takes { (l : Line) → TakesFragment (rooms_of A C V D) (settings_in self.old) (kept_of self.old) (kept_of self.new) part.now (devices l (F.store filing.old)) (devices l (F.store filing.new)) }
     {
         if self.refused {
             return;

@@ -98,9 +98,7 @@ fn answer_request<W: Wire>(
 }
 
 impl<const A: usize, const C: usize, const V: usize, const D: usize> Provider<A, C, V, D> {
-    ghost use Rattle.std.specs.Prelude.{if◌then◌else◌};
-    ghost use Rattle.engine.specs.Progress.{nothing, is_established};
-    ghost use Rattle.engine.specs.Run.{released, rooms_of};
+    ghost use Rattle.engine.specs.Run.{rooms_of};
     ghost use Rattle.engine.specs.machine.Lent.{before, after, KeepsDraft};
     ghost use Rattle.engine.specs.Kept.{takes_body_in, kept_of, settings_in};
     ghost use Rattle.engine.specs.machine.Capacity.{BodyFits};
@@ -108,7 +106,7 @@ impl<const A: usize, const C: usize, const V: usize, const D: usize> Provider<A,
     ghost use Rattle.engine.specs.Drafts.{IsThere};
     ghost use Rattle.engine.specs.StoredData.{drafting_in};
     ghost use Rattle.engine.specs.machine.Events.{TakesBody, TakesEnd};
-    ghost use Rattle.engine.specs.machine.Tries.{TriesDue, TriesRequest, TriesWhole};
+    ghost use Rattle.engine.specs.machine.Tries.{TriesRelease, TriesRequest, TriesWhole};
 
     /// Whether the body of a PDU of this type is kept.
     pub(crate) fn takes_body(&self, kind: u8) -> bool
@@ -166,7 +164,7 @@ impl<const A: usize, const C: usize, const V: usize, const D: usize> Provider<A,
         requires draft { IsThere (drafting_in (kept_of self.old).storing) (F.store devices.filing.now) }
         ensures settings { settings_in self.new ≡ settings_in self.old }
         ensures drafts { KeepsDraft (kept_of self.old) (kept_of self.new) (before W.line F.store devices.entry) (after W.line F.store devices.exit) }
-        ensures tries { TriesDue (λ p. if is_established p.state then released p else nothing p) (kept_of self.old) (kept_of self.new) (before W.line F.store devices.entry) (after W.line F.store devices.exit) }
+        ensures tries { TriesRelease (kept_of self.old) (kept_of self.new) (before W.line F.store devices.entry) (after W.line F.store devices.exit) }
     {
         let Phase::Established { .. } = &self.phase else {
             return;

@@ -9,7 +9,7 @@ ghost use Rattle.negotiate.specs.declared.proposals.Service.TheVariants as servi
 ghost use Rattle.engine.specs.Stores as spelling;
 ghost use Rattle.engine.specs.Stores.{IsOfContext, NamesUid, NamesInstance, limits};
 ghost use Rattle.engine.specs.StoredData.{Nothing, HasWalked, stored_of, held_in};
-ghost use Rattle.engine.specs.machine.Storing.{Begins, BeginsStore, Grows, finding_of, header_of};
+ghost use Rattle.engine.specs.machine.Storing.{Begins, BeginsAnnounced, Grows, finding_of};
 ghost use Rattle.engine.specs.machine.Verdicts.{Commits, Compared, WalkHasVerdict, of_fault};
 
 use dictionary::{Class, class_of};
@@ -149,7 +149,7 @@ pub(crate) fn begin_store<const V: usize, const D: usize, F: Filing>(
     requires least_levels { 2 ≤ D }
     requires greatest_levels { D ≤ 2 ^ 24 }
     requires most_data { max_data ≤ 2 ^ 48 }
-    ensures begins { command.now.with_data ≡ true → BeginsStore context.now.syntax (limits D max_data) (header_of command.now context.now.syntax caller) (stored_of result) (F.store filing.old) (F.store filing.new) }
+    ensures begins { BeginsAnnounced command.now caller context.now.syntax (limits D max_data) (stored_of result) (F.store filing.old) (F.store filing.new) }
     ensures no_store { command.now.with_data ≡ false → (stored_of result ≡ Nothing) × (F.store filing.new ≡ F.store filing.old) }
 {
     if command.field() != Command::C_STORE {

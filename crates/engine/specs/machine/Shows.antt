@@ -1,5 +1,5 @@
 -- What an association shows of the PDU that has begun: where its deframer stands, and what is kept.
-use Rattle.std.specs.Prelude.{◌≡◌, ℕ, ◌≤◌, Bool, true, false, List, [], ◌∷◌, ◌++◌, length, map}
+use Rattle.std.specs.Prelude.{◌≡◌, ℕ, ◌≤◌, Bool, true, false, List, [], ◌∷◌, ◌++◌, length, take, map}
 use Rattle.pdu.specs.Frames.{IsRest, rest_of}
 use Rattle.pdu.specs.Marks.{Mark, Head, PdvHead, Pdv, BadPdv, Leftover, End, pdv_size, pdv_mark, new_marks}
 use Rattle.pdu.specs.Spot.{spot}
@@ -63,10 +63,10 @@ pub record Handles (rooms : Rooms) (s : Settings) (f : Fields) (p : Progress) (r
   pub is_at : StandsAt f.position f.kept (rest_of (r ++ c)) later
   pub none_due : more ≡ false → later ≡ []
 
--- bytes up to the next event were taken, and what it brings was done
-abbrev pub HandlesNext : Rooms → Settings → Fields → Fields → List ℕ → Bool → Devices → Devices → Type 0
-HandlesNext rooms s old new c more d e = (p : Progress) (r : List ℕ) (due : List Mark) → ShowsDue old d.store p r due → Handles rooms s new p r due c more d e
+-- so many bytes of a piece were taken, up to the next event where there is one, and what it brings was done
+abbrev pub DoesNext : Rooms → Settings → Fields → Fields → List ℕ → ℕ × Bool → Devices → Devices → Type 0
+DoesNext rooms s old new piece taken d e = (p : Progress) (r : List ℕ) (due : List Mark) → ShowsDue old d.store p r due → Handles rooms s new p r due (take taken.0 piece) taken.1 d e
 
 -- a piece was taken
-abbrev pub HandlesAll : Rooms → Settings → Fields → Fields → List ℕ → Devices → Devices → Type 0
-HandlesAll rooms s old new c d e = (p : Progress) (r : List ℕ) → IsRest r → is_ended p.state ≡ false → ShowsFrame old d.store p r → DoesPart rooms s new p r c d e
+abbrev pub DoesPiece : Rooms → Settings → Fields → Fields → List ℕ → Devices → Devices → Type 0
+DoesPiece rooms s old new c d e = (p : Progress) (r : List ℕ) → IsRest r → is_ended p.state ≡ false → ShowsFrame old d.store p r → DoesPart rooms s new p r c d e

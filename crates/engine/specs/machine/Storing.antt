@@ -33,6 +33,10 @@ abbrev pub BeginsStore : Syntax → Limits → List ℕ → Stored → Store →
 BeginsStore syntax lim header Nothing old new = ⊥
 BeginsStore syntax lim header (Walking walker drafting) old new = HasWalked walker syntax lim [] × Begins header drafting old new
 
+-- where the command announces a data set
+abbrev pub BeginsAnnounced : CommandRecord → AeTitle → Syntax → Limits → Stored → Store → Store → Type 0
+BeginsAnnounced command caller syntax lim stored old new = command.with_data ≡ true → BeginsStore syntax lim (header_of command syntax caller) stored old new
+
 -- a draft gets these bytes more, or the filing fails in it; without a draft the filing stays as it is
 abbrev pub Grows : List ℕ → Bool → Bool → Store → Store → Type 0
 Grows bytes false drafting_new old new = (drafting_new ≡ false) × (new ≡ old)

@@ -3,12 +3,12 @@ use Rattle.std.specs.Prelude.{◌≡◌, ℕ, false, List, [], if◌then◌else�
 use Rattle.pdu.specs.Marks.{End}
 use Rattle.negotiate.specs.Settings.{Settings}
 use Rattle.engine.specs.Timeline.{At, good}
-use Rattle.engine.specs.Progress.{Progress, Advance, nothing, refusing, is_due}
+use Rattle.engine.specs.Progress.{Progress, Advance, nothing, refusing, is_due, is_established}
 use Rattle.engine.specs.Devices.{Devices}
 use Rattle.engine.specs.Replies.{invalid}
 use Rattle.engine.specs.Requests.{at_request}
 use Rattle.engine.specs.Reached.{takes_pdvs}
-use Rattle.engine.specs.Run.{Rooms, at_entry}
+use Rattle.engine.specs.Run.{Rooms, at_entry, released}
 use Rattle.engine.specs.Kept.{Kept, Pends, body_in, counted_body, counted_pdv}
 use Rattle.engine.specs.machine.DoesDue.{DoesDue}
 
@@ -29,6 +29,10 @@ TriesInvalid old new d e = (p : Progress) → Pends old d.store p [] [] → Does
 abbrev pub TriesRequest : Settings → Kept → Kept → Devices → Devices → Type 0
 TriesRequest s old new d e = (p : Progress) (body : List ℕ) → Pends old d.store p body [] → p.refused ≡ false
     → DoesDue p (if is_due p.state then at_request s p body else nothing p) new body [] d e
+
+-- a release request is whole
+abbrev pub TriesRelease : Kept → Kept → Devices → Devices → Type 0
+TriesRelease = TriesDue (λ p. if is_established p.state then released p else nothing p)
 
 -- a PDU of this type is whole
 abbrev pub TriesWhole : Rooms → Settings → Kept → Kept → ℕ → Devices → Devices → Type 0

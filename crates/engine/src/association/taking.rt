@@ -1,11 +1,11 @@
 //! Takes a piece of the stream, event by event.
-ghost use Rattle.std.specs.Prelude.{◌≡◌, ◌≤◌, ◌<◌, ◌+◌, ◌*◌, length, take, true, false};
+ghost use Rattle.std.specs.Prelude.{◌≡◌, ◌≤◌, ◌<◌, ◌+◌, ◌*◌, length, true, false};
 ghost use Rattle.pdu.specs.Deframed.{position_of};
 ghost use Rattle.pdu.specs.Steps.{events_due};
 ghost use Rattle.engine.specs.machine.Lent.{before, after, KeepsDraft};
 ghost use Rattle.engine.specs.Drafts.{IsThere};
 ghost use Rattle.engine.specs.StoredData.{drafting_in};
-ghost use Rattle.engine.specs.Kept.{kept_of, settings_in};
+ghost use Rattle.engine.specs.Kept.{kept_of};
 ghost use Rattle.engine.specs.Run.{rooms_of};
 
 use super::Association;
@@ -14,8 +14,8 @@ use part10::Filing;
 use pdu::Wire;
 
 impl<const A: usize, const C: usize, const V: usize, const D: usize> Association<A, C, V, D> {
-    ghost use Rattle.engine.specs.machine.Shows.{HandlesAll, HandlesNext};
-    ghost use Rattle.engine.specs.Fields.{fields_of};
+    ghost use Rattle.engine.specs.machine.Shows.{DoesNext, DoesPiece};
+    ghost use Rattle.engine.specs.Fields.{fields_of, settings_in};
 
     /// Takes bytes up to the next event, and does what it brings. Returns how many, and whether there
     /// was an event.
@@ -28,10 +28,9 @@ impl<const A: usize, const C: usize, const V: usize, const D: usize> Association
         ensures within { result.0 ≤ length piece.now }
         ensures used_up { result.1 ≡ false → result.0 ≡ length piece.now }
         ensures fewer { result.1 ≡ true → events_due (position_of self.new.deframer) < events_due (position_of self.old.deframer) + 4 * result.0 }
-        ensures settings { settings_in self.new.provider ≡ settings_in self.old.provider }
+        ensures settings { settings_in self.new ≡ settings_in self.old }
         ensures drafts { KeepsDraft (kept_of self.old.provider) (kept_of self.new.provider) (before W.line F.store devices.entry) (after W.line F.store devices.exit) }
-        ensures handles { HandlesNext (rooms_of A C V D) (settings_in self.old.provider) (fields_of self.old) (fields_of self.new) (take result.0 piece.now) result.1
-            (before W.line F.store devices.entry) (after W.line F.store devices.exit) }
+        ensures does { DoesNext (rooms_of A C V D) (settings_in self.old) (fields_of self.old) (fields_of self.new) piece.now result (before W.line F.store devices.entry) (after W.line F.store devices.exit) }
     {
         let (count, event) = self.deframer.next(piece);
         let Some(event) = event else {
@@ -46,10 +45,9 @@ impl<const A: usize, const C: usize, const V: usize, const D: usize> Association
     /// Takes all bytes of a piece.
     pub(super) fn take_all<W: Wire, F: Filing>(&mut self, piece: &[u8], devices: Devices<'_, W, F>)
         requires draft { IsThere (drafting_in (kept_of self.old.provider).storing) (F.store devices.filing.now) }
-        ensures settings { settings_in self.new.provider ≡ settings_in self.old.provider }
+        ensures settings { settings_in self.new ≡ settings_in self.old }
         ensures drafts { KeepsDraft (kept_of self.old.provider) (kept_of self.new.provider) (before W.line F.store devices.entry) (after W.line F.store devices.exit) }
-        ensures took { HandlesAll (rooms_of A C V D) (settings_in self.old.provider) (fields_of self.old) (fields_of self.new) piece.now
-            (before W.line F.store devices.entry) (after W.line F.store devices.exit) }
+        ensures took { DoesPiece (rooms_of A C V D) (settings_in self.old) (fields_of self.old) (fields_of self.new) piece.now (before W.line F.store devices.entry) (after W.line F.store devices.exit) }
     {
         let Devices { wire, filing } = devices;
         let mut at = 0;

@@ -24,7 +24,7 @@ loop-more-preserved g c =
       drafts = drafts_then _ _ _ _ _ _ c.loop-more.invariant.drafts c.take_event-count.ensures.drafts;
       took = λ p r rest still h.
           let before = c.loop-more.invariant.took p r rest still h in
-          let more = rw (c.loop-more.invariant.settings, tail) at c.take_event-count.ensures.handles in
+          let more = rw (c.loop-more.invariant.settings, tail) at c.take_event-count.ensures.does in
           rw take-add (handled_then rooms s _ _ p r [] _ _ _ _ _ _ _ before more);
     }
 

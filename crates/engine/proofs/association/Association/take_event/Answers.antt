@@ -22,8 +22,8 @@ invariant_of-self g c =
     let fits = room_still (g.row.A - 12) (kept_of was.provider) q n (take n c.args.piece.now) new steps (was.body_fits, was.fragment_fits) in
     record { body_fits = fits.0; fragment_fits = fits.1; headless = λ t. heads_still q n (take n c.args.piece.now) new steps (was.headless t) }
 
-pub returns-in_default-clause-handles : goal.returns-in_default-clause-handles
-returns-in_default-clause-handles g c p r due h =
+pub returns-in_default-clause-does : goal.returns-in_default-clause-does
+returns-in_default-clause-does g c p r due h =
     let was = c.args.self.now in
     let n = c.next-count.result.0 in
     let part = take n c.args.piece.now in
@@ -51,8 +51,8 @@ invariant_of-self-2 g c =
     let room = room_passed (g.row.A - 12) k new fits in
     rw c.skip_uncounted.ensures.passes (record { body_fits = room.0; fragment_fits = room.1; headless = heads_passed k new })
 
-pub returns-clause-handles : goal.returns-clause-handles
-returns-clause-handles g c p r due h =
+pub returns-clause-does : goal.returns-clause-does
+returns-clause-does g c p r due h =
     let was = c.args.self.now in
     let n = c.next-count.result.0 in
     let part = take n c.args.piece.now in

@@ -11,8 +11,8 @@ use Rattle.engine.proofs.DataLemmas.{does_append, appends_none}
 use Rattle.engine.proofs.PhaseLemmas.{refused_pdvs, kept_by, unestablished}
 use Rattle.engine.proofs.provider.Provider.on_data.Goals as goal
 
-pub returns-then-self-clause-appends : goal.returns-then-self-clause-appends
-returns-then-self-clause-appends g c = λ line p begun six h.
+pub returns-then-self-clause-takes : goal.returns-then-self-clause-takes
+returns-then-self-clause-takes g c = λ line p begun six h.
     let k = kept_of c.args.self.now in
     let dropped = sym (takes_shown k _ p [] begun h) ∙ refused_pdvs k c.if-self.true in
     appends_none (rooms_of g.row.A g.row.C g.row.V g.row.D) (settings_in c.args.self.now) p k (begun ++ c.args.part.now) _ (pends_dropped k _ p [] begun (begun ++ c.args.part.now) dropped h)
@@ -20,8 +20,8 @@ returns-then-self-clause-appends g c = λ line p begun six h.
 pub returns-in-Established-clause-drafts : goal.returns-in-Established-clause-drafts
 returns-in-Established-clause-drafts g c = rw c.in-Established.is (goes_drafts c.args.part.now (stored_of c.in-Established.message.storing) (stored_of c.take-in-Established.new.self) _ _ c.take-in-Established.ensures.goes_on)
 
-pub returns-in-Established-clause-appends : goal.returns-in-Established-clause-appends
-returns-in-Established-clause-appends g c = rw c.in-Established.is (λ line p begun six h.
+pub returns-in-Established-clause-takes : goal.returns-in-Established-clause-takes
+returns-in-Established-clause-takes g c = rw c.in-Established.is (λ line p begun six h.
     let k = kept_by c.args.self.now c.in-Established.peer c.in-Established.message in
     let taken = sym (takes_shown k _ p [] begun h) ∙ ap not c.if-self.false in
     let was : ShowsMessage g.row.C k.join p.message begun = subst (λ (xs : List ℕ). ShowsMessage g.row.C k.join p.message xs) (counted_taken p begun taken) h.join_is in
@@ -36,7 +36,7 @@ returns-in_default g c =
       settings = refl;
       drafts = same_drafts _ _ c.requires.draft;
       fits = λ m h there taken. let few = h there taken in omega (arith, few);
-      appends = λ line p begun six h.
+      takes = λ line p begun six h.
           let dropped = sym (takes_shown k _ p [] begun h) ∙ ap (λ (t : Bool). t && not k.refused) none in
           appends_none (rooms_of g.row.A g.row.C g.row.V g.row.D) (settings_in c.args.self.now) p k (begun ++ c.args.part.now) _ (pends_dropped k _ p [] begun (begun ++ c.args.part.now) dropped h);
     }
