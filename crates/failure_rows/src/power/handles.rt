@@ -1,8 +1,8 @@
 //! Open files and listings of the disk.
 
-use crate::disk::Shared;
-use crate::folder::Node;
-use crate::trouble::Act;
+use crate::power::disk::Shared;
+use crate::power::folder::Node;
+use crate::power::trouble::Act;
 use part10::StoredFile;
 use std::fs::{Metadata, OpenFile, TryLockError};
 use std::io;

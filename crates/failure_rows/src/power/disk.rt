@@ -1,10 +1,10 @@
 //! A disk in memory that keeps apart what was written and what is durable.
 
-use crate::folder::{Folder, Node};
-use crate::name::Name;
-use crate::stored::Stored;
-use crate::survivors::Choices;
-use crate::trouble::{Act, Trouble};
+use crate::power::folder::{Folder, Node};
+use crate::power::name::Name;
+use crate::power::stored::Stored;
+use crate::power::survivors::Choices;
+use crate::power::trouble::{Act, Trouble};
 use std::alloc::Global;
 use std::cell::RefCell;
 use std::fs::Metadata;

@@ -1,11 +1,11 @@
 //! Two filings over the disk, whose drafts stand there at the same time: power is lost, or a call fails.
 ghost use Rattle.std.specs.Prelude.{◌≡◌, true};
 
-use crate::disk::{Disk, Shared};
-use crate::filed::{Due, Filed, Kept};
-use crate::lives::{NEXT, open_writer, tried_states};
-use crate::mounted::Mounted;
-use crate::trouble::{Act, Trouble};
+use crate::power::disk::{Disk, Shared};
+use crate::power::filed::{Due, Filed, Kept};
+use crate::power::lives::{NEXT, open_writer, tried_states};
+use crate::power::mounted::Mounted;
+use crate::power::trouble::{Act, Trouble};
 use part10::{Filing, FolderFiling};
 use std::alloc::Global;
 use std::io;

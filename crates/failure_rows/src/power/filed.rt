@@ -1,7 +1,7 @@
 //! What a disk has filed, and what is due.
 
-use crate::disk::Disk;
-use crate::folder::{Entry, Node};
+use crate::power::disk::Disk;
+use crate::power::folder::{Entry, Node};
 use std::alloc::Global;
 use std::io;
 use std::io::{Error, ErrorKind};

@@ -1,10 +1,10 @@
 //! Power is lost before each call to the disk in turn, and each state that may be left is tried.
 
-use crate::disk::{Disk, Shared};
-use crate::filed::{Due, Kept};
-use crate::lives::{NEXT, add_due, open, replies_of, tried_states};
-use crate::stores::{Life, first_life, second_life};
-use crate::trouble::Trouble;
+use crate::power::disk::{Disk, Shared};
+use crate::power::filed::{Due, Kept};
+use crate::power::lives::{NEXT, add_due, open, replies_of, tried_states};
+use crate::power::stores::{Life, first_life, second_life};
+use crate::power::trouble::Trouble;
 use std::alloc::Global;
 use std::io;
 use std::test::Fail;

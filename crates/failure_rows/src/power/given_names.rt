@@ -1,10 +1,10 @@
 //! How a file gets its name: by a link where the disk has links, and else by a rename once the name was seen to be free.
 //! No file that stands there is written over.
 
-use crate::disk::{Disk, Shared};
-use crate::filed::{Due, Kept};
-use crate::lives::{NEXT, open, tried_states};
-use crate::trouble::{Act, Trouble};
+use crate::power::disk::{Disk, Shared};
+use crate::power::filed::{Due, Kept};
+use crate::power::lives::{NEXT, open, tried_states};
+use crate::power::trouble::{Act, Trouble};
 use fixtures::folders::is_filed;
 use std::alloc::Global;
 use std::io;

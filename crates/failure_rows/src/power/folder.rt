@@ -1,7 +1,7 @@
 //! A folder of the disk: its entries, and which of them are durable.
 
-use crate::name::Name;
-use crate::survivors::Choices;
+use crate::power::name::Name;
+use crate::power::survivors::Choices;
 use std::alloc::{AllocError, Global};
 
 /// What a name stands for, by its place in the disk.

@@ -1,11 +1,11 @@
 //! Each call to the disk fails in turn, or is interrupted; and writes take fewer bytes than they are given.
 
-use crate::disk::{Disk, Failed, Shared};
-use crate::filed::{Due, Filed, Kept};
-use crate::lives::{NEXT, open, replies_of, tried_states};
-use crate::mounted::Mounted;
-use crate::stores::{Life, first_life, second_life};
-use crate::trouble::{Act, Trouble};
+use crate::power::disk::{Disk, Failed, Shared};
+use crate::power::filed::{Due, Filed, Kept};
+use crate::power::lives::{NEXT, open, replies_of, tried_states};
+use crate::power::mounted::Mounted;
+use crate::power::stores::{Life, first_life, second_life};
+use crate::power::trouble::{Act, Trouble};
 use part10::FolderFiling;
 use std::alloc::Global;
 use std::io;

@@ -1,7 +1,7 @@
 //! A wire that sends while there is power.
 ghost use Rattle.std.specs.Prelude.{None};
 
-use crate::disk::Shared;
+use crate::power::disk::Shared;
 use element::count::Count;
 use pdu::{MemoryWire, Wire, WireFailed};
 use std::alloc::Global;

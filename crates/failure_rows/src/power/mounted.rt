@@ -1,9 +1,9 @@
 //! The disk as the files of a runtime.
 
-use crate::disk::{Disk, Shared};
-use crate::folder::Node;
-use crate::handles::{Handle, Listing};
-use crate::trouble::Act;
+use crate::power::disk::{Disk, Shared};
+use crate::power::folder::Node;
+use crate::power::handles::{Handle, Listing};
+use crate::power::trouble::Act;
 use std::alloc::{AllocError, Allocator, Global};
 use std::fs::{Metadata, OpenOptions};
 use std::io;

@@ -1,11 +1,11 @@
 //! Stores over the disk, and the next start over what is left of it.
 
-use crate::disk::{Disk, Shared};
-use crate::filed::{Due, Filed, Kept};
-use crate::mounted::Mounted;
-use crate::powered_wire::PoweredWire;
-use crate::stores::Life;
-use crate::survivors::Tries;
+use crate::power::disk::{Disk, Shared};
+use crate::power::filed::{Due, Filed, Kept};
+use crate::power::mounted::Mounted;
+use crate::power::powered_wire::PoweredWire;
+use crate::power::stores::Life;
+use crate::power::survivors::Tries;
 use fixtures::bytes::after_first;
 use fixtures::folders::is_filed;
 use harness::{Step, drive};

@@ -1,6 +1,6 @@
 //! A file of the disk: its bytes, and how many of them are durable.
 
-use crate::survivors::Choices;
+use crate::power::survivors::Choices;
 use std::alloc::{AllocError, Global};
 
 /// The bytes of a file, which is only ever written at its end.
