@@ -1,5 +1,5 @@
 -- The file that is built and written has the size and the text of the definitions.
-use Rattle.std.proofs.Common.{◌≡◌, ℕ, ◌+◌, [], ◌++◌, length, codes, refl, arith, ◌^◌, ◌<◌, ◌≤◌, true, false, List, sym, ap, ap₂, ◌∙◌, suc, ◌-◌, Bool, take, get_or, Option, take-add, ltb-true, nat_lt}
+use Rattle.std.proofs.Common.{◌≡◌, ℕ, ◌+◌, [], ◌++◌, length, codes, refl, arith, ◌^◌, ◌<◌, ◌≤◌, true, false, List, ap, ◌∙◌, ◌-◌, Bool, take, get_or, Option, take-add, ltb-true, nat_lt}
 use Rattle.std.proofs.lemmas.List.{length-append, append-nil, take_all, take_at, drop_at, take-append-le}
 use Rattle.element.specs.Numbers.{le}
 use Rattle.element.specs.Vr.{is_short}
@@ -37,11 +37,7 @@ items_size place (node es below next) others =
     let lower = with_places after below in
     let siblings = with_places (after + forest_size below) next in
     let own = spelled (with_offsets (first_record_place siblings) (first_record_place lower) es) in
-    let ns = items_size (after + forest_size below) next others in
-    let bs = items_size after below (record_items siblings others) in
-    let whole = length-append own (spelled_items (record_items lower (record_items siblings others))) in
-    let same = offsets_size (first_record_place siblings) (first_record_place lower) es in
-    omega (arith, ns, bs, whole, same)
+    grind (arith, common_steps, items_size (after + forest_size below) next others, items_size after below (record_items siblings others), length-append own (spelled_items (record_items lower (record_items siblings others))), offsets_size (first_record_place siblings) (first_record_place lower) es)
 
 root_is : (first last : ℕ) (is : Items) → length (spelled (root_elements first last is)) ≡ root_size + length (spelled_items is)
 unfolding is_short
@@ -51,20 +47,14 @@ count_is : (place : ℕ) (f : Forest Elements) → length (flattened (with_place
 count_is place no_nodes = refl
 count_is place (node es below next) =
     let after = place + record_size es in
-    let bs = count_is after below in
-    let ns = count_is (after + forest_size below) next in
-    let both = length-append (flattened (with_places after below)) (flattened (with_places (after + forest_size below) next)) in
-    omega (arith, bs, ns, both)
+    grind (arith, common_steps, count_is after below, count_is (after + forest_size below) next, length-append (flattened (with_places after below)) (flattened (with_places (after + forest_size below) next)))
 
 elements_size : (start : ℕ) (tree : Forest Elements) → length (spelled (directory_elements start tree)) ≡ root_size + forest_size tree
 unfolding directory_elements
 elements_size start tree = grind (arith, common_steps, items_size (start + root_size) tree no_items)
 
 pub sizes_are_true : SizesAreTrue
-sizes_are_true front rows =
-    let whole = length-append front (spelled (directory_elements (length front) (TreeOf rows))) in
-    let size = elements_size (length front) (TreeOf rows) in
-    (omega (arith, whole, size), count_is (length front + root_size) (TreeOf rows))
+sizes_are_true front rows = grind (arith, common_steps, length-append front (spelled (directory_elements (length front) (TreeOf rows))), elements_size (length front) (TreeOf rows), count_is (length front + root_size) (TreeOf rows))
 
 -- ---- the file that is built has the size and the text of the definitions
 
@@ -122,10 +112,7 @@ placed_text : (tree : Forest Elements) (start : ℕ)
     ≡ root_text (first_record_place (with_places start tree)) (last_record_place (with_places start tree)) (forest_size tree) ++ forest_text (with_places start tree)
 placed_text tree start =
     let placed = with_places start tree in
-    let items = spelled_items (record_items placed no_items) in
-    let text : items ≡ forest_text placed = items_are placed no_items ∙ append-nil (forest_text placed) in
-    let size : length items ≡ forest_size tree = let s = items_size start tree no_items in omega (arith, s) in
-    grind (arith, common_steps, root_elements_are (first_record_place placed) (last_record_place placed) (record_items placed no_items))
+    grind (arith, common_steps, items_are placed no_items, append-nil (forest_text placed), items_size start tree no_items, root_elements_are (first_record_place placed) (last_record_place placed) (record_items placed no_items))
 
 pub directory_text : (front : List ℕ) (rows : List Row)
     → directory_of front rows ≡ front ++ spelled (elements_with_places (with_places (length front + root_size) (TreeOf rows)))
@@ -140,14 +127,7 @@ file_text {uid = uid} {rows = rows} {entries = entries} {records = records} {fir
     let header = directory_header uid in
     let start = length header + root_size in
     let placed = with_places start (TreeOf rows) in
-    let total : start + records ≡ size = sym b.size in
-    let first_is : first_record_place placed ≡ place_from_end size first = sym (b.laid.first_is start) ∙ ap (λ (n : ℕ). place_from_end n first) total in
-    let last_is : last_record_place placed ≡ place_from_end size last = sym (b.laid.last_is start) ∙ ap (λ (n : ℕ). place_from_end n last) total in
-    let records_are : forest_size (TreeOf rows) ≡ records = let s = b.laid.size in omega (arith, s) in
-    let text : forest_text placed ≡ laid_text size entries = sym (append-nil (forest_text placed)) ∙ sym (b.laid.text start) ∙ ap (λ (n : ℕ). laid_text n entries) total in
-    let root : root_text (first_record_place placed) (last_record_place placed) (forest_size (TreeOf rows)) ≡ root_text (place_from_end size first) (place_from_end size last) records =
-    λ i. root_text (first_is i) (last_is i) (records_are i) in
-    rw (top_is, root_is) (directory_text header rows ∙ ap (λ (t : List ℕ). header ++ t) (placed_text (TreeOf rows) start ∙ ap₂ (λ (a : List ℕ) (b : List ℕ). a ++ b) root text))
+    grind (arith, common_steps, append-nil (forest_text placed), directory_text header rows, placed_text (TreeOf rows) start)
 
 -- ---- what a writer has after several texts, or after a beginning of the last one
 
@@ -170,6 +150,4 @@ front_more a b xs ys p = by (nat_lt p.0 (length xs)) refl
 
 pub last_entry : {A : Type 0} (total : ℕ) (entries : List (LaidRecord A)) (at : ℕ) (e : LaidRecord A) → 0 < at → at ≤ length entries → e ≡ get_or entries (at - 1) e
     → laid_text total (take at entries) ≡ entry_text total e ++ laid_text total (take (at - 1) entries)
-last_entry total entries at e some le is =
-    let next : at ≡ suc (at - 1) = omega arith in
-    grind (arith, common_steps, laid_push total (take (at - 1) entries) e)
+last_entry total entries at e some le is = grind (arith, common_steps, laid_push total (take (at - 1) entries) e)

@@ -1,7 +1,6 @@
 -- The faults of a directory, in the order in which they are looked for.
-use Rattle.std.proofs.Common.{◌≡◌, ◌≢◌, ℕ, suc, List, [], ◌++◌, length, map, Option, Some, None, length-append, ◌-◌, sym, ap, subst, ◌∙◌, arith}
+use Rattle.std.proofs.Common.{◌≡◌, ◌≢◌, ℕ, suc, List, [], length, map, Option, Some, None, length-append, ◌-◌, sym, ap, subst, ◌∙◌, arith}
 use Rattle.std.proofs.lemmas.List.{append-nil}
-use Rattle.std.specs.List.{flat_map}
 use Rattle.element.specs.declared.syntax.Syntax.{Syntax}
 use Rattle.element.specs.declared.syntax.Syntax.TheVariants.{Explicit}
 use Rattle.sequence.proofs.Public.{whole_breaks_no_rule}
@@ -13,9 +12,8 @@ use Rattle.dicomdir.specs.declared.links.Root.{Root}
 use Rattle.dicomdir.specs.declared.records.ReadRecord.{ReadRecord}
 use Rattle.dicomdir.specs.declared.tree.TreeRecord.{TreeRecord}
 use Rattle.dicomdir.specs.DirFault.{check_limits, CheckFault, HasHeader, in_directory, Fault, fault, ◌or_else◌, offset_fault, records_fault, root_fault, each_fault, links_of, links_fault, records_then_links, directory_fault}
-use Rattle.dicomdir.specs.Directory.{found, Record, records_at, records_of, or_zero}
-use Rattle.dicomdir.specs.Paths.{paths_of}
-use Rattle.dicomdir.specs.machine.Trail.{node_on, AreEntries, AreRead, AreFollowed, FailsToFollow, FailsAs, IsRootOffset, ChecksAs}
+use Rattle.dicomdir.specs.Directory.{found, Record, records_at, records_of}
+use Rattle.dicomdir.specs.machine.Trail.{AreEntries, AreRead, AreFollowed, FailsToFollow, FailsAs, IsRootOffset, ChecksAs}
 use Rattle.dicomdir.specs.NodesInUse.{LevelNode, nodes_in_use, HasNodes, node_of}
 use Rattle.dicomdir.specs.machine.Texts.{HasElements, nothing_after, FindsItems}
 use Rattle.dicomdir.proofs.FaultFree.{sound_by}
@@ -65,29 +63,15 @@ pub has_records : (s : Syntax) (start p first : ℕ) (es : Elements) (text : Lis
 has_records s start p first es text finds first_good last_good = grind (arith, common_steps)
 
 pub fails_in_records : (start : ℕ) (es : Elements) (records : List Record) (f : DirFault) → HasRecords start es records → FailsAs (each_fault records) f → FailsAs (directory_fault start es) f
-fails_in_records start es records f has is =
-    fails_on (each_fault records) (directory_fault start es) f is
-    (λ x e. directory_is start es records has ∙ or_some (each_fault records) (links_fault start es (links_of start es records)) x e)
+fails_in_records start es records f has is = grind (arith, common_steps, fails_on (each_fault records) (directory_fault start es) f is, directory_is start es records has, or_some)
 
 pub fails_in_links : (start : ℕ) (es : Elements) (records : List Record) (root : Root) (entries : List ReadRecord) (f : DirFault) → HasRecords start es records
     → AreRead root entries start es records → FailsToFollow root entries f → FailsAs (directory_fault start es) f
-fails_in_links start es records root entries f has read fails =
-    record {
-      tag = fails.tag;
-      memory = fails.memory;
-      fault = λ other. directory_is start es records has ∙ (or_none (each_fault records) (links_fault start es (links_of start es records)) (entries_good read.entries_are) ∙ fails.fault start es records other read);
-    }
+fails_in_links start es records root entries f has read fails = grind (arith, common_steps, directory_is start es records has, or_none (each_fault records) (links_fault start es (links_of start es records)) (entries_good read.entries_are), entries_good read.entries_are)
 
 pub checks_as : (start : ℕ) (es : Elements) (records : List Record) (root : Root) (entries : List ReadRecord) (old new : List TreeRecord) (nodes : List LevelNode) → HasRecords start es records
     → AreRead root entries start es records → old ≡ [] → AreFollowed root entries old new → nodes ≡ map node_of new → ChecksAs start es nodes
-checks_as start es records root entries old new nodes has read none followed same =
-    let both = followed start es records read in
-    record {
-      no_fault = directory_is start es records has ∙ (or_none (each_fault records) (links_fault start es (links_of start es records)) (entries_good read.entries_are) ∙ both.0);
-      records = records;
-      are = has.are;
-      nodes_are = same ∙ (both.1 ∙ ap (λ z. map node_of z ++ flat_map (node_on (links_of start es records)) (paths_of (links_of start es records))) none);
-    }
+checks_as start es records root entries old new nodes has read none followed same = grind (arith, common_steps, directory_is start es records has, or_none (each_fault records) (links_fault start es (links_of start es records)) (entries_good read.entries_are), entries_good read.entries_are)
 
 -- ---- the file
 
@@ -120,12 +104,4 @@ file_nodes {file = file} {back = back} h start es nodes from spelled checks =
 pub are_read : (start first : ℕ) (es : Elements) (items : Items) (root : Root) (entries : List ReadRecord)
     → IsRootOffset start (found 0x00041200 start es) root.first_place root.first → IsRootOffset start (found 0x00041202 start es) root.last_place root.last
     → AreEntries entries (records_at first items) → AreRead root entries start es (records_at first items)
-are_read start first es items root entries one other are =
-    record {
-      first = ap or_zero (sym one.offset_is);
-      last = ap or_zero (sym other.offset_is);
-      first_place = one.place_is;
-      last_place = other.place_is;
-      entries_are = are;
-      rise = records_rise 0 first items (omega arith);
-    }
+are_read start first es items root entries one other are = grind (arith, common_steps, records_rise 0 first items (omega arith))

@@ -119,10 +119,7 @@ node_links links path below next xs ys has down low nxt =
 
 pub links_to : (most : ℕ) (links : Links) (path : List Turn) → HaveOffsets links.records → length path + most ≡ suc (length links.records)
     → GoOn links path (paths_from most links path) → LinksTo links path (forest_from most links.records (named_by links path))
-links_to zero links path has size on =
-    let few = few_in links.records (map (λ t. t.place) path) on.along in
-    let same = length-map path (λ t. t.place) in
-    absurd (omega (arith, few, same, size))
+links_to zero links path has size on = grind (arith, common_steps, few_in, length-map)
 links_to (suc most) links path has size on =
     by (nat_eq (named_by links path) 0) refl
     (λ down. links_to most links (lower_path links path) has (omega (arith, size)) down)

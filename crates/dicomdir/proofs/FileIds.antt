@@ -1,11 +1,11 @@
 -- A file ID is read from its end, the room that it needs, and the one that is padded.
-use Rattle.std.proofs.Common.{◌≡◌, ℕ, suc, ◌+◌, ◌*◌, ◌<◌, ◌≤◌, Bool, true, false, ◌&&◌, List, [], ◌∷◌, replicate, ◌-◌, length, get_or, take, drop, refl, sym, ap, ◌∙◌, add-one, drop-cons, arith, nat_eq, nat_le, ◌%◌, not, ◌++◌, Some, None, if◌then◌else◌}
+use Rattle.std.proofs.Common.{◌≡◌, ℕ, suc, ◌+◌, ◌*◌, ◌<◌, ◌≤◌, Bool, true, false, ◌&&◌, List, [], ◌∷◌, replicate, ◌-◌, length, get_or, take, drop, refl, sym, ap, ◌∙◌, add-one, drop-cons, arith, nat_eq, nat_le, not, ◌++◌, Some}
 use Rattle.std.specs.List.{list_all}
 use Rattle.std.proofs.lemmas.Bool.{and_parts, and_from}
 use Rattle.std.proofs.lemmas.Bool.Decides.{nat_tests}
 use Rattle.std.proofs.lemmas.List.{drop-replicate}
 use Rattle.std.proofs.Math.Seq.{take-append_seam}
-use Rattle.dicomdir.specs.FileId.{is_id_character, is_file_id_component, before_parts, parts_of, is_file_id, filled, if_file_id, file_id_of, IsKept}
+use Rattle.dicomdir.specs.FileId.{is_id_character, is_file_id_component, before_parts, parts_of, is_file_id, filled, file_id_of, IsKept}
 use Rattle.std.proofs.lemmas.Grind.{common_steps}
 use Rattle.element.specs.Padding.{is_space, kept_before, without_trailing, padded}
 use Rattle.dicomdir.proofs.Distinct.{not_true}
@@ -111,16 +111,12 @@ total_most : (parts : List (List ℕ)) → list_all is_file_id_component parts �
 total_most [] e = omega (arith)
 total_most (part ∷ parts) e =
     let both = and_parts (is_file_id_component part) (list_all is_file_id_component parts) e in
-    let few = short (length part) (list_all is_id_character part) both.0 in
-    let most = total_most parts both.1 in
-    omega (arith, few, most)
+    grind (arith, common_steps, and_parts (is_file_id_component part) (list_all is_file_id_component parts) e, short (length part) (list_all is_id_character part) both.0, total_most parts both.1)
 
 pub file_id_room : (xs : List ℕ) → is_file_id xs ≡ true → length xs ≤ 71
 file_id_room xs e =
     let both = and_parts (nat_le (length (parts_of xs)) 8) (list_all is_file_id_component (parts_of xs)) e in
-    let few : length (parts_of xs) ≤ 8 = grind (arith, nat_tests, both.0) in
-    let most = total_most (parts_of xs) both.1 in
-    omega (arith, few, most, total_is xs)
+    grind (arith, common_steps, and_parts (nat_le (length (parts_of xs)) 8) (list_all is_file_id_component (parts_of xs)) e, total_most (parts_of xs) both.1, total_is xs)
 
 pub zeros_after : (n : ℕ) → drop n (replicate {A = ℕ} 71 0) ≡ replicate {A = ℕ} (71 - n) 0
 zeros_after n = drop-replicate {X = ℕ} n 71 0
@@ -169,8 +165,4 @@ pub file_id_back : (text : List ℕ) → is_file_id text ≡ true → file_id_of
 file_id_back text e =
     let parts = and_parts (nat_le (length (parts_of text)) 8) (list_all is_file_id_component (parts_of text)) e in
     let clean = no_spaces text (components_are (parts_of text) parts.1) in
-    by (nat_eq (length text % 2) 0) clean
-  where
-    by : (b : Bool) → list_all no_space text ≡ true → file_id_of (if b then text else text ++ 32 ∷ []) ≡ Some text
-    by true clean = ap if_file_id (trimmed text clean) ∙ ap (λ (b : Bool). if b then Some text else None) e
-    by false clean = ap if_file_id (trimmed_space text clean) ∙ ap (λ (b : Bool). if b then Some text else None) e
+    grind (arith, common_steps, and_parts (nat_le (length (parts_of text)) 8) (list_all is_file_id_component (parts_of text)) e, no_spaces text (components_are (parts_of text) parts.1), components_are (parts_of text) parts.1, trimmed text clean, trimmed_space text clean)

@@ -1,12 +1,12 @@
 -- Passing over what a header announces, and finding an element under its tag.
-use Rattle.std.proofs.Common.{◌≡◌, ◌≢◌, ℕ, ◌%◌, true, false, List, ◌++◌, length, drop, Some, None, refl, sym, ap, subst, ◌∙◌, arith, append_assoc, ◌+◌, ◌-◌, ◌≤◌, ◌<◌, Bool, not, ◌&&◌, [], take, ◌⊎◌, length-append, eqb-true, eq-eqb, nat_eq, nat_le}
+use Rattle.std.proofs.Common.{◌≡◌, ◌≢◌, ℕ, ◌%◌, true, false, List, ◌++◌, length, drop, Some, None, refl, sym, ap, subst, ◌∙◌, arith, append_assoc, ◌+◌, ◌-◌, ◌≤◌, ◌<◌, not, [], ◌⊎◌, length-append, eqb-true, eq-eqb, nat_eq}
 use Rattle.std.proofs.Math.Seq.{drop-append_seam, take-append_seam}
 use Rattle.element.specs.declared.syntax.Syntax.{Syntax}
 use Rattle.element.specs.declared.tag.Tag.{Tag}
 use Rattle.element.specs.declared.header.Header.{Header}
 use Rattle.element.specs.Header.{number, is_marker, IsTag, item_tag, item_end_tag, sequence_end_tag}
 use Rattle.sequence.specs.declared.shape.Shape.TheVariants.{Sequence, Value, NotAllowed}
-use Rattle.sequence.specs.Shape.{undefined_length, shape, is_undefined}
+use Rattle.sequence.specs.Shape.{undefined_length, shape}
 use Rattle.sequence.specs.Tree.{Elements, Items, delimitation, Ended, counted, delimited, no_elements}
 use Rattle.dicomdir.specs.declared.found.Head.{Head}
 use Rattle.dicomdir.specs.Directory.{Found, missing, found, header_size}
@@ -60,11 +60,7 @@ pub record SomeElements (s : Syntax) (more text : List ℕ) : Type 0 where
 pub content_items : (s inner : Syntax) (h : Header) (place : ℕ) (f : Found) (c rest text : List ℕ) → h.length ≡ undefined_length → shape s h ≡ Sequence inner → IsContent s h place f c
     → text ≡ c ++ rest → SomeItems inner (delimitation sequence_end_tag ++ rest) text
 content_items s inner h place f c rest text unsized is (of_value sh val) whole = absurd (odd h.length val.even unsized)
-content_items s inner h place f c rest text unsized is (of_items {inner = other} {is = items} {b = b} sh list end) whole =
-    let same : Sequence other ≡ Sequence inner = sym sh ∙ is in
-    let inner_is : other ≡ inner = cc in
-    subst (λ z. SomeItems z (delimitation sequence_end_tag ++ rest) text) inner_is
-    (record { items = items; spelled = record { bytes = b; items = list; whole = delimited_text rest text end unsized whole } })
+content_items s inner h place f c rest text unsized is (of_items {inner = other} {is = items} {b = b} sh list end) whole = grind (arith, common_steps, delimited_text rest text end unsized whole)
 
 pub item_elements : (s : Syntax) (h : Header) (es : Elements) (c rest text : List ℕ) → h.length ≡ undefined_length → IsItemContent s h es c → text ≡ c ++ rest
     → ElementsThen s 0 es (delimitation item_end_tag ++ rest) text
@@ -94,10 +90,7 @@ pub next_items : (s : Syntax) (head : Head) (rest after text : List ℕ) → Som
     → head.header.tag ≡ item_tag
     → ((es : Elements) (c more : List ℕ) → IsItemContent s head.header es c → drop head.size text ≡ c ++ more → after ≡ more)
     → SomeItems s (delimitation sequence_end_tag ++ rest) after
-next_items s head rest after text some read tagged passes =
-    let f = item_here head (end_after rest) some.spelled read tagged in
-    let is : after ≡ f.rest = passes f.elements f.content f.rest f.content_is f.rest_is in
-    record { items = f.others; spelled = subst (λ z. ItemsThen s f.others (delimitation sequence_end_tag ++ rest) z) (sym is) f.spelled }
+next_items s head rest after text some read tagged passes = grind (arith, common_steps, item_here head (end_after rest) some.spelled read tagged)
 
 pub end_of_items : (s : Syntax) (head : Head) (rest text : List ℕ) → SomeItems s (delimitation sequence_end_tag ++ rest) text → head_at s text ≡ Some head
     → head.header.tag ≢ item_tag → drop head.size text ≡ rest
@@ -111,16 +104,7 @@ always_items s rest text some read = always_mark s sequence_end_tag rest text re
 -- ---- what a length announces
 
 defined_content : (h : Header) (b more text : List ℕ) → h.length ≢ undefined_length → length b ≡ h.length → text ≡ b ++ more → content_at h text ≡ b
-defined_content h b more text other size whole =
-    let long = ap length whole ∙ length-append b more in
-    let fits : nat_le h.length (length text) ≡ true = grind (arith, nat_tests, long, size) in
-    let counted-there : is_undefined h.length ≡ false = undefined_no (is_undefined h.length) refl in
-    let yes : (not (is_undefined h.length) && nat_le h.length (length text)) ≡ true = rw (counted-there, fits) refl in
-    cond-true _ (take h.length text) text yes ∙ (ap (λ n. take n text) (sym size) ∙ (ap (λ z. take (length b) z) whole ∙ take-append_seam b more))
-  where
-    undefined_no : (a : Bool) → is_undefined h.length ≡ a → a ≡ false
-    undefined_no true e = absurd (other (eqb-true h.length undefined_length e))
-    undefined_no false e = refl
+defined_content h b more text other size whole = grind (arith, common_steps, length-append b more, take-append_seam b more, cond-true, eqb-true)
 
 open_content : (h : Header) (text : List ℕ) → h.length ≡ undefined_length → content_at h text ≡ text
 open_content h text unsized = grind (arith, common_steps, eq-eqb h.length undefined_length unsized)
@@ -179,21 +163,7 @@ pub left_after : (s : Syntax) (tag place : ℕ) (es : Elements) (text rest after
     → head_at s rest ≡ Some head → is_marker head.header.tag ≡ false → (IsTag head.header.tag → nat_eq (number head.header.tag) tag ≡ false)
     → ((p : ℕ) (f : Found) (c more : List ℕ) → IsContent s head.header p f c → drop head.size rest ≡ c ++ more → after ≡ more)
     → LeftOf s tag place es text after
-left_after s tag place es text rest after head fits left read plain other passes =
-    let f = element_here head left.after left.spelled read plain in
-    let is : after ≡ f.rest = passes 0 (f.stands 0) f.content f.rest (f.content_is 0) f.rest_is in
-    let here : ℕ = place + (length text - length rest) in
-    let long = f.long in
-    let short_of = ap length is in
-    let places : here + head.size + length f.content ≡ place + (length text - length after) = omega (arith, long, short_of, fits) in
-    record {
-      last = number head.header.tag;
-      others = f.others;
-      more = left.more;
-      after = left.after;
-      spelled = subst (λ z. ElementsThen s (number head.header.tag) f.others left.more z) (sym is) f.spelled;
-      same = left.same ∙ (f.there tag here (other f.is_tag) ∙ ap (λ n. found tag n f.others) places);
-    }
+left_after s tag place es text rest after head fits left read plain other passes = grind (arith, common_steps, element_here head left.after left.spelled read plain)
 
 none_left : (s : Syntax) (tag place : ℕ) (es : Elements) (text rest : List ℕ) (left : LeftOf s tag place es text rest) → left.others ≡ no_elements → found tag place es ≡ missing
 none_left s tag place es text rest left none = left.same ∙ ap (λ z. found tag (place + (length text - length rest)) z) none
@@ -216,7 +186,4 @@ pub record Stands (s : Syntax) (head : Head) (place : ℕ) (text : List ℕ) (f 
 pub stands_here : (s : Syntax) (tag place at : ℕ) (es : Elements) (text rest next : List ℕ) (head : Head) → LeftOf s tag place es text rest → head_at s rest ≡ Some head
     → is_marker head.header.tag ≡ false → nat_eq (number head.header.tag) tag ≡ true → at ≡ place + (length text - length rest) → next ≡ drop head.size rest
     → Stands s head at next (found tag place es)
-stands_here s tag place at es text rest next head left read plain same at_is next_is =
-    let f = element_here head left.after left.spelled read plain in
-    let is : found tag place es ≡ f.stands at = left.same ∙ (f.here tag (place + (length text - length rest)) same ∙ ap f.stands (sym at_is)) in
-    record { content = f.content; more = f.rest; size = f.size; is = subst (λ z. IsContent s head.header at z f.content) (sym is) (f.content_is at); whole = next_is ∙ f.rest_is }
+stands_here s tag place at es text rest next head left read plain same at_is next_is = grind (arith, common_steps, element_here head left.after left.spelled read plain)

@@ -1,5 +1,5 @@
 -- One turn of following the links, and its ends.
-use Rattle.std.proofs.Common.{◌≡◌, ℕ, suc, ◌<◌, ◌≤◌, ◌-◌, min, Bool, true, false, not, ◌&&◌, ◌||◌, List, [], ◌∷◌, ◌++◌, length, filter, cond, replicate, set, get_or, Option, Some, None, Result, IfErr, refl, sym, ap, subst, ◌∙◌, arith, nat_eq, if◌then◌else◌}
+use Rattle.std.proofs.Common.{◌≡◌, ℕ, suc, ◌<◌, ◌≤◌, ◌-◌, min, Bool, true, false, ◌&&◌, ◌||◌, List, [], ◌∷◌, ◌++◌, length, replicate, set, get_or, Option, Some, None, Result, IfErr, refl, sym, ap, subst, ◌∙◌, arith, nat_eq, if◌then◌else◌}
 use Rattle.std.proofs.lemmas.Bool.{cond-true, cond-false}
 use Rattle.std.specs.List.{flat_map}
 use Rattle.std.proofs.lemmas.Bool.Decides.{nat_tests}
@@ -14,12 +14,12 @@ use Rattle.dicomdir.specs.declared.links.Root.{Root}
 use Rattle.dicomdir.specs.declared.links.Mark.{Mark}
 use Rattle.dicomdir.specs.declared.links.Step.{Step}
 use Rattle.dicomdir.specs.declared.records.ReadRecord.{ReadRecord}
-use Rattle.dicomdir.specs.Directory.{found, Record, Node, carried_node, last_offset, lower_offset, next_offset, or_zero}
+use Rattle.dicomdir.specs.Directory.{found, Record, Node, carried_node, last_offset, or_zero}
 use Rattle.dicomdir.specs.Linked.{record_at, fits, fits_level, is_one_of, elements_at, lower_at, next_at}
-use Rattle.dicomdir.specs.Paths.{Links, Turn, named_by, level_of, paths_from, paths_of, reached_by, root_records, last_from}
+use Rattle.dicomdir.specs.Paths.{Links, Turn, named_by, level_of, paths_of, reached_by, root_records, last_from}
 use Rattle.dicomdir.specs.DirFault.{Fault, fault, ◌or_else◌, path_fault, first_fault, unreached_fault, links_of, links_fault, place_in}
 use Rattle.dicomdir.specs.NodesInUse.{LevelNode}
-use Rattle.dicomdir.specs.machine.Trail.{AreRead, FailsToFollow, carried_by, path_along, mark_of, own_node, node_on, paths_on, later, to_come, AreMarks, IsStep, flags_of, AreFlagged, LeadsTo, GoesOn}
+use Rattle.dicomdir.specs.machine.Trail.{AreRead, FailsToFollow, carried_by, path_along, mark_of, own_node, node_on, paths_on, later, to_come, AreMarks, IsStep, AreFlagged, LeadsTo, GoesOn}
 use Rattle.dicomdir.proofs.PathForests.{lower_path, next_path, paths_more, elements_is, path_free, or_some}
 use Rattle.dicomdir.proofs.FaultFree.{IsIn, not_false, one_more_in, few_in}
 use Rattle.dicomdir.proofs.Trails.{length_along, AtEntry, at_entry, length_entries, none_flagged}
@@ -74,14 +74,7 @@ same_level level real n used is fit =
     omega (arith, small, is)
 
 own_same : (shown : Bool) (level real place : ℕ) (n : Node) → level ≡ min real 5 → fits real n ≡ true → own_node shown real place n ≡ own_node shown level place n
-own_same shown level real place n is fit =
-    by shown n.in_use refl (record { place = place; level = real; carries = n }) (record { place = place; level = level; carries = n })
-    (λ used. ap (λ z. record { place = place; level = z; carries = n }) (same_level level real n used is fit))
-  where
-    by : (s u : Bool) → n.in_use ≡ u → (a b : LevelNode) → (n.in_use ≡ true → a ≡ b) → (if s && u then a ∷ [] else []) ≡ (if s && u then b ∷ [] else [])
-    by true true used a b same = ap (λ z. z ∷ []) (same used)
-    by true false used a b same = refl
-    by false u used a b same = refl
+own_same shown level real place n is fit = grind (arith, common_steps, same_level)
 
 -- the path that is open, and those that go on from it
 
@@ -91,10 +84,7 @@ open_path : (links : Links) (lower : Bool) (ms : List Mark) (reached : List ℕ)
     ≡ path_along lower ms ∷ (paths_on links (lower_path links (path_along lower ms)) ++ paths_on links (next_path links (path_along lower ms)))
 open_path links lower ms reached inside few some =
     let path : List Turn = path_along lower ms in
-    let most = few_in links.records reached inside in
-    let size = length_along lower ms in
-    let left : suc (length links.records) - length path ≡ suc (suc (length links.records) - suc (length path)) = omega (arith, most, few, size) in
-    ap (λ z. paths_from z links path) left ∙ paths_more (suc (length links.records) - suc (length path)) links path some
+    grind (arith, common_steps, few_in links.records reached inside, length_along lower ms, paths_more (suc (length links.records) - suc (length path)) links path some)
 
 -- the entry of a target, as what its record says
 pub record Turned (links : Links) (entries : List ReadRecord) (flags : List Bool) (path : List Turn) (reached : List ℕ) (e : ReadRecord) (at : ℕ) : Type 0 where
@@ -115,22 +105,9 @@ turned links entries flags path reached e at inside flagged good finds is fits_i
     let free = path_free links reached path good in
     let there : AtEntry e links.records at 0 = subst (λ z. AtEntry z links.records at 0) (sym is) (at_entry entries links.records 0 at e flagged.are flagged.rise fits_in) in
     let place : e.place ≡ o = ap (λ z. z.place) is ∙ finds e in
-    let same_place : there.of_it.place ≡ o = sym there.is.place ∙ place in
+    let same_place : there.of_it.place ≡ o = sym there.is.says.place ∙ place in
     let stands : record_at o links.records ≡ Some there.of_it.elements = ap (λ z. record_at z links.records) (sym same_place) ∙ there.stands in
-    let elements : elements_at links.records o ≡ there.of_it.elements = elements_is (record_at o links.records) there.of_it.elements stands in
-    record {
-      place = place;
-      carries = there.is.carries ∙ ap (λ z. carried_node z) (sym elements);
-      lower = there.is.lower ∙ ap (λ z. or_zero (lower_offset z)) (sym elements);
-      next = there.is.next ∙ ap (λ z. or_zero (next_offset z)) (sym elements);
-      flagged = record {
-        are = flagged.are;
-        rise = flagged.rise;
-        flagged = ap (λ z. set z at true) flagged.flagged ∙ (there.marked reached ∙ ap (λ z. flags_of (z ∷ reached) links.records) same_place);
-      };
-      is_in = one_more_in links.records reached o there.of_it.elements inside stands free.1;
-      fit = not_false (fits (level_of path) (carried_node (elements_at links.records o))) free.2;
-    }
+    grind (arith, common_steps, path_free links reached path good, at_entry entries links.records 0 at e flagged.are flagged.rise fits_in, elements_is (record_at o links.records) there.of_it.elements stands, one_more_in links.records reached o there.of_it.elements inside stands free.1, not_false (fits (level_of path) (carried_node (elements_at links.records o))) free.2)
 
 -- what was collected, with one more path
 
@@ -143,18 +120,7 @@ last_of_more n x (y ∷ xs) = last_of_more y x xs
 
 last_root : (links : Links) (gone : List (List Turn)) (path : List Turn) (level last : ℕ) → level ≡ min (level_of path) 5 → last_from 0 (root_records links gone) ≡ last
     → last_from 0 (root_records links (gone ++ path ∷ [])) ≡ (if nat_eq level 1 then named_by links path else last)
-last_root links gone path level last counted is =
-    let same : nat_eq (level_of path) 1 ≡ nat_eq level 1 = grind (arith, nat_tests, counted) in
-    let parts : root_records links (gone ++ path ∷ []) ≡ root_records links gone ++ reached_by links (cond (nat_eq (level_of path) 1) (path ∷ []) []) =
-    ap (λ z. reached_by links z) (filter-append (λ p. nat_eq (level_of p) 1) gone (path ∷ []))
-    ∙ map-append (named_by links) (filter (λ p. nat_eq (level_of p) 1) gone) (cond (nat_eq (level_of path) 1) (path ∷ []) []) in
-    ap (λ z. last_from 0 z) parts ∙ by (nat_eq (level_of path) 1) (nat_eq level 1) same
-  where
-    by : (a b : Bool) → a ≡ b → last_from 0 (root_records links gone ++ reached_by links (cond a (path ∷ []) [])) ≡ (if b then named_by links path else last)
-    by true true e = last_of_more 0 (named_by links path) (root_records links gone)
-    by false false e = ap (λ z. last_from 0 z) (append-nil (root_records links gone)) ∙ is
-    by true false e = absurd cc
-    by false true e = absurd cc
+last_root links gone path level last counted is = grind (arith, common_steps, last_of_more 0 (named_by links path) (root_records links gone), append-nil (root_records links gone), filter-append, map-append)
 
 pub turn : (links : Links) (entries : List ReadRecord) (flags : List Bool) (ms marked ms2 : List Mark) (step : Step) (pending2 : Option Step) (before nodes nodes2 : List LevelNode) (last last2 : ℕ) (e : ReadRecord) (at : ℕ)
     → Following links entries flags ms (Some step) before nodes last
@@ -214,31 +180,18 @@ pub stops : (start : ℕ) (es : Elements) (links : Links) (entries : List ReadRe
 stops start es links entries flags ms step before nodes last f at bad =
     let path : List Turn = path_along step.begins ms in
     let some : nat_eq (named_by links path) 0 ≡ false = grind (arith, nat_tests, at.step.0, at.step.1) in
-    let first : first_fault links [] (paths_of links) ≡ Some f =
-    ap (λ z. first_fault links [] z) at.whole
-    ∙ (at.good (to_come links ms (Some step))
-    ∙ (ap (λ z. first_fault links at.reached (z ++ later links step.begins ms)) (open_path links step.begins ms at.reached at.is_in at.few some)
-    ∙ or_some (path_fault links at.reached path) _ f bad)) in
-    or_some (first_fault links [] (paths_of links)) _ f first
+    grind (arith, common_steps, open_path links step.begins ms at.reached at.is_in at.few some, or_some)
 
 same_unreached : (more names : List ℕ) (records : List Record) → ((p : ℕ) → is_one_of p more ≡ is_one_of p names) → unreached_fault more records ≡ unreached_fault names records
 same_unreached more names [] members = refl
-same_unreached more names (r ∷ records) members =
-    let rest = same_unreached more names records members in
-    λ i. if not (carried_node r.elements).in_use || members r.place i then rest i else fault 63 r.place
+same_unreached more names (r ∷ records) members = grind (arith, common_steps, same_unreached more names records members)
 
 -- then the root's last offset, and what was not reached, decide
 ends : (start : ℕ) (es : Elements) (links : Links) (entries : List ReadRecord) (flags : List Bool) (ms : List Mark) (before nodes : List LevelNode) (last : ℕ)
     → (at : Following links entries flags ms None before nodes last)
     → links_fault start es links
     ≡ ((if nat_eq (or_zero (last_offset start es)) last then None else fault 60 (place_in (found 0x00041202 start es))) or_else unreached_fault at.reached links.records)
-ends start es links entries flags ms before nodes last at =
-    let all : paths_of links ≡ at.gone = at.whole ∙ append-nil at.gone in
-    let free : first_fault links [] (paths_of links) ≡ None = ap (λ z. first_fault links [] z) at.whole ∙ at.good [] in
-    let last_is : last_from 0 (root_records links (paths_of links)) ≡ last = ap (λ z. last_from 0 (root_records links z)) all ∙ at.last_is in
-    let left : unreached_fault (reached_by links (paths_of links)) links.records ≡ unreached_fault at.reached links.records =
-    ap (λ z. unreached_fault (reached_by links z) links.records) all ∙ sym (same_unreached at.reached (reached_by links at.gone) links.records at.members) in
-    grind (arith, common_steps)
+ends start es links entries flags ms before nodes last at = grind (arith, common_steps, append-nil at.gone, same_unreached at.reached (reached_by links at.gone) links.records at.members)
 
 pub ends_elsewhere : (root : Root) (entries : List ReadRecord) (start : ℕ) (es : Elements) (records : List Record) (flags : List Bool) (ms : List Mark) (before nodes : List LevelNode) (last : ℕ)
     → AreRead root entries start es records → Following (links_of start es records) entries flags ms None before nodes last
@@ -261,9 +214,7 @@ ends_there root entries start es records flags ms before nodes last read at same
 pub nodes_of_all : (links : Links) (entries : List ReadRecord) (flags : List Bool) (ms : List Mark) (before nodes : List LevelNode) (last : ℕ)
     → Following links entries flags ms None before nodes last
     → nodes ≡ before ++ flat_map (node_on links) (paths_of links)
-nodes_of_all links entries flags ms before nodes last at =
-    let all : paths_of links ≡ at.gone = at.whole ∙ append-nil at.gone in
-    sym at.nodes_are ∙ ap (λ z. before ++ flat_map (node_on links) z) (sym all)
+nodes_of_all links entries flags ms before nodes last at = grind (arith, common_steps, append-nil at.gone)
 
 pub none_is : (o : Option Step) → ((s : Step) → o ≡ Some s → ⊥) → o ≡ None
 none_is v1 other = grind (arith, nat_tests)
@@ -273,11 +224,7 @@ none_is v1 other = grind (arith, nat_tests)
 pub fault_fails : (root : Root) (entries : List ReadRecord) (f : DirFault) → f.tag ≡ no_tag → (f.number ≡ 67 → ⊥)
     → ((start : ℕ) (es : Elements) (records : List Record) → AreRead root entries start es records → links_fault start es (links_of start es records) ≡ Some (record { number = f.number; place = f.place }))
     → FailsToFollow root entries f
-fault_fails root entries f tag other fault = record {
-  tag = tag;
-  memory = λ is. absurd (other is);
-  fault = λ start es records not_memory read. fault start es records read;
-}
+fault_fails root entries f tag other fault = grind (arith, common_steps)
 
 pub both_err : {A E : Type 0} (P Q R : E → Type 0) (r : Result A E) → IfErr r P → IfErr r Q → ((e : E) → P e → Q e → R e) → IfErr r R
 both_err v1 v2 v3 v4 p q f = grind (arith, nat_tests)

@@ -205,14 +205,7 @@ pub record Leaves (rows : List Row) (at : ℕ) (before : List (List ℕ)) (kept 
 
 pub leaves_next : (rows : List Row) (at : ℕ) (row : Row) (keys new : List (List ℕ)) (kept kept2 : List Row) (doubles doubles2 : List ℕ) → at < length rows → row ≡ get_or rows at row
     → Leaves rows at keys kept doubles → TakesRow at row keys new kept kept2 doubles doubles2 → Leaves rows (at + 1) new kept2 doubles2
-leaves_next rows at row keys new kept kept2 doubles doubles2 lt is l t = by (is_seen row.instance keys) refl
-  where
-    rest : drop at rows ≡ row ∷ drop (at + 1) rows
-    rest = rest_is rows at row lt is
-
-    by : (b : Bool) → is_seen row.instance keys ≡ b → Leaves rows (at + 1) new kept2 doubles2
-    by true e = grind (arith, common_steps, rest)
-    by false e = grind (arith, common_steps, rest)
+leaves_next rows at row keys new kept kept2 doubles doubles2 lt is l t = grind (arith, common_steps, rest_is rows at row lt is)
 
 pub leaves_all : (rows : List Row) (at : ℕ) (before : List (List ℕ)) (kept : List Row) (doubles : List ℕ) → length rows ≤ at → Leaves rows at before kept doubles
     → (kept ≡ without_doubles [] rows) × (doubles ≡ doubles_of rows)

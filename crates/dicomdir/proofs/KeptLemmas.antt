@@ -1,9 +1,9 @@
 -- What the nodes of a tree keep.
-use Rattle.std.proofs.Common.{◌≡◌, ℕ, suc, ◌+◌, ◌<◌, ◌≤◌, Bool, true, false, List, [], ◌∷◌, ◌++◌, length, drop, get_or, map, refl, sym, ap, ◌∙◌, if◌then◌else◌, arith}
+use Rattle.std.proofs.Common.{◌≡◌, ℕ, suc, ◌+◌, ◌<◌, ◌≤◌, List, [], ◌∷◌, ◌++◌, length, drop, get_or, map, refl, sym, ap, ◌∙◌, arith}
 use Rattle.std.proofs.lemmas.List.{append_assoc, append-nil, drop_more, drop_all}
 use Rattle.dicomdir.specs.TreeOf.{Forest, no_nodes, node}
 use Rattle.dicomdir.specs.Linked.{PlacedNode, nodes_of}
-use Rattle.dicomdir.specs.NodesInUse.{LevelNode, nodes_in_use, HasNodes, pruned, images_of, file_id_of_image, KeptOf, kept_in, node_of}
+use Rattle.dicomdir.specs.NodesInUse.{LevelNode, nodes_in_use, HasNodes, file_id_of_image, KeptOf, kept_in, node_of}
 use Rattle.dicomdir.specs.declared.tree.TreeRecord.{TreeRecord}
 use Rattle.std.proofs.lemmas.Grind.{common_steps}
 
@@ -13,16 +13,7 @@ kept_append (x ∷ xs) ys = grind (arith, common_steps, kept_append xs ys, appen
 
 kept_are_in_use : (level : ℕ) (placed : Forest PlacedNode) → KeptOf (nodes_of placed) ≡ kept_in (nodes_in_use level placed)
 kept_are_in_use level no_nodes = refl
-kept_are_in_use level (node n below next) = by n.carries.in_use (kept_are_in_use (suc level) below) (kept_are_in_use level next)
-  where
-    by : (b : Bool) → images_of (pruned (nodes_of below)) ≡ kept_in (nodes_in_use (suc level) below) → images_of (pruned (nodes_of next)) ≡ kept_in (nodes_in_use level next)
-        → images_of (if b then node n.carries (pruned (nodes_of below)) (pruned (nodes_of next)) else pruned (nodes_of next))
-        ≡ kept_in (if b then record { place = n.place; level = level; carries = n.carries } ∷ (nodes_in_use (suc level) below ++ nodes_in_use level next) else nodes_in_use level next)
-    by true low nxt =
-        ap (λ z. file_id_of_image n.carries ++ z)
-        (ap (λ z. z ++ images_of (pruned (nodes_of next))) low
-        ∙ (ap (λ z. kept_in (nodes_in_use (suc level) below) ++ z) nxt ∙ sym (kept_append (nodes_in_use (suc level) below) (nodes_in_use level next))))
-    by false low nxt = nxt
+kept_are_in_use level (node n below next) = grind (arith, common_steps, kept_are_in_use (suc level) below, kept_are_in_use level next, kept_append (nodes_in_use (suc level) below) (nodes_in_use level next))
 
 -- the files that the nodes of a file keep are those of the tree that it is linked to
 pub kept_of_nodes : (file : List ℕ) (nodes : List LevelNode) (has : HasNodes file nodes) → kept_in nodes ≡ KeptOf has.tree

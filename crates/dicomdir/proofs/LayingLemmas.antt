@@ -26,14 +26,7 @@ laid_push total [] e = sym (append-nil (entry_text total e))
 laid_push total (x ∷ es) e = ap (λ (t : List ℕ). t ++ entry_text total x) (laid_push total es e) ∙ append_assoc (entry_text total e) (laid_text total es) (entry_text total x)
 
 pub lays_none : {A : Type 0} (es : List (LaidRecord A)) (size : ℕ) → Lays no_nodes es es size size 0 0
-lays_none es size = record {
-  size = omega arith;
-  count = omega arith;
-  text = λ start. refl;
-  first_is = λ start. refl;
-  last_is = λ start. refl;
-  none = refl;
-}
+lays_none es size = grind (arith, common_steps)
 
 module _ {A : Type 0} (forest : Forest Elements) (old new : List (LaidRecord A)) (old_size new_size first last : ℕ) (lays : Lays forest old new old_size new_size first last) where
   text_at : (start total : ℕ) → total ≡ start + new_size → laid_text total new ≡ forest_text (with_places start forest) ++ laid_text total old

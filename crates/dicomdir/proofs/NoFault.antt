@@ -1,24 +1,23 @@
 -- The nodes of a linked directory stand at records, its tree is the only one, and it has no fault.
-use Rattle.std.proofs.Common.{◌≡◌, ℕ, suc, ◌+◌, ◌<◌, ◌≤◌, Bool, true, false, not, ◌||◌, List, [], ◌∷◌, ◌++◌, length, Some, refl, sym, ap, ◌∙◌, arith, nat_eq, if◌then◌else◌, subst, zero, ◌&&◌, Option, None}
-use Rattle.std.proofs.lemmas.Bool.{and_parts, or_right, or_left, cond-true}
+use Rattle.std.proofs.Common.{◌≡◌, ℕ, suc, ◌+◌, ◌<◌, ◌≤◌, Bool, true, false, not, ◌||◌, List, [], ◌∷◌, ◌++◌, length, Some, refl, sym, ap, ◌∙◌, arith, nat_eq, if◌then◌else◌, subst, zero, Option, None}
+use Rattle.std.proofs.lemmas.Bool.{and_parts, or_right, or_left}
 use Rattle.std.proofs.lemmas.List.{length-append, append_cancel_left}
-use Rattle.std.proofs.lemmas.List.Folds.{list_any-append}
 use Rattle.std.proofs.lemmas.Bool.Decides.{nat_tests}
 use Rattle.element.specs.declared.header.Header.{Header}
 use Rattle.sequence.specs.Tree.{Elements, Items, no_items, item, DataSet}
 use Rattle.dicomdir.specs.TreeOf.{Forest, no_nodes, node, count_of}
-use Rattle.dicomdir.specs.Directory.{Found, missing, value_at, items_at, found, Record, header_size, size_of, end_size, records_at, records_in, Node, carried_node, first_offset, records_of, next_offset, lower_offset, IsExplicitFile, IsDirectoryFile, number_in, last_offset, or_zero, has_record, has_file_id}
-use Rattle.dicomdir.specs.Linked.{PlacedNode, places_of, is_distinct, record_at, AreLinked, is_one_of, LinkedElements, nodes_of, first_place, last_place, are_records}
+use Rattle.dicomdir.specs.Directory.{Found, missing, value_at, items_at, found, Record, header_size, size_of, end_size, records_at, records_in, Node, carried_node, first_offset, records_of, next_offset, lower_offset, IsExplicitFile, IsDirectoryFile, number_in, or_zero}
+use Rattle.dicomdir.specs.Linked.{PlacedNode, places_of, is_distinct, record_at, AreLinked, is_one_of, LinkedElements, nodes_of, first_place, are_records}
 use Rattle.dicomdir.specs.Laws.{NodesAreRecords, OneTreeOfFile, LinkedHasNoFault, PathsNameNodes, AcceptedHasNoFault, OneCheckFault, OneListOfNodes}
 use Rattle.dicomdir.proofs.Distinct.{not_true, not_place, same_place, same_one, backwards}
 use Rattle.std.proofs.lemmas.Grind.{common_steps}
 use Rattle.element.specs.declared.syntax.Syntax.TheVariants.{Explicit, Implicit}
-use Rattle.part10.specs.MetaText.{HasMeta, Said, MetaFaultOf, fault_number}
+use Rattle.part10.specs.MetaText.{HasMeta, Said, MetaFaultOf}
 use Rattle.part10.proofs.Public.{one_header, one_verdict}
 use Rattle.sequence.proofs.Public.{one_tree, one_fault, one_path, whole_breaks_no_rule}
 use Rattle.std.specs.List.{list_all}
-use Rattle.dicomdir.specs.Paths.{Links, Turn, named_by, level_of, paths_from, paths_of, reached_by, root_records, last_from}
-use Rattle.dicomdir.specs.DirFault.{fault, offset_fault, records_fault, root_fault, record_fault, each_fault, unreached_fault, last_fault, links_of, links_fault, records_then_links, directory_fault, ◌or_else◌, Fault, check_limits, place_of_meta_fault, in_header, in_syntax, in_data_set, at_the_end, in_directory}
+use Rattle.dicomdir.specs.Paths.{Links, Turn, named_by, level_of, paths_from, paths_of}
+use Rattle.dicomdir.specs.DirFault.{fault, offset_fault, records_fault, each_fault, unreached_fault, links_of, directory_fault, Fault, check_limits, in_header, in_syntax, in_data_set, at_the_end, in_directory}
 use Rattle.dicomdir.proofs.PathForests.{forest_from, lower_path, next_path, forest_places, forest_last, followed_is, is_good, AreFree, free_paths, two_none}
 use Rattle.element.specs.declared.tag.Tag.{Tag}
 use Rattle.dictionary.specs.Syntaxes.{syntax_uid}
@@ -44,12 +43,8 @@ pub no_more : (ps qs : List ℕ) → is_distinct ps ≡ true → ((x : ℕ) → 
 no_more [] qs distinct all = omega arith
 no_more (p ∷ ps) qs distinct all =
     let parts = and_parts (not (is_one_of p ps)) (is_distinct ps) distinct in
-    let none : is_one_of p ps ≡ false = not_true (is_one_of p ps) parts.0 in
     let here : is_one_of p qs ≡ true = all p (or_left (nat_eq p p) (is_one_of p ps) (same_place p)) in
-    let fewer = one_fewer p qs here in
-    let rest = no_more ps (without p qs) parts.1
-    (λ x h. still_one x p qs (not_place x p ps none h) (all x (or_right (nat_eq x p) (is_one_of x ps) h))) in
-    omega (arith, fewer, rest)
+    grind (arith, common_steps, and_parts (not (is_one_of p ps)) (is_distinct ps) distinct, not_true (is_one_of p ps) parts.0, or_left (nat_eq p p) (is_one_of p ps) (same_place p), same_place p, one_fewer p qs here, no_more ps (without p qs) parts.1, not_place, or_right, still_one)
 
 -- the places of records
 
@@ -71,15 +66,7 @@ either v1 b c f g e = grind (arith, nat_tests)
 at_records : (f : Forest PlacedNode) (records : List Record) (level : ℕ) → AreLinked records level f
     → (x : ℕ) → is_one_of x (places_of f) ≡ true → is_one_of x (places records) ≡ true
 at_records no_nodes records level linked x h = absurd cc
-at_records (node n below next) records level linked x h =
-    let here = stands_there n.place records linked.0.elements linked.0.stands in
-    either (nat_eq x n.place) (is_one_of x (places_of below ++ places_of next)) (is_one_of x (places records))
-    (λ e. same_one x n.place (places records) e here)
-    (λ e. either (is_one_of x (places_of below)) (is_one_of x (places_of next)) (is_one_of x (places records))
-    (at_records below records (suc level) linked.1 x)
-    (at_records next records level linked.2 x)
-    (sym (list_any-append (nat_eq x) (places_of below) (places_of next)) ∙ e))
-    h
+at_records (node n below next) records level linked x h = grind (arith, common_steps, stands_there n.place records linked.0.elements linked.0.stands, either (nat_eq x n.place) (is_one_of x (places_of below ++ places_of next)) (is_one_of x (places records)), either (is_one_of x (places_of below)) (is_one_of x (places_of next)) (is_one_of x (places records)), at_records below records (suc level) linked.1 x, at_records next records level linked.2 x, same_one)
 
 count_is : (f : Forest PlacedNode) → length (places_of f) ≡ count_of f
 count_is no_nodes = refl
@@ -105,13 +92,7 @@ none_in (items_at place h is) records e =
 pub nodes_are_records : NodesAreRecords
 nodes_are_records start elements tree linked =
     let all = at_records linked.placed linked.records 1 linked.linked in
-    let few = no_more (places_of linked.placed) (places linked.records) linked.distinct all in
-    let nodes = count_is linked.placed in
-    let records = length_places linked.records in (
-      omega (arith, few, nodes, records),
-      backwards (is_one_of 0 (places_of linked.placed)) (is_one_of 0 (places linked.records)) (all 0)
-          (none_in (found 0x00041220 start elements) linked.records linked.has_records),
-    )
+    grind (arith, common_steps, at_records linked.placed linked.records 1 linked.linked, no_more (places_of linked.placed) (places linked.records) linked.distinct all, count_is linked.placed, length_places linked.records, backwards (is_one_of 0 (places_of linked.placed)) (is_one_of 0 (places linked.records)) (all 0), none_in (found 0x00041220 start elements) linked.records linked.has_records)
 
 -- ---- a file is linked to one tree at most
 
@@ -129,12 +110,9 @@ same_forest records level (node n below next) no_nodes none l m e = absurd (not_
 same_forest records level (node n below next) (node k lower behind) none l m e =
     let both : Some l.0.elements ≡ Some m.0.elements = sym l.0.stands ∙ (ap (λ z. record_at z records) e ∙ m.0.stands) in
     let es : l.0.elements ≡ m.0.elements = some_same l.0.elements m.0.elements both in
-    let carries : n.carries ≡ k.carries = sym l.0.carries ∙ (ap (λ z. carried_node z) es ∙ m.0.carries) in
     let low : first_place below ≡ first_place lower = some_same (first_place below) (first_place lower) (sym l.0.names_lower ∙ (ap (λ z. lower_offset z) es ∙ m.0.names_lower)) in
     let nxt : first_place next ≡ first_place behind = some_same (first_place next) (first_place behind) (sym l.0.names_next ∙ (ap (λ z. next_offset z) es ∙ m.0.names_next)) in
-    let below_same = same_forest records (suc level) below lower none l.1 m.1 low in
-    let next_same = same_forest records level next behind none l.2 m.2 nxt in
-    λ i. node (record { place = e i; carries = carries i }) (below_same i) (next_same i)
+    grind (arith, common_steps, some_same l.0.elements m.0.elements both, same_forest records (suc level) below lower none l.1 m.1 low, same_forest records level next behind none l.2 m.2 nxt)
 
 pub same_placed : (start start2 : ℕ) (es es2 : Elements) (tree other : Forest Node) → start ≡ start2 → es ≡ es2
     → (l : LinkedElements start es tree) (m : LinkedElements start2 es2 other) → l.placed ≡ m.placed
@@ -186,22 +164,11 @@ records_none start (items_at place h is) records e = refl
 
 each_none : (records : List Record) → are_records records ≡ true → each_fault records ≡ None
 each_none [] e = refl
-each_none (r ∷ records) e =
-    let parts = and_parts (has_record r.elements && has_file_id r.elements) (are_records records) e in
-    let both = and_parts (has_record r.elements) (has_file_id r.elements) parts.0 in
-    let here : record_fault r ≡ None = by (has_record r.elements) (has_file_id r.elements) r.place both.0 both.1 in
-    ap (λ f. f or_else each_fault records) here ∙ each_none records parts.1
-  where
-    by : (a b : Bool) (place : ℕ) → a ≡ true → b ≡ true → (if not a then fault 68 place else (if not b then fault 65 place else None)) ≡ None
-    by true true place e f = refl
-    by true false place e f = absurd cc
-    by false b place e f = absurd cc
+each_none (r ∷ records) e = grind (arith, common_steps, each_none records)
 
 unreached_none : (places : List ℕ) (records : List Record) → list_all (λ r. not (carried_node r.elements).in_use || is_one_of r.place places) records ≡ true → unreached_fault places records ≡ None
 unreached_none places [] e = refl
-unreached_none places (r ∷ records) e =
-    let parts = and_parts (not (carried_node r.elements).in_use || is_one_of r.place places) (list_all (λ r. not (carried_node r.elements).in_use || is_one_of r.place places) records) e in
-    cond-true (not (carried_node r.elements).in_use || is_one_of r.place places) (unreached_fault places records) (fault 63 r.place) parts.0 ∙ unreached_none places records parts.1
+unreached_none places (r ∷ records) e = grind (arith, common_steps, unreached_none places records)
 
 -- the paths to the records of a linked forest name records that fit their levels
 
@@ -230,22 +197,12 @@ linked_has_no_fault start elements tree linked all =
     let links : Links = links_of start elements linked.records in
     let same : forest_from most linked.records links.first ≡ linked.placed = followed start elements tree linked in
     let names = paths_name_nodes start elements tree linked in
-    let last : last_place linked.placed ≡ last_from 0 (root_records links (paths_of links)) = ap last_place (sym same) ∙ forest_last most links [] 0 refl in
     let free : AreFree links [] (paths_of links) = record {
       distinct = ap is_distinct names ∙ linked.distinct;
       apart = λ p h. refl;
       good = good_paths most links [] (subst (λ z. AreLinked linked.records 1 z) (sym same) linked.linked);
     } in
-    let ends : last_fault start elements links ≡ None = last_named (last_offset start elements) (last_place linked.placed) (last_from 0 (root_records links (paths_of links))) _ linked.names_last last in
-    let left : unreached_fault (reached_by links (paths_of links)) linked.records ≡ None = ap (λ z. unreached_fault z linked.records) names ∙ unreached_none (places_of linked.placed) linked.records all in
-    let of_links : links_fault start elements links ≡ None = two_none _ _ (free_paths links [] (paths_of links) free) (two_none _ _ ends left) in
-    let after : records_then_links start elements (records_of start elements) ≡ None =
-    ap (λ o. records_then_links start elements o) linked.has_records ∙ two_none _ _ (each_none linked.records linked.good) of_links in
-    let root : root_fault start elements ≡ None =
-    two_none _ _ (offset_none start (found 0x00041200 start elements) _ linked.names_first)
-    (two_none _ _ (offset_none start (found 0x00041202 start elements) _ linked.names_last)
-    (records_none start (found 0x00041220 start elements) linked.records linked.has_records)) in
-    two_none _ _ root after
+    grind (arith, common_steps, forest_from most linked.records links.first, followed start elements tree linked, paths_name_nodes start elements tree linked, forest_last most links [] 0 refl, unreached_none (places_of linked.placed) linked.records all, free_paths links [] (paths_of links) free, each_none linked.records linked.good, good_paths, last_named, offset_none, two_none)
 
 -- ---- a file is a directory or has one first fault
 
@@ -305,9 +262,7 @@ same_ends {b = b} {b2 = b2} {tag = tag} {tag2 = tag2} same end end2 =
     end.tagged ∙ (ap tag_of_tail path.3 ∙ sym moved.tagged)
 
 pub one_check_fault : OneCheckFault
-one_check_fault file _ _ _ _ _ _ (in_header fault is) (in_header fault2 is2) =
-    let same = one_verdict.1 file fault fault2 is is2 in
-    (ap fault_number same, ap (λ z. place_of_meta_fault (fault_number z)) same, refl)
+one_check_fault file _ _ _ _ _ _ (in_header fault is) (in_header fault2 is2) = grind (arith, common_steps, one_verdict)
 one_check_fault file _ _ _ _ _ _ (in_header fault is) (in_syntax meta implicit) = absurd (implicit_is_taken meta implicit fault is)
 one_check_fault file _ _ _ _ _ _ (in_header fault is) (in_data_set y first) = absurd (header_is_taken y fault is)
 one_check_fault file _ _ _ _ _ _ (in_header fault is) (at_the_end y end) = absurd (header_is_taken y fault is)
@@ -339,6 +294,4 @@ one_check_fault file _ _ _ _ _ _ (in_directory x unbroken text told) (in_syntax 
 one_check_fault file _ _ _ _ _ _ (in_directory {back = back} x unbroken text told) (in_data_set y first) =
     absurd (no_first_fault (unbroken_there back _ (same_fronts x y).1 unbroken) first)
 one_check_fault file _ _ _ _ _ _ (in_directory x unbroken text told) (at_the_end y end) = absurd (no_end_fault (same_fronts x y).1 text end)
-one_check_fault file _ _ _ _ _ _ (in_directory x unbroken text told) (in_directory y unbroken2 text2 told2) =
-    let same = same_directory_faults x y text text2 told told2 in
-    (ap (λ z. z.number) same, ap (λ z. z.place) same, refl)
+one_check_fault file _ _ _ _ _ _ (in_directory x unbroken text told) (in_directory y unbroken2 text2 told2) = grind (arith, common_steps, same_directory_faults x y text text2 told told2)

@@ -1,5 +1,5 @@
 -- The forest that following the offsets goes through has just the nodes that paths name.
-use Rattle.std.proofs.Common.{◌≡◌, ℕ, zero, suc, ◌<◌, Bool, true, false, ◌&&◌, List, [], ◌∷◌, ◌++◌, filter, refl, sym, ap, ◌∙◌, arith, Option, Some, None, nat_eq, if◌then◌else◌, not}
+use Rattle.std.proofs.Common.{◌≡◌, ℕ, zero, suc, ◌<◌, Bool, true, false, ◌&&◌, List, [], ◌∷◌, ◌++◌, filter, refl, sym, ◌∙◌, arith, Option, Some, None, nat_eq, if◌then◌else◌, not}
 use Rattle.std.specs.List.{flat_map, list_all}
 use Rattle.std.proofs.lemmas.Bool.{or_parts, cond-false, and_parts, and_from, or_right, or_left, or_from, false_from_ne_true}
 use Rattle.std.proofs.lemmas.Bool.Decides.{nat_tests}
@@ -7,7 +7,7 @@ use Rattle.std.proofs.lemmas.Grind.{common_steps}
 use Rattle.std.proofs.lemmas.List.Folds.{list_any-append}
 use Rattle.sequence.specs.Tree.{Elements, no_elements}
 use Rattle.dicomdir.specs.TreeOf.{Forest, no_nodes, node, count_of}
-use Rattle.dicomdir.specs.Directory.{Record, carried_node, lower_offset, next_offset, or_zero}
+use Rattle.dicomdir.specs.Directory.{Record, carried_node}
 use Rattle.dicomdir.specs.Linked.{PlacedNode, places_of, first_place, last_place_behind, record_at, AreLinked, is_one_of, elements_at, lower_at, next_at, is_distinct}
 use Rattle.dicomdir.specs.NodesInUse.{LevelNode, nodes_in_use}
 use Rattle.dicomdir.specs.Paths.{Links, Turn, named_by, level_of, paths_from, reached_by, root_records, last_from}
@@ -53,16 +53,12 @@ at_root path = nat_eq (level_of path) 1
 
 none_at_root : (most : ℕ) (links : Links) (path : List Turn) → 1 < level_of path → filter at_root (paths_from most links path) ≡ []
 none_at_root zero links path low = refl
-none_at_root (suc most) links path low =
-    let not_one : at_root path ≡ false = grind (arith, nat_tests, low) in
-    grind (arith, common_steps, none_at_root most links (lower_path links path) (omega (arith, low)), none_at_root most links (next_path links path) low)
+none_at_root (suc most) links path low = grind (arith, common_steps, none_at_root most links (lower_path links path) (omega (arith, low)), none_at_root most links (next_path links path) low)
 
 pub forest_last : (most : ℕ) (links : Links) (path : List Turn) (last : ℕ) → level_of path ≡ 1
     → last_place_behind last (forest_from most links.records (named_by links path)) ≡ last_from last (root_records links (paths_from most links path))
 forest_last zero links path last top = refl
-forest_last (suc most) links path last top =
-    let here : at_root path ≡ true = ap (λ z. nat_eq z 1) top in
-    grind (arith, common_steps, none_at_root most links (lower_path links path) (omega (arith, top)), forest_last most links (next_path links path) (named_by links path) top)
+forest_last (suc most) links path last top = grind (arith, common_steps, none_at_root most links (lower_path links path) (omega (arith, top)), forest_last most links (next_path links path) (named_by links path) top)
 
 -- the nodes in use that no inactive record is above
 
@@ -95,14 +91,7 @@ followed_is (node n below next) (suc most) records level linked nonzero few =
     let here = linked.0 in
     let zeros = or_parts (nat_eq 0 n.place) (is_one_of 0 (places_of below ++ places_of next)) nonzero in
     let inside = or_parts (is_one_of 0 (places_of below)) (is_one_of 0 (places_of next)) (sym (list_any-append (nat_eq 0) (places_of below) (places_of next)) ∙ zeros.1) in
-    let some : nat_eq n.place 0 ≡ false = grind (arith, nat_tests, zeros.0) in
-    let same : elements_at records n.place ≡ here.elements = elements_is (record_at n.place records) here.elements here.stands in
-    let low : lower_at records n.place ≡ first_place below = ap (λ z. or_zero (lower_offset z)) same ∙ ap or_zero here.names_lower in
-    let nxt : next_at records n.place ≡ first_place next = ap (λ z. or_zero (next_offset z)) same ∙ ap or_zero here.names_next in
-    let carries : carried_node (elements_at records n.place) ≡ n.carries = ap (λ z. carried_node z) same ∙ here.carries in
-    let bs : forest_from most records (lower_at records n.place) ≡ below = ap (λ z. forest_from most records z) low ∙ followed_is below most records (suc level) linked.1 inside.0 (omega (arith, few)) in
-    let ns : forest_from most records (next_at records n.place) ≡ next = ap (λ z. forest_from most records z) nxt ∙ followed_is next most records level linked.2 inside.1 (omega (arith, few)) in
-    grind (arith, common_steps, cond-false (nat_eq n.place 0) no_nodes (node (record { place = n.place; carries = carried_node (elements_at records n.place) }) (forest_from most records (lower_at records n.place)) (forest_from most records (next_at records n.place))) some)
+    grind (arith, common_steps, or_parts (nat_eq 0 n.place) (is_one_of 0 (places_of below ++ places_of next)) nonzero, or_parts (is_one_of 0 (places_of below)) (is_one_of 0 (places_of next)) (sym (list_any-append (nat_eq 0) (places_of below) (places_of next)) ∙ zeros.1), elements_is (record_at n.place records) here.elements here.stands, followed_is below most records (suc level) linked.1 inside.0 (omega (arith, few)), followed_is next most records level linked.2 inside.1 (omega (arith, few)), cond-false)
 
 -- ---- paths have no fault where each names another record, which fits its level
 
@@ -146,14 +135,7 @@ are_free links reached (path ∷ paths) e =
     (λ h. clash (is_one_of o (o ∷ reached)) (or_left (nat_eq o o) (is_one_of o reached) (same_place o)) (rest.apart o h)) in
     let first : not (is_one_of o (reached_by links paths)) ≡ true = rw new refl in
     let well : is_good links path ≡ true = rw (here.0, here.2) refl in
-    record {
-      distinct = and_from (not (is_one_of o (reached_by links paths))) (is_distinct (reached_by links paths)) first rest.distinct;
-      apart = λ p h. either_out (nat_eq p o) (is_one_of p (reached_by links paths)) (is_one_of p reached)
-          (λ same. same_out p o reached same here.1)
-          (λ among. (or_parts (nat_eq p o) (is_one_of p reached) (rest.apart p among)).1)
-          h;
-      good = and_from (is_good links path) (list_all (is_good links) paths) well rest.good;
-    }
+    grind (arith, common_steps, both_none (path_fault links reached path) (first_fault links (o ∷ reached) paths) e, path_free links reached path parts.0, are_free links (o ∷ reached) paths parts.1, false_from_ne_true (is_one_of o (reached_by links paths)), or_left (nat_eq o o) (is_one_of o reached) (same_place o), same_place o, and_from (not (is_one_of o (reached_by links paths))) (is_distinct (reached_by links paths)) first rest.distinct, and_from (is_good links path) (list_all (is_good links) paths) well rest.good, clash, either_out, or_parts, same_out)
 
 pub good_parts : (links : Links) (path : List Turn) → is_good links path ≡ true → (names_no_record links path ≡ false) × (names_wrong_level links path ≡ false)
 good_parts links path e = grind (arith, common_steps, and_parts (not (names_no_record links path)) (not (names_wrong_level links path)) e)

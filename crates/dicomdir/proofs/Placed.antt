@@ -1,5 +1,5 @@
 -- The records of a forest with places: where they stand, what stands there, and how they are linked.
-use Rattle.std.proofs.Common.{◌≡◌, ℕ, suc, ◌+◌, ◌^◌, ◌<◌, ◌≤◌, Bool, true, false, not, ◌||◌, List, [], ◌∷◌, ◌++◌, Option, Some, None, refl, sym, ap, ◌∙◌, arith, nat_eq, nat_lt, ltb-true, if◌then◌else◌, filter}
+use Rattle.std.proofs.Common.{◌≡◌, ℕ, suc, ◌+◌, ◌^◌, ◌<◌, ◌≤◌, Bool, true, false, not, ◌||◌, List, [], ◌∷◌, ◌++◌, map, Option, Some, None, refl, sym, ap, ◌∙◌, arith, nat_eq, nat_lt, ltb-true, if◌then◌else◌, filter}
 use Rattle.std.specs.List.{list_any, list_all, AllByRecursion}
 use Rattle.std.proofs.lemmas.Bool.{and_from, and_parts, ltb-false, or_right, or_left, or_from}
 use Rattle.std.proofs.lemmas.Bool.Decides.{nat_tests}
@@ -74,30 +74,17 @@ pub before_none : (p place : ℕ) (tree : Forest Elements) → p < place → rec
 before_none p place no_nodes lt = refl
 before_none p place (node es below next) lt =
     let after = place + record_size es in
-    let some = some_size es in
-    let b = before_none p after below (omega (arith, lt)) in
-    let n = before_none p (after + forest_size below) next (omega (arith, lt)) in
-    let other : nat_eq place p ≡ false = grind (arith, nat_tests) in
-    elsewhere p place _ _ other ∙ at_second p (written (with_places after below)) (written (with_places (after + forest_size below) next)) b ∙ n
+    grind (arith, common_steps, some_size es, before_none p (after + forest_size below) next (omega (arith, lt)), at_second p (written (with_places after below)) (written (with_places (after + forest_size below) next)) (before_none p after below (omega (arith, lt))), before_none p after below (omega (arith, lt)))
 
 pub after_none : (p place : ℕ) (tree : Forest Elements) → place + forest_size tree ≤ p → record_at p (written (with_places place tree)) ≡ None
 after_none p place no_nodes le = refl
 after_none p place (node es below next) le =
     let after = place + record_size es in
-    let some = some_size es in
-    let b = after_none p after below (omega (arith, le)) in
-    let n = after_none p (after + forest_size below) next (omega (arith, le)) in
-    let apart : place < p = omega (arith, le, some) in
-    let other : nat_eq place p ≡ false = grind (arith, nat_tests) in
-    elsewhere p place _ _ other ∙ at_second p (written (with_places after below)) (written (with_places (after + forest_size below) next)) b ∙ n
+    grind (arith, common_steps, some_size es, after_none p (after + forest_size below) next (omega (arith, le)), at_second p (written (with_places after below)) (written (with_places (after + forest_size below) next)) (after_none p after below (omega (arith, le))), after_none p after below (omega (arith, le)))
 
 -- a record that stands there is not before the first place
 not_before : (p place : ℕ) (tree : Forest Elements) (es : Elements) → record_at p (written (with_places place tree)) ≡ Some es → place ≤ p
-not_before p place tree es e = by (nat_lt p place) refl
-  where
-    by : (b : Bool) → nat_lt p place ≡ b → place ≤ p
-    by true lt = let none = before_none p place tree (ltb-true p place lt) in absurd cc
-    by false le = ltb-false p place le
+not_before p place tree es e = grind (arith, common_steps, before_none, ltb-false, ltb-true)
 
 self : (p : ℕ) (es : Elements) (rest : Option Elements) → (if nat_eq p p then Some es else rest) ≡ Some es
 self p es rest = let e : nat_eq p p ≡ true = grind (arith, nat_tests) in ap (λ (b : Bool). if b then Some es else rest) e
@@ -142,26 +129,19 @@ linked place (node es below next) level records nodes small whole =
 
 -- the places are distinct
 
+places_are : (f : Forest Record) → places_of (placed f) ≡ map (λ r. r.place) (written f)
+places_are no_nodes = refl
+places_are (node r below next) = grind (arith, common_steps, places_are below, places_are next)
+
+none_of : (p : ℕ) (records : List Record) → record_at p records ≡ None → is_one_of p (map (λ r. r.place) records) ≡ false
+none_of p [] e = refl
+none_of p (r ∷ records) e = grind (arith, nat_tests, none_of p records)
+
 one_before : (p place : ℕ) (tree : Forest Elements) → p < place → is_one_of p (places_of (placed (with_places place tree))) ≡ false
-one_before p place no_nodes lt = refl
-one_before p place (node es below next) lt =
-    let after = place + record_size es in
-    let some = some_size es in
-    let b = one_before p after below (omega (arith, lt)) in
-    let n = one_before p (after + forest_size below) next (omega (arith, lt)) in
-    let other : nat_eq p place ≡ false = grind (arith, nat_tests) in
-    or_from _ _ other (list_any-append (nat_eq p) (places_of (placed (with_places after below))) (places_of (placed (with_places (after + forest_size below) next))) ∙ or_from _ _ b n)
+one_before p place tree lt = ap (is_one_of p) (places_are (with_places place tree)) ∙ none_of p (written (with_places place tree)) (before_none p place tree lt)
 
 one_after : (p place : ℕ) (tree : Forest Elements) → place + forest_size tree ≤ p → is_one_of p (places_of (placed (with_places place tree))) ≡ false
-one_after p place no_nodes le = refl
-one_after p place (node es below next) le =
-    let after = place + record_size es in
-    let some = some_size es in
-    let b = one_after p after below (omega (arith, le)) in
-    let n = one_after p (after + forest_size below) next (omega (arith, le)) in
-    let apart : place < p = omega (arith, le, some) in
-    let other : nat_eq p place ≡ false = grind (arith, nat_tests) in
-    or_from _ _ other (list_any-append (nat_eq p) (places_of (placed (with_places after below))) (places_of (placed (with_places (after + forest_size below) next))) ∙ or_from _ _ b n)
+one_after p place tree le = ap (is_one_of p) (places_are (with_places place tree)) ∙ none_of p (written (with_places place tree)) (after_none p place tree le)
 
 join_distinct : (xs ys : List ℕ) → is_distinct xs ≡ true → is_distinct ys ≡ true → ((p : ℕ) → is_one_of p xs ≡ true → is_one_of p ys ≡ false) → is_distinct (xs ++ ys) ≡ true
 join_distinct [] ys d e apart = e
@@ -208,9 +188,7 @@ good_records place no_nodes level nodes = refl
 good_records place (node es below next) level nodes =
     let after = place + record_size es in
     let beyond = after + forest_size below in
-    and_from _ _ (nodes.0.whole _ _)
-    (list_all-append _ (written (with_places after below)) (written (with_places beyond next))
-    ∙ and_from _ _ (good_records after below (suc level) nodes.1) (good_records beyond next level nodes.2))
+    grind (arith, common_steps, good_records after below (suc level) nodes.1, good_records beyond next level nodes.2, and_from)
 
 -- ---- each node of the tree of rows is a record of its level
 

@@ -5,7 +5,7 @@ use Rattle.sequence.specs.Tree.{Elements, Items, no_items, item}
 use Rattle.dicomdir.specs.declared.found.Element.{Element}
 use Rattle.dicomdir.specs.declared.records.ReadRecord.{ReadRecord}
 use Rattle.dicomdir.specs.Directory.{Found, found, number_in, kind_in, file_id_in, is_missing, is_in_use, is_use_flag, carried_node, next_offset, lower_offset, has_file_id, or_zero, Record, header_size, size_of, end_size, records_at}
-use Rattle.dicomdir.specs.machine.Trail.{IsEntryOf, use_flag, entry_has_file_id, FailsAs, IsEntry, AreEntries, no_entries, entry_then, Rise}
+use Rattle.dicomdir.specs.machine.Trail.{EntrySays, use_flag, entry_has_file_id, FailsAs, IsEntry, AreEntries, no_entries, entry_then, Rise}
 use Rattle.dicomdir.specs.machine.Texts.{Finds, shown, got_none, ItemsThen, IsAfter, HasElements, HasItems, IsItemContent, content_at, head_at}
 use Rattle.std.proofs.lemmas.Bool.Decides.{nat_tests}
 use Rattle.std.proofs.lemmas.Grind.{common_steps}
@@ -49,7 +49,7 @@ not_empty (x ∷ xs) b is e = refl
 
 pub entry_is : (place : ℕ) (es : Elements) (e : ReadRecord) → next_offset es ≡ Some e.next → use_flag (number_in 2 (found 0x00041410 0 es)) ≡ Some e.in_use
     → lower_offset es ≡ Some e.lower → e.kind.now ≡ kind_in (found 0x00041430 0 es) → bytes_eq e.kind.now [] ≡ false → e.file_id ≡ file_id_in (found 0x00041500 0 es)
-    → e.place ≡ place → IsEntryOf place es e
+    → e.place ≡ place → EntrySays e (record { place = place; elements = es })
 entry_is place es e next flag lower kind some file_id at =
     let used = use_is (number_in 2 (found 0x00041410 0 es)) e.in_use flag in
     let some_kind : bytes_eq (kind_in (found 0x00041430 0 es)) [] ≡ false = ap (λ k. bytes_eq k []) (sym kind) ∙ some in
@@ -57,7 +57,7 @@ entry_is place es e next flag lower kind some file_id at =
     let b = some_is (lower_offset es) e.lower lower in
     let c = used.1 in
     record {
-      place_is = at;
+      place = at;
       next = sym (ap or_zero next);
       lower = sym (ap or_zero lower);
       carries = λ i. record { in_use = used.0 i; kind = kind i; file_id = file_id i };
@@ -69,7 +69,7 @@ entry_is place es e next flag lower kind some file_id at =
 
 -- ---- its file ID
 
-pub file_id_as : (place : ℕ) (es : Elements) (e : ReadRecord) (found_id : Element) → IsEntryOf place es e → Finds found_id (found 0x00041500 0 es)
+pub file_id_as : (place : ℕ) (es : Elements) (e : ReadRecord) (found_id : Element) → EntrySays e (record { place = place; elements = es }) → Finds found_id (found 0x00041500 0 es)
     → entry_has_file_id e found_id ≡ has_file_id es
 file_id_as place es e found_id is finds = grind (arith, common_steps, finds_missing found_id (found 0x00041500 0 es) finds)
 
@@ -158,11 +158,8 @@ read_fails s first items text rest old now head f r read tagged fails =
     let i = item_here head r.after r.spelled read tagged in
     let here : ℕ = first + (length text - length rest) in
     let one : Record = record { place = here; elements = i.elements } in
-    let told = fails i.elements (item_content s head.header i.elements i.content i.rest (drop head.size rest) i.content_is i.rest_is) in
     let others : List Record = records_at (here + header_size head.header + size_of i.elements + end_size head.header.length) i.others in
-    let all : each_fault (records_at first items) ≡ (record_fault one or_else each_fault others) =
-    ap each_fault (r.all ∙ ap (λ z. r.done ++ records_at here z) i.first) ∙ each_append r.done (one ∷ others) r.good in
-    record { tag = told.tag; memory = told.memory; fault = λ other. all ∙ ap (λ o. o or_else each_fault others) (told.fault other) }
+    grind (arith, common_steps, item_here head r.after r.spelled read tagged, item_content s head.header i.elements i.content i.rest (drop head.size rest) i.content_is i.rest_is, each_append r.done (one ∷ others) r.good)
 
 -- ---- all records
 

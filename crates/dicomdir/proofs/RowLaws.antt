@@ -1,5 +1,5 @@
 -- A file has one row, and its keys fit.
-use Rattle.std.proofs.Common.{◌≡◌, ◌≤◌, ℕ, Bool, true, false, cond, List, [], ◌∷◌, map, Some, None, Ok, Err, refl, ap, subst, eqb-true, nat_eq, arith, rules, ◌&&◌, ◌++◌, length, take, drop, Option, nat_le, unwrap_or, is_some, sym, ◌∙◌, append_assoc, codes}
+use Rattle.std.proofs.Common.{◌≡◌, ◌≤◌, ℕ, Bool, true, false, cond, List, [], ◌∷◌, map, Some, None, Ok, Err, refl, ap, subst, eqb-true, nat_eq, arith, rules, ◌&&◌, ◌++◌, length, take, drop, Option, unwrap_or, is_some, sym, ◌∙◌, append_assoc, codes}
 use Rattle.std.specs.List.{list_all, find}
 use Rattle.std.proofs.lemmas.Bool.{and_parts, leb-true, le-leb}
 use Rattle.element.specs.Header.{number}
@@ -106,14 +106,7 @@ record SameInstance {file : List ℕ} (a b : IsInstance file) : Type 0 where
 
 same_instance : {file : List ℕ} (a b : IsInstance file) → SameInstance a b
 unfolding has_meta
-same_instance {file = file} a b =
-    let one = one_header file (record { class = a.class; instance = a.instance; syntax = syntax_uid a.syntax }) (record { class = b.class; instance = b.instance; syntax = syntax_uid b.syntax }) (has_meta a) (has_meta b) in
-    record {
-      class = ap (λ (z : Said). z.class) one.0;
-      instance = ap (λ (z : Said). z.instance) one.0;
-      syntax = one_syntax a.syntax b.syntax (ap (λ (z : Said). z.syntax) one.0);
-      back = append_cancel_left a.front a.back b.back (sym a.whole ∙ b.whole ∙ ap (λ z. z ++ b.back) (sym one.1));
-    }
+same_instance {file = file} a b = grind (arith, common_steps, one_header file (record { class = a.class; instance = a.instance; syntax = syntax_uid a.syntax }) (record { class = b.class; instance = b.instance; syntax = syntax_uid b.syntax }) (has_meta a) (has_meta b), has_meta a, has_meta b, append_cancel_left, one_syntax)
 
 -- the number of what is wrong with a data set is one
 one_number : {s : Syntax} {lim : Limits} {b : List ℕ} {f g : Fault} → Fails s lim b f → Fails s lim b g → f.number ≡ g.number
@@ -199,14 +192,7 @@ rooms_fit : (ws : List Want) (es : Elements) (taken rules : List KeyRule) → Fi
 rooms_fit ws es taken [] fit e = refl
 rooms_fit ws es taken (rule ∷ rules) fit e =
     let parts = and_parts (has_room ws rule) _ e in
-    both (by (value_of (values_for taken (kept_of ws es)) (number rule.tag)) refl (room_is ws rule parts.0)) (rooms_fit ws es taken rules fit parts.1)
-  where
-    by : (o : Option (List ℕ)) → value_of (values_for taken (kept_of ws es)) (number rule.tag) ≡ o → room_of ws (number rule.tag) ≡ Some rule.room → nat_le (optional_size o) rule.room ≡ true
-    by None is r = le-leb 0 rule.room (omega arith)
-    by (Some v) is r = le-leb (length v) rule.room (kept_fits ws es (number rule.tag) rule.room v fit r (taken_from taken (kept_of ws es) (number rule.tag) v is))
-
-    both : {a b : Bool} → a ≡ true → b ≡ true → (a && b) ≡ true
-    both e f = cc
+    grind (arith, common_steps, room_is ws rule parts.0, rooms_fit ws es taken rules fit parts.1, le-leb 0 rule.room (omega arith), and_parts, kept_fits, taken_from)
 
 pub keys_fit : KeysFit
 keys_fit file_id class instance s es fit = rooms_fit row_wants es key_table key_table fit refl

@@ -2,7 +2,7 @@
 use Rattle.std.proofs.Common.{◌≡◌, ℕ, ◌-◌, ◌<◌, ◌≤◌, List, [], ◌++◌, length, take, drop, Option, Some, None, IfSome, refl, sym, ap, subst, ◌∙◌, arith, append_assoc, suc, ◌∷◌, Result, Err}
 use Rattle.std.proofs.lemmas.List.{take_rest, append-nil}
 use Rattle.std.specs.Io.KnownBytes.{Consumes, IsAtEnd}
-use Rattle.std.proofs.KnownBytes.{Consumes-nil, Consumes-trans}
+use Rattle.std.proofs.KnownBytes.{Consumes-trans}
 use Rattle.element.specs.Numbers.{IsBytes}
 use Rattle.sequence.specs.declared.fault.Fault.{Fault}
 use Rattle.sequence.specs.declared.step.Step.{Step}
@@ -97,13 +97,7 @@ pub record Reads {V D : ℕ} (w0 w : Walker V D) (old new : Option (List ℕ)) :
   pub same : IsSameSet w0 w
 
 pub reads_first : {V D : ℕ} (w : Walker V D) (old : Option (List ℕ)) → StandsAt w [] → Reads w w old old
-reads_first w old stands = record {
-  taken = [];
-  consumed = Consumes-nil old;
-  stands = stands;
-  good = tells_none stands.tells (nothing_unbroken (walker_syntax w) (limits_of w));
-  same = (refl, refl);
-}
+reads_first w old stands = grind (arith, common_steps, tells_none stands.tells (nothing_unbroken (walker_syntax w) (limits_of w)), nothing_unbroken (walker_syntax w) (limits_of w))
 
 pub ended : (new : Option (List ℕ)) (n : ℕ) (old room : List ℕ) → n ≡ 0 → length room ≡ length old → length old ≡ 4096 → (n ≡ 0 → 0 < length room → IsAtEnd new) → IsAtEnd new
 ended new n old room none same size end = end none (omega (arith, same, size))
@@ -150,15 +144,7 @@ refused_header OtherSyntax (Some file) file_id r = λ _. has_row (header_fault O
 refused_header ReadFailed (Some file) file_id r = λ _. read_failed refl
 
 instance_of : (meta : Meta) (file back : List ℕ) → TakesMeta (said_of meta) (Some file) (Some back) → IsInstance file
-instance_of meta file back takes = record {
-  class = meta.class;
-  instance = meta.instance;
-  syntax = meta.syntax;
-  front = takes.0;
-  back = back;
-  whole = takes.2;
-  header = takes.1;
-}
+instance_of meta file back takes = grind (arith, common_steps)
 
 pub refused_data_set : {V D : ℕ} (w : Walker V D) (meta : Meta) (old mid : Option (List ℕ)) (file_id : List ℕ) (reason : Skip) → TakesMeta (said_of meta) old mid
     → walker_syntax w ≡ meta.syntax → limits_of w ≡ row_limits → WalkFails w mid reason → Read old file_id (Err reason)

@@ -48,9 +48,7 @@ not_undefined : (n : ℕ) → n ≢ undefined_length → is_undefined n ≡ fals
 not_undefined n other = grind (arith, nat_tests)
 
 pub ended_size : {mark : Tag} {n : ℕ} {b c : List ℕ} → Ended mark n b c → length c ≡ length b + end_size n
-ended_size (counted {b = b} n other even size) =
-    let none : end_size n ≡ 0 = ap (λ z. if z then 8 else 0) (not_undefined n other) in
-    omega (arith, none)
+ended_size (counted {b = b} n other even size) = grind (arith, common_steps, not_undefined n other)
 ended_size {mark = mark} (delimited {b = b}) = length-append b (delimitation mark)
 
 mutual
@@ -94,9 +92,7 @@ mark_head s mark rest text marks fits e = head_read s (record { tag = mark; vr =
 -- the header that is read there
 pub marked_head : (s : Syntax) (mark : Tag) (rest text : List ℕ) (head : Head) → is_marker mark ≡ true → IsTag mark → text ≡ delimitation mark ++ rest → head_at s text ≡ Some head
     → record { header = record { tag = mark; vr = None; length = 0 }; size = 8 } ≡ head
-marked_head s mark rest text head marks fits e read =
-    let same : Some (record { header = record { tag = mark; vr = None; length = 0 }; size = 8 }) ≡ Some head = sym (mark_head s mark rest text marks fits e) ∙ read in
-    cc
+marked_head s mark rest text head marks fits e read = grind (arith, common_steps, mark_head s mark rest text marks fits e)
 
 pub no_head : (s : Syntax) (text : List ℕ) → text ≡ [] → head_at s text ≡ None
 unfolding need
@@ -212,11 +208,7 @@ element_here {s = s} {more = more} {text = text} {es = es} head after spelled re
 -- where there is none, or a delimitation, no elements are left
 pub no_elements_here : {s : Syntax} {last : ℕ} {more text : List ℕ} {es : Elements} → ElementsThen s last es more text
     → ((head : Head) → head_at s text ≡ Some head → is_marker head.header.tag ≡ false → ⊥) → (es ≡ no_elements) × (text ≡ more)
-no_elements_here {s = s} {more = more} {text = text} {es = es} spelled other = by (front_of more text spelled.data_set spelled.whole)
-  where
-    by : Front s more text es → (es ≡ no_elements) × (text ≡ more)
-    by (at_end none whole) = (none, whole)
-    by (at_element head there no_marker e) = absurd (other head there no_marker)
+no_elements_here {s = s} {more = more} {text = text} {es = es} spelled other = grind (arith, common_steps, front_of more text spelled.data_set spelled.whole)
 
 pub record ItemHere (s : Syntax) (head : Head) (more text : List ℕ) (is : Items) : Type 0 where
   pub content : List ℕ
@@ -267,19 +259,12 @@ item_here {s = s} {more = more} {text = text} {is = is} head after spelled read 
 -- where none was, no items are left
 pub no_items_here : {s : Syntax} {more text : List ℕ} {is : Items} → ItemsThen s is more text → ((head : Head) → head_at s text ≡ Some head → head.header.tag ≡ item_tag → ⊥)
     → (is ≡ no_items) × (text ≡ more)
-no_items_here {s = s} {more = more} {text = text} {is = is} spelled other = by (front_of_items more text spelled.items spelled.whole)
-  where
-    by : FrontOfItems s more text is → (is ≡ no_items) × (text ≡ more)
-    by (no_item none whole) = (none, whole)
-    by (at_item head there its_tag e) = absurd (other head there its_tag)
+no_items_here {s = s} {more = more} {text = text} {is = is} spelled other = grind (arith, common_steps, front_of_items more text spelled.items spelled.whole)
 
 -- ---- tags
 
 both_equal : (t u : Tag) (a b : Bool) → nat_eq t.0 u.0 ≡ a → nat_eq t.1 u.1 ≡ b → not (a && b) ≡ false → t ≡ u
-both_equal t u true true e f g =
-    let first : t.0 ≡ u.0 = eqb-true t.0 u.0 e in
-    let second : t.1 ≡ u.1 = eqb-true t.1 u.1 f in
-    λ i. record { 0 = first i; 1 = second i }
+both_equal t u true true e f g = grind (arith, common_steps, eqb-true t.0 u.0 e, eqb-true t.1 u.1 f)
 both_equal t u true false e f g = absurd cc
 both_equal t u false b e f g = absurd cc
 
@@ -287,8 +272,4 @@ pub same_tags : (t u : Tag) → not (same_tag t u) ≡ false → t ≡ u
 same_tags t u e = both_equal t u (nat_eq t.0 u.0) (nat_eq t.1 u.1) refl refl e
 
 pub other_tag : (t u : Tag) → not (same_tag t u) ≡ true → t ≢ u
-other_tag t u e same =
-    let first = eq-eqb t.0 u.0 (ap (λ z. z.0) same) in
-    let second = eq-eqb t.1 u.1 (ap (λ z. z.1) same) in
-    let both : not (nat_eq t.0 u.0 && nat_eq t.1 u.1) ≡ false = rw (first, second) refl in
-    absurd cc
+other_tag t u e same = grind (arith, common_steps, eq-eqb)

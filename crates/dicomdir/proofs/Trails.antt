@@ -1,5 +1,5 @@
 -- The trail and the entries: what leads back, the paths that are to come as chains end, and the records that offsets lead to.
-use Rattle.std.proofs.Common.{◌≡◌, ℕ, zero, suc, ◌<◌, Bool, true, false, List, [], ◌∷◌, get_or, set, arith, if◌then◌else◌, ◌≤◌, ◌-◌, ◌+◌, not, ◌&&◌, ◌||◌, ◌++◌, length, reverse, take, slice_get, Option, Some, ◌⊎◌, refl, sym, ap, subst, ◌∙◌, nat_eq, drop, replicate, None, Less, Equal, Greater, inl, inr, is_none}
+use Rattle.std.proofs.Common.{◌≡◌, ℕ, zero, suc, ◌<◌, Bool, true, false, List, [], ◌∷◌, get_or, set, arith, if◌then◌else◌, ◌≤◌, ◌-◌, ◌+◌, not, ◌&&◌, ◌||◌, ◌++◌, length, reverse, take, slice_get, Option, Some, ◌⊎◌, refl, sym, ap, subst, ◌∙◌, nat_eq, drop, replicate, None, Less, Equal, Greater, is_none}
 use Rattle.std.proofs.lemmas.Bool.Decides.{nat_tests}
 use Rattle.std.proofs.lemmas.List.{reverse-append, append-nil, take_all, take_more, length-reverse, get_or_default}
 use Rattle.dicomdir.specs.declared.links.Mark.{Mark}
@@ -78,16 +78,12 @@ pub looks_found : (offset : ℕ) (in_chain is_above : Bool) (xs : List Mark) (at
     → ((in_chain || is_above) && nat_eq m.place offset) ≡ true
     → looks offset in_chain is_above (reverse (take at xs)) ≡ looks offset true false (reverse xs)
     → true ≡ is_one_of offset (line_of (path_along true (reverse xs)))
-looks_found offset in_chain is_above xs at m some within is found same =
-    sym (ap (λ z. z || looks offset (in_chain && not m.begins) m.begins (reverse (take (at - 1) xs))) found)
-    ∙ (sym (looks_at offset in_chain is_above xs at m some within is) ∙ (same ∙ looks_back offset (reverse xs)))
+looks_found offset in_chain is_above xs at m some within is found same = grind (arith, common_steps, looks_at offset in_chain is_above xs at m some within is, looks_back offset (reverse xs))
 
 pub looks_none : (offset : ℕ) (in_chain is_above : Bool) (xs : List Mark) (at : ℕ) → at ≤ 0
     → looks offset in_chain is_above (reverse (take at xs)) ≡ looks offset true false (reverse xs)
     → false ≡ is_one_of offset (line_of (path_along true (reverse xs)))
-looks_none offset in_chain is_above xs at none same =
-    let zero_is : 0 ≡ at = omega (arith, none) in
-    ap (λ z. looks offset in_chain is_above (reverse (take z xs))) zero_is ∙ (same ∙ looks_back offset (reverse xs))
+looks_none offset in_chain is_above xs at none same = grind (arith, common_steps, looks_back offset (reverse xs))
 
 some_length : (xs : List Mark) (m : Mark) (i : ℕ) → Some m ≡ slice_get xs i → i < length xs
 some_length [] m i e = absurd cc
@@ -142,17 +138,7 @@ climbed links ms xs ys m got none left fewer before =
     let shape = last_first xs m got in
     let rest : List Mark = reverse (take (length xs - 1) xs) in
     let marks : AreMarks links (m ∷ rest) = subst (λ z. AreMarks links z) shape before.marks in
-    let there : reverse ys ≡ left_of (m ∷ rest) = left ∙ ap left_of shape in
-    let few = before.fewer in
-    let size = length-reverse xs in
-    let size2 = length-reverse ys in
-    let some = some_length xs m (length xs - 1) got in
-    let less = fewer (omega (arith, some)) in
-    record {
-      come = before.come ∙ (ap (λ z. later links true z) shape ∙ (chain_ends links m rest none marks ∙ ap (λ z. later links true z) (sym there)));
-      fewer = omega (arith, few, size, size2, less);
-      marks = subst (λ z. AreMarks links z) (sym there) (left_marks links (m ∷ rest) marks);
-    }
+    grind (arith, common_steps, last_first xs m got, length-reverse xs, length-reverse ys, some_length xs m (length xs - 1) got, chain_ends links m rest none marks, left_marks links (m ∷ rest) marks)
 
 -- it goes on
 pub goes_next : (links : Links) (ms xs : List Mark) (m : Mark) → Some m ≡ slice_get xs (length xs - 1) → (m.next ≡ 0 → ⊥) → Climbed links ms (reverse xs)
@@ -162,9 +148,7 @@ goes_next links ms xs m got other before = grind (arith, common_steps, last_firs
 -- no record is below the last mark
 pub lower_none : (links : Links) (ms ms2 : List Mark) (pending : Option Step) (lower : ℕ) → lower ≡ 0 → lower ≡ named_by links (path_along true ms)
     → IsToCome links (later links true ms) ms ms2 pending → IsToCome links (paths_on links (path_along true ms) ++ later links true ms) ms ms2 pending
-lower_none links ms ms2 pending lower none named comes =
-    let nothing = paths_none _ links (path_along true ms) (sym named ∙ none) in
-    record { come = ap (λ z. z ++ later links true ms) nothing ∙ comes.come; fewer = comes.fewer; marks = comes.marks; step = comes.step }
+lower_none links ms ms2 pending lower none named comes = grind (arith, common_steps, paths_none)
 
 -- ---- entries of records, whose places rise: a search among them, and the flags of those that were reached
 
@@ -178,7 +162,7 @@ least_below : (entries : List ReadRecord) (records : List Record) (least : ℕ) 
 least_below [] (r ∷ rs) least are rise j d fits = elim are [ ]
 least_below (e ∷ es) [] least are rise j d fits = elim are [ ]
 least_below [] [] least no_entries rise j d fits = absurd (omega (arith, fits))
-least_below (e ∷ es) (r ∷ rs) least (entry_then is rest) rise zero d fits = omega (arith, rise.0, is.place)
+least_below (e ∷ es) (r ∷ rs) least (entry_then is rest) rise zero d fits = omega (arith, rise.0, is.says.place)
 least_below (e ∷ es) (r ∷ rs) least (entry_then is rest) rise (suc j) d fits = grind (arith, common_steps, least_below es rs (suc r.place) rest rise.1 j d (omega (arith, fits)))
 
 places_rise : (entries : List ReadRecord) (records : List Record) (least : ℕ) → AreEntries entries records → Rise least records
@@ -207,14 +191,11 @@ no_record [] (r ∷ rs) place are none = elim are [ ]
 no_record (e ∷ es) [] place are none = elim are [ ]
 no_record [] [] place no_entries none = refl
 no_record (e ∷ es) (r ∷ rs) place (entry_then is rest) none =
-    no_record_step r rs place (λ same. none 0 e (omega arith) (is.place ∙ same)) (no_record es rs place rest (λ k d fits. none (suc k) d (omega (arith, fits))))
+    no_record_step r rs place (λ same. none 0 e (omega arith) (is.says.place ∙ same)) (no_record es rs place rest (λ k d fits. none (suc k) d (omega (arith, fits))))
 
 neither : (entries : List ReadRecord) (place i k : ℕ) (d : ReadRecord) → AllWithin (λ e. nat_cmp e.place place ≡ Less) entries 0 i
     → AllWithin (λ e. nat_cmp e.place place ≡ Greater) entries i (length entries) → k < length entries → (get_or entries k d).place ≡ place → ⊥
-neither entries place i k d less greater fits same = elim (cases_lt k i) [
-  | inl before ↦ let under = ranked _ place _ (sym (less k d (omega arith) before)) in absurd (omega (arith, under, same))
-  | inr after ↦ let over = ranked _ place _ (sym (greater k d after fits)) in absurd (omega (arith, over, same))
-]
+neither entries place i k d less greater fits same = grind (arith, common_steps, cases_lt k i)
 
 pub place_absent : (entries : List ReadRecord) (place i : ℕ)
     → (IsNonDecreasingBy (λ e. ordering_index (nat_cmp e.place place)) entries
@@ -255,15 +236,7 @@ pub record AtEntry (e : ReadRecord) (records : List Record) (at least : ℕ) : T
 first_entry : (e : ReadRecord) (r : Record) (rs : List Record) (least : ℕ) → IsEntry e r → Rise least (r ∷ rs) → AtEntry e (r ∷ rs) 0 least
 first_entry e r rs least is rise =
     let here = same_place r.place in
-    record {
-      of_it = r;
-      is = is;
-      above = rise.0;
-      stands = cond-true (nat_eq r.place r.place) (Some r.elements) (record_at r.place rs) here;
-      flag = λ reached d. refl;
-      marked = λ reached. let rest = sym (same_flags r.place reached (suc r.place) rs rise.1 (omega arith)) in λ i. (sym here i || is_one_of r.place reached) ∷ rest i;
-      left = λ reached. refl;
-    }
+    grind (arith, common_steps, same_place r.place, cond-true (nat_eq r.place r.place) (Some r.elements) (record_at r.place rs) here, same_flags)
 
 later_entry : (e : ReadRecord) (r : Record) (rs : List Record) (at least : ℕ) → least ≤ r.place → AtEntry e rs at (suc r.place) → AtEntry e (r ∷ rs) (suc at) least
 later_entry e r rs at least first later = grind (arith, common_steps)
@@ -299,11 +272,11 @@ at_offset_by : (entries : List ReadRecord) (flags : List Bool) (records : List R
     → at < length entries → ((d : ReadRecord) → (get_or entries at d).place ≡ offset) → AtOffset entries flags records reached offset at
 at_offset_by entries flags records reached offset at d flagged fits found =
     let there = at_entry entries records 0 at d flagged.are flagged.rise fits in
-    let same : there.of_it.place ≡ offset = sym there.is.place ∙ found d in
+    let same : there.of_it.place ≡ offset = sym there.is.says.place ∙ found d in
     record {
       elements = there.of_it.elements;
       stands = ap (λ z. record_at z records) (sym same) ∙ there.stands;
-      carries = λ e. ap carried_by (get_or_default entries at e d fits) ∙ there.is.carries;
+      carries = λ e. ap carried_by (get_or_default entries at e d fits) ∙ there.is.says.carries;
       flag = λ b. ap (λ z. get_or z at b) flagged.flagged ∙ (there.flag reached b ∙ ap (λ z. is_one_of z reached) same);
     }
 

@@ -4,11 +4,11 @@ use Rattle.element.specs.declared.size.Need.{Need}
 use Rattle.element.specs.declared.syntax.Syntax.{Syntax}
 use Rattle.element.specs.declared.tag.Tag.{Tag}
 use Rattle.element.specs.declared.header.Header.{Header}
-use Rattle.element.specs.Header.{tag_at, need, header_at}
+use Rattle.element.specs.Header.{tag_at, need}
 use Rattle.sequence.specs.declared.fault.Fault.{Fault}
 use Rattle.sequence.specs.declared.spot.Spot.{Spot}
 use Rattle.sequence.specs.Ending.{Fails, breaks_rule, ends_early}
-use Rattle.sequence.specs.Rules.{Limits, Broken, passes, broken_tag, broken_need, broken_header, broken, when, ◌or_else◌, no_tag}
+use Rattle.sequence.specs.Rules.{Limits, Broken, broken_tag, broken_need, broken_header, broken, when, ◌or_else◌, no_tag}
 use Rattle.std.proofs.lemmas.Bool.Decides.{nat_tests}
 use Rattle.std.proofs.lemmas.Grind.{common_steps}
 use Rattle.std.proofs.lemmas.List.{length-append, append-nil, length-drop, drop-drop, take-append-drop}
@@ -70,11 +70,7 @@ header_rule lim spot size h =
 
 broken_rule : (lim : Limits) (spot : Spot) (t : List ℕ) → IsRule (broken lim spot t)
 unfolding broken
-broken_rule lim spot t =
-    or_rule _ _ (if_rule (passes spot.near 8) _ _ (some_rule 17 _ (omega arith)) none_rule)
-    (or_rule _ _ (when_rule _ _ (tag_rule spot (tag_at t)))
-    (or_rule _ _ (when_rule _ _ (need_rule spot (need spot.syntax t) (tag_at t)))
-    (when_rule _ _ (header_rule lim spot _ (header_at spot.syntax t)))))
+broken_rule lim spot t = grind (arith, common_steps, tag_rule spot (tag_at t), need_rule spot (need spot.syntax t) (tag_at t), header_rule, if_rule, none_rule, or_rule)
 
 pub fault_number : {s : Syntax} {lim : Limits} {b : List ℕ} {fault : Fault} → Fails s lim b fault → fault.number ≤ 21
 fault_number {lim = lim} (breaks_rule {u = u} {rule = rule} {tag = tag} first) = broken_rule lim _ u rule tag first.breaks.breaks
@@ -100,10 +96,7 @@ implicit_check file rest meta takes is =
     in_syntax (record { front = takes.0; back = rest; whole = takes.2; spelled = takes.1 }) (ap (λ s. syntax_uid s) is)
 
 pub explicit_check : (file rest : List ℕ) (meta : Meta) → TakesMeta (said_of meta) (Some file) (Some rest) → meta.syntax ≡ Explicit → HasHeader file rest
-explicit_check file rest meta takes is = record {
-  front = takes.0;
-  explicit = record { said = said_of meta; whole = takes.2; header = takes.1; syntax = ap (λ s. syntax_uid s) is };
-}
+explicit_check file rest meta takes is = grind (arith, common_steps)
 
 pub header_before : {file back : List ℕ} → HasHeader file back → length back ≤ length file
 header_before {file = file} {back = back} h = grind (arith, common_steps, length-append h.front back)
@@ -166,10 +159,7 @@ failed_text {s = s} {lim = lim} s2 lim2 text fault e f w = grind (arith, common_
 
 pub further_take : (a n : ℕ) (text : List ℕ) → n ≤ length (drop a text) → take a text ++ take n (drop a text) ≡ take (a + n) text
 further_take zero n text fits = let same : zero + n ≡ n = omega arith in ap (λ z. take z text) (sym same)
-further_take (suc a) n [] fits =
-    let none : n ≡ 0 = omega (arith, fits) in
-    let more : suc a + n ≡ suc (a + n) = omega arith in
-    ap (λ z. take z []) none ∙ ap (λ z. take z []) (sym more)
+further_take (suc a) n [] fits = grind (arith, common_steps)
 further_take (suc a) n (x ∷ text) fits =
     let more : suc a + n ≡ suc (a + n) = omega arith in
     ap (λ z. x ∷ z) (further_take a n text fits) ∙ ap (λ z. take z (x ∷ text)) (sym more)
@@ -183,17 +173,8 @@ pub record Farther (text rest : List ℕ) (n : ℕ) : Type 0 where
 pub farther : (text rest : List ℕ) (n : ℕ) → length rest ≤ length text → rest ≡ drop (length text - length rest) text → n ≤ length rest → Farther text rest n
 farther text rest n fits is within =
     let a : ℕ = length text - length rest in
-    let left = length-drop n rest in
-    let place : length text - length (drop n rest) ≡ a + n = omega (arith, fits, within, left) in
     let inside : n ≤ length (drop a text) = subst (λ z. n ≤ length z) is within in
-    let dropped : drop n rest ≡ drop (a + n) text = ap (λ z. drop n z) is ∙ drop-drop n a text in
-    let joined : take a text ++ take n rest ≡ take (a + n) text = ap (λ z. take a text ++ take n z) is ∙ further_take a n text inside in
-    record {
-      fits = omega (arith, fits, left);
-      is_rest = dropped ∙ ap (λ z. drop z text) (sym place);
-      taken = joined ∙ ap (λ z. take z text) (sym place);
-      whole = sym ((ap (λ z. z ++ drop n rest) joined ∙ ap (λ z. take (a + n) text ++ z) dropped) ∙ take-append-drop (a + n) text);
-    }
+    grind (arith, common_steps, length-drop n rest, drop-drop n a text, further_take a n text inside, take-append-drop (a + n) text)
 
 -- a fault stands in the text
 pub fault_within : {s : Syntax} {lim : Limits} {b : List ℕ} {fault : Fault} → Fails s lim b fault → fault.place ≤ length b

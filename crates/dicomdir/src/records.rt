@@ -3,7 +3,7 @@ ghost use Rattle.std.specs.Prelude.{◌≡◌, ◌≤◌, ◌<◌, ◌+◌, ◌^
 ghost use Rattle.sequence.specs.Tree.{Elements, Items};
 ghost use Rattle.dicomdir.specs.Directory.{Record, records_at, has_record, kind_in, file_id_in};
 ghost use Rattle.dicomdir.specs.DirFault.{record_fault, each_fault};
-ghost use Rattle.dicomdir.specs.machine.Trail.{IsEntry, AddsEntries, FailsAs, IsEntryOf, use_flag, entry_has_file_id};
+ghost use Rattle.dicomdir.specs.machine.Trail.{IsEntry, AddsEntries, FailsAs, EntrySays, use_flag, entry_has_file_id};
 ghost use Rattle.dicomdir.specs.machine.Texts.{HasElements, HasItems, shown};
 ghost use Rattle.std.specs.Str.{bytes_eq};
 
@@ -62,7 +62,7 @@ fn file_id_of<'a>(element: &Element<'a>) -> Option<FileId>
 
 /// Reads the record of an item with these elements; `None` where it lacks something.
 fn entry_of<'a>(syntax: Syntax, place: u64, text: &'a [u8]) -> Option<ReadRecord<'a>>
-    ensures read { IfSome result (λ e. (es : Elements) → HasElements syntax es text.now → IsEntryOf place es e) }
+    ensures read { IfSome result (λ e. (es : Elements) → HasElements syntax es text.now → EntrySays e (record { place = place; elements = es })) }
     ensures lacks { IsNone result → (es : Elements) → HasElements syntax es text.now → has_record es ≡ false }
 {
     let next = find(syntax, Tag(0x0004, 0x1400), 0, text).long()?;

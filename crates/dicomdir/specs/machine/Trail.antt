@@ -87,13 +87,17 @@ IsStep links ms (Some step) =
 abbrev pub carried_by : ReadRecord → Node
 carried_by e = record { in_use = e.in_use; kind = e.kind.now; file_id = e.file_id }
 
--- the entry says what the record says, which has what a record must have
-pub record IsEntry (e : ReadRecord) (r : Record) : Type 0 where
+-- the entry says what the record says, which has its offsets, its flag and its type
+pub record EntrySays (e : ReadRecord) (r : Record) : Type 0 where
   pub place : e.place ≡ r.place
   pub next : e.next ≡ or_zero (next_offset r.elements)
   pub lower : e.lower ≡ or_zero (lower_offset r.elements)
   pub carries : carried_by e ≡ carried_node r.elements
   pub has_record : has_record r.elements ≡ true
+
+-- and the file ID that it needs
+pub record IsEntry (e : ReadRecord) (r : Record) : Type 0 where
+  pub says : EntrySays e r
   pub has_file_id : has_file_id r.elements ≡ true
 
 -- each entry is of one record, in their order
@@ -215,14 +219,6 @@ pub record IsRootOffset (start : ℕ) (f : Found) (place offset : ℕ) : Type 0 
 abbrev pub use_flag : Option ℕ → Option Bool
 use_flag None = None
 use_flag (Some flag) = if nat_eq flag 0xffff then Some true else (if nat_eq flag 0 then Some false else None)
-
--- the entry is that of the elements of a record at this place
-pub record IsEntryOf (place : ℕ) (es : Elements) (e : ReadRecord) : Type 0 where
-  pub place_is : e.place ≡ place
-  pub next : e.next ≡ or_zero (next_offset es)
-  pub lower : e.lower ≡ or_zero (lower_offset es)
-  pub carries : carried_by e ≡ carried_node es
-  pub has_record : has_record es ≡ true
 
 -- whether an entry has the file ID that it needs, where this is found under its tag
 abbrev pub entry_has_file_id : ReadRecord → Element → Bool
