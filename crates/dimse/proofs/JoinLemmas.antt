@@ -11,8 +11,8 @@ use Rattle.pdu.proofs.Public.{same_head}
 use Rattle.dimse.specs.declared.fault.DimseFault.{DimseFault}
 use Rattle.dimse.specs.declared.stage.Stage.{Stage}
 use Rattle.dimse.specs.declared.stage.Stage.TheVariants.{Between, Command, Set}
-use Rattle.dimse.specs.Messages.{Begun, NoMessage, InCommand, InSet, head_refusal}
-use Rattle.dimse.specs.Joining.{Joining, ShowsMessage, shown, with_fragment, with_pdv, pdv_of, without_set, command_bytes, left_of_pdv, is_last_begun}
+use Rattle.dimse.specs.Messages.{Begun, NoMessage, InCommand, InSet, head_refusal, with_fragment}
+use Rattle.dimse.specs.Joining.{Joining, ShowsMessage, shown, with_pdv, pdv_of, without_set, command_bytes, left_of_pdv, is_last_begun}
 use Rattle.dimse.specs.machine.Fields.{message_at}
 
 -- ---- heads

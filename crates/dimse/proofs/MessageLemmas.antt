@@ -8,7 +8,7 @@ use Rattle.dimse.specs.Command.{CommandRecord}
 use Rattle.dimse.specs.Reading.{command_in}
 use Rattle.dimse.specs.Messages.{Pdv, Message, IsFragment, AreFragments, fragments_of, IsSet, IsMessage, Begun, NoMessage, InCommand, InSet, if_room, if_context, refusal, Brought, Goes, Ends, Refuses, with_command, brought, Messages, unless_refused, next, with_message, with_later, messages_from, messages}
 use Rattle.dimse.specs.MessageLaws.{and_then}
-use Rattle.dimse.proofs.RowLemmas.{in_command, in_set, command_row, set_row, first_row}
+use Rattle.dimse.proofs.RowLemmas.{in_command, in_set, command_row, set_row}
 
 -- ---- one list after another
 
@@ -50,12 +50,12 @@ next_command : (room context : ℕ) (acc : List ℕ) (p : Pdv) (last : Bool) →
     → next room (InCommand context acc) p ≡ in_command context (acc ++ p.fragment) last
 next_command room context acc p last h e le =
     ap (λ (o : Option DimseFault). unless_refused o (brought (InCommand context acc) p)) (command_taken room context acc p h le)
-    ∙ command_row context acc p last h.1 e
+    ∙ command_row context acc p last e
 
 next_set : (room context : ℕ) (command acc : List ℕ) (p : Pdv) (last : Bool) → IsFragment context false p → is_last p.control ≡ last → next room (InSet context command acc) p ≡ in_set context command (acc ++ p.fragment) last
 next_set room context command acc p last h e =
     let taken : refusal room (InSet context command acc) (length p.fragment + 2) p.context p.control ≡ None = same_context context p.context _ h.0 ∙ rw h.1 refl in
-    ap (λ (o : Option DimseFault). unless_refused o (brought (InSet context command acc) p)) taken ∙ set_row context command acc p last h.1 e
+    ap (λ (o : Option DimseFault). unless_refused o (brought (InSet context command acc) p)) taken ∙ set_row context command acc p last e
 
 -- a first fragment is like a later one after nothing
 next_first : (room : ℕ) (p : Pdv) → is_command p.control ≡ true → next room NoMessage p ≡ next room (InCommand p.context []) p
@@ -65,7 +65,6 @@ next_first room p h =
     let same : refusal room NoMessage n p.context p.control ≡ refusal room (InCommand p.context []) n p.context p.control =
     rw h (ap (if_room room) none ∙ sym (same_context p.context p.context (if_room room (0 + (n - 2))) refl)) in
     ap (λ (o : Option DimseFault). unless_refused o (brought NoMessage p)) same
-    ∙ ap (unless_refused (refusal room (InCommand p.context []) n p.context p.control)) (first_row p (is_last p.control) h refl)
 
 walk_command : (room context : ℕ) (acc : List ℕ) (commands more : List Pdv) → AreFragments context true commands → length acc + length (fragments_of commands) ≤ room
     → messages_from room (InCommand context acc) (commands ++ more)

@@ -9,7 +9,7 @@ use Rattle.dimse.specs.Command.{CommandRecord}
 use Rattle.dimse.specs.Reading.{command_in}
 use Rattle.dimse.specs.Messages.{Pdv, Message, IsFragment, AreFragments, fragments_of, IsSet, IsMessage, Begun, NoMessage, InCommand, InSet, refusal, Brought, Goes, Ends, Refuses, with_command, brought, unless_refused, next, with_later, messages_from, messages}
 use Rattle.dimse.specs.MessageLaws.{BeginsWith}
-use Rattle.dimse.proofs.RowLemmas.{in_command, in_set, command_row, set_row, first_row}
+use Rattle.dimse.proofs.RowLemmas.{in_command, in_set, command_row, set_row}
 
 -- fragments before the last one
 abbrev NoneLast : ℕ → Bool → List Pdv → Type 0
@@ -131,7 +131,7 @@ command_by room context acc done p None e h =
     let k = of_command (is_command p.control) (leb (length acc + (n - 2)) room) c.1 in
     let fits : length acc + (n - 2) ≤ room = leb-true _ _ k.1 in
     let size : length (acc ++ p.fragment) ≤ room = omega (arith, fits, length-append acc p.fragment) in
-    subst (Outcome room (done ++ p ∷ [])) (sym (command_row context acc p (is_last p.control) k.0 refl)) (command_outcome room context acc done p (is_last p.control) refl h (eqb-true _ _ c.0, k.0) size)
+    subst (Outcome room (done ++ p ∷ [])) (sym (command_row context acc p (is_last p.control) refl)) (command_outcome room context acc done p (is_last p.control) refl h (eqb-true _ _ c.0, k.0) size)
 
 set_by : (room context : ℕ) (command acc : List ℕ) (done : List Pdv) (p : Pdv) (r : Option DimseFault) → refusal room (InSet context command acc) (length p.fragment + 2) p.context p.control ≡ r → SetCome room context command acc done
     → Outcome room (done ++ p ∷ []) (unless_refused r (brought (InSet context command acc) p))
@@ -139,7 +139,7 @@ set_by room context command acc done p (Some fault) e h = tt
 set_by room context command acc done p None e h =
     let c = in_context (eqb p.context context) _ e in
     let k = of_set (is_command p.control) c.1 in
-    subst (Outcome room (done ++ p ∷ [])) (sym (set_row context command acc p (is_last p.control) k refl)) (set_outcome room context command acc done p (is_last p.control) refl h (eqb-true _ _ c.0, k))
+    subst (Outcome room (done ++ p ∷ [])) (sym (set_row context command acc p (is_last p.control) refl)) (set_outcome room context command acc done p (is_last p.control) refl h (eqb-true _ _ c.0, k))
 
 first_by : (room : ℕ) (p : Pdv) (r : Option DimseFault) → refusal room NoMessage (length p.fragment + 2) p.context p.control ≡ r → Outcome room (p ∷ []) (unless_refused r (brought NoMessage p))
 first_by room p (Some fault) e = tt
@@ -148,7 +148,7 @@ first_by room p None e =
     let k = of_command (is_command p.control) (leb (n - 2) room) e in
     let fits : n - 2 ≤ room = leb-true _ _ k.1 in
     let size : length p.fragment ≤ room = omega arith in
-    let is : brought NoMessage p ≡ in_command p.context ([] ++ p.fragment) (is_last p.control) = first_row p (is_last p.control) k.0 refl ∙ command_row p.context [] p (is_last p.control) k.0 refl in
+    let is : brought NoMessage p ≡ in_command p.context ([] ++ p.fragment) (is_last p.control) = refl in
     subst (Outcome room (p ∷ [])) (sym is) (command_outcome room p.context [] [] p (is_last p.control) refl (record { fragments = tt; joined = refl }) (refl, k.0) size)
 
 outcome : (room : ℕ) (b : Begun) (done : List Pdv) (p : Pdv) → HasCome room b done → Outcome room (done ++ p ∷ []) (next room b p)

@@ -50,6 +50,44 @@ command_value n (e ∷ es) = if nat_eq e.number n then Some e.value else command
 abbrev pub two_bytes : List ℕ → Option ℕ
 two_bytes value = if nat_eq (length value) 2 then Some (little_number 2 value) else None
 
+-- ---- the numbers of elements
+
+-- (0000,0002) Affected SOP Class UID
+abbrev pub class_element : ℕ
+class_element = 0x0002
+
+-- (0000,0100) Command Field
+abbrev pub field_element : ℕ
+field_element = 0x0100
+
+-- (0000,0110) Message ID
+abbrev pub message_element : ℕ
+message_element = 0x0110
+
+-- (0000,0120) Message ID Being Responded To
+abbrev pub answered_element : ℕ
+answered_element = 0x0120
+
+-- (0000,0800) Command Data Set Type
+abbrev pub type_element : ℕ
+type_element = 0x0800
+
+-- (0000,0900) Status
+abbrev pub status_element : ℕ
+status_element = 0x0900
+
+-- (0000,0901) Offending Element
+abbrev pub offending_element : ℕ
+offending_element = 0x0901
+
+-- (0000,0902) Error Comment
+abbrev pub comment_element : ℕ
+comment_element = 0x0902
+
+-- (0000,1000) Affected SOP Instance UID
+abbrev pub instance_element : ℕ
+instance_element = 0x1000
+
 -- ---- commands
 
 -- command fields of requests, and the data set type of a message without data set
@@ -98,7 +136,7 @@ needed reads value = ok_or (option_and_then reads value) BadCommand
 -- C-STORE affected SOP instance 1000
 unfoldable pub store_command : List ℕ → ℕ → List CommandElement → Result CommandRecord DimseFault
 store_command class message es = do
-  instance ← needed uid_of (command_value 0x1000 es)
+  instance ← needed uid_of (command_value instance_element es)
   Ok (record { class = class; field = c_store; message = message; with_data = true; instance = Some instance })
 
 abbrev pub request_of : List ℕ → ℕ → ℕ → ℕ → List CommandElement → Result CommandRecord DimseFault
@@ -113,10 +151,10 @@ request_of class field message kind es =
 -- the command that a set's elements say, or the first rule that they break
 unfoldable pub command_of : List CommandElement → Result CommandRecord DimseFault
 command_of es = do
-  class ← needed uid_of (command_value 0x0002 es)
-  field ← needed two_bytes (command_value 0x0100 es)
-  message ← needed two_bytes (command_value 0x0110 es)
-  kind ← needed two_bytes (command_value 0x0800 es)
+  class ← needed uid_of (command_value class_element es)
+  field ← needed two_bytes (command_value field_element es)
+  message ← needed two_bytes (command_value message_element es)
+  kind ← needed two_bytes (command_value type_element es)
   request_of class field message kind es
 
 -- the text spells the command

@@ -2,27 +2,22 @@
 -- fragment with it, but for the bytes of its data set, which a join does not keep.
 use Rattle.std.specs.Prelude.{◌≡◌, ℕ, ◌-◌, ◌≤◌, Bool, false, List, [], ◌++◌, length, drop, get_or, Option, None, Some, Result, Ok, Err, nat_lt, if◌then◌else◌}
 use Rattle.pdu.specs.Heads.{is_last, pdv_head_of}
-use Rattle.pdu.specs.Marks.{pdv_size}
+use Rattle.pdu.specs.Sizes.{pdv_head_size}
+use Rattle.pdu.specs.Marks.{pdv_context, pdv_control, pdv_content, pdv_size}
 use Rattle.dimse.specs.declared.fault.DimseFault.{DimseFault}
 use Rattle.dimse.specs.declared.joined.Joined.{Joined}
 use Rattle.dimse.specs.declared.joined.Joined.TheVariants as joined
-use Rattle.dimse.specs.Messages.{Pdv, Begun, NoMessage, InCommand, InSet, Brought, Goes, Ends, Refuses, head_refusal}
+use Rattle.dimse.specs.Messages.{Pdv, Begun, NoMessage, InCommand, InSet, Brought, Goes, Ends, Refuses, head_refusal, with_fragment}
 
 -- ---- what a part of a fragment adds
 
--- a message with a fragment, which may be a part of one
-abbrev pub with_fragment : ℕ → List ℕ → Begun → Begun
-with_fragment context fragment NoMessage = InCommand context fragment
-with_fragment context fragment (InCommand first command) = InCommand first (command ++ fragment)
-with_fragment context fragment (InSet first command set) = InSet first command (set ++ fragment)
-
 -- what has come of a message, with these bytes of a presentation data value: six of its head, and then its fragment
 abbrev pub with_pdv : List ℕ → Begun → Begun
-with_pdv begun message = if nat_lt (length begun) 6 then message else with_fragment (get_or begun 4 0) (drop 6 begun) message
+with_pdv begun message = if nat_lt (length begun) pdv_head_size then message else with_fragment (pdv_context begun) (pdv_content begun) message
 
 -- the presentation data value that these bytes are
 abbrev pub pdv_of : List ℕ → Pdv
-pdv_of bytes = record { context = get_or bytes 4 0; control = get_or bytes 5 0; fragment = drop 6 bytes }
+pdv_of bytes = record { context = pdv_context bytes; control = pdv_control bytes; fragment = pdv_content bytes }
 
 -- ---- what a join shows
 
@@ -50,10 +45,10 @@ command_bytes (InSet context command set) = command
 
 -- the bytes that an unfinished presentation data value still lacks; none while its head is not whole
 abbrev pub left_of_pdv : List ℕ → ℕ
-left_of_pdv begun = if nat_lt (length begun) 6 then 0 else (pdv_size begun - length begun)
+left_of_pdv begun = if nat_lt (length begun) pdv_head_size then 0 else (pdv_size begun - length begun)
 
 abbrev pub is_last_begun : List ℕ → Bool
-is_last_begun begun = if nat_lt (length begun) 6 then false else is_last (get_or begun 5 0)
+is_last_begun begun = if nat_lt (length begun) pdv_head_size then false else is_last (pdv_control begun)
 
 abbrev pub shown : Begun → List ℕ → Joining
 shown message begun = record {
@@ -67,7 +62,7 @@ shown message begun = record {
 -- one, whose head was not refused.
 pub record ShowsMessage (room : ℕ) (join : Joining) (message : Begun) (begun : List ℕ) : Type 0 where
   pub shows : join ≡ shown (with_pdv begun message) begun
-  pub accepted : 6 ≤ length begun → head_refusal room message (pdv_head_of begun) ≡ None
+  pub accepted : pdv_head_size ≤ length begun → head_refusal room message (pdv_head_of begun) ≡ None
 
 -- ---- the results of its calls
 

@@ -3,6 +3,7 @@
 -- command set are at most `room` (this product's own profile).
 use Rattle.std.specs.Prelude.{◌≡◌, ℕ, ◌+◌, ◌-◌, ◌≤◌, Bool, true, false, List, [], ◌∷◌, ◌++◌, length, Option, Some, None, Result, Ok, Err, nat_eq, nat_le, if◌then◌else◌}
 use Rattle.pdu.specs.declared.head.PdvHead.{PdvHead}
+use Rattle.pdu.specs.Sizes.{pdv_least}
 use Rattle.pdu.specs.Heads.{is_command, is_last}
 use Rattle.dimse.specs.declared.fault.DimseFault.{DimseFault}
 use Rattle.dimse.specs.declared.fault.DimseFault.TheVariants.{CommandTooLong, WrongKind, OtherContext}
@@ -71,9 +72,9 @@ if_context first context other = if nat_eq context first then other else Some Ot
 -- Whether a head is refused after what has come, and by which rule first: another context than the message's, a fragment
 -- of the other kind than is due, a command set above the room. Of the bytes that follow the length two are of the head.
 abbrev pub head_refusal : ℕ → Begun → PdvHead → Option DimseFault
-head_refusal room NoMessage h = if h.command then if_room room (h.length - 2) else Some WrongKind
+head_refusal room NoMessage h = if h.command then if_room room (h.length - pdv_least) else Some WrongKind
 head_refusal room (InCommand first command) h =
-    if_context first h.context (if h.command then if_room room (length command + (h.length - 2)) else Some WrongKind)
+    if_context first h.context (if h.command then if_room room (length command + (h.length - pdv_least)) else Some WrongKind)
 head_refusal room (InSet first command set) h = if_context first h.context (if h.command then Some WrongKind else None)
 
 -- the same by the length, the context and the control byte
@@ -81,7 +82,13 @@ abbrev pub refusal : ℕ → Begun → ℕ → ℕ → ℕ → Option DimseFault
 refusal room b n context control =
     head_refusal room b (record { length = n; context = context; command = is_command control; last = is_last control })
 
--- ---- the table of messages
+-- ---- what a presentation data value brings
+
+-- what has come of a message, with a fragment or a part of one, of the kind that is due
+abbrev pub with_fragment : ℕ → List ℕ → Begun → Begun
+with_fragment context fragment NoMessage = InCommand context fragment
+with_fragment context fragment (InCommand first command) = InCommand first (command ++ fragment)
+with_fragment context fragment (InSet first command set) = InSet first command (set ++ fragment)
 
 -- what a presentation data value brings, at its last byte
 pub data Brought : Type 0 where
@@ -97,25 +104,15 @@ abbrev pub with_command : ℕ → List ℕ → Result CommandRecord DimseFault �
 with_command context command (Err fault) = Refuses fault
 with_command context command (Ok c) = if c.with_data then Goes (InSet context command []) else Ends (record { context = context; command = command; set = [] })
 
-abbrev pub whole_command : ℕ → List ℕ → Brought
-whole_command context command = with_command context command (command_in command)
-
--- A message_row for each of: what has come; whether the fragment is of a command set (true) or of a data set; whether it is marked
--- as the last one.
-abbrev pub message_row : Begun → Bool → Bool → ℕ → List ℕ → Brought
-message_row NoMessage true false context bytes = Goes (InCommand context bytes)
-message_row NoMessage true true context bytes = whole_command context bytes
-message_row NoMessage false last context bytes = Refuses WrongKind
-message_row (InCommand first command) true false context bytes = Goes (InCommand first (command ++ bytes))
-message_row (InCommand first command) true true context bytes = whole_command first (command ++ bytes)
-message_row (InCommand first command) false last context bytes = Refuses WrongKind
-message_row (InSet first command set) true last context bytes = Refuses WrongKind
-message_row (InSet first command set) false false context bytes = Goes (InSet first command (set ++ bytes))
-message_row (InSet first command set) false true context bytes = Ends (record { context = first; command = command; set = set ++ bytes })
+-- what has come is whole: the command set, or with its data set the message
+abbrev pub completed : Begun → Brought
+completed NoMessage = Goes NoMessage
+completed (InCommand context command) = with_command context command (command_in command)
+completed (InSet context command set) = Ends (record { context = context; command = command; set = set })
 
 -- what a presentation data value brings whose head was not refused
 abbrev pub brought : Begun → Pdv → Brought
-brought b p = message_row b (is_command p.control) (is_last p.control) p.context p.fragment
+brought b p = let come = with_fragment p.context p.fragment b in if is_last p.control then completed come else Goes come
 
 -- the message that it ends
 abbrev pub message_by : Brought → Option Message
@@ -139,7 +136,7 @@ unless_refused None b = b
 unless_refused (Some fault) b = Refuses fault
 
 abbrev pub next : ℕ → Begun → Pdv → Brought
-next room b p = unless_refused (refusal room b (length p.fragment + 2) p.context p.control) (brought b p)
+next room b p = unless_refused (refusal room b (length p.fragment + pdv_least) p.context p.control) (brought b p)
 
 abbrev pub with_message : Message → Messages → Messages
 with_message m ms = record { whole = m ∷ ms.whole; begun = ms.begun; fault = ms.fault }

@@ -5,9 +5,10 @@ use Rattle.element.specs.declared.tag.Tag.{Tag}
 use Rattle.element.specs.Numbers.{le}
 use Rattle.element.specs.Uid.{even_uid}
 use Rattle.pdu.specs.Pieces.{joined}
+use Rattle.pdu.specs.Sizes.{pdv_head_size}
 use Rattle.pdu.specs.Texts.{data_text}
 use Rattle.dimse.specs.declared.detail.Detail.{Detail}
-use Rattle.dimse.specs.Command.{CommandElement, CommandRecord, command_set_bytes, c_store, no_data_set}
+use Rattle.dimse.specs.Command.{CommandElement, CommandRecord, command_set_bytes, c_store, no_data_set, class_element, field_element, answered_element, type_element, status_element, offending_element, comment_element, instance_element}
 use Rattle.dimse.specs.Status.{data_set_mismatch, cannot_understand}
 use Rattle.dimse.specs.Detail.{comment_of}
 
@@ -17,18 +18,18 @@ element number value = record { number = number; value = value }
 -- affected SOP instance 1000
 abbrev pub instance_elements : Option (List ℕ) → List CommandElement
 instance_elements None = []
-instance_elements (Some uid) = element 0x1000 (even_uid uid) ∷ []
+instance_elements (Some uid) = element instance_element (even_uid uid) ∷ []
 
 -- offending element 0901, left out where the tag is (0000,0000)
 abbrev pub tag_elements : Tag → List CommandElement
-tag_elements tag = if nat_eq tag.0 0 && nat_eq tag.1 0 then [] else element 0x0901 (le tag.0 2 ++ le tag.1 2) ∷ []
+tag_elements tag = if nat_eq tag.0 0 && nat_eq tag.1 0 then [] else element offending_element (le tag.0 2 ++ le tag.1 2) ∷ []
 
 -- offending element 0901 and error comment 0902; none where the cause has no name
 abbrev pub detail_elements : Option Detail → List CommandElement
 detail_elements None = []
 detail_elements (Some detail) = elim (comment_of detail.number) [
   | None ↦ []
-  | Some text ↦ tag_elements detail.tag ++ element 0x0902 text ∷ []
+  | Some text ↦ tag_elements detail.tag ++ element comment_element text ∷ []
 ]
 
 -- a reply to a C-STORE whose status is C000 or A900 names its cause, and no other one does
@@ -36,13 +37,17 @@ abbrev pub detail_carried : ℕ → ℕ → Option Detail → Option Detail
 detail_carried field status detail =
     if nat_eq field c_store && (nat_eq status cannot_understand || nat_eq status data_set_mismatch) then detail else None
 
+-- the highest bit of a command field, which marks a response
+abbrev pub response : ℕ
+response = 0x8000
+
 -- Affected SOP class 0002, command field 0100 (that of the request with its highest bit set), message id responded to
 -- 0120, data set type 0800 (none), status 0900, what names the cause of a failure, and of C-STORE affected SOP instance
 -- 1000.
 abbrev pub reply_elements : CommandRecord → ℕ → Option Detail → List CommandElement
 reply_elements command status detail =
-    element 0x0002 (even_uid command.class) ∷ element 0x0100 (le (command.field + 0x8000) 2) ∷ element 0x0120 (le command.message 2)
-    ∷ element 0x0800 (le no_data_set 2) ∷ element 0x0900 (le status 2)
+    element class_element (even_uid command.class) ∷ element field_element (le (command.field + response) 2) ∷ element answered_element (le command.message 2)
+    ∷ element type_element (le no_data_set 2) ∷ element status_element (le status 2)
     ∷ (detail_elements (detail_carried command.field status detail) ++ instance_elements command.instance)
 
 -- the command set of the response
@@ -56,7 +61,7 @@ IsMaximum maximum = (maximum ≡ 0) ⊎ (8 ≤ maximum)
 -- the bytes of a fragment: the greatest even number up to the peer's maximum less the 6 of a presentation data value's
 -- head; without a maximum all of them
 abbrev pub fragment_size : ℕ → ℕ → ℕ
-fragment_size maximum all = if nat_eq maximum 0 then all else ((maximum - 6) / 2 * 2)
+fragment_size maximum all = if nat_eq maximum 0 then all else ((maximum - pdv_head_size) / 2 * 2)
 
 -- fragments of this size, of which the last one alone may be shorter; it is empty only where it stands alone
 abbrev pub HaveSize : ℕ → List (List ℕ) → Type 0

@@ -1,5 +1,6 @@
 -- Each message that ends has come in an accepted presentation context: the head of each of its values was judged first.
 use Rattle.std.proofs.Common.{◌≡◌, ℕ, ◌+◌, ◌-◌, Bool, true, false, not, ◌&&◌, List, [], ◌∷◌, ◌++◌, length, Option, Some, None, Result, Ok, Err, refl, sym, ap, subst, ◌∙◌, nat_eq, if◌then◌else◌}
+use Rattle.pdu.specs.Heads.{is_last}
 use Rattle.acceptor.specs.declared.state.State.{State}
 use Rattle.acceptor.specs.declared.state.State.TheVariants.{Sta1, Sta2, Sta3, Sta6, Sta8, Sta13}
 use Rattle.acceptor.specs.declared.event.Event.{Event}
@@ -23,7 +24,7 @@ use Rattle.dimse.specs.declared.fault.DimseFault.{DimseFault}
 use Rattle.dimse.specs.Command.{CommandRecord}
 use Rattle.dimse.specs.Reading.{command_in}
 use Rattle.dimse.specs.Messages as messages
-use Rattle.dimse.specs.Messages.{Message, Begun, NoMessage, InCommand, InSet, Brought, Goes, Ends, Refuses, refusal, with_command, message_row, message_by, brought}
+use Rattle.dimse.specs.Messages.{Message, Begun, NoMessage, InCommand, InSet, Brought, Goes, Ends, Refuses, refusal, with_command, completed, with_fragment, message_by, brought}
 use Rattle.engine.specs.Inputs.{Received}
 use Rattle.engine.specs.Timeline.{Entry, At, Shut, TimedOut, Aborted, Finding, Outcome, Happened, entries, entries_of}
 use Rattle.engine.specs.Progress.{Progress, Advance, at_start, absorb, left, moved, done, refusing, nothing, is_due, is_established}
@@ -111,16 +112,16 @@ command_known : (request : Requested) (id : ℕ) (command : List ℕ) (r : Resul
 command_known request id command (Err fault) h = tt
 command_known request id command (Ok c) h = announced_known request id command c.with_data h
 
-row_known : (request : Requested) (b : Begun) (command last : Bool) (id : ℕ) (bytes : List ℕ) → MessageKnown request b → IsKnown request id → BroughtKnown request (message_row b command last id bytes)
-row_known request NoMessage true false id bytes m h = h
-row_known request NoMessage true true id bytes m h = command_known request id bytes (command_in bytes) h
-row_known request NoMessage false last id bytes m h = tt
-row_known request (InCommand first command) true false id bytes m h = m
-row_known request (InCommand first command) true true id bytes m h = command_known request first (command ++ bytes) (command_in (command ++ bytes)) m
-row_known request (InCommand first command) false last id bytes m h = tt
-row_known request (InSet first command set) true last id bytes m h = tt
-row_known request (InSet first command set) false false id bytes m h = m
-row_known request (InSet first command set) false true id bytes m h = m
+come_known : (request : Requested) (b : Begun) (id : ℕ) (bytes : List ℕ) → MessageKnown request b → IsKnown request id → MessageKnown request (with_fragment id bytes b)
+come_known request NoMessage id bytes m h = h
+come_known request (InCommand first command) id bytes m h = m
+come_known request (InSet first command set) id bytes m h = m
+
+row_known : (request : Requested) (come : Begun) (last : Bool) → MessageKnown request come → BroughtKnown request (if last then completed come else Goes come)
+row_known request come false m = m
+row_known request NoMessage true m = m
+row_known request (InCommand id command) true m = command_known request id command (command_in command) m
+row_known request (InSet id command set) true m = m
 
 message_known : (request : Requested) (r : Brought) (m : Message) → message_by r ≡ Some m → BroughtKnown request r → IsKnown request m.context
 message_known request (Goes later) m e h = absurd cc
@@ -271,7 +272,7 @@ module _ (rooms : Rooms) (s : Settings) where
   entry_sound p finding o (At (Pdv context control fragment)) h k =
       let pdv : messages.Pdv = record { context = context; control = control; fragment = fragment } in
       counts p o Between p.refused (is_established p.state) (at_pdv p finding pdv) refl refl h
-      (λ e r. pdv_sound p finding context control fragment o (brought p.message pdv) h e (row_known p.request p.message _ _ context fragment h.message (head_is_known p o (length fragment + 2) context control h.head k.0 e r)))
+      (λ e r. pdv_sound p finding context control fragment o (brought p.message pdv) h e (row_known p.request _ (is_last control) (come_known p.request p.message context fragment h.message (head_is_known p o (length fragment + 2) context control h.head k.0 e r))))
   entry_sound p finding o (At BadPdv) h k = counts p o Between p.refused (is_established p.state) (invalid p) refl refl h (λ e r. invalid_sound p o h)
   entry_sound p finding o (At Leftover) h k = counts p o Between p.refused (is_established p.state) (invalid p) refl refl h (λ e r. invalid_sound p o h)
   entry_sound p finding o (At (End kind body)) h k = by p.refused
@@ -300,7 +301,7 @@ module _ (rooms : Rooms) (s : Settings) where
   pdv_accepted : (p : Progress) (o : Opened) (context control : ℕ) (fragment : List ℕ) → Sound p o → o ≡ OfPdv (length fragment + 2) context control → (established refused : Bool) → is_established p.state ≡ established → p.refused ≡ refused
       → (m : Message) → (if established && not refused then message_by (brought p.message (record { context = context; control = control; fragment = fragment })) else None) ≡ Some m → IsKnown p.request m.context
   pdv_accepted p o context control fragment h is true false e r m ends =
-      message_known p.request (brought p.message (record { context = context; control = control; fragment = fragment })) m ends (row_known p.request p.message _ _ context fragment h.message (head_is_known p o (length fragment + 2) context control h.head is e r))
+      message_known p.request (brought p.message (record { context = context; control = control; fragment = fragment })) m ends (row_known p.request _ (is_last control) (come_known p.request p.message context fragment h.message (head_is_known p o (length fragment + 2) context control h.head is e r)))
   pdv_accepted p o context control fragment h is true true e r m ends = absurd cc
   pdv_accepted p o context control fragment h is false refused e r m ends = absurd cc
 

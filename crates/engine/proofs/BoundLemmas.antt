@@ -15,8 +15,8 @@ use Rattle.negotiate.specs.ContextRows.{accepted_count}
 use Rattle.negotiate.specs.Settings.{Settings}
 use Rattle.dimse.specs.declared.fault.DimseFault.{DimseFault}
 use Rattle.dimse.specs.declared.fault.DimseFault.TheVariants.{WrongKind}
-use Rattle.dimse.specs.Joining.{with_fragment, with_pdv}
-use Rattle.dimse.specs.Messages.{Begun, NoMessage, InCommand, InSet, refusal}
+use Rattle.dimse.specs.Joining.{with_pdv}
+use Rattle.dimse.specs.Messages.{Begun, NoMessage, InCommand, InSet, refusal, with_fragment}
 use Rattle.sequence.specs.Rules.{Limits}
 use Rattle.sequence.specs.Walk.{Tells, going}
 use Rattle.sequence.specs.Walk as walk
@@ -32,7 +32,7 @@ use Rattle.engine.specs.Run.{Rooms, progress_of}
 use Rattle.engine.specs.Stores.{limits, wanted}
 use Rattle.engine.specs.Timeline.{Entry, entries_of}
 use Rattle.engine.proofs.HeadedLemmas.{Opened, Between, OfPdu, OfPdv, IsBegun, HoldsOfParts, AreHeadedAt, open_at_end, timeline_headed, timeline_begun}
-use Rattle.engine.proofs.RoomLemmas.{Fits, HasRoom, set_of, same_context, fragment_fits, absorbed_fits, story_fits}
+use Rattle.engine.proofs.RoomLemmas.{Fits, HasRoom, set_of, MessageFits, fragment_within, absorbed_fits, story_fits}
 use Rattle.engine.proofs.HeldLemmas.{unfinished_none}
 
 pub bytes_parts : HoldsOfParts IsBytes
@@ -63,14 +63,6 @@ few_heads r = by (nat_lt (length r.rest) 6) refl
         let no_pdv : unfinished (begun_pdv r) ≡ 0 = ap (λ (x : Spot). unfinished (if takes_pdvs r.progress then begun_in x else [])) (spot_opening r.rest lt) ∙ unfinished_none (takes_pdvs r.progress) in
         omega (arith, lt, no_pdv)
     by false e = omega (arith, few (begun_pdv r))
-
--- a fragment of another kind than is due is refused at its head
-other_kind : (o : Option DimseFault) (c : Bool) → c ≡ false → (if c then o else Some WrongKind) ≡ None → ⊥
-other_kind o true e h = absurd cc
-other_kind o false e h = cc
-
-wrong_kind : (limit : Rooms) (first : ℕ) (command : List ℕ) (n context control : ℕ) → is_command control ≡ false → refusal limit.command (InCommand first command) (n + 2) context control ≡ None → ⊥
-wrong_kind limit first command n context control e none = other_kind _ (is_command control) e (same_context (nat_eq context first) _ none)
 
 -- ---- the request
 
@@ -108,42 +100,26 @@ module _ (limit : Rooms) (o : Opened) where
 
   -- ---- the message
 
-  abbrev MessageFits : Begun → Type 0
-  MessageFits b = (of_command b ≤ limit.command) × IsBytes (set_of b)
-
-  fragment_within : (b : Begun) (n context control : ℕ) (bytes : List ℕ) → refusal limit.command b (n + 2) context control ≡ None → length bytes ≤ n → IsBytes bytes → MessageFits b → MessageFits (with_fragment context bytes b)
-  fragment_within NoMessage n context control bytes none le h fits = (kind (is_command control) refl none (fragment_fits limit NoMessage n context control none), λ i. lit< tt)
-    where
-      kind : (c : Bool) → is_command control ≡ c → refusal limit.command NoMessage (n + 2) context control ≡ None → (is_command control ≡ true → n ≤ limit.command) → length bytes ≤ limit.command
-      kind true e none fit = let room = fit e in omega (arith, room, le)
-      kind false e none fit = absurd (other_kind _ (is_command control) e none)
-  fragment_within (InCommand first command) n context control bytes none le h fits = (kind (is_command control) refl (fragment_fits limit (InCommand first command) n context control none), λ i. lit< tt)
-    where
-      kind : (c : Bool) → is_command control ≡ c → (is_command control ≡ true → length command + n ≤ limit.command) → length (command ++ bytes) ≤ limit.command
-      kind true e fit = let room = fit e in omega (arith, room, le, length-append command bytes)
-      kind false e fit = absurd (wrong_kind limit first command n context control e none)
-  fragment_within (InSet first command set) n context control bytes none le h fits = (fits.0, both_bytes set bytes fits.1 h)
-
-  pdv_within : (p : Progress) (room : ℕ) (part : List ℕ) → Fits limit p o → takes_pdvs p ≡ true → IsUnfinishedPdv room part → IsBytes part × (6 ≤ length part → o ≡ OfPdv (big_number 4 part) (get_or part 4 0) (get_or part 5 0)) → MessageFits (with_pdv part p.message)
-  pdv_within p room part h takes (in_head lt) k = subst (λ (b : Bool). MessageFits (if b then p.message else with_fragment (get_or part 4 0) (drop 6 part) p.message)) (sym (lt-ltb (length part) 6 lt)) (h.command, h.bytes)
+  pdv_within : (p : Progress) (room : ℕ) (part : List ℕ) → Fits limit p o → takes_pdvs p ≡ true → IsUnfinishedPdv room part → IsBytes part × (6 ≤ length part → o ≡ OfPdv (big_number 4 part) (get_or part 4 0) (get_or part 5 0)) → MessageFits limit (with_pdv part p.message)
+  pdv_within p room part h takes (in_head lt) k = subst (λ (b : Bool). MessageFits limit (if b then p.message else with_fragment (get_or part 4 0) (drop 6 part) p.message)) (sym (lt-ltb (length part) 6 lt)) (h.command, h.bytes)
   pdv_within p room part h takes (in_fragment six two enough short) k =
       let n = big_number 4 part in
       let size : n - 2 + 2 ≡ n = omega (arith, two) in
       let has : HasRoom limit p (OfPdv n (get_or part 4 0) (get_or part 5 0)) = subst (HasRoom limit p) (k.1 six) h.room in
       let none : refusal limit.command p.message (n - 2 + 2) (get_or part 4 0) (get_or part 5 0) ≡ None = subst (λ (x : ℕ). refusal limit.command p.message x (get_or part 4 0) (get_or part 5 0) ≡ None) (sym size) (has takes) in
       let few : length (drop 6 part) ≤ n - 2 = omega (arith, length-drop 6 part, short, two) in
-      subst (λ (b : Bool). MessageFits (if b then p.message else with_fragment (get_or part 4 0) (drop 6 part) p.message)) (sym (le-ltb (length part) 6 six))
-      (fragment_within p.message (n - 2) (get_or part 4 0) (get_or part 5 0) (drop 6 part) none few (bytes_parts.drops 6 part k.0) (h.command, h.bytes))
+      subst (λ (b : Bool). MessageFits limit (if b then p.message else with_fragment (get_or part 4 0) (drop 6 part) p.message)) (sym (le-ltb (length part) 6 six))
+      (fragment_within limit p.message (n - 2) (get_or part 4 0) (get_or part 5 0) (drop 6 part) none few (bytes_parts.drops 6 part k.0) (h.command, h.bytes))
 
-  message_within : (r : Reached) → Fits limit r.progress o → IsBegun IsBytes r.rest o → IsRest r.rest → MessageFits (message_so_far r)
+  message_within : (r : Reached) → Fits limit r.progress o → IsBegun IsBytes r.rest o → IsRest r.rest → MessageFits limit (message_so_far r)
   message_within r h k partial = by (takes_pdvs r.progress) refl
     where
-      spotted : (x : Spot) → spot r.rest ≡ x → takes_pdvs r.progress ≡ true → MessageFits (with_pdv (begun_in x) r.progress.message)
+      spotted : (x : Spot) → spot r.rest ≡ x → takes_pdvs r.progress ≡ true → MessageFits limit (with_pdv (begun_in x) r.progress.message)
       spotted Opening e takes = (h.command, h.bytes)
       spotted Plain e takes = (h.command, h.bytes)
       spotted (InPdv part) e takes = pdv_within r.progress (room_left r.rest + length part) part h takes (unfinished_pdv r.rest part partial e) (k.pdv part e)
 
-      by : (b : Bool) → takes_pdvs r.progress ≡ b → MessageFits (with_pdv (if b then begun_in (spot r.rest) else []) r.progress.message)
+      by : (b : Bool) → takes_pdvs r.progress ≡ b → MessageFits limit (with_pdv (if b then begun_in (spot r.rest) else []) r.progress.message)
       by true takes = spotted (spot r.rest) refl takes
       by false takes = (h.command, h.bytes)
 
@@ -163,7 +139,7 @@ data_within limit s request come n least bytes (not_walked none) = omega arith
 -- ---- all of it
 
 module _ (limit : Rooms) (s : Settings) (r : Reached) (o : Opened) (n : ℕ) (least : 256 ≤ limit.request) (least_kept : 140 ≤ limit.values) (h : Fits limit r.progress o) (k : IsBegun IsBytes r.rest o) (partial : IsRest r.rest) (held : Held limit s r n) where
-  of_message : MessageFits limit o (message_so_far r)
+  of_message : MessageFits limit (message_so_far r)
   of_message = message_within limit o r h k partial
 
   of_data : held.of_set ≤ limit.values + 16 * limit.depth

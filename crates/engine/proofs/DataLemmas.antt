@@ -13,7 +13,7 @@ use Rattle.part10.specs.Store.{Shelf, Store, told_after}
 use Rattle.dimse.specs.declared.fault.DimseFault.{DimseFault}
 use Rattle.dimse.specs.Command.{CommandRecord}
 use Rattle.dimse.specs.Reading.{command_in}
-use Rattle.dimse.specs.Messages.{Begun, InSet, Goes, brought}
+use Rattle.dimse.specs.Messages.{Begun, InSet, Goes, brought, with_fragment}
 use Rattle.dimse.specs.Joining.{Joining, ShowsMessage, pdv_of, with_pdv}
 use Rattle.engine.specs.Timeline.{At, good}
 use Rattle.engine.specs.Devices.{Devices, devices, files_in, with_files, line_with}
@@ -36,7 +36,6 @@ use Rattle.engine.proofs.MessageLemmas.{entry_of, pdv_taken, pdv_comes, verdict_
 use Rattle.engine.specs.Fair.{MayFail}
 use Rattle.std.specs.Io.KnownBytes.{append_known}
 use Rattle.std.proofs.lemmas.List.{length-append}
-use Rattle.dimse.specs.Joining.{with_fragment}
 use Rattle.sequence.specs.Rules.{Limits}
 use Rattle.engine.specs.Drafts.{Drafts}
 use Rattle.engine.specs.machine.Does.{Appends}

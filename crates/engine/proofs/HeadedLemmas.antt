@@ -1,13 +1,13 @@
 -- Along a timeline the mark of a presentation data value comes after that of its head, and the end of an association
 -- request after its head; and the last mark says what has begun at the end of the stream.
-use Rattle.std.proofs.Common.{◌≡◌, ℕ, zero, suc, ◌+◌, ◌-◌, ◌≤◌, Bool, true, false, List, [], ◌∷◌, ◌++◌, length, take, drop, get_or, map, Option, Some, None, refl, sym, ap, subst, ◌∙◌, append_assoc, arith, nat_eq, nat_lt, eqb-true, ltb-true, ltb-false, if◌then◌else◌}
+use Rattle.std.proofs.Common.{◌≡◌, ℕ, zero, suc, ◌+◌, ◌-◌, ◌≤◌, Bool, true, false, ◌||◌, List, [], ◌∷◌, ◌++◌, length, take, drop, get_or, map, Option, Some, None, refl, sym, ap, subst, ◌∙◌, append_assoc, arith, nat_eq, nat_lt, eqb-true, ltb-true, ltb-false, if◌then◌else◌}
 use Rattle.std.proofs.lemmas.List.{take-append-drop, length-take, length-drop}
 use Rattle.std.specs.List.{flat_map, AllByRecursion}
 use Rattle.byteorder.specs.Endian.{big_number}
 use Rattle.pdu.specs.Frames.{frame, frames_of, rest_of}
 use Rattle.pdu.specs.Pieces.{with_first, pieces_in, pieces_of}
-use Rattle.pdu.specs.Pdvs.{Pdvs, DataSpot, Dropped, Within, Headless, Bad, Partial, Whole, with_front, or_leftover, pdvs_in, data_spot}
-use Rattle.pdu.specs.Marks.{Mark, Head, PdvHead, Pdv, BadPdv, Leftover, End, pdv_size, is_leftover, pdv_marks, inner_marks, whole_marks, unfinished_marks, frame_kind, frame_length, marks, new_marks}
+use Rattle.pdu.specs.Pdvs.{Pdvs, DataSpot, Dropped, Within, with_pdv, pdvs_in, data_spot}
+use Rattle.pdu.specs.Marks.{Mark, Head, PdvHead, Pdv, BadPdv, Leftover, End, head_mark, pdv_size, is_leftover, pdv_marks, inner_marks, whole_marks, unfinished_marks, frame_kind, frame_length, marks, new_marks}
 use Rattle.pdu.specs.Spot.{Opening, Plain, InPdv, spot, spot_of}
 use Rattle.pdu.proofs.Public.{new_nothing, new_then, same_frame}
 use Rattle.engine.specs.Inputs.{Received, Bytes, Close, Expiry, UserAbort, stream_of}
@@ -91,9 +91,17 @@ headed_then P o (x ∷ xs) ys h k = (h.0, headed_then P (opens x) xs ys h.1 k)
 module _ (P : List ℕ → Type 0) (parts : HoldsOfParts P) where
   -- ---- the values of a PDU
 
+  -- by whether the head has come, is bad, and the value is whole
+  abbrev by_front : Bool → Bool → Bool → Bool → ℕ → List ℕ → Pdvs → Pdvs
+  by_front a b c d room bytes later =
+      if a then record { marks = []; spot = Within room bytes }
+      else (if b || c then record { marks = BadPdv ∷ []; spot = Dropped }
+      else (if d then record { marks = head_mark bytes ∷ []; spot = Within room bytes }
+      else with_pdv bytes later))
+
   front_headed : (a b c d : Bool) (room : ℕ) (bytes : List ℕ) (later : Pdvs) → P bytes → nat_lt (length bytes) 6 ≡ a → nat_lt (big_number 4 bytes) 2 ≡ b → nat_lt (length bytes) (pdv_size bytes) ≡ d
       → ((o : Opened) → AreHeaded P o later.marks) → (o : Opened)
-      → AreHeaded P o (with_front room bytes later (if a then Headless else (if b then Bad else (if c then Bad else (if d then Partial else Whole))))).marks
+      → AreHeaded P o (by_front a b c d room bytes later).marks
   front_headed true b c d room bytes later p e f g h o = tt
   front_headed false true c d room bytes later p e f g h o = (tt, tt)
   front_headed false false true d room bytes later p e f g h o = (tt, tt)
@@ -114,7 +122,7 @@ module _ (P : List ℕ → Type 0) (parts : HoldsOfParts P) where
   pdvs_headed zero room bytes p o = tt
   pdvs_headed (suc k) room bytes p o =
       let n = pdv_size bytes in
-      front_headed (nat_lt (length bytes) 6) (nat_lt (big_number 4 bytes) 2) (nat_lt room n) (nat_lt (length bytes) n) room bytes (or_leftover (room - n) (pdvs_in k (room - n) (drop n bytes))) p refl refl refl
+      front_headed (nat_lt (length bytes) 6) (nat_lt (big_number 4 bytes) 2) (nat_lt room n) (nat_lt (length bytes) n) room bytes (if is_leftover (room - n) then record { marks = Leftover ∷ []; spot = Dropped } else pdvs_in k (room - n) (drop n bytes)) p refl refl refl
       (leftover_headed (is_leftover (room - n)) (pdvs_in k (room - n) (drop n bytes)) (pdvs_headed k (room - n) (drop n bytes) (parts.drops n bytes p))) o
 
   data_headed : (room : ℕ) (bytes : List ℕ) → P bytes → (o : Opened) → AreHeaded P o (pdv_marks room bytes)
@@ -128,8 +136,8 @@ module _ (P : List ℕ → Type 0) (parts : HoldsOfParts P) where
 
   front_begun : (a b c d : Bool) (room : ℕ) (bytes : List ℕ) (later : Pdvs) → P bytes → nat_lt (length bytes) 6 ≡ a → nat_lt (length bytes) (pdv_size bytes) ≡ d
       → ((o : Opened) → 6 ≤ length bytes → IsBegunAt later.spot (open_after o later.marks)) → (o : Opened)
-      → IsBegunAt (with_front room bytes later (if a then Headless else (if b then Bad else (if c then Bad else (if d then Partial else Whole))))).spot
-      (open_after o (with_front room bytes later (if a then Headless else (if b then Bad else (if c then Bad else (if d then Partial else Whole))))).marks)
+      → IsBegunAt (by_front a b c d room bytes later).spot
+      (open_after o (by_front a b c d room bytes later).marks)
   front_begun true b c d room bytes later p e g h o = (p, λ six. absurd (let lt = ltb-true (length bytes) 6 e in omega (arith, lt, six)))
   front_begun false true c d room bytes later p e g h o = tt
   front_begun false false true d room bytes later p e g h o = tt
@@ -145,7 +153,7 @@ module _ (P : List ℕ → Type 0) (parts : HoldsOfParts P) where
   pdvs_begun zero room bytes p few o = (p, λ six. absurd (omega (arith, few, six)))
   pdvs_begun (suc k) room bytes p few o =
       let n = pdv_size bytes in
-      front_begun (nat_lt (length bytes) 6) (nat_lt (big_number 4 bytes) 2) (nat_lt room n) (nat_lt (length bytes) n) room bytes (or_leftover (room - n) (pdvs_in k (room - n) (drop n bytes))) p refl refl
+      front_begun (nat_lt (length bytes) 6) (nat_lt (big_number 4 bytes) 2) (nat_lt room n) (nat_lt (length bytes) n) room bytes (if is_leftover (room - n) then record { marks = Leftover ∷ []; spot = Dropped } else pdvs_in k (room - n) (drop n bytes)) p refl refl
       (λ q six. leftover_begun (is_leftover (room - n)) (pdvs_in k (room - n) (drop n bytes)) q (pdvs_begun k (room - n) (drop n bytes) (parts.drops n bytes p) (omega (arith, few, six, length-drop n bytes)) q)) o
 
   data_begun : (room : ℕ) (bytes : List ℕ) → P bytes → (o : Opened) → IsBegunAt (data_spot room bytes) (open_after o (pdv_marks room bytes))

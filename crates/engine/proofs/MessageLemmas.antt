@@ -7,7 +7,7 @@ use Rattle.acceptor.specs.declared.state.State.{State}
 use Rattle.acceptor.specs.declared.state.State.TheVariants.{Sta1, Sta2, Sta3, Sta6, Sta8, Sta13}
 use Rattle.acceptor.specs.declared.event.Event.TheVariants as event
 use Rattle.pdu.specs.declared.head.PdvHead.{PdvHead}
-use Rattle.pdu.specs.Heads.{pdv_head_of, is_command, is_last}
+use Rattle.pdu.specs.Heads.{pdv_head_of, is_last}
 use Rattle.pdu.specs.Marks as mark
 use Rattle.pdu.specs.Marks.{Pdv}
 use Rattle.engine.specs.Requested.{Requested, request_record}
@@ -21,8 +21,8 @@ use Rattle.dimse.specs.declared.joined.Joined.{Joined}
 use Rattle.dimse.specs.declared.joined.Joined.TheVariants as joined
 use Rattle.dimse.specs.Command.{CommandRecord}
 use Rattle.dimse.specs.Reading.{command_in}
-use Rattle.dimse.specs.Messages.{Message, message_by, Begun, NoMessage, InCommand, InSet, Brought, Goes, Ends, Refuses, brought, refusal, head_refusal, if_context, with_command, message_row}
-use Rattle.dimse.specs.Joining.{Joining, ShowsMessage, InContext, Joins, ok_unless, without_set, pdv_of, goes_on, lending, with_fragment, with_pdv}
+use Rattle.dimse.specs.Messages.{Message, message_by, Begun, NoMessage, InCommand, InSet, Brought, Goes, Ends, Refuses, brought, refusal, head_refusal, if_context, with_command, completed, with_fragment}
+use Rattle.dimse.specs.Joining.{Joining, ShowsMessage, InContext, Joins, ok_unless, without_set, pdv_of, goes_on, lending, with_pdv}
 use Rattle.engine.specs.Timeline.{At, Finding, good}
 use Rattle.engine.specs.Progress.{Progress, Advance, nothing, done, absorb, is_established}
 use Rattle.engine.specs.Reached.{takes_pdvs}
@@ -202,19 +202,14 @@ whole_goes context command later (Ok c) e = by c.with_data refl e where
   by true w h = (cc, λ d f. let same : c ≡ d = cc in sym (ap (λ (x : CommandRecord). x.with_data) same) ∙ w)
   by false w h = absurd cc
 
-more_row : (before : Begun) (is_c last : Bool) (context : ℕ) (bytes : List ℕ) (later : Begun) → message_row before is_c last context bytes ≡ Goes later → joined.More ≡ goes_on before later
-    → later ≡ with_fragment context bytes before
-more_row NoMessage true false context bytes later e g = cc
-more_row NoMessage true true context bytes later e g =
+more_row : (before : Begun) (last : Bool) (context : ℕ) (bytes : List ℕ) (later : Begun) → (if last then completed (with_fragment context bytes before) else Goes (with_fragment context bytes before)) ≡ Goes later
+    → joined.More ≡ goes_on before later → later ≡ with_fragment context bytes before
+more_row before false context bytes later e g = cc
+more_row NoMessage true context bytes later e g =
     let x : joined.More ≡ joined.DataDue = g ∙ ap (goes_on NoMessage) (whole_goes context bytes later (command_in bytes) e).0 in absurd cc
-more_row NoMessage false last context bytes later e g = absurd cc
-more_row (InCommand first command) true false context bytes later e g = cc
-more_row (InCommand first command) true true context bytes later e g =
+more_row (InCommand first command) true context bytes later e g =
     let x : joined.More ≡ joined.DataDue = g ∙ ap (goes_on (InCommand first command)) (whole_goes first (command ++ bytes) later (command_in (command ++ bytes)) e).0 in absurd cc
-more_row (InCommand first command) false last context bytes later e g = absurd cc
-more_row (InSet first command set) true last context bytes later e g = absurd cc
-more_row (InSet first command set) false false context bytes later e g = cc
-more_row (InSet first command set) false true context bytes later e g = absurd cc
+more_row (InSet first command set) true context bytes later e g = absurd cc
 
 -- a data set is due
 pub record IsDataDue (room : ℕ) (before : Begun) (h : PdvHead) (bytes : List ℕ) (later : Begun) : Type 0 where
@@ -228,19 +223,18 @@ same_context : (a first : ℕ) (t : Bool) (o : Option DimseFault) → nat_eq a f
 same_context a first true o e h = sym (grind (arith, nat_tests))
 same_context a first false o e h = absurd cc
 
-due_row : (room : ℕ) (before : Begun) (h : PdvHead) (is_c last : Bool) (bytes : List ℕ) (later : Begun) → head_refusal room before h ≡ None → message_row before is_c last h.context bytes ≡ Goes later
-    → joined.DataDue ≡ goes_on before later → IsDataDue room before h bytes later
-due_row room NoMessage h true false bytes later r e g =
+due_row : (room : ℕ) (before : Begun) (h : PdvHead) (last : Bool) (bytes : List ℕ) (later : Begun) → head_refusal room before h ≡ None
+    → (if last then completed (with_fragment h.context bytes before) else Goes (with_fragment h.context bytes before)) ≡ Goes later → joined.DataDue ≡ goes_on before later → IsDataDue room before h bytes later
+due_row room NoMessage h false bytes later r e g =
     let is : later ≡ InCommand h.context bytes = cc in
     let x : joined.DataDue ≡ joined.More = g ∙ ap (goes_on NoMessage) is in absurd cc
-due_row room NoMessage h true true bytes later r e g =
+due_row room NoMessage h true bytes later r e g =
     let w = whole_goes h.context bytes later (command_in bytes) e in
     record { command = bytes; later_is = w.0; came = refl; announced = w.1; none_before = λ request s. no_store request NoMessage refl s }
-due_row room NoMessage h false last bytes later r e g = absurd cc
-due_row room (InCommand first command) h true false bytes later r e g =
+due_row room (InCommand first command) h false bytes later r e g =
     let is : later ≡ InCommand first (command ++ bytes) = cc in
     let x : joined.DataDue ≡ joined.More = g ∙ ap (goes_on (InCommand first command)) is in absurd cc
-due_row room (InCommand first command) h true true bytes later r e g =
+due_row room (InCommand first command) h true bytes later r e g =
     let w = whole_goes first (command ++ bytes) later (command_in (command ++ bytes)) e in
     let id = same_context h.context first (nat_eq h.context first) _ refl r in
     record {
@@ -250,8 +244,7 @@ due_row room (InCommand first command) h true true bytes later r e g =
       announced = w.1;
       none_before = λ request s. no_store_yet request (InCommand first command) first command refl s;
     }
-due_row room (InCommand first command) h false last bytes later r e g = absurd cc
-due_row room (InSet first command set) h is_c last bytes later r e g = let x : joined.DataDue ≡ joined.More = g in absurd cc
+due_row room (InSet first command set) h last bytes later r e g = let x : joined.DataDue ≡ joined.More = g in absurd cc
 
 echo_of : (context : ℕ) (command : List ℕ) (m : Message) (r : Result CommandRecord DimseFault) → r ≡ command_in command → with_command context command r ≡ Ends m
     → (m.context ≡ context) × (m.command ≡ command) × ((c : CommandRecord) → r ≡ Ok c → c.with_data ≡ false)
@@ -264,23 +257,18 @@ echo_of context command m (Ok c) is e = by c.with_data refl e where
       let same : record { context = context; command = command; set = [] } ≡ m = cc in
       (sym (ap (λ (x : Message). x.context) same), sym (ap (λ (x : Message). x.command) same), λ d f. let is-d : c ≡ d = cc in sym (ap (λ (x : CommandRecord). x.with_data) is-d) ∙ w)
 
-ends_row : (room : ℕ) (before : Begun) (h : PdvHead) (is_c last : Bool) (bytes : List ℕ) (m : Message) → head_refusal room before h ≡ None → message_row before is_c last h.context bytes ≡ Ends m
-    → HasCome m (with_fragment h.context bytes before) × (m.context ≡ h.context)
-ends_row room NoMessage h true true bytes m r e =
+ends_row : (room : ℕ) (before : Begun) (h : PdvHead) (last : Bool) (bytes : List ℕ) (m : Message) → head_refusal room before h ≡ None
+    → (if last then completed (with_fragment h.context bytes before) else Goes (with_fragment h.context bytes before)) ≡ Ends m → HasCome m (with_fragment h.context bytes before) × (m.context ≡ h.context)
+ends_row room before h false bytes m r e = absurd cc
+ends_row room NoMessage h true bytes m r e =
     let a = echo_of h.context bytes m (command_in bytes) refl e in
     (inr (ap (λ (n : ℕ). InCommand n bytes) (sym a.0) ∙ ap (InCommand m.context) (sym a.1), λ c f. a.2 c (ap command_in (sym a.1) ∙ f)), a.0)
-ends_row room NoMessage h true false bytes m r e = absurd cc
-ends_row room NoMessage h false last bytes m r e = absurd cc
-ends_row room (InCommand first command) h true true bytes m r e =
+ends_row room (InCommand first command) h true bytes m r e =
     let a = echo_of first (command ++ bytes) m (command_in (command ++ bytes)) refl e in (
       inr (ap (λ (n : ℕ). InCommand n (command ++ bytes)) (sym a.0) ∙ ap (InCommand m.context) (sym a.1), λ c f. a.2 c (ap command_in (sym a.1) ∙ f)),
       a.0 ∙ same_context h.context first (nat_eq h.context first) _ refl r,
     )
-ends_row room (InCommand first command) h true false bytes m r e = absurd cc
-ends_row room (InCommand first command) h false last bytes m r e = absurd cc
-ends_row room (InSet first command set) h true last bytes m r e = absurd cc
-ends_row room (InSet first command set) h false false bytes m r e = absurd cc
-ends_row room (InSet first command set) h false true bytes m r e =
+ends_row room (InSet first command set) h true bytes m r e =
     let same : record { context = first; command = command; set = set ++ bytes } ≡ m = cc in
     (inl (ap (λ (x : Message). InSet x.context x.command x.set) same), sym (ap (λ (x : Message). x.context) same) ∙ same_context h.context first (nat_eq h.context first) _ refl r)
 
@@ -290,7 +278,7 @@ module _ (room : ℕ) (before : Begun) (begun : List ℕ) (six : 6 ≤ length be
     by : (b : Brought) → brought before (pdv_of begun) ≡ b → Joins room before b old new (Ok joined.More) → (later : Begun) × (brought before (pdv_of begun) ≡ Goes later) × ShowsMessage room new later [] × (later ≡ with_pdv begun before)
     by (Goes later) is (e, h) =
         let more : joined.More ≡ goes_on before later = let x : ◌≡◌ {A = Result Joined DimseFault} (Ok joined.More) (Ok (goes_on before later)) = e in cc in
-        (later, is, h, more_row before (is_command (get_or begun 5 0)) (is_last (get_or begun 5 0)) (get_or begun 4 0) (drop 6 begun) later is more ∙ sym (long_pdv begun before six))
+        (later, is, h, more_row before (is_last (get_or begun 5 0)) (get_or begun 4 0) (drop 6 begun) later is more ∙ sym (long_pdv begun before six))
     by (Ends m) is (e, h) = let x : ◌≡◌ {A = Result Joined DimseFault} (Ok joined.More) (Ok joined.Message) = e in absurd cc
     by (Refuses f) is (e, h) = let x : ◌≡◌ {A = Result Joined DimseFault} (Ok joined.More) (Err f) = e in absurd cc
 
@@ -301,7 +289,7 @@ module _ (room : ℕ) (before : Begun) (begun : List ℕ) (six : 6 ≤ length be
         → (later : Begun) × (brought before (pdv_of begun) ≡ Goes later) × ShowsMessage room new later [] × IsDataDue room before (pdv_head_of begun) (drop 6 begun) later
     by (Goes later) is (e, h) =
         let due : joined.DataDue ≡ goes_on before later = let x : ◌≡◌ {A = Result Joined DimseFault} (Ok joined.DataDue) (Ok (goes_on before later)) = e in cc in
-        (later, is, h, due_row room before (pdv_head_of begun) (is_command (get_or begun 5 0)) (is_last (get_or begun 5 0)) (drop 6 begun) later fine is due)
+        (later, is, h, due_row room before (pdv_head_of begun) (is_last (get_or begun 5 0)) (drop 6 begun) later fine is due)
     by (Ends m) is (e, h) = let x : ◌≡◌ {A = Result Joined DimseFault} (Ok joined.DataDue) (Ok joined.Message) = e in absurd cc
     by (Refuses f) is (e, h) = let x : ◌≡◌ {A = Result Joined DimseFault} (Ok joined.DataDue) (Err f) = e in absurd cc
 
@@ -323,7 +311,7 @@ module _ (room : ℕ) (before : Begun) (begun : List ℕ) (six : 6 ≤ length be
         let wrong : joined.Message ≡ goes_on before later = let x : ◌≡◌ {A = Result Joined DimseFault} (Ok joined.Message) (Ok (goes_on before later)) = e in cc in
         absurd (not_message before later wrong)
     by (Ends m) is (e, h) =
-        let r = ends_row room before (pdv_head_of begun) (is_command (get_or begun 5 0)) (is_last (get_or begun 5 0)) (drop 6 begun) m fine is in
+        let r = ends_row room before (pdv_head_of begun) (is_last (get_or begun 5 0)) (drop 6 begun) m fine is in
         (m, is, h, subst (λ (x : Begun). HasCome m x) (sym (long_pdv begun before six)) r.0, r.1)
     by (Refuses f) is (e, h) = let x : ◌≡◌ {A = Result Joined DimseFault} (Ok joined.Message) (Err f) = e in absurd cc
 

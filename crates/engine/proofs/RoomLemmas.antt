@@ -9,7 +9,7 @@ use Rattle.acceptor.specs.declared.event.Event.TheVariants as event
 use Rattle.acceptor.specs.Table.{table}
 use Rattle.element.specs.Numbers.{IsBytes}
 use Rattle.pdu.specs.declared.fault.PduFault.{PduFault}
-use Rattle.pdu.specs.Heads.{is_command}
+use Rattle.pdu.specs.Heads.{is_command, is_last}
 use Rattle.pdu.specs.Items as items
 use Rattle.pdu.specs.Marks.{Head, PdvHead, Pdv, BadPdv, Leftover, End}
 use Rattle.pdu.specs.Record.{RequestRecord, Proposal}
@@ -28,7 +28,7 @@ use Rattle.dimse.specs.declared.fault.DimseFault.{DimseFault}
 use Rattle.dimse.specs.declared.fault.DimseFault.TheVariants.{CommandTooLong, WrongKind, OtherContext}
 use Rattle.dimse.specs.Command.{CommandRecord}
 use Rattle.dimse.specs.Messages as messages
-use Rattle.dimse.specs.Messages.{Begun, NoMessage, InCommand, InSet, Brought, Goes, Ends, Refuses, Message, refusal, if_room, with_command, message_row, brought}
+use Rattle.dimse.specs.Messages.{Begun, NoMessage, InCommand, InSet, Brought, Goes, Ends, Refuses, Message, refusal, if_room, with_command, completed, with_fragment, brought}
 use Rattle.dimse.specs.Reading.{command_in}
 use Rattle.sequence.proofs.Public.{both_bytes}
 use Rattle.engine.specs.Heads.{HeadEvent, NoEvent, AtOnce, TooLong, head_event}
@@ -108,32 +108,33 @@ head_fits room most Sta13 kind n e due one = absurd cc
 
 -- ---- a value
 
--- a fragment of so many bytes has room where its head was not refused
-abbrev FragmentFits : Rooms → Begun → Bool → ℕ → Type 0
-FragmentFits rooms NoMessage command n = command ≡ true → n ≤ rooms.command
-FragmentFits rooms (InCommand first bytes) command n = command ≡ true → length bytes + n ≤ rooms.command
-FragmentFits rooms (InSet first bytes set) command n = Unit {0}
-
 room_fits : (room size : ℕ) (b : Bool) → nat_le size room ≡ b → (if b then None else Some CommandTooLong) ≡ None → size ≤ room
 room_fits room size true e h = leb-true size room e
 room_fits room size false e h = absurd cc
 
-command_fits : (room size : ℕ) (command : Bool) → (if command then if_room room size else Some WrongKind) ≡ None → command ≡ true → size ≤ room
-command_fits room size true h c = room_fits room size (nat_le size room) refl h
-command_fits room size false h c = absurd cc
+command_fits : (room size : ℕ) (command : Bool) → (if command then if_room room size else Some WrongKind) ≡ None → size ≤ room
+command_fits room size true h = room_fits room size (nat_le size room) refl h
+command_fits room size false h = absurd cc
 
 pub same_context : (b : Bool) (o : Option DimseFault) → (if b then o else Some OtherContext) ≡ None → o ≡ None
 same_context true o h = h
 same_context false o h = absurd cc
 
-pub fragment_fits : (rooms : Rooms) (b : Begun) (n context control : ℕ) → refusal rooms.command b (n + 2) context control ≡ None → FragmentFits rooms b (is_command control) n
-fragment_fits rooms NoMessage n context control h = λ c. let le = command_fits rooms.command (n + 2 - 2) (is_command control) h c in omega (arith, le)
-fragment_fits rooms (InCommand first bytes) n context control h =
-    λ c. let le = command_fits rooms.command (length bytes + (n + 2 - 2)) (is_command control) (same_context (nat_eq context first) _ h) c in omega (arith, le)
-fragment_fits rooms (InSet first bytes set) n context control h = tt
+abbrev pub MessageFits : Rooms → Begun → Type 0
+MessageFits rooms b = (of_command b ≤ rooms.command) × IsBytes (set_of b)
+
+-- a fragment has room whose head was not refused
+pub fragment_within : (rooms : Rooms) (b : Begun) (n context control : ℕ) (bytes : List ℕ) → refusal rooms.command b (n + 2) context control ≡ None → length bytes ≤ n → IsBytes bytes → MessageFits rooms b
+    → MessageFits rooms (with_fragment context bytes b)
+fragment_within rooms NoMessage n context control bytes none few h fits = (let le = command_fits rooms.command (n + 2 - 2) (is_command control) none in omega (arith, le, few), no_bytes)
+fragment_within rooms (InCommand first command) n context control bytes none few h fits = (
+  let le = command_fits rooms.command (length command + (n + 2 - 2)) (is_command control) (same_context (nat_eq context first) _ none) in omega (arith, le, few, length-append command bytes),
+  no_bytes,
+)
+fragment_within rooms (InSet first command set) n context control bytes none few h fits = (fits.0, both_bytes set bytes fits.1 h)
 
 abbrev BroughtFits : Rooms → Brought → Type 0
-BroughtFits rooms (Goes later) = (of_command later ≤ rooms.command) × IsBytes (set_of later)
+BroughtFits rooms (Goes later) = MessageFits rooms later
 BroughtFits rooms (Ends m) = Unit {0}
 BroughtFits rooms (Refuses fault) = Unit {0}
 
@@ -146,20 +147,11 @@ whole_fits : (rooms : Rooms) (id : ℕ) (command : List ℕ) (r : Result Command
 whole_fits rooms id command (Err fault) le = tt
 whole_fits rooms id command (Ok c) le = announced_fits rooms id command c.with_data le
 
-joined_size : (rooms : Rooms) (command bytes : List ℕ) → length command + length bytes ≤ rooms.command → length (command ++ bytes) ≤ rooms.command
-joined_size rooms command bytes le = omega (arith, le, length-append command bytes)
-
-row_fits : (rooms : Rooms) (b : Begun) (command last : Bool) (id : ℕ) (bytes : List ℕ) → of_command b ≤ rooms.command → IsBytes (set_of b) → IsBytes bytes → FragmentFits rooms b command (length bytes)
-    → BroughtFits rooms (message_row b command last id bytes)
-row_fits rooms NoMessage true false id bytes le set h fit = (fit refl, no_bytes)
-row_fits rooms NoMessage true true id bytes le set h fit = whole_fits rooms id bytes (command_in bytes) (fit refl)
-row_fits rooms NoMessage false last id bytes le set h fit = tt
-row_fits rooms (InCommand first command) true false id bytes le set h fit = (joined_size rooms command bytes (fit refl), no_bytes)
-row_fits rooms (InCommand first command) true true id bytes le set h fit = whole_fits rooms first (command ++ bytes) (command_in (command ++ bytes)) (joined_size rooms command bytes (fit refl))
-row_fits rooms (InCommand first command) false last id bytes le set h fit = tt
-row_fits rooms (InSet first command come) true last id bytes le set h fit = tt
-row_fits rooms (InSet first command come) false false id bytes le set h fit = (le, both_bytes come bytes set h)
-row_fits rooms (InSet first command come) false true id bytes le set h fit = tt
+row_fits : (rooms : Rooms) (come : Begun) (last : Bool) → MessageFits rooms come → BroughtFits rooms (if last then completed come else Goes come)
+row_fits rooms come false fits = fits
+row_fits rooms NoMessage true fits = fits
+row_fits rooms (InCommand id command) true fits = whole_fits rooms id command (command_in command) fits.0
+row_fits rooms (InSet id command set) true fits = tt
 
 module _ (rooms : Rooms) where
   -- ---- where nothing that has begun counts
@@ -214,7 +206,7 @@ module _ (rooms : Rooms) where
       let room : HasRoom rooms p (OfPdv (length fragment + 2) context control) = subst (HasRoom rooms p) is h.room in
       let pdv : messages.Pdv = record { context = context; control = control; fragment = fragment } in
       value_fits p finding o (brought p.message pdv) h
-      (row_fits rooms p.message _ _ context fragment h.command h.bytes bytes (fragment_fits rooms p.message (length fragment) context control (room takes)))
+      (row_fits rooms (with_fragment context fragment p.message) (is_last control) (fragment_within rooms p.message (length fragment) context control fragment (room takes) (omega arith) bytes (h.command, h.bytes)))
 
   -- ---- heads
 

@@ -11,8 +11,8 @@ use Rattle.part10.specs.Store.{Shelf, Store, stepped, appended, without_draft, t
 use Rattle.dimse.specs.declared.fault.DimseFault.{DimseFault}
 use Rattle.dimse.specs.Command.{CommandRecord}
 use Rattle.dimse.specs.Reading.{command_in}
-use Rattle.dimse.specs.Messages.{Begun, NoMessage, InCommand, InSet}
-use Rattle.dimse.specs.Joining.{with_fragment, with_pdv}
+use Rattle.dimse.specs.Messages.{Begun, NoMessage, InCommand, InSet, with_fragment}
+use Rattle.dimse.specs.Joining.{with_pdv}
 use Rattle.engine.specs.Devices.{files_in}
 use Rattle.engine.specs.Replies.{some_or_nothing}
 use Rattle.engine.specs.Stores.{limits}

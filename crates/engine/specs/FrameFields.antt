@@ -1,7 +1,7 @@
 -- What an association shows of the PDU that has begun: where its deframer stands, and what is kept.
 use Rattle.std.specs.Prelude.{◌≡◌, ℕ, false, List, [], drop}
 use Rattle.pdu.specs.declared.position.Position.{Position}
-use Rattle.pdu.specs.Marks.{Mark, frame_kind}
+use Rattle.pdu.specs.Marks.{Mark, frame_kind, frame_body}
 use Rattle.pdu.specs.Spot.{spot}
 use Rattle.pdu.specs.Deframing.{At, SkipsAt}
 use Rattle.engine.specs.Progress.{Progress}
@@ -12,7 +12,7 @@ use Rattle.part10.specs.Store.{Store}
 
 -- what has come of the body of an association request
 abbrev pub body_of : List ℕ → List ℕ
-body_of r = body_in (frame_kind r) (drop 6 r)
+body_of r = body_in (frame_kind r) (frame_body r)
 
 pub record Fields : Type 0 where
   pub position : Position

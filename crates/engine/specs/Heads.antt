@@ -8,6 +8,7 @@ use Rattle.acceptor.specs.declared.event.Event.{Event}
 use Rattle.acceptor.specs.declared.event.Event.TheVariants as event
 use Rattle.acceptor.specs.Table.{table}
 use Rattle.pdu.specs.Types.{associate_rq, associate_ac, associate_rj, p_data_tf, release_rq, release_rp, abort}
+use Rattle.pdu.specs.Sizes.{pdv_head_size, short_body, request_head_size}
 use Rattle.engine.specs.Progress.{is_due, is_established}
 
 -- the reasons of the service provider's A-ABORT (PS3.8 section 9.3.8, Table 9-26)
@@ -43,7 +44,7 @@ event_of kind =
 abbrev pub is_known : ℕ → Bool
 is_known kind = nat_le associate_rq kind && nat_le kind abort
 
--- the types whose bodies have four bytes
+-- the types whose bodies have a fixed size
 abbrev pub has_four_bytes : ℕ → Bool
 has_four_bytes kind = nat_eq kind associate_rj || nat_le release_rq kind
 
@@ -60,18 +61,18 @@ out_of_place state kind = if is_abort (table state (event_of kind)).0 then AtOnc
 
 -- a request's length: above the room it is rejected, below the fixed part it is invalid
 abbrev pub request_length : ℕ → ℕ → HeadEvent
-request_length room n = if nat_lt room n then TooLong else (if nat_lt n 68 then AtOnce event.Invalid invalid_parameter else NoEvent)
+request_length room n = if nat_lt room n then TooLong else (if nat_lt n request_head_size then AtOnce event.Invalid invalid_parameter else NoEvent)
 
 -- a P-DATA's length: one PDV at least, and no more than was announced
 abbrev pub data_length : ℕ → ℕ → HeadEvent
-data_length most n = if nat_lt most n || nat_lt n 6 then AtOnce event.Invalid invalid_parameter else NoEvent
+data_length most n = if nat_lt most n || nat_lt n pdv_head_size then AtOnce event.Invalid invalid_parameter else NoEvent
 
 -- what the head of a PDU of this type and length brings, where a request's body has `room` bytes at most, and a
 -- P-DATA's `most`
 abbrev pub head_event : ℕ → ℕ → State → ℕ → ℕ → HeadEvent
 head_event room most state kind n =
     if not (is_known kind) then AtOnce event.Invalid unrecognized_pdu
-    else (if has_four_bytes kind && not (nat_eq n 4) then AtOnce event.Invalid invalid_parameter
+    else (if has_four_bytes kind && not (nat_eq n short_body) then AtOnce event.Invalid invalid_parameter
     else (if is_due state && nat_eq kind associate_rq then request_length room n
     else (if is_established state && nat_eq kind p_data_tf then data_length most n
     else out_of_place state kind)))

@@ -4,6 +4,8 @@ use Rattle.acceptor.specs.declared.state.State.{State}
 use Rattle.acceptor.specs.declared.state.State.TheVariants.{Sta1}
 use Rattle.element.specs.declared.syntax.Syntax.{Syntax}
 use Rattle.element.specs.declared.tag.Tag.{Tag}
+use Rattle.pdu.specs.Types.{associate_rq}
+use Rattle.pdu.specs.Sizes.{head_size, title_size}
 use Rattle.pdu.specs.Marks.{frame_kind}
 use Rattle.engine.specs.Requested.{Requested, request_record}
 use Rattle.pdu.specs.Record.{RequestRecord}
@@ -19,7 +21,7 @@ use Rattle.engine.specs.Progress.{Progress, is_due, is_established}
 use Rattle.engine.specs.Reached.{Reached, begun_pdv, message_so_far}
 use Rattle.engine.specs.Fair.{InStore}
 use Rattle.engine.specs.Stores.{limits}
-use Rattle.engine.specs.Run.{Rooms}
+use Rattle.engine.specs.Run.{Rooms, heads_size}
 
 abbrev pub is_ended : State → Bool
 is_ended Sta1 = true
@@ -27,17 +29,44 @@ is_ended state = false
 
 -- an unfinished head
 abbrev pub unfinished : List ℕ → ℕ
-unfinished bytes = if nat_lt (length bytes) 6 then length bytes else 0
+unfinished bytes = if nat_lt (length bytes) head_size then length bytes else 0
 
--- what is kept of an accepted request when it is given up: the calling title and the peer's maximum length, 20 bytes
--- together, and 4 for each accepted context
+-- ---- the sizes of what is kept
+
+-- of an accepted request its calling title and the peer's maximum length
+abbrev pub peer_size : ℕ
+peer_size = title_size + 4
+
+-- an accepted context
+abbrev pub row_size : ℕ
+row_size = 4
+
+-- an open level of a data set
+abbrev pub level_size : ℕ
+level_size = 16
+
+-- at most so many of the heads and of an accepted request, which has 128 contexts at most
+abbrev pub accepted_most : ℕ
+accepted_most = heads_size + peer_size + row_size * 128
+
+-- ---- the parts
+
+-- the head of a PDU
+abbrev pub of_head : Reached → ℕ
+of_head r = unfinished r.rest
+
+-- that of a presentation data value
+abbrev pub of_pdv_head : Reached → ℕ
+of_pdv_head r = unfinished (begun_pdv r)
+
+-- what is kept of an accepted request, until it is left
 abbrev pub of_accepted : RequestRecord → ℕ
-of_accepted request = 20 + 4 * accepted_count request
+of_accepted request = peer_size + row_size * accepted_count request
 
 -- of a request that is taken: in Sta2 what has come of its body, and in an established association what is kept of it
 abbrev pub of_request : Progress → List ℕ → ℕ
 of_request p rest =
-    if is_due p.state then (if not p.refused && nat_eq (frame_kind rest) 1 then length rest - 6 else 0)
+    if is_due p.state then (if not p.refused && nat_eq (frame_kind rest) associate_rq then length rest - head_size else 0)
     else (if is_established p.state then of_accepted (request_record p.request) else 0)
 
 -- the command set of a message
@@ -46,11 +75,11 @@ of_command NoMessage = 0
 of_command (InCommand context command) = length command
 of_command (InSet context command set) = length command
 
--- heads, request and command set
+-- all of these; nothing once the association has ended
 abbrev pub held_before_data : Reached → ℕ
 held_before_data r =
     if is_ended r.progress.state then 0
-    else (unfinished r.rest + unfinished (begun_pdv r) + of_request r.progress r.rest + of_command (message_so_far r))
+    else (of_head r + of_pdv_head r + of_request r.progress r.rest + of_command (message_so_far r))
 
 -- What a walk holds of the bytes of a data set that have come: where no rule is broken, the unfinished header, the wanted
 -- values with what has come of a begun one, and 16 for each open level; else the values and the levels at the fault's
@@ -67,7 +96,7 @@ pub data IsHeldOfMessage (rooms : Rooms) (s : Settings) (request : Requested) (m
   walked : {n : ℕ} → (store : InStore request message) → IsHeldOfSet store.context.syntax (limits rooms.depth s.max_data) store.set n → IsHeldOfMessage rooms s request message n
   not_walked : (InStore request message → ⊥) → IsHeldOfMessage rooms s request message 0
 
--- so many bytes are held
+-- so many bytes are held: the sum of these parts and of that of the data set
 pub record Held (rooms : Rooms) (s : Settings) (r : Reached) (n : ℕ) : Type 0 where
   pub of_set : ℕ
   pub walked : IsHeldOfMessage rooms s r.progress.request (message_so_far r) of_set

@@ -4,7 +4,7 @@ use Rattle.acceptor.specs.declared.state.State.{State}
 use Rattle.acceptor.specs.declared.state.State.TheVariants.{Sta6}
 use Rattle.element.specs.Numbers.{IsBytes}
 use Rattle.negotiate.specs.Settings.{Settings}
-use Rattle.engine.specs.Held.{Held}
+use Rattle.engine.specs.Held.{Held, accepted_most, level_size}
 use Rattle.engine.specs.Inputs.{Received, stream_of}
 use Rattle.engine.specs.Progress.{at_start}
 use Rattle.engine.specs.Reached.{Reached, reached}
@@ -17,8 +17,8 @@ HeldIsOne = (rooms : Rooms) (s : Settings) (r : Reached) (n m : ℕ) → Held ro
 
 -- the rooms have place for so many bytes; and of them, once the association is accepted, 544 and those of a message
 pub record IsWithinRooms (rooms : Rooms) (state : State) (n : ℕ) : Type 0 where
-  pub all : n ≤ rooms.request + rooms.command + rooms.values + 16 * rooms.depth
-  pub accepted : state ≡ Sta6 → n ≤ 544 + rooms.command + rooms.values + 16 * rooms.depth
+  pub all : n ≤ rooms.request + rooms.command + rooms.values + level_size * rooms.depth
+  pub accepted : state ≡ Sta6 → n ≤ accepted_most + rooms.command + rooms.values + level_size * rooms.depth
 
 -- So many are held at most, for all inputs that are bytes and whatever outcome stands beside each entry of their timeline:
 -- it follows from what is held and from which heads are refused, without an association that holds it.

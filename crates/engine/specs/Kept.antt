@@ -1,5 +1,7 @@
 -- What the upper half of an association keeps, by where its timeline stands and what has come of the PDU that has begun.
 use Rattle.std.specs.Prelude.{◌≡◌, ℕ, ◌+◌, ◌*◌, Bool, true, false, not, ◌&&◌, List, [], length, replicate, nat_eq, if◌then◌else◌}
+use Rattle.pdu.specs.Sizes.{title_size}
+use Rattle.pdu.specs.Types.{associate_rq}
 use Rattle.acceptor.specs.declared.state.State.{State}
 use Rattle.acceptor.specs.declared.state.State.TheVariants.{Sta6}
 use Rattle.pdu.specs.Record.{RequestRecord}
@@ -16,7 +18,7 @@ use Rattle.engine.specs.declared.phase.Phase.{Phase}
 use Rattle.engine.specs.declared.provider.Provider.{Provider}
 use Rattle.engine.specs.Phases.{state_in, caller_in, maximum_in, rows_in, request_in, joining_in, stored_in}
 use Rattle.engine.specs.Progress.{Progress, is_due, is_established}
-use Rattle.engine.specs.Held.{is_ended}
+use Rattle.engine.specs.Held.{is_ended, peer_size, row_size}
 use Rattle.engine.specs.Reached.{takes_pdvs}
 use Rattle.engine.specs.Drafts.{IsDraft}
 use Rattle.engine.specs.Fair.{InStore}
@@ -64,7 +66,7 @@ pub record Agreed (calling : List ℕ) (most : ℕ) (table : List ContextRow) (f
 
 -- nothing of a request: no title, no maximum length and no context
 pub record IsUnagreed (caller : List ℕ) (maximum : ℕ) (table : List ContextRow) : Type 0 where
-  pub no_caller : caller ≡ replicate 16 0
+  pub no_caller : caller ≡ replicate title_size 0
   pub no_maximum : maximum ≡ 0
   pub no_rows : table ≡ []
 
@@ -77,7 +79,7 @@ counted_pdv p begun = if takes_pdvs p then begun else []
 
 -- the bytes of a body that count in a PDU of this type
 abbrev pub body_in : ℕ → List ℕ → List ℕ
-body_in kind body = if nat_eq kind 1 then body else []
+body_in kind body = if nat_eq kind associate_rq then body else []
 
 -- The fields and the draft are those of this progress, where these bytes of a request's body and of a PDV have come: the body's or the
 -- PDV's counted ones alone; and of a request its agreement, where it is accepted, and nothing before it and after it. Once the association has ended it is not known whether the PDU that has begun was refused.
@@ -100,8 +102,8 @@ takes_pdvs_in kept = is_established kept.state && not kept.refused
 
 -- whether the body of a PDU of this type is kept
 abbrev pub takes_body_in : Kept → ℕ → Bool
-takes_body_in kept kind = is_due kept.state && (not kept.refused && nat_eq kind 1)
+takes_body_in kept kind = is_due kept.state && (not kept.refused && nat_eq kind associate_rq)
 
 -- how many bytes are kept of a request and of a message
 abbrev pub held_by : Kept → ℕ
-held_by kept = (if is_established kept.state then 20 + 4 * length kept.table else 0) + length kept.body + length kept.join.command + held_in kept.storing
+held_by kept = (if is_established kept.state then peer_size + row_size * length kept.table else 0) + length kept.body + length kept.join.command + held_in kept.storing

@@ -3,11 +3,14 @@ use Rattle.std.specs.Prelude.{ℕ, ◌+◌, ◌*◌, List, [], replicate}
 use Rattle.arrayvec.specs.ArrayVec.{array_vec_len}
 use Rattle.acceptor.specs.declared.state.State.{State}
 use Rattle.acceptor.specs.declared.state.State.TheVariants.{Sta1, Sta2, Sta6, Sta13}
+use Rattle.pdu.specs.Sizes.{title_size}
 use Rattle.negotiate.specs.declared.table.ContextRow.{ContextRow}
 use Rattle.dimse.specs.Messages.{NoMessage}
 use Rattle.dimse.specs.Joining.{Joining, shown}
 use Rattle.engine.specs.declared.phase.Phase.{Phase}
 use Rattle.engine.specs.declared.phase.Phase.TheVariants.{AwaitingRequest, Established, AwaitingClose, Ended}
+use Rattle.engine.specs.Run.{heads_size}
+use Rattle.engine.specs.Held.{peer_size, row_size}
 use Rattle.engine.specs.StoredData.{Stored, Nothing, stored_of}
 
 -- the acceptor's state
@@ -20,7 +23,7 @@ state_in Ended = Sta1
 -- of an accepted request: the calling AE title, the peer's maximum length, the accepted contexts
 abbrev pub caller_in : {A C V D : ℕ} → Phase A C V D → List ℕ
 caller_in (Established peer message) = peer.caller
-caller_in phase = replicate 16 0
+caller_in phase = replicate title_size 0
 
 abbrev pub maximum_in : {A C V D : ℕ} → Phase A C V D → ℕ
 maximum_in (Established peer message) = peer.max_length
@@ -46,6 +49,6 @@ stored_in phase = Nothing
 
 -- how many bytes are taken, with the heads of a PDU and of a PDV, where the body of a request has its room
 abbrev pub taken_in : {A C V D : ℕ} → Phase A C V D → ℕ
-taken_in (AwaitingRequest body) = array_vec_len body + 12
-taken_in (Established peer message) = 32 + 4 * array_vec_len peer.contexts
+taken_in (AwaitingRequest body) = array_vec_len body + heads_size
+taken_in (Established peer message) = heads_size + peer_size + row_size * array_vec_len peer.contexts
 taken_in phase = 0

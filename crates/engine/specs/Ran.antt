@@ -9,7 +9,7 @@ use Rattle.engine.specs.declared.report.Standing.TheVariants as standing
 use Rattle.engine.specs.declared.report.Report.{Report}
 use Rattle.engine.specs.Devices.{Devices, line_with, filed}
 use Rattle.engine.specs.Fair.{IsStory}
-use Rattle.engine.specs.Held.{Held}
+use Rattle.engine.specs.Held.{Held, accepted_most, level_size}
 use Rattle.engine.specs.Inputs.{Received, Supply, first_inputs, others_of, with_given}
 use Rattle.engine.specs.Progress.{at_start}
 use Rattle.engine.specs.Reached.{reached}
@@ -54,7 +54,7 @@ pub record Answered (rooms : Rooms) (s : Settings) (taken : List Received) (repo
   pub last : EndsLast rooms s taken story
   pub standing : report.standing ≡ standing_of state
   pub held : Held rooms s (reached rooms s taken story failed) report.held
-  pub accepted_room : state ≡ Sta6 → report.held ≤ 544 + rooms.command + rooms.values + 16 * rooms.depth
+  pub accepted_room : state ≡ Sta6 → report.held ≤ accepted_most + rooms.command + rooms.values + level_size * rooms.depth
   pub line : new.line ≡ line_with sent (wire_failures story) old.line
   pub told : new.store.told ≡ told_after (filed files) old.store.told
   pub count : new.store.failures ≡ old.store.failures + filing_failures story failed

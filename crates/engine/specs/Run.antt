@@ -5,6 +5,7 @@ use Rattle.acceptor.specs.declared.state.State.TheVariants.{Sta1}
 use Rattle.acceptor.specs.declared.event.Event.TheVariants as event
 use Rattle.pdu.specs.Marks.{Mark, Head, PdvHead, Pdv, BadPdv, Leftover, End}
 use Rattle.pdu.specs.Types.{associate_rq, release_rq, abort}
+use Rattle.pdu.specs.Sizes.{head_size, pdv_head_size}
 use Rattle.pdu.specs.Texts.{reject_text}
 use Rattle.negotiate.specs.Rejections.{rejected_transient, service_provider_presentation, local_limit_exceeded}
 use Rattle.negotiate.specs.Settings.{Settings}
@@ -25,10 +26,14 @@ pub record Rooms : Type 0 where
 abbrev pub rooms_of : ℕ → ℕ → ℕ → ℕ → Rooms
 rooms_of A C V D = record { request = A; command = C; values = V; depth = D }
 
+-- the heads of a PDU and of a presentation data value, which have their place in the room of a request
+abbrev pub heads_size : ℕ
+heads_size = head_size + pdv_head_size
+
 -- ---- one entry
 
 abbrev pub at_head : Rooms → Settings → Progress → ℕ → ℕ → Advance
-at_head rooms s p kind n = elim (head_event (rooms.request - 12) s.max_pdu p.state kind n) [
+at_head rooms s p kind n = elim (head_event (rooms.request - heads_size) s.max_pdu p.state kind n) [
   | NoEvent ↦ nothing p
   | AtOnce e reason ↦ refusing (done [] reason p e)
   | TooLong ↦ refusing (done (reject_text rejected_transient service_provider_presentation local_limit_exceeded) 0 p (event.Request false))

@@ -6,7 +6,7 @@ use Rattle.part10.specs.Store.{Store}
 use Rattle.engine.specs.Devices.{Devices}
 use Rattle.engine.specs.declared.source.Input.{Input}
 use Rattle.engine.specs.declared.report.Report.{Report}
-use Rattle.engine.specs.Held.{Held}
+use Rattle.engine.specs.Held.{Held, accepted_most, level_size}
 use Rattle.engine.specs.Reached.{reached}
 use Rattle.engine.specs.Inputs.{Received, Supply, Gives, first_inputs, input_of, with_given}
 use Rattle.engine.specs.Moves.{Moved}
@@ -56,4 +56,4 @@ pub record TookInput (rooms : Rooms) (s : Settings) (source_old source_now : Sup
 pub record Reports (rooms : Rooms) (s : Settings) (seen : Fields) (store : Store) (report : Report) : Type 0 where
   pub standing : report.standing ≡ standing_of seen.kept.state
   pub held : (inputs : List Received) (story : List Happened) (failed : Bool) → Stands rooms s inputs story failed seen store → Held rooms s (reached rooms s inputs story failed) report.held
-  pub accepted_room : seen.kept.state ≡ Sta6 → report.held ≤ 544 + rooms.command + rooms.values + 16 * rooms.depth
+  pub accepted_room : seen.kept.state ≡ Sta6 → report.held ≤ accepted_most + rooms.command + rooms.values + level_size * rooms.depth

@@ -1,10 +1,10 @@
 -- The marks inside a P-DATA frame: the relation and the function are one.
-use Rattle.std.proofs.Common.{◌≡◌, ℕ, zero, suc, ◌-◌, ◌<◌, ◌≤◌, true, false, List, [], ◌∷◌, ◌++◌, length, take, drop, get_or, refl, sym, ap, subst, ◌∙◌, arith, inl, inr}
+use Rattle.std.proofs.Common.{◌≡◌, ℕ, zero, suc, ◌-◌, ◌<◌, ◌≤◌, true, false, List, [], ◌∷◌, ◌++◌, length, take, drop, get_or, refl, sym, ap, subst, ◌∙◌, arith, inl, inr, if◌then◌else◌}
 use Rattle.std.proofs.lemmas.Bool.{cases_lt, cases_Bool, lt-ltb, le-ltb}
 use Rattle.std.proofs.lemmas.List.{length-append, length-drop, take-append-le}
 use Rattle.byteorder.specs.Endian.{big_number}
 use Rattle.pdu.specs.Parts.{SameHead}
-use Rattle.pdu.specs.Pdvs.{Mark, Pdv, Leftover, DataSpot, Dropped, pdv_size, IsGoodHead, IsBadHead, head_mark, pdv_mark, is_leftover, Marked, too_short, bad, unfinished, whole_and_leftover, whole_and_more, Pdvs, Front, Headless, Bad, Partial, Whole, front, with_front, or_leftover, pdvs_in, pdv_marks, data_spot}
+use Rattle.pdu.specs.Pdvs.{Mark, Pdv, BadPdv, Leftover, DataSpot, Dropped, Within, pdv_size, IsGoodHead, IsBadHead, head_mark, pdv_mark, is_leftover, Marked, too_short, bad, unfinished, whole_and_leftover, whole_and_more, Pdvs, with_pdv, pdvs_in, pdv_marks, data_spot}
 
 -- ---- what a head says
 
@@ -65,11 +65,13 @@ front_is room bytes =
       ]
     ]
 
-front_headless : (room : ℕ) (bytes : List ℕ) → length bytes < 6 → front room bytes ≡ Headless
-front_headless room bytes a = rw (lt-ltb (length bytes) 6 a) refl
+-- ---- what the function computes, by what stands at the front
 
-front_bad : (room : ℕ) (bytes : List ℕ) → IsBadHead room bytes → front room bytes ≡ Bad
-front_bad room bytes b =
+at_headless : (k room : ℕ) (bytes : List ℕ) → length bytes < 6 → pdvs_in (suc k) room bytes ≡ record { marks = []; spot = Within room bytes }
+at_headless k room bytes a = rw (lt-ltb (length bytes) 6 a) refl
+
+at_bad : (k room : ℕ) (bytes : List ℕ) → IsBadHead room bytes → pdvs_in (suc k) room bytes ≡ record { marks = BadPdv ∷ []; spot = Dropped }
+at_bad k room bytes b =
     elim (cases_lt (big_number 4 bytes) 2) [
       | inl x ↦ rw (le-ltb (length bytes) 6 b.headed, lt-ltb (big_number 4 bytes) 2 x) refl
       | inr x ↦
@@ -77,25 +79,20 @@ front_bad room bytes b =
           rw (le-ltb (length bytes) 6 b.headed, le-ltb (big_number 4 bytes) 2 x, lt-ltb room (pdv_size bytes) past) refl
     ]
 
-front_begun : (room : ℕ) (bytes : List ℕ) → IsGoodHead room bytes → length bytes < pdv_size bytes → front room bytes ≡ Partial
-front_begun room bytes g d = rw (le-ltb (length bytes) 6 g.headed, le-ltb (big_number 4 bytes) 2 g.least, le-ltb room (pdv_size bytes) g.fits, lt-ltb (length bytes) (pdv_size bytes) d) refl
+at_begun : (k room : ℕ) (bytes : List ℕ) → IsGoodHead room bytes → length bytes < pdv_size bytes → pdvs_in (suc k) room bytes ≡ record { marks = head_mark bytes ∷ []; spot = Within room bytes }
+at_begun k room bytes g d = rw (le-ltb (length bytes) 6 g.headed, le-ltb (big_number 4 bytes) 2 g.least, le-ltb room (pdv_size bytes) g.fits, lt-ltb (length bytes) (pdv_size bytes) d) refl
 
-front_whole : (room : ℕ) (bytes : List ℕ) → IsGoodHead room bytes → pdv_size bytes ≤ length bytes → front room bytes ≡ Whole
-front_whole room bytes g d = rw (le-ltb (length bytes) 6 g.headed, le-ltb (big_number 4 bytes) 2 g.least, le-ltb room (pdv_size bytes) g.fits, le-ltb (length bytes) (pdv_size bytes) d) refl
+at_whole : (k room : ℕ) (bytes : List ℕ) → IsGoodHead room bytes → pdv_size bytes ≤ length bytes
+    → pdvs_in (suc k) room bytes ≡ with_pdv bytes (if is_leftover (room - pdv_size bytes) then record { marks = Leftover ∷ []; spot = Dropped } else pdvs_in k (room - pdv_size bytes) (drop (pdv_size bytes) bytes))
+at_whole k room bytes g d = rw (le-ltb (length bytes) 6 g.headed, le-ltb (big_number 4 bytes) 2 g.least, le-ltb room (pdv_size bytes) g.fits, le-ltb (length bytes) (pdv_size bytes) d) refl
 
--- ---- what the function computes, by what stands at the front
+at_leftover : (k room : ℕ) (bytes : List ℕ) → IsGoodHead room bytes → pdv_size bytes ≤ length bytes → is_leftover (room - pdv_size bytes) ≡ true
+    → pdvs_in (suc k) room bytes ≡ record { marks = head_mark bytes ∷ pdv_mark bytes ∷ Leftover ∷ []; spot = Dropped }
+at_leftover k room bytes g d t = at_whole k room bytes g d ∙ rw t refl
 
-abbrev after : ℕ → ℕ → List ℕ → Pdvs
-after k room bytes = or_leftover (room - pdv_size bytes) (pdvs_in k (room - pdv_size bytes) (drop (pdv_size bytes) bytes))
-
-at_front : (f : Front) (k room : ℕ) (bytes : List ℕ) → front room bytes ≡ f → pdvs_in (suc k) room bytes ≡ with_front room bytes (after k room bytes) f
-at_front f k room bytes e = ap (with_front room bytes (after k room bytes)) e
-
-left_over : (room : ℕ) (later : Pdvs) → is_leftover room ≡ true → or_leftover room later ≡ record { marks = Leftover ∷ []; spot = Dropped }
-left_over room later t = rw t refl
-
-none_left : (room : ℕ) (later : Pdvs) → is_leftover room ≡ false → or_leftover room later ≡ later
-none_left room later t = rw t refl
+at_more : (k room : ℕ) (bytes : List ℕ) → IsGoodHead room bytes → pdv_size bytes ≤ length bytes → is_leftover (room - pdv_size bytes) ≡ false
+    → pdvs_in (suc k) room bytes ≡ with_pdv bytes (pdvs_in k (room - pdv_size bytes) (drop (pdv_size bytes) bytes))
+at_more k room bytes g d t = at_whole k room bytes g d ∙ rw t refl
 
 -- ---- the function computes what is marked
 
@@ -106,20 +103,15 @@ marked_in : (k room : ℕ) (bytes : List ℕ) → length bytes ≤ k → MarkedA
 marked_in zero room bytes le = too_short (omega arith)
 marked_in (suc k) room bytes le =
     elim (front_is room bytes) [
-      | is_headless a ↦ subst (MarkedAs room bytes) (sym (at_front Headless k room bytes (front_headless room bytes a))) (too_short a)
-      | is_bad b ↦ subst (MarkedAs room bytes) (sym (at_front Bad k room bytes (front_bad room bytes b))) (bad b)
-      | is_begun g d ↦ subst (MarkedAs room bytes) (sym (at_front Partial k room bytes (front_begun room bytes g d))) (unfinished g d)
+      | is_headless a ↦ subst (MarkedAs room bytes) (sym (at_headless k room bytes a)) (too_short a)
+      | is_bad b ↦ subst (MarkedAs room bytes) (sym (at_bad k room bytes b)) (bad b)
+      | is_begun g d ↦ subst (MarkedAs room bytes) (sym (at_begun k room bytes g d)) (unfinished g d)
       | is_whole g d ↦
           let n = pdv_size bytes in
           let later : MarkedAs (room - n) (drop n bytes) (pdvs_in k (room - n) (drop n bytes)) = marked_in k (room - n) (drop n bytes) (omega (arith, g.headed, length-drop n bytes)) in
-          let whole = at_front Whole k room bytes (front_whole room bytes g d) in
           elim (cases_Bool (is_leftover (room - n))) [
-            | inl t ↦
-                let e = whole ∙ ap (λ (i : Pdvs). with_front room bytes i Whole) (left_over (room - n) (pdvs_in k (room - n) (drop n bytes)) t) in
-                subst (MarkedAs room bytes) (sym e) (whole_and_leftover g d t)
-            | inr t ↦
-                let e = whole ∙ ap (λ (i : Pdvs). with_front room bytes i Whole) (none_left (room - n) (pdvs_in k (room - n) (drop n bytes)) t) in
-                subst (MarkedAs room bytes) (sym e) (whole_and_more g d t later)
+            | inl t ↦ subst (MarkedAs room bytes) (sym (at_leftover k room bytes g d t)) (whole_and_leftover g d t)
+            | inr t ↦ subst (MarkedAs room bytes) (sym (at_more k room bytes g d t)) (whole_and_more g d t later)
           ]
     ]
 
@@ -135,18 +127,12 @@ computes zero le (bad b) = absurd (omega (arith, b.headed))
 computes zero le (unfinished g d) = absurd (omega (arith, g.headed))
 computes zero le (whole_and_leftover g d t) = absurd (omega (arith, g.headed))
 computes zero le (whole_and_more g d t later) = absurd (omega (arith, g.headed))
-computes (suc k) {room} {bytes} le (too_short a) = at_front Headless k room bytes (front_headless room bytes a)
-computes (suc k) {room} {bytes} le (bad b) = at_front Bad k room bytes (front_bad room bytes b)
-computes (suc k) {room} {bytes} le (unfinished g d) = at_front Partial k room bytes (front_begun room bytes g d)
-computes (suc k) {room} {bytes} le (whole_and_leftover g d t) =
-    let n = pdv_size bytes in
-    at_front Whole k room bytes (front_whole room bytes g d)
-    ∙ ap (λ (i : Pdvs). with_front room bytes i Whole) (left_over (room - n) (pdvs_in k (room - n) (drop n bytes)) t)
+computes (suc k) {room} {bytes} le (too_short a) = at_headless k room bytes a
+computes (suc k) {room} {bytes} le (bad b) = at_bad k room bytes b
+computes (suc k) {room} {bytes} le (unfinished g d) = at_begun k room bytes g d
+computes (suc k) {room} {bytes} le (whole_and_leftover g d t) = at_leftover k room bytes g d t
 computes (suc k) {room} {bytes} le (whole_and_more g d t later) =
-    let n = pdv_size bytes in
-    at_front Whole k room bytes (front_whole room bytes g d)
-    ∙ ap (λ (i : Pdvs). with_front room bytes i Whole)
-    (none_left (room - n) (pdvs_in k (room - n) (drop n bytes)) t ∙ computes k (omega (arith, g.headed, length-drop n bytes)) later)
+    at_more k room bytes g d t ∙ ap (with_pdv bytes) (computes k (omega (arith, g.headed, length-drop (pdv_size bytes) bytes)) later)
 
 pub marks_are : {room : ℕ} {bytes : List ℕ} {ms : List Mark} {s : DataSpot} → Marked room bytes ms s → pdv_marks room bytes ≡ ms
 unfolding pdv_marks

@@ -1,6 +1,6 @@
 -- The marks inside a P-DATA-TF PDU that is whole presentation data values and nothing else.
-use Rattle.std.proofs.Common.{◌≡◌, ℕ, ◌-◌, ◌≤◌, false, leb, List, [], ◌∷◌, ◌++◌, length, drop, refl, sym, ap, subst, ◌∙◌, arith}
-use Rattle.std.proofs.lemmas.Bool.{lt-leb, and_right}
+use Rattle.std.proofs.Common.{◌≡◌, ℕ, ◌-◌, ◌≤◌, false, leb, ltb, List, [], ◌∷◌, ◌++◌, length, drop, refl, sym, ap, subst, ◌∙◌, arith}
+use Rattle.std.proofs.lemmas.Bool.{le-ltb, and_right}
 use Rattle.std.proofs.lemmas.List.{length-append, drop_all}
 use Rattle.std.specs.List.{AllByRecursion}
 use Rattle.pdu.specs.Pieces.{joined}
@@ -14,7 +14,7 @@ fits_values [] all = refl
 fits_values (v ∷ vs) all =
     let long : 6 ≤ length v = all.0.headed in
     let more : 6 ≤ length (v ++ joined vs) = omega (arith, length-append v (joined vs)) in
-    and_right (leb 1 (length (v ++ joined vs))) (leb (length (v ++ joined vs)) 5) (lt-leb (length (v ++ joined vs)) 5 (omega arith))
+    and_right (leb 1 (length (v ++ joined vs))) (ltb (length (v ++ joined vs)) 6) (le-ltb (length (v ++ joined vs)) 6 more)
 
 values_are : (vs : List (List ℕ)) → AllByRecursion IsPdv vs → Marked (length (joined vs)) (joined vs) (marks_of_values vs) (Within 0 [])
 values_are [] all = too_short (omega arith)

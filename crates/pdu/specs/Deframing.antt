@@ -7,6 +7,7 @@ use Rattle.pdu.specs.declared.position.Position.TheVariants as position
 use Rattle.pdu.specs.declared.event.Event.{Event}
 use Rattle.pdu.specs.declared.event.Event.TheVariants as event
 use Rattle.pdu.specs.Types.{p_data_tf}
+use Rattle.pdu.specs.Sizes.{head_size, pdv_head_size}
 use Rattle.pdu.specs.Frames.{IsFrame, IsRest, rest_of}
 use Rattle.pdu.specs.Marks.{Mark, Head, PdvHead, Pdv, BadPdv, Leftover, End, pdv_size, is_leftover, frame_kind, new_marks}
 use Rattle.pdu.specs.Spot.{Spot, Opening, Plain, InPdv, spot, room_left}
@@ -16,7 +17,7 @@ use Rattle.pdu.specs.Events.{Token, Completes, tokens, Reports}
 -- less than a frame of this type, whose head has come, of which this much is to come
 pub record Inside (kind left : ℕ) (r : List ℕ) (s : Spot) : Type 0 where
   pub rest : IsRest r
-  pub headed : 6 ≤ length r
+  pub headed : head_size ≤ length r
   pub kind_is : frame_kind r ≡ kind
   pub left_is : left ≡ room_left r
   pub spot_is : spot r ≡ s
@@ -29,7 +30,7 @@ pub record IsOver (kind left : ℕ) (r : List ℕ) (due : List Mark) : Type 0 wh
   pub due_is : due ≡ End kind body ∷ []
 
 pub record AtHead (bytes r : List ℕ) (due : List Mark) : Type 0 where
-  pub short : length r < 6
+  pub short : length r < head_size
   pub bytes_are : bytes ≡ r
   pub none_due : due ≡ []
 
@@ -39,7 +40,7 @@ pub data AtBody (kind left : ℕ) (r : List ℕ) (due : List Mark) : Type 0 wher
 
 pub record AtPdvHead (left : ℕ) (bytes r : List ℕ) (due : List Mark) : Type 0 where
   pub inside : Inside p_data_tf left r (InPdv bytes)
-  pub short : length bytes < 6
+  pub short : length bytes < pdv_head_size
   pub none_due : due ≡ []
 
 pub record AtLeftover (left : ℕ) (r : List ℕ) (due : List Mark) : Type 0 where
@@ -56,7 +57,7 @@ pub data AfterPdv (left : ℕ) (r : List ℕ) (due : List Mark) : Type 0 where
 pub record InFragment (left more : ℕ) (r : List ℕ) (due : List Mark) : Type 0 where
   pub part : List ℕ
   pub inside : Inside p_data_tf left r (InPdv part)
-  pub headed : 6 ≤ length part
+  pub headed : pdv_head_size ≤ length part
   pub more_is : more + length part ≡ pdv_size part
   pub none_due : due ≡ []
 
@@ -95,13 +96,13 @@ pub record Took (new : Position) (r : List ℕ) (due : List Mark) (taken : List 
 -- Of a body or a fragment, a call takes as many bytes as there are and as are to come of it.
 pub record Longest (r : List ℕ) (there taken : ℕ) : Type 0 where
   pub body : spot r ≡ Plain → taken ≡ min there (room_left r)
-  pub fragment : (part : List ℕ) → spot r ≡ InPdv part → 6 ≤ length part → taken ≡ min there (pdv_size part - length part)
+  pub fragment : (part : List ℕ) → spot r ≡ InPdv part → pdv_head_size ≤ length part → taken ≡ min there (pdv_size part - length part)
 
 -- ---- a frame that is skipped
 
 -- of the unfinished frame r, this much is to come
 abbrev pub SkipsAt : Position → List ℕ → Type 0
-SkipsAt (position.Skipped kind left) r = (0 < left) × IsRest r × (6 ≤ length r) × (frame_kind r ≡ kind) × (left ≡ room_left r)
+SkipsAt (position.Skipped kind left) r = (0 < left) × IsRest r × (head_size ≤ length r) × (frame_kind r ≡ kind) × (left ≡ room_left r)
 SkipsAt (position.Head bytes) r = ⊥
 SkipsAt (position.Body kind left) r = ⊥
 SkipsAt (position.PdvHead left bytes) r = ⊥
@@ -140,7 +141,7 @@ pub record MarksWithin (r c : List ℕ) : Type 0 where
 -- What the rest of a frame is skipped for: nothing before its head is whole; of a whole frame the end alone is due; else
 -- the frame is skipped. The marks that were due and are not are those within the frame.
 pub data Skip (new : Position) (r : List ℕ) (due : List Mark) : Type 0 where
-  no_frame : length r < 6 → due ≡ [] → At new r [] → Skip new r due
+  no_frame : length r < head_size → due ≡ [] → At new r [] → Skip new r due
   end_alone : (before : List Mark) (kind : ℕ) (body : List ℕ) → AreInner before → (0 < length before → kind ≡ p_data_tf) → due ≡ before ++ End kind body ∷ [] → At new r (End kind body ∷ []) → Skip new r due
   skipped : AreInner due → SkipsAt new r → Skip new r due
 
@@ -157,7 +158,7 @@ bytes_held (position.Skipped kind left) = 0
 abbrev pub unfinished_pdv_head : Spot → ℕ
 unfinished_pdv_head Opening = 0
 unfinished_pdv_head Plain = 0
-unfinished_pdv_head (InPdv part) = if nat_lt (length part) 6 then length part else 0
+unfinished_pdv_head (InPdv part) = if nat_lt (length part) pdv_head_size then length part else 0
 
 abbrev pub unfinished_heads : List ℕ → ℕ
-unfinished_heads r = if nat_lt (length r) 6 then length r else unfinished_pdv_head (spot r)
+unfinished_heads r = if nat_lt (length r) head_size then length r else unfinished_pdv_head (spot r)

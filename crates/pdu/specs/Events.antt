@@ -3,6 +3,7 @@ use Rattle.std.specs.Prelude.{◌≡◌, ℕ, ◌<◌, List, [], ◌∷◌, ◌+
 use Rattle.pdu.specs.declared.event.Event.{Event}
 use Rattle.pdu.specs.declared.event.Event.TheVariants as event
 use Rattle.pdu.specs.Frames.{rest_of}
+use Rattle.pdu.specs.Sizes.{pdv_head_size}
 use Rattle.pdu.specs.Heads.{is_command, is_last}
 use Rattle.pdu.specs.Marks.{Mark, Head, PdvHead, Pdv, BadPdv, Leftover, End, new_marks}
 use Rattle.pdu.specs.Spot.{Spot, Opening, Plain, InPdv, spot}
@@ -19,7 +20,7 @@ pub data Token : Type 0 where
 abbrev pub lent : Spot → List ℕ → List Token
 lent Opening bytes = []
 lent Plain bytes = map OfBody bytes
-lent (InPdv part) bytes = if nat_lt (length part) 6 then [] else map OfFragment bytes
+lent (InPdv part) bytes = if nat_lt (length part) pdv_head_size then [] else map OfFragment bytes
 
 -- what the bytes of a piece make known, after a stream
 abbrev pub tokens : List ℕ → List ℕ → List Token

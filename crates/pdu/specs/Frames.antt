@@ -1,12 +1,13 @@
 -- The frames of a stream: whole PDUs, each a head of six bytes and a body of the length in it (PS3.8 section 9.3.1).
 use Rattle.std.specs.Prelude.{ℕ, List, drop}
 use Rattle.byteorder.specs.Endian.{big_number}
+use Rattle.pdu.specs.Sizes.{head_size}
 use Rattle.pdu.specs.Pieces.{Layout, pieces_of}
 use Rattle.pdu.specs.Pieces as pieces
 
 -- type 1, reserved 1, length 4 of the body that follows
 abbrev pub frame : Layout
-frame = record { head = 6; body = λ text. big_number 4 (drop 2 text) }
+frame = record { head = head_size; body = λ text. big_number 4 (drop 2 text) }
 
 abbrev pub IsFrame : List ℕ → Type 0
 IsFrame f = pieces.IsWholePiece frame f

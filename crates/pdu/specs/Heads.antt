@@ -4,6 +4,7 @@ use Rattle.std.specs.Prelude.{ℕ, ◌%◌, ◌/◌, Bool, List, drop, get_or, n
 use Rattle.byteorder.specs.Endian.{big_number}
 use Rattle.pdu.specs.declared.head.PduHead.{PduHead}
 use Rattle.pdu.specs.declared.head.PdvHead.{PdvHead}
+use Rattle.pdu.specs.Pdvs.{pdv_length, pdv_context, pdv_control}
 
 -- type 1, reserved 1, length 4; the reserved byte is ignored
 abbrev pub pdu_head_of : List ℕ → PduHead
@@ -20,8 +21,8 @@ is_last control = nat_eq (control / 2 % 2) 1
 -- length 4 (of what follows it), context 1, control 1
 abbrev pub pdv_head_of : List ℕ → PdvHead
 pdv_head_of b = record {
-  length = big_number 4 b;
-  context = get_or b 4 0;
-  command = is_command (get_or b 5 0);
-  last = is_last (get_or b 5 0);
+  length = pdv_length b;
+  context = pdv_context b;
+  command = is_command (pdv_control b);
+  last = is_last (pdv_control b);
 }

@@ -4,12 +4,13 @@ use Rattle.std.specs.List.{filter}
 use Rattle.byteorder.specs.Endian.{big_number}
 use Rattle.element.specs.Padding.{is_padding, without_trailing}
 use Rattle.pdu.specs.Types.{application_context_item, proposed_context_item, abstract_syntax_item, transfer_syntax_item, user_information_item, maximum_length_item}
+use Rattle.pdu.specs.Sizes.{request_head_size, title_size, item_head_size, context_head_size}
 use Rattle.pdu.specs.Pieces.{Layout, pieces_of}
 use Rattle.pdu.specs.Record.{Proposal, RequestRecord}
 
 -- type 1, reserved 1, length 2 of the content that follows
 abbrev pub item : Layout
-item = record { head = 4; body = λ text. big_number 2 (drop 2 text) }
+item = record { head = item_head_size; body = λ text. big_number 2 (drop 2 text) }
 
 -- the whole items at the front of a text
 unfoldable pub items_of : List ℕ → List (List ℕ)
@@ -34,7 +35,7 @@ abbrev pub kind : List ℕ → ℕ
 kind i = get_or i 0 0
 
 abbrev pub item_content : List ℕ → List ℕ
-item_content i = drop 4 i
+item_content i = drop item_head_size i
 
 abbrev pub is_kind : ℕ → List ℕ → Bool
 is_kind k i = nat_eq (kind i) k
@@ -56,11 +57,11 @@ unpadded bytes = without_trailing is_padding bytes
 
 -- a proposed presentation context: an item of type 20H with its ID and three reserved bytes
 abbrev pub is_context : List ℕ → Bool
-is_context i = is_kind proposed_context_item i && nat_le 8 (length i)
+is_context i = is_kind proposed_context_item i && nat_le context_head_size (length i)
 
 -- its sub-items, after the ID and the reserved bytes
 abbrev pub parts : List ℕ → List (List ℕ)
-parts i = items_of (drop 8 i)
+parts i = items_of (drop context_head_size i)
 
 abbrev pub identifier : List ℕ → List ℕ
 identifier i = unpadded (item_content i)
@@ -89,10 +90,10 @@ maximum_in items = four_or_none (content_in maximum_length_item (items_of (conte
 
 -- the record of a request, from its body: version 2, reserved 2, called title 16, calling title 16, reserved 32, items
 abbrev pub request_record : List ℕ → RequestRecord
-request_record b = let items = items_of (drop 68 b) in record {
+request_record b = let items = items_of (drop request_head_size b) in record {
   version = big_number 2 b;
-  called = take 16 (drop 4 b);
-  calling = take 16 (drop 20 b);
+  called = take title_size (drop 4 b);
+  calling = take title_size (drop 20 b);
   reserved = take 32 (drop 36 b);
   application_context = unpadded (content_in application_context_item items);
   contexts = proposals items;

@@ -1,5 +1,6 @@
 pub mod Sent
 pub mod Types
+pub mod Sizes
 pub mod Heads
 pub mod Texts
 pub mod Fault

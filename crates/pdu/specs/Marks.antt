@@ -3,8 +3,9 @@ use Rattle.std.specs.Prelude.{ℕ, List, [], ◌∷◌, ◌++◌, length, drop, 
 use Rattle.std.specs.List.{flat_map}
 use Rattle.byteorder.specs.Endian.{big_number}
 use Rattle.pdu.specs.Types.{p_data_tf}
+use Rattle.pdu.specs.Sizes.{head_size}
 use Rattle.pdu.specs.Frames.{frames_of, rest_of}
-pub use Rattle.pdu.specs.Pdvs.{Mark, Head, PdvHead, Pdv, BadPdv, Leftover, End, pdv_size, head_mark, pdv_mark, IsPdv, marks_of_values, is_leftover}
+pub use Rattle.pdu.specs.Pdvs.{Mark, Head, PdvHead, Pdv, BadPdv, Leftover, End, pdv_length, pdv_context, pdv_control, pdv_content, pdv_size, head_mark, pdv_mark, IsPdv, marks_of_values, is_leftover}
 unfoldable pub use Rattle.pdu.specs.Pdvs.{pdv_marks}
 
 -- type 1, reserved 1, length 4
@@ -14,17 +15,21 @@ frame_kind f = get_or f 0 0
 abbrev pub frame_length : List ℕ → ℕ
 frame_length f = big_number 4 (drop 2 f)
 
+-- what follows the head
+abbrev pub frame_body : List ℕ → List ℕ
+frame_body f = drop head_size f
+
 -- what P-DATA marks inside a frame
 abbrev pub inner_marks : List ℕ → List Mark
-inner_marks f = if nat_eq (frame_kind f) p_data_tf then pdv_marks (frame_length f) (drop 6 f) else []
+inner_marks f = if nat_eq (frame_kind f) p_data_tf then pdv_marks (frame_length f) (frame_body f) else []
 
 -- the marks of a whole frame
 abbrev pub whole_marks : List ℕ → List Mark
-whole_marks f = Head (frame_kind f) (frame_length f) ∷ (inner_marks f ++ End (frame_kind f) (drop 6 f) ∷ [])
+whole_marks f = Head (frame_kind f) (frame_length f) ∷ (inner_marks f ++ End (frame_kind f) (frame_body f) ∷ [])
 
 -- the marks of an unfinished frame
 abbrev pub unfinished_marks : List ℕ → List Mark
-unfinished_marks r = if nat_lt (length r) 6 then [] else Head (frame_kind r) (frame_length r) ∷ inner_marks r
+unfinished_marks r = if nat_lt (length r) head_size then [] else Head (frame_kind r) (frame_length r) ∷ inner_marks r
 
 -- the marks of a stream
 unfoldable pub marks : List ℕ → List Mark

@@ -2,14 +2,15 @@
 use Rattle.std.specs.Prelude.{◌≡◌, ℕ, ◌<◌, ◌≤◌, List, [], ◌∷◌, ◌++◌, length, drop, get_or, nat_eq, true, if◌then◌else◌}
 use Rattle.byteorder.specs.Endian.{big_number}
 use Rattle.pdu.specs.Types.{p_data_tf}
+use Rattle.pdu.specs.Sizes.{head_size, pdv_head_size, pdv_least}
 use Rattle.pdu.specs.Frames.{IsFrame, IsRest, rest_of}
-use Rattle.pdu.specs.Marks.{Mark, Leftover, End, pdv_size, is_leftover, frame_kind, frame_length, new_marks}
+use Rattle.pdu.specs.Marks.{Mark, Leftover, End, pdv_length, pdv_context, pdv_control, pdv_content, pdv_size, is_leftover, frame_kind, frame_length, frame_body, new_marks}
 use Rattle.pdu.specs.Spot.{Spot, Plain, InPdv, spot}
 
 -- less than a whole presentation data value, of which the frame has room for this many bytes
 pub data IsUnfinishedPdv (room : ℕ) (b : List ℕ) : Type 0 where
-  in_head : length b < 6 → IsUnfinishedPdv room b
-  in_fragment : 6 ≤ length b → 2 ≤ big_number 4 b → pdv_size b ≤ room → length b < pdv_size b → IsUnfinishedPdv room b
+  in_head : length b < pdv_head_size → IsUnfinishedPdv room b
+  in_fragment : pdv_head_size ≤ length b → pdv_least ≤ pdv_length b → pdv_size b ≤ room → length b < pdv_size b → IsUnfinishedPdv room b
 
 -- after a presentation data value that leaves this room in the frame
 abbrev pub leftover_marks : ℕ → List Mark
@@ -22,7 +23,7 @@ abbrev pub body_spot : ℕ → Spot
 body_spot kind = if nat_eq kind p_data_tf then InPdv [] else Plain
 
 abbrev pub end_mark : List ℕ → Mark
-end_mark f = End (frame_kind f) (drop 6 f)
+end_mark f = End (frame_kind f) (frame_body f)
 
 -- while the frame is unfinished, these bytes have just these marks, and the frame stands there after them
 pub record GoesOn (r c : List ℕ) (ms : List Mark) (s : Spot) : Type 0 where
@@ -44,16 +45,16 @@ pub record Comes (r c : List ℕ) (ms : List Mark) (s : Spot) : Type 0 where
 pub record SameFrame (f more : List ℕ) : Type 0 where
   pub kind : frame_kind (f ++ more) ≡ frame_kind f
   pub n : frame_length (f ++ more) ≡ frame_length f
-  pub body : drop 6 (f ++ more) ≡ drop 6 f ++ more
+  pub body : frame_body (f ++ more) ≡ frame_body f ++ more
 
 -- what the head of a presentation data value says, whatever follows it
 pub record SameHead (bytes more : List ℕ) : Type 0 where
-  pub number : big_number 4 (bytes ++ more) ≡ big_number 4 bytes
-  pub context : get_or (bytes ++ more) 4 0 ≡ get_or bytes 4 0
-  pub control : get_or (bytes ++ more) 5 0 ≡ get_or bytes 5 0
-  pub body : drop 6 (bytes ++ more) ≡ drop 6 bytes ++ more
+  pub number : pdv_length (bytes ++ more) ≡ pdv_length bytes
+  pub context : pdv_context (bytes ++ more) ≡ pdv_context bytes
+  pub control : pdv_control (bytes ++ more) ≡ pdv_control bytes
+  pub body : pdv_content (bytes ++ more) ≡ pdv_content bytes ++ more
 
 -- the head has come, and is one of P-DATA
 pub record IsInData (r : List ℕ) : Type 0 where
-  pub headed : 6 ≤ length r
+  pub headed : head_size ≤ length r
   pub kind : nat_eq (frame_kind r) p_data_tf ≡ true

@@ -1,8 +1,9 @@
 -- What the bytes of a P-DATA-TF PDU complete (PS3.8 section 9.3.5 and annex E.2): the marks of its presentation data
 -- values, and where the PDU stands after the bytes so far.
-use Rattle.std.specs.Prelude.{◌⊎◌, ◌≡◌, ℕ, zero, suc, ◌+◌, ◌-◌, ◌<◌, ◌≤◌, Bool, true, false, ◌&&◌, List, [], ◌∷◌, ◌++◌, length, take, drop, get_or, nat_le, nat_lt, if◌then◌else◌}
+use Rattle.std.specs.Prelude.{◌⊎◌, ◌≡◌, ℕ, zero, suc, ◌+◌, ◌-◌, ◌<◌, ◌≤◌, Bool, true, false, ◌&&◌, ◌||◌, List, [], ◌∷◌, ◌++◌, length, take, drop, get_or, nat_le, nat_lt, if◌then◌else◌}
 use Rattle.std.specs.List.{flat_map}
 use Rattle.byteorder.specs.Endian.{big_number}
+use Rattle.pdu.specs.Sizes.{pdv_head_size, pdv_least}
 
 -- Each mark belongs to the byte that completes it. Marks of one byte come in the order of the list
 pub data Mark : Type 0 where
@@ -29,32 +30,48 @@ pub data DataSpot : Type 0 where
 
 -- ---- one presentation data value
 
+-- the length, which counts what follows it
+abbrev pub pdv_length : List ℕ → ℕ
+pdv_length bytes = big_number 4 bytes
+
+-- the presentation context ID
+abbrev pub pdv_context : List ℕ → ℕ
+pdv_context bytes = get_or bytes 4 0
+
+-- the control byte
+abbrev pub pdv_control : List ℕ → ℕ
+pdv_control bytes = get_or bytes 5 0
+
+-- what follows the head
+abbrev pub pdv_content : List ℕ → List ℕ
+pdv_content bytes = drop pdv_head_size bytes
+
 -- four bytes of its length, and as many as the length counts
 abbrev pub pdv_size : List ℕ → ℕ
-pdv_size bytes = 4 + big_number 4 bytes
+pdv_size bytes = 4 + pdv_length bytes
 
 -- a good head, at the front of bytes for which the frame has this room
 pub record IsGoodHead (room : ℕ) (bytes : List ℕ) : Type 0 where
-  pub headed : 6 ≤ length bytes
-  pub least : 2 ≤ big_number 4 bytes
+  pub headed : pdv_head_size ≤ length bytes
+  pub least : pdv_least ≤ pdv_length bytes
   pub fits : pdv_size bytes ≤ room
 
 -- a bad one: its length is below 2, or passes the frame
 pub record IsBadHead (room : ℕ) (bytes : List ℕ) : Type 0 where
-  pub headed : 6 ≤ length bytes
-  pub why : (big_number 4 bytes < 2) ⊎ (room < pdv_size bytes)
+  pub headed : pdv_head_size ≤ length bytes
+  pub why : (pdv_length bytes < pdv_least) ⊎ (room < pdv_size bytes)
 
--- length, context and control byte
+-- its length, context and control byte
 abbrev pub head_mark : List ℕ → Mark
-head_mark bytes = PdvHead (big_number 4 bytes) (get_or bytes 4 0) (get_or bytes 5 0)
+head_mark bytes = PdvHead (pdv_length bytes) (pdv_context bytes) (pdv_control bytes)
 
--- context, control byte and fragment
+-- its context, control byte and fragment
 abbrev pub pdv_mark : List ℕ → Mark
-pdv_mark bytes = Pdv (get_or bytes 4 0) (get_or bytes 5 0) (take (big_number 4 bytes - 2) (drop 6 bytes))
+pdv_mark bytes = Pdv (pdv_context bytes) (pdv_control bytes) (take (pdv_length bytes - pdv_least) (pdv_content bytes))
 
 -- a whole presentation data value
 pub record IsPdv (v : List ℕ) : Type 0 where
-  pub headed : 6 ≤ length v
+  pub headed : pdv_head_size ≤ length v
   pub filled : length v ≡ pdv_size v
 
 -- the two marks of each
@@ -63,14 +80,14 @@ marks_of_values vs = flat_map (λ v. head_mark v ∷ pdv_mark v ∷ []) vs
 
 -- one to five bytes
 abbrev pub is_leftover : ℕ → Bool
-is_leftover room = nat_le 1 room && nat_le room 5
+is_leftover room = nat_le 1 room && nat_lt room pdv_head_size
 
 -- ---- what is marked
 
 -- these bytes, of which the frame has room for this many, have these marks, and the frame stands there after them
 pub data Marked : ℕ → List ℕ → List Mark → DataSpot → Type 0 where
   -- less than a head
-  too_short : {room : ℕ} {bytes : List ℕ} → length bytes < 6 → Marked room bytes [] (Within room bytes)
+  too_short : {room : ℕ} {bytes : List ℕ} → length bytes < pdv_head_size → Marked room bytes [] (Within room bytes)
   -- a bad head
   bad : {room : ℕ} {bytes : List ℕ} → IsBadHead room bytes → Marked room bytes (BadPdv ∷ []) Dropped
   -- a good head, and less than a whole presentation data value
@@ -90,33 +107,19 @@ pub record Pdvs : Type 0 where
   pub marks : List Mark
   pub spot : DataSpot
 
--- what these bytes begin with
-pub data Front : Type 0 where
-  Headless Bad Partial Whole : Front
+-- a whole presentation data value before later ones
+abbrev pub with_pdv : List ℕ → Pdvs → Pdvs
+with_pdv bytes later = record { marks = head_mark bytes ∷ pdv_mark bytes ∷ later.marks; spot = later.spot }
 
-abbrev pub front : ℕ → List ℕ → Front
-front room bytes =
-    if nat_lt (length bytes) 6 then Headless
-    else (if nat_lt (big_number 4 bytes) 2 then Bad
-    else (if nat_lt room (pdv_size bytes) then Bad
-    else (if nat_lt (length bytes) (pdv_size bytes) then Partial
-    else Whole)))
-
--- the marks of these bytes, by what they begin with and the marks of what follows
-abbrev pub with_front : ℕ → List ℕ → Pdvs → Front → Pdvs
-with_front room bytes later Headless = record { marks = []; spot = Within room bytes }
-with_front room bytes later Bad = record { marks = BadPdv ∷ []; spot = Dropped }
-with_front room bytes later Partial = record { marks = head_mark bytes ∷ []; spot = Within room bytes }
-with_front room bytes later Whole = record { marks = head_mark bytes ∷ pdv_mark bytes ∷ later.marks; spot = later.spot }
-
-abbrev pub or_leftover : ℕ → Pdvs → Pdvs
-or_leftover room later = if is_leftover room then record { marks = Leftover ∷ []; spot = Dropped } else later
-
--- for at most k values
+-- those of at most k values: less than a head, a bad head, less than a whole value, or a whole one and what follows it
 abbrev pub pdvs_in : ℕ → ℕ → List ℕ → Pdvs
 pdvs_in zero room bytes = record { marks = []; spot = Within room bytes }
 pdvs_in (suc k) room bytes =
-    with_front room bytes (or_leftover (room - pdv_size bytes) (pdvs_in k (room - pdv_size bytes) (drop (pdv_size bytes) bytes))) (front room bytes)
+    if nat_lt (length bytes) pdv_head_size then record { marks = []; spot = Within room bytes }
+    else (if nat_lt (pdv_length bytes) pdv_least || nat_lt room (pdv_size bytes) then record { marks = BadPdv ∷ []; spot = Dropped }
+    else (if nat_lt (length bytes) (pdv_size bytes) then record { marks = head_mark bytes ∷ []; spot = Within room bytes }
+    else with_pdv bytes (if is_leftover (room - pdv_size bytes) then record { marks = Leftover ∷ []; spot = Dropped }
+    else pdvs_in k (room - pdv_size bytes) (drop (pdv_size bytes) bytes))))
 
 -- no text has more of them than bytes
 abbrev pub pdvs : ℕ → List ℕ → Pdvs

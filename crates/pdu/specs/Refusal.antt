@@ -5,6 +5,7 @@ use Rattle.std.specs.List.{list_any}
 use Rattle.std.specs.Option.{option_or}
 use Rattle.element.specs.Padding.{is_empty}
 use Rattle.pdu.specs.Types.{application_context_item, proposed_context_item, abstract_syntax_item, transfer_syntax_item, user_information_item, maximum_length_item}
+use Rattle.pdu.specs.Sizes.{request_head_size, context_head_size}
 use Rattle.pdu.specs.declared.fault.PduFault.{PduFault}
 use Rattle.pdu.specs.declared.fault.PduFault.TheVariants.{BadLength, BadItem, BadContextId, DoubleContext, Missing}
 use Rattle.pdu.specs.Items.{items_of, left_over, is_kind, of_kind, item_content, parts, is_context}
@@ -45,7 +46,7 @@ id_of i = get_or i 4 0
 abbrev pub context_part_fault : List ℕ → Option PduFault
 context_part_fault i =
     if not (is_context i) then Some BadLength
-    else (if not (are_whole_items (drop 8 i)) then Some BadLength
+    else (if not (are_whole_items (drop context_head_size i)) then Some BadLength
     else (if not (has_syntaxes (parts i)) then Some BadItem
     else (if nat_eq (id_of i % 2) 0 then Some BadContextId
     else None)))
@@ -85,7 +86,7 @@ items_fault text = list_fault [] (items_of text) (left_over text)
 
 -- the fault of a body; none where it spells a request
 abbrev pub request_fault : List ℕ → Option PduFault
-request_fault b = if nat_lt (length b) 68 then Some BadLength else items_fault (drop 68 b)
+request_fault b = if nat_lt (length b) request_head_size then Some BadLength else items_fault (drop request_head_size b)
 
 abbrev pub RequestFault : List ℕ → PduFault → Type 0
 RequestFault b f = request_fault b ≡ Some f

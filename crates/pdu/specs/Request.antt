@@ -3,6 +3,7 @@ use Rattle.std.specs.Prelude.{◌≡◌, ℕ, ◌≤◌, ◌<◌, ◌%◌, eqb, 
 use Rattle.std.specs.List.{AllByRecursion, IsDistinct}
 use Rattle.byteorder.specs.Endian.{big_number}
 use Rattle.pdu.specs.Types.{application_context_item, proposed_context_item, abstract_syntax_item, user_information_item, maximum_length_item}
+use Rattle.pdu.specs.Sizes.{title_size}
 use Rattle.pdu.specs.Record.{Proposal, RequestRecord, ids}
 use Rattle.pdu.specs.Pieces.{IsWholePiece, joined}
 use Rattle.pdu.specs.Items.{item, item_content, of_kind, identifier, syntaxes}
@@ -56,8 +57,8 @@ pub record RequestText (r : RequestRecord) (b : List ℕ) : Type 0 where
   pub whole : b ≡ joined (version ∷ unused ∷ r.called ∷ r.calling ∷ r.reserved ∷ items)
   pub version_size : length version ≡ 2
   pub unused_size : length unused ≡ 2
-  pub called_size : length r.called ≡ 16
-  pub calling_size : length r.calling ≡ 16
+  pub called_size : length r.called ≡ title_size
+  pub calling_size : length r.calling ≡ title_size
   pub reserved_size : length r.reserved ≡ 32
   pub version_is : r.version ≡ big_number 2 version
   pub each : AllByRecursion (IsWholePiece item) items

@@ -8,6 +8,7 @@ use Rattle.pdu.specs.declared.position.Position.TheVariants as position
 use Rattle.pdu.specs.declared.event.Event.{Event}
 use Rattle.pdu.specs.declared.event.Event.TheVariants as event
 use Rattle.pdu.specs.Types.{p_data_tf}
+use Rattle.pdu.specs.Sizes.{head_size, pdv_head_size, pdv_least}
 use Rattle.pdu.specs.Heads.{pdu_head_of, pdv_head_of}
 
 -- ---- what is to come
@@ -41,9 +42,9 @@ fragment_due (position.Skipped kind left) = 0
 
 -- how many bytes are to come of the part that has begun: a head, a body, a fragment, or a frame that is skipped
 abbrev pub bytes_due : Position → ℕ
-bytes_due (position.Head bytes) = 6 - array_vec_len bytes
+bytes_due (position.Head bytes) = head_size - array_vec_len bytes
 bytes_due (position.Body kind left) = left
-bytes_due (position.PdvHead left bytes) = min left (6 - array_vec_len bytes)
+bytes_due (position.PdvHead left bytes) = min left (pdv_head_size - array_vec_len bytes)
 bytes_due (position.Fragment left more) = more
 bytes_due (position.Leftover left) = 0
 bytes_due (position.Skipped kind left) = left
@@ -94,19 +95,19 @@ FollowsPdv other = ⊥
 -- after the head of a presentation data value, of whose frame this much is to come
 abbrev pub FollowsPdvHead : PdvHead → ℕ → Event → Position → Type 0
 FollowsPdvHead head left event.BadPdv new = new ≡ position.Body p_data_tf left
-FollowsPdvHead head left (event.PdvHead told) new = (told ≡ head) × (2 ≤ head.length) × (head.length ≤ left + 2) × (new ≡ position.Fragment left (head.length - 2))
+FollowsPdvHead head left (event.PdvHead told) new = (told ≡ head) × (pdv_least ≤ head.length) × (head.length ≤ left + pdv_least) × (new ≡ position.Fragment left (head.length - pdv_least))
 FollowsPdvHead head left other new = ⊥
 
 -- ---- a call
 
 -- the six bytes of a head are there
 pub record HeadIsWhole (six : List ℕ) (head : PduHead) (new : Position) : Type 0 where
-  pub all : length six ≡ 6
+  pub all : length six ≡ head_size
   pub head_is : head ≡ pdu_head_of six
   pub follows : FollowsHead head new
 
 pub record PdvHeadIsWhole (left n : ℕ) (six : List ℕ) (e : Event) (new : Position) : Type 0 where
-  pub all : length six ≡ 6
+  pub all : length six ≡ pdv_head_size
   pub within : n ≤ left
   pub follows : FollowsPdvHead (pdv_head_of six) (left - n) e new
 

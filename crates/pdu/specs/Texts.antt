@@ -2,6 +2,7 @@
 use Rattle.std.specs.Prelude.{ℕ, ◌+◌, Bool, List, [], ◌∷◌, ◌++◌, length, if◌then◌else◌}
 use Rattle.element.specs.Numbers.{be}
 use Rattle.pdu.specs.Types.{associate_rj, p_data_tf, release_rp, abort}
+use Rattle.pdu.specs.Sizes.{pdv_least}
 
 -- type, reserved byte, length, body
 abbrev pub pdu_text : ℕ → List ℕ → List ℕ
@@ -25,7 +26,7 @@ control_of command last = (if command then 1 else 0) + (if last then 2 else 0)
 
 -- a presentation data value: the length of what follows, context, control byte, fragment (PS3.8 section 9.3.5.1)
 abbrev pub pdv_text : ℕ → Bool → Bool → List ℕ → List ℕ
-pdv_text context command last fragment = be (length fragment + 2) 4 ++ (context ∷ control_of command last ∷ fragment)
+pdv_text context command last fragment = be (length fragment + pdv_least) 4 ++ (context ∷ control_of command last ∷ fragment)
 
 -- P-DATA-TF of one presentation data value (PS3.8 section 9.3.5)
 abbrev pub data_text : ℕ → Bool → Bool → List ℕ → List ℕ

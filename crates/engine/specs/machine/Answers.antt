@@ -1,6 +1,7 @@
 -- What answers an event: the text of the answer to an association request, and the reason of an abort.
 use Rattle.std.specs.Prelude.{ℕ, List, []}
 use Rattle.pdu.specs.Texts.{reject_text}
+use Rattle.negotiate.specs.Rejections.{rejected_transient, service_provider_presentation, local_limit_exceeded}
 use Rattle.negotiate.specs.Settings.{settings_of}
 use Rattle.negotiate.specs.Accept.{answer_bytes}
 use Rattle.engine.specs.declared.sending.Answering.{Answering}
@@ -11,7 +12,7 @@ use Rattle.engine.specs.Progress.{Progress, Advance, done}
 abbrev pub answer_text : Answering → List ℕ
 answer_text answering.Nothing = []
 answer_text (answering.Abort reason) = []
-answer_text answering.TooLong = reject_text 2 3 2
+answer_text answering.TooLong = reject_text rejected_transient service_provider_presentation local_limit_exceeded
 answer_text (answering.Request config request) = answer_bytes (settings_of config.now) request.now
 
 abbrev pub reason_of : Answering → ℕ

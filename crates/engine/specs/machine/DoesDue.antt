@@ -9,6 +9,7 @@ use Rattle.acceptor.specs.Table.{table}
 use Rattle.acceptor.specs.Effect.{sending, bytes_sent}
 use Rattle.pdu.specs.declared.wire.WireFailed.{WireFailed}
 use Rattle.pdu.specs.Texts.{release_text, abort_text}
+use Rattle.negotiate.specs.Rejections.{service_provider_acse}
 use Rattle.part10.specs.Store.{Store}
 use Rattle.engine.specs.Devices.{Devices, files_in, line_after, IsFront}
 use Rattle.engine.specs.StoredData.{Nothing}
@@ -74,8 +75,8 @@ Stays state event = is_left (table state event).1 ≡ false → (table state eve
 
 abbrev pub rejected_state : State → ℕ → State
 rejected_state state source =
-    if nat_eq source 2 then (table state (Request false)).1 else (table (table state (Request true)).1 UserRefuses).1
+    if nat_eq source service_provider_acse then (table state (Request false)).1 else (table (table state (Request true)).1 UserRefuses).1
 
 abbrev pub rejected_text : State → ℕ → List ℕ → List ℕ
 rejected_text state source answer =
-    if nat_eq source 2 then step_text state (Request false) 0 answer else step_text (table state (Request true)).1 UserRefuses 0 answer
+    if nat_eq source service_provider_acse then step_text state (Request false) 0 answer else step_text (table state (Request true)).1 UserRefuses 0 answer

@@ -1,10 +1,11 @@
 -- What a call does that takes an event of the stream, and the room that it needs and leaves.
-use Rattle.std.specs.Prelude.{◌≡◌, ℕ, ◌+◌, ◌-◌, ◌≤◌, Bool, List, [], ◌++◌, length, drop, get_or}
+use Rattle.std.specs.Prelude.{◌≡◌, ℕ, ◌+◌, ◌-◌, ◌≤◌, Bool, List, [], ◌++◌, length}
 use Rattle.pdu.specs.declared.event.Event.{Event}
 use Rattle.pdu.specs.declared.head.PdvHead.{PdvHead}
 use Rattle.pdu.specs.declared.event.Event.TheVariants as event
 use Rattle.pdu.specs.Heads.{pdv_head_of}
-use Rattle.pdu.specs.Marks.{Head, Pdv, BadPdv, Leftover, End, head_mark, pdv_size}
+use Rattle.pdu.specs.Sizes.{pdv_head_size, pdv_least}
+use Rattle.pdu.specs.Marks.{Head, Pdv, BadPdv, Leftover, End, head_mark, pdv_context, pdv_control, pdv_content, pdv_size}
 use Rattle.acceptor.specs.declared.event.Event as acceptor
 use Rattle.acceptor.specs.declared.event.Event.TheVariants as happened
 use Rattle.negotiate.specs.Settings.{Settings}
@@ -31,16 +32,16 @@ TakesBody old new kind part store = (p : Progress) (body : List ℕ) → Pends o
 
 -- the head of a PDV
 abbrev pub TakesPdvHead : Rooms → Settings → Kept → Kept → PdvHead → Devices → Devices → Type 0
-TakesPdvHead rooms s old new head d e = (p : Progress) (begun : List ℕ) → length begun ≡ 6 → head ≡ pdv_head_of begun → Pends old d.store p [] [] → Does rooms s p (At (head_mark begun)) new [] begun d e
+TakesPdvHead rooms s old new head d e = (p : Progress) (begun : List ℕ) → length begun ≡ pdv_head_size → head ≡ pdv_head_of begun → Pends old d.store p [] [] → Does rooms s p (At (head_mark begun)) new [] begun d e
 
 -- a part of a fragment
 abbrev pub TakesFragment : Rooms → Settings → Kept → Kept → List ℕ → Devices → Devices → Type 0
-TakesFragment rooms s old new part d e = (p : Progress) (begun : List ℕ) → 6 ≤ length begun → Pends old d.store p [] begun → Appends rooms s p new [] (begun ++ part) d e
+TakesFragment rooms s old new part d e = (p : Progress) (begun : List ℕ) → pdv_head_size ≤ length begun → Pends old d.store p [] begun → Appends rooms s p new [] (begun ++ part) d e
 
 -- the end of a PDV
 abbrev pub TakesPdvEnd : Rooms → Settings → Kept → Kept → Devices → Devices → Type 0
-TakesPdvEnd rooms s old new d e = (p : Progress) (begun : List ℕ) → 6 ≤ length begun → length begun ≡ pdv_size begun → Pends old d.store p [] begun
-    → Does rooms s p (At (Pdv (get_or begun 4 0) (get_or begun 5 0) (drop 6 begun))) new [] [] d e
+TakesPdvEnd rooms s old new d e = (p : Progress) (begun : List ℕ) → pdv_head_size ≤ length begun → length begun ≡ pdv_size begun → Pends old d.store p [] begun
+    → Does rooms s p (At (Pdv (pdv_context begun) (pdv_control begun) (pdv_content begun))) new [] [] d e
 
 -- the end of a PDU of this type
 abbrev pub TakesEnd : Rooms → Settings → Kept → Kept → ℕ → Devices → Devices → Type 0
@@ -59,14 +60,14 @@ Takes rooms s old new kind (event.PduEnd whole) d e = TakesEnd rooms s old new w
 
 abbrev pub HasRoom : ℕ → Kept → ℕ → Event → Type 0
 HasRoom room kept kind (event.Body part) = BodyFits room kept kind (length part.now)
-HasRoom room kept kind (event.PdvHead head) = 2 ≤ head.length
+HasRoom room kept kind (event.PdvHead head) = pdv_least ≤ head.length
 HasRoom room kept kind (event.Fragment part) = FragmentFits kept (length part.now)
 HasRoom room kept kind other = Unit {0}
 
 abbrev pub LeavesRoom : ℕ → Kept → Kept → ℕ → Event → Type 0
 LeavesRoom room old new kind (event.PduHead head) = BodyFits room new head.kind head.length
 LeavesRoom room old new kind (event.Body part) = (m : ℕ) → BodyFits room old kind (length part.now + m) → BodyFits room new kind m
-LeavesRoom room old new kind (event.PdvHead head) = FragmentFits new (head.length - 2)
+LeavesRoom room old new kind (event.PdvHead head) = FragmentFits new (head.length - pdv_least)
 LeavesRoom room old new kind (event.Fragment part) = (m : ℕ) → FragmentFits old (length part.now + m) → FragmentFits new m
 LeavesRoom room old new kind other = Unit {0}
 

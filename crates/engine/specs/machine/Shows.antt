@@ -1,6 +1,7 @@
 -- What an association shows of the PDU that has begun: where its deframer stands, and what is kept.
 use Rattle.std.specs.Prelude.{◌≡◌, ℕ, ◌≤◌, Bool, true, false, List, [], ◌∷◌, ◌++◌, length, take, map}
 use Rattle.pdu.specs.Frames.{IsRest, rest_of}
+use Rattle.pdu.specs.Sizes.{pdv_head_size}
 use Rattle.pdu.specs.Marks.{Mark, Head, PdvHead, Pdv, BadPdv, Leftover, End, pdv_size, pdv_mark, new_marks}
 use Rattle.pdu.specs.Spot.{spot}
 use Rattle.negotiate.specs.Settings.{Settings}
@@ -37,7 +38,7 @@ abbrev pub Pending : List ℕ → List Mark → List ℕ → List ℕ → Type 0
 Pending r [] body begun = (body ≡ body_of r) × (begun ≡ begun_in (spot r))
 Pending r (Head kind n ∷ later) body begun = (body ≡ []) × (begun ≡ [])
 Pending r (PdvHead n context control ∷ later) body begun = (body ≡ []) × (begun ≡ [])
-Pending r (Pdv context control fragment ∷ later) body begun = (body ≡ []) × (6 ≤ length begun) × (length begun ≡ pdv_size begun) × (pdv_mark begun ≡ Pdv context control fragment)
+Pending r (Pdv context control fragment ∷ later) body begun = (body ≡ []) × (pdv_head_size ≤ length begun) × (length begun ≡ pdv_size begun) × (pdv_mark begun ≡ Pdv context control fragment)
 Pending r (BadPdv ∷ later) body begun = (body ≡ []) × (begun ≡ [])
 Pending r (Leftover ∷ later) body begun = (body ≡ []) × (begun ≡ [])
 Pending r (End kind whole ∷ later) body begun = (body ≡ body_in kind whole) × (begun ≡ [])
