@@ -1,7 +1,7 @@
 -- How long a reply is: its command set, and the PDUs that carry it.
-use Rattle.std.proofs.Common.{◌≡◌, ◌⊎◌, ℕ, zero, suc, ◌+◌, ◌-◌, ◌*◌, ◌/◌, ◌%◌, ◌<◌, ◌≤◌, Bool, true, false, ◌&&◌, List, [], ◌∷◌, ◌++◌, length, take, drop, nat_eq, nat_le, Option, Some, None, option_map, Result, Ok, Err, if◌then◌else◌, codes, arith, ap, subst, refl, inl, inr}
+use Rattle.std.proofs.Common.{◌≡◌, ℕ, zero, suc, ◌+◌, ◌-◌, ◌*◌, ◌/◌, ◌%◌, ◌≤◌, Bool, true, false, ◌&&◌, List, [], ◌∷◌, ◌++◌, length, take, drop, nat_eq, Option, Some, None, option_map, Ok, if◌then◌else◌, codes, arith, ap, inl, inr}
 use Rattle.std.specs.Prelude.{IfSome}
-use Rattle.std.proofs.lemmas.Bool.{cases_lt, cases_Bool, le-leb, lt-leb, ne_eqb}
+use Rattle.std.proofs.lemmas.Bool.{cases_lt, cases_Bool, lt-leb, ne_eqb}
 use Rattle.std.proofs.lemmas.Bool.Decides.{nat_tests}
 use Rattle.std.proofs.lemmas.List.{length-append, length-take, length-drop}
 use Rattle.element.specs.declared.tag.Tag.{Tag}
@@ -10,7 +10,6 @@ use Rattle.element.specs.Padding.{padded}
 use Rattle.element.specs.Uid.{is_uid, even_uid}
 use Rattle.pdu.specs.Texts.{data_text}
 use Rattle.dimse.specs.declared.detail.Detail.{Detail}
-use Rattle.dimse.specs.declared.fault.DimseFault.{DimseFault}
 use Rattle.sequence.specs.declared.rule.Rule.{Rule}
 use Rattle.sequence.specs.declared.rule.Rule.TheVariants.{BadVr, OddLength, Order, BadGroup, UndefinedLength, UnexpectedTag, DelimiterLength, Overrun, TooDeep, TooLong, Truncated, KeptTooLong}
 use Rattle.sequence.specs.Names.{rule_of, text_of_rule}

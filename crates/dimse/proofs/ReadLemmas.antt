@@ -1,12 +1,12 @@
 -- A command that is read names unique identifiers.
-use Rattle.std.proofs.Common.{◌≡◌, ℕ, Bool, true, false, List, Option, Some, None, Result, Ok, Err, if◌then◌else◌, refl, sym, ap, subst, nat_eq, inl, inr}
+use Rattle.std.proofs.Common.{◌≡◌, ℕ, Bool, true, false, List, Option, Some, None, Result, Ok, Err, if◌then◌else◌, refl, subst, nat_eq, inl, inr}
 use Rattle.std.proofs.lemmas.Bool.{cases_Bool}
-use Rattle.std.specs.Prelude.{option_and_then, ok_or}
+use Rattle.std.specs.Prelude.{ok_or}
 use Rattle.element.specs.Padding.{is_padding, without_trailing}
 use Rattle.element.specs.Uid.{is_uid, if_uid, uid_of}
 use Rattle.dimse.specs.declared.fault.DimseFault.{DimseFault}
 use Rattle.dimse.specs.declared.fault.DimseFault.TheVariants.{BadCommand, UnknownField, WrongKind}
-use Rattle.dimse.specs.Command.{CommandElement, CommandRecord, c_echo, c_store, no_data_set, command_value, needed, ◌>>=◌, store_command, request_of, command_of, is_uid_or_none, two_bytes}
+use Rattle.dimse.specs.Command.{CommandElement, CommandRecord, c_echo, c_store, no_data_set, command_value, needed, ◌>>=◌, store_command, command_of, is_uid_or_none, two_bytes}
 use Rattle.dimse.specs.Reading.{set_of, command_in_set, command_in}
 
 record Went (A : Type 0) (r : Result A DimseFault) (f : A → Result CommandRecord DimseFault) (command : CommandRecord) : Type 0 where

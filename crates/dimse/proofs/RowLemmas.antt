@@ -1,5 +1,5 @@
 -- What a fragment brings, by whether it is the last one.
-use Rattle.std.proofs.Common.{◌≡◌, ℕ, Bool, cond, List, [], ◌++◌, ap}
+use Rattle.std.proofs.Common.{◌≡◌, ℕ, Bool, cond, List, ◌++◌, ap}
 use Rattle.pdu.specs.Heads.{is_last}
 use Rattle.dimse.specs.Messages.{Pdv, InCommand, InSet, Brought, Goes, completed, brought}
 

@@ -1,6 +1,6 @@
 -- What a join of fragments shows of a message (PS3.7 section 6.3; PS3.8 annex E): all that has come of it, a part of a
 -- fragment with it, but for the bytes of its data set, which a join does not keep.
-use Rattle.std.specs.Prelude.{◌≡◌, ℕ, ◌-◌, ◌≤◌, Bool, false, List, [], ◌++◌, length, drop, get_or, Option, None, Some, Result, Ok, Err, nat_lt, if◌then◌else◌}
+use Rattle.std.specs.Prelude.{◌≡◌, ℕ, ◌-◌, ◌≤◌, Bool, false, List, [], length, Option, None, Some, Result, Ok, Err, nat_lt, if◌then◌else◌}
 use Rattle.pdu.specs.Heads.{is_last, pdv_head_of}
 use Rattle.pdu.specs.Sizes.{pdv_head_size}
 use Rattle.pdu.specs.Marks.{pdv_context, pdv_control, pdv_content, pdv_size}

@@ -1,6 +1,5 @@
 -- What further bytes of a frame mark, and where the frame stands after them.
-use Rattle.std.specs.Prelude.{◌≡◌, ℕ, ◌<◌, ◌≤◌, List, [], ◌∷◌, ◌++◌, length, drop, get_or, nat_eq, true, if◌then◌else◌}
-use Rattle.byteorder.specs.Endian.{big_number}
+use Rattle.std.specs.Prelude.{◌≡◌, ℕ, ◌<◌, ◌≤◌, List, [], ◌∷◌, ◌++◌, length, nat_eq, true, if◌then◌else◌}
 use Rattle.pdu.specs.Types.{p_data_tf}
 use Rattle.pdu.specs.Sizes.{head_size, pdv_head_size, pdv_least}
 use Rattle.pdu.specs.Frames.{IsFrame, IsRest, rest_of}

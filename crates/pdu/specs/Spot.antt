@@ -1,5 +1,5 @@
 -- Where an unfinished frame stands (PS3.8 section 9.3).
-use Rattle.std.specs.Prelude.{ℕ, ◌+◌, ◌-◌, List, length, drop, nat_eq, nat_lt, if◌then◌else◌}
+use Rattle.std.specs.Prelude.{ℕ, ◌+◌, ◌-◌, List, length, nat_eq, nat_lt, if◌then◌else◌}
 use Rattle.pdu.specs.Types.{p_data_tf}
 use Rattle.pdu.specs.Sizes.{head_size}
 use Rattle.pdu.specs.Marks.{frame_kind, frame_length, frame_body}
