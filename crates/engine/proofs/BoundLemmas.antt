@@ -1,27 +1,24 @@
 -- What is held has a bound, wherever a timeline has led.
-use Rattle.std.proofs.Common.{◌≡◌, ℕ, ◌+◌, ◌-◌, ◌*◌, ◌<◌, ◌≤◌, Bool, true, false, not, ◌&&◌, List, [], ◌∷◌, ◌++◌, length, take, drop, get_or, zero, suc, Option, Some, None, refl, sym, ap, subst, ◌∙◌, arith, lit<, nat_eq, nat_lt, ltb-true, ltb-false, length-append, length-drop, get_or-drop, if◌then◌else◌}
+use Rattle.std.proofs.Common.{◌≡◌, ℕ, ◌+◌, ◌-◌, ◌*◌, ◌<◌, ◌≤◌, Bool, true, false, not, ◌&&◌, List, [], ◌∷◌, length, take, drop, get_or, zero, suc, None, refl, sym, ap, subst, ◌∙◌, arith, lit<, nat_eq, nat_lt, ltb-true, ltb-false, length-drop, get_or-drop, if◌then◌else◌}
 use Rattle.std.proofs.lemmas.Bool.{lt-ltb, le-ltb}
 use Rattle.acceptor.specs.declared.state.State.TheVariants.{Sta6}
 use Rattle.byteorder.specs.Endian.{big_number}
 use Rattle.element.specs.Numbers.{IsBytes}
 use Rattle.element.specs.declared.syntax.Syntax.{Syntax}
 use Rattle.pdu.specs.Frames.{IsRest, rest_of}
-use Rattle.pdu.specs.Heads.{is_command}
 use Rattle.pdu.specs.Marks.{frame_kind, frame_length}
 use Rattle.pdu.specs.Parts.{IsUnfinishedPdv, in_head, in_fragment}
 use Rattle.pdu.specs.Spot.{Spot, Opening, Plain, InPdv, spot, room_left}
 use Rattle.pdu.proofs.Public.{rest_is_rest, spot_opening, unfinished_pdv}
 use Rattle.negotiate.specs.ContextRows.{accepted_count}
 use Rattle.negotiate.specs.Settings.{Settings}
-use Rattle.dimse.specs.declared.fault.DimseFault.{DimseFault}
-use Rattle.dimse.specs.declared.fault.DimseFault.TheVariants.{WrongKind}
 use Rattle.dimse.specs.Joining.{with_pdv}
-use Rattle.dimse.specs.Messages.{Begun, NoMessage, InCommand, InSet, refusal, with_fragment}
+use Rattle.dimse.specs.Messages.{Begun, refusal, with_fragment}
 use Rattle.sequence.specs.Rules.{Limits}
 use Rattle.sequence.specs.Walk.{Tells, going}
 use Rattle.sequence.specs.Walk as walk
 use Rattle.sequence.specs.Wanted.{rooms}
-use Rattle.sequence.proofs.Public.{both_bytes, held_has_a_bound}
+use Rattle.sequence.proofs.Public.{held_has_a_bound}
 use Rattle.engine.specs.Held.{is_ended, unfinished, of_request, of_command, held_before_data, IsHeldOfSet, unbroken, faulty, IsHeldOfMessage, not_walked, walked, Held}
 use Rattle.engine.specs.HeldLaws.{IsWithinRooms, HeldIsWithinRooms}
 use Rattle.engine.specs.Inputs.{stream_of}

@@ -16,7 +16,8 @@ use Rattle.dimse.specs.declared.detail.Detail.{Detail}
 use Rattle.dimse.specs.declared.fault.DimseFault.{DimseFault}
 use Rattle.dimse.specs.Command.{CommandRecord, is_request}
 use Rattle.dimse.specs.Reading.{command_in}
-use Rattle.dimse.specs.Status.{success, class_not_supported}
+use Rattle.sequence.specs.Tree.{no_elements}
+use Rattle.dimse.specs.Status.{success, class_not_supported, out_of_resources, data_set_mismatch}
 use Rattle.dimse.specs.Messages.{Message, Begun, NoMessage, InSet, Ends, brought}
 use Rattle.dimse.specs.Joining.{Joining, ShowsMessage, pdv_of, with_pdv}
 use Rattle.dimse.specs.Reply.{reply_bytes, reply_command, fragment_size, command_pdus, fragments, fragments_in}
@@ -26,7 +27,7 @@ use Rattle.engine.specs.Drafts.{IsDraft, TellsDraft}
 use Rattle.engine.specs.Progress.{Progress, Advance, absorb}
 use Rattle.engine.specs.Reached.{takes_pdvs}
 use Rattle.engine.specs.Replies.{replied, ended_message, finding_on, echo_status, file_in, file_put}
-use Rattle.engine.specs.Stores.{IsOfContext, Verdict, other_class, no_room, faulty, cut, names_class, names_instance, unfiled, filed}
+use Rattle.engine.specs.Stores.{IsOfContext, Submitted, Check, OfContext, WholeSet, OwnClass, OwnInstance, Filed, Passes, FailsWith, FirstFinding, Verdict, limits}
 use Rattle.engine.specs.Run.{Rooms, at_entry, fails, counted}
 use Rattle.engine.specs.Run as run
 use Rattle.engine.specs.Fair.{InStore}
@@ -43,6 +44,7 @@ use Rattle.engine.proofs.PendsLemmas.{settled_failed}
 use Rattle.engine.proofs.DueLemmas.{if_nothing, line_same, line_gained, files_cut, filed_nothing}
 use Rattle.engine.proofs.MessageLemmas.{entry_of, pdv_taken, pdv_comes, verdict_by}
 use Rattle.engine.proofs.ShownLemmas.{no_store}
+use Rattle.engine.proofs.WalkVerdictLemmas.{fault_is_failure}
 
 -- ---- replies
 
@@ -124,16 +126,23 @@ module _ (rooms : Rooms) (s : Settings) (p : Progress) (m : Message) (come : Beg
 
 -- ---- a store
 
+check_unfiled : (x : Submitted) (check : Check) (f : Finding) → FailsWith x check f → f.status ≡ success → ⊥
+check_unfiled x OfContext f k e = let z : class_not_supported ≡ success = sym (ap (λ (y : Finding). y.status) k.1) ∙ e in cc
+check_unfiled x WholeSet f k e = fault_is_failure k.0 (sym (ap (λ (y : Finding). y.status) k.2) ∙ e)
+check_unfiled x OwnClass f k e = let z : data_set_mismatch ≡ success = sym (ap (λ (y : Finding). y.status) k.1) ∙ e in cc
+check_unfiled x OwnInstance f k e = let z : data_set_mismatch ≡ success = sym (ap (λ (y : Finding). y.status) k.1) ∙ e in cc
+check_unfiled x Filed f k e = let z : out_of_resources ≡ success = sym (ap (λ (y : Finding). y.status) k.1) ∙ e in cc
+
+-- a store that is filed passes the last check
+last_passes : (x : Submitted) (checks : List Check) (f : Finding) → FirstFinding x (checks ++ Filed ∷ []) f → f.status ≡ success → Passes x Filed
+last_passes x [] f (inl k) e = absurd (check_unfiled x Filed f k e)
+last_passes x [] f (inr k) e = k.0
+last_passes x (check ∷ later) f (inl k) e = absurd (check_unfiled x check f k e)
+last_passes x (check ∷ later) f (inr k) e = last_passes x later f k.1 e
+
 -- a store in which a filing call failed is none that is filed
 failed_store : {depth most : ℕ} {context : Context} {c : CommandRecord} {set : List ℕ} {f : Finding} → Verdict depth most context c set true f → f.status ≡ success → ⊥
-failed_store (other_class n) e = cc
-failed_store (no_room a b c) e = cc
-failed_store (faulty a b c d) e = cc
-failed_store (cut a b) e = cc
-failed_store (names_class a b c d) e = cc
-failed_store (names_instance a b c d g) e = cc
-failed_store (unfiled a b c d g h) e = cc
-failed_store (filed a b c d g h) e = cc
+failed_store {f = f} v e = let passes : true ≡ false = last_passes _ (OfContext ∷ WholeSet ∷ OwnClass ∷ OwnInstance ∷ []) f v.first e in cc
 
 is_zero : (n : ℕ) (t : Bool) → nat_eq n 0 ≡ t → (n ≡ 0 → ⊥) → t ≡ false
 is_zero n true e h = absurd (h (grind (arith, nat_tests)))
@@ -176,8 +185,10 @@ module _ (depth most : ℕ) (request : Requested) (m : Message) (come : Begun) (
   unwalked_ends is e none found same = record {
     failed_then = false;
     may = λ x. absurd cc;
-    verdict = λ context accepted. subst (λ (x : Finding). Verdict depth most context c m.set before x) (sym found)
-        (other_class (λ of. none (record { id = m.context; command = m.command; set = m.set; asked = c; context = context; begun = is; spelled = e; accepted = accepted; of_context = of })));
+    verdict = λ context accepted. subst (λ (x : Finding). Verdict depth most context c m.set before x) (sym found) (record {
+      elements = no_elements;
+      first = inl (λ of. none (record { id = m.context; command = m.command; set = m.set; asked = c; context = context; begun = is; spelled = e; accepted = accepted; of_context = of }), refl);
+    });
     files = kept_files (λ ok. let wrong : class_not_supported ≡ success = sym (ap (λ (x : Finding). x.status) found) ∙ ok in absurd cc) (ap files_in same);
     count = ap (λ (x : Store). x.failures) same ∙ omega arith;
   }

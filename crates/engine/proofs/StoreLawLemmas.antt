@@ -1,5 +1,5 @@
 -- What comes of a store at the entry where it ends.
-use Rattle.std.proofs.Common.{◌≡◌, ℕ, Bool, true, false, not, ◌&&◌, ◌||◌, List, [], ◌∷◌, Option, Some, None, Result, Ok, refl, sym, ap, subst, ◌∙◌, nat_eq, if◌then◌else◌}
+use Rattle.std.proofs.Common.{◌≡◌, ℕ, Bool, true, false, not, ◌&&◌, ◌||◌, List, [], ◌∷◌, Option, Some, None, Result, Ok, refl, sym, ap, subst, ◌∙◌, nat_eq, if◌then◌else◌, inr}
 use Rattle.pdu.specs.Marks.{Head, PdvHead, Pdv, BadPdv, Leftover, End}
 use Rattle.engine.specs.Requested.{request_record}
 use Rattle.pdu.specs.Record.{RequestRecord}
@@ -13,17 +13,15 @@ use Rattle.dimse.specs.Messages as messages
 use Rattle.dimse.specs.Messages.{Message, Brought, Goes, Ends, Refuses, message_by, brought, ended}
 use Rattle.dimse.specs.Reply.{reply_bytes}
 use Rattle.dimse.specs.Status.{success}
-use Rattle.sequence.specs.Open.{last_of, in_header}
 use Rattle.sequence.proofs.Public.{whole_breaks_no_rule}
 use Rattle.engine.specs.Timeline.{Entry, At, Shut, TimedOut, Aborted, Finding, Happened, good}
 use Rattle.engine.specs.Progress.{Progress, absorb, is_established, Advance, nothing}
 use Rattle.engine.specs.Replies.{file_in, file_put, echo_status, finding_on, replied, at_pdv}
-use Rattle.engine.specs.Stores.{Verdict, filed, limits}
+use Rattle.engine.specs.Stores.{Verdict, limits}
 use Rattle.engine.specs.StoreLaws.{EndsAt, IsGoodImage, file_of, NoGoodImageIsRefused, FiledByItself}
 use Rattle.engine.specs.Run.{Rooms, at_entry, gives, cut}
 use Rattle.engine.specs.Fair.{IsVerdict, message_at}
-use Rattle.engine.proofs.VerdictLemmas.{ends_fine, whole_front}
-use Rattle.engine.proofs.OneVerdict.{same_verdict}
+use Rattle.engine.proofs.OneVerdict.{same_finding}
 use Rattle.engine.proofs.MessageLemmas.{by_brought, brought_is}
 use Rattle.engine.proofs.DoesLemmas.{message_absorbed}
 use Rattle.engine.proofs.DueLemmas.{files_cut}
@@ -103,15 +101,15 @@ filed_by_itself rooms rooms2 s s2 p p2 h h2 m m2 command command2 context contex
 
 good_verdict : (depth most : ℕ) (context : Context) (command : CommandRecord) (set : List ℕ) → IsGoodImage depth most context command set → Verdict depth most context command set false good
 good_verdict depth most context command set g = let w = g.whole in
-    filed g.of_context (record { elements = w.elements; whole = w.text; unbroken = whole_breaks_no_rule context.syntax (limits depth most) set w })
-    (record { elements = w.elements; path = []; last = last_of 0 w.elements; tail = in_header []; front = whole_front context.syntax w.elements set w.text; kept = refl }) g.own_class g.own_instance refl
+    record {
+      elements = w.elements;
+      first = inr (g.of_context, inr (record { whole = w.text; unbroken = whole_breaks_no_rule context.syntax (limits depth most) set w }, inr (g.own_class, inr (g.own_instance, inr (refl, refl)))));
+    }
 
 -- no verdict but success stands beside it
 good_finding : (depth most : ℕ) (context : Context) (command : CommandRecord) (set : List ℕ) (failed : Bool) (finding : Finding) → failed ≡ false → IsGoodImage depth most context command set → Verdict depth most context command set failed finding → finding ≡ good
-good_finding depth most context command set failed finding e g v = let w = g.whole in
-    same_verdict depth most context command set false g.of_context finding good
-    (ends_fine (record { elements = w.elements; whole = w.text; unbroken = whole_breaks_no_rule context.syntax (limits depth most) set w }))
-    (subst (λ z. Verdict depth most context command set z finding) e v) (good_verdict depth most context command set g)
+good_finding depth most context command set failed finding e g v =
+    same_finding depth most context command set false finding good (subst (λ z. Verdict depth most context command set z finding) e v) (good_verdict depth most context command set g)
 
 good_sent : (p : Progress) (finding : Finding) (m : Message) (command : CommandRecord) → command.field ≡ 1 → finding ≡ good → (replied p finding m (Ok command)).sent ≡ reply_bytes command success None m.context (request_record p.request).maximum
 good_sent p finding m command store is =

@@ -1,11 +1,9 @@
 -- The verdict on one CT store, and its file.
-use Rattle.std.proofs.Common.{◌≡◌, ℕ, ◌^◌, List, [], ◌∷◌, take, drop, get_or, Option, Some, None, refl, sym, ap, subst, codes, arith, lit<}
+use Rattle.std.proofs.Common.{◌≡◌, ℕ, ◌^◌, List, [], ◌∷◌, take, drop, get_or, Option, Some, None, refl, sym, ap, subst, codes, arith, lit<, inl, inr}
 use Rattle.element.specs.declared.syntax.Syntax.{Syntax}
 use Rattle.element.specs.declared.syntax.Syntax.TheVariants.{Explicit}
 use Rattle.element.specs.declared.header.Header.{Header}
-use Rattle.element.specs.declared.size.Need.{Need}
-use Rattle.element.specs.declared.size.Need.TheVariants.{More, BadVr}
-use Rattle.element.specs.Header.{need, is_whole, number, short}
+use Rattle.element.specs.Header.{number, short}
 use Rattle.element.specs.Uid.{uid_of}
 use Rattle.element.specs.Vr.{is_short}
 use Rattle.dictionary.specs.Tags.{row_of}
@@ -19,13 +17,12 @@ use Rattle.pdu.specs.Items.{items_of, left_over}
 use Rattle.pdu.specs.Pieces.{pieces_of}
 use Rattle.pdu.specs.Refusal.{item_fault, items_fault}
 use Rattle.sequence.specs.Tree.{Elements, no_elements, value, IsElement, DataSet, nothing, value_then}
-use Rattle.sequence.specs.Open.{Open, in_header, at_elements, header_tail}
 use Rattle.sequence.specs.Rules.{Limits}
 use Rattle.sequence.specs.FirstFault.{IsUnbroken}
-use Rattle.sequence.specs.Wanted.{Values, KeepsWanted}
+use Rattle.sequence.specs.Wanted.{Values}
 use Rattle.sequence.specs.Walk.{Told, Tells, going, refused}
 use Rattle.sequence.proofs.Public.{one_store}
-use Rattle.engine.specs.Stores.{IsOfContext, HasNoFault, NamesUid, NamesInstance, names_instance, unfiled, filed, wanted, limits, class_tag, instance_tag}
+use Rattle.engine.specs.Stores.{IsOfContext, HasNoFault, NamesUid, NamesInstance, limits, class_tag, instance_tag}
 use Rattle.engine.specs.StoreExamples.{data_set}
 use Rattle.engine.specs.StoreVerdicts.{store_of, VerdictsOnOneImage, TheFileOfAStore}
 use Rattle.engine.specs.VerdictExamples.{ct_in}
@@ -77,22 +74,11 @@ unbroken_told s lim b told (refused f o) e = absurd cc
 is_unbroken : IsUnbroken Explicit (limits 64 (2 ^ 40)) data_set
 is_unbroken = unbroken_told Explicit (limits 64 (2 ^ 40)) data_set _ one_store refl
 
-no_fault : HasNoFault Explicit (limits 64 (2 ^ 40)) data_set
-no_fault = record { elements = both; whole = is_data_set; unbroken = is_unbroken }
+no_fault : HasNoFault Explicit (limits 64 (2 ^ 40)) data_set both
+no_fault = record { whole = is_data_set; unbroken = is_unbroken }
 
 abbrev values : Values
 values = (number class_tag, class_value) ∷ (number instance_tag, instance_value) ∷ []
-
-is_front : Open Explicit data_set both [] (number instance_tag) (in_header [])
-unfolding need is_whole
-is_front = record {
-  nested = at_elements {b = data_set} {t = []} is_data_set (header_tail (record { part = refl; good = λ e. let f : ◌≡◌ {A = Need} More BadVr = e in cc }));
-  left = tt;
-  innermost = tt;
-}
-
-are_kept : KeepsWanted Explicit wanted data_set values
-are_kept = record { elements = both; path = []; last = number instance_tag; tail = in_header []; front = is_front; kept = refl }
 
 of_ct : (instance : List ℕ) → IsOfContext (ct_in Explicit) (store_of instance)
 unfolding class_named
@@ -116,9 +102,9 @@ other_instance (uid, is, (v, there, read-is)) =
 
 pub verdicts_on_one_image : VerdictsOnOneImage
 verdicts_on_one_image = (
-  filed (of_ct _) no_fault are_kept named_class named_instance refl,
-  unfiled (of_ct _) no_fault are_kept named_class named_instance refl,
-  λ failed. names_instance (of_ct _) no_fault are_kept named_class other_instance,
+  record { elements = both; first = inr (of_ct _, inr (no_fault, inr (named_class, inr (named_instance, inr (refl, refl))))) },
+  record { elements = both; first = inr (of_ct _, inr (no_fault, inr (named_class, inr (named_instance, inl ((λ e. cc), refl))))) },
+  λ failed. record { elements = both; first = inr (of_ct _, inr (no_fault, inr (named_class, inl (other_instance, refl)))) },
 )
 
 pub the_file_of_a_store : TheFileOfAStore

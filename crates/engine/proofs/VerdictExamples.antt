@@ -1,18 +1,18 @@
 -- Verdicts on data sets that break a rule.
-use Rattle.std.proofs.Common.{◌≡◌, ℕ, ◌^◌, Bool, List, length, Some, refl, subst, nat_eq}
+use Rattle.std.proofs.Common.{◌≡◌, inl, inr, ℕ, ◌^◌, Bool, List, length, Some, refl, subst}
 use Rattle.element.specs.declared.syntax.Syntax.{Syntax}
 use Rattle.element.specs.declared.syntax.Syntax.TheVariants.{Implicit, Explicit}
 use Rattle.dictionary.specs.Classes.{class_named}
 use Rattle.negotiate.specs.declared.proposals.Context.{Context}
 use Rattle.dimse.specs.Command.{CommandRecord}
 use Rattle.sequence.specs.declared.fault.Fault.{Fault}
+use Rattle.sequence.specs.Tree.{no_elements}
+use Rattle.sequence.specs.Ending.{breaks_rule}
 use Rattle.sequence.specs.Walk.{Told, Tells, going, refused}
 use Rattle.sequence.specs.Examples.{past_item, level_past_item, third_level, pixels}
 use Rattle.sequence.proofs.Public.{past_its_item, too_deep, unknown_content}
-use Rattle.engine.specs.Stores.{IsOfContext, Verdict, limits, wanted}
+use Rattle.engine.specs.Stores.{IsOfContext, Verdict, limits, wanted, of_fault}
 use Rattle.engine.specs.VerdictExamples.{ct_in, ct_store, VerdictsOnFaults}
-use Rattle.engine.specs.machine.Verdicts.{of_fault}
-use Rattle.engine.proofs.WalkVerdictLemmas.{rule_found}
 
 -- the verdict on a data set of which a refusal is reported
 pub fault_told : (depth most : ℕ) (context : Context) (command : CommandRecord) (set : List ℕ) (failed : Bool) (told : Told) (fault : Fault) → IsOfContext context command → Tells context.syntax (limits depth most) set told → told.fault ≡ Some fault
@@ -20,8 +20,7 @@ pub fault_told : (depth most : ℕ) (context : Context) (command : CommandRecord
 fault_told depth most context command set failed told fault of (going ok o) e = absurd cc
 fault_told depth most context command set failed told fault of (refused {p = p} {u = u} {rule = rule} {tag = tag} f o) e =
     let same : ◌≡◌ {A = Fault} (record { number = rule; place = length p; tag = tag }) fault = cc in
-    subst (λ (z : Fault). Verdict depth most context command set failed (of_fault z)) same
-    (rule_found context command depth most set p u rule (length p) tag failed of f (nat_eq rule 18) (nat_eq rule 19) refl refl)
+    subst (λ (z : Fault). Verdict depth most context command set failed (of_fault z)) same (record { elements = no_elements; first = inr (of, inl (_, breaks_rule f, refl)) })
 
 of_ct : (syntax : Syntax) → IsOfContext (ct_in syntax) ct_store
 unfolding class_named

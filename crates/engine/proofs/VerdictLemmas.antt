@@ -1,9 +1,8 @@
--- There is one verdict on each store.
+-- There is a verdict on each store.
 use Rattle.std.proofs.Common.{◌≡◌, ◌≢◌, ◌⊎◌, inl, inr, ℕ, Bool, true, false, List, [], ◌∷◌, ◌++◌, Option, Some, None, refl, sym, ap, subst, ◌∙◌, append-nil, nat_eq}
 use Rattle.std.proofs.lemmas.Bool.Decides.{eqb_tells}
 use Rattle.element.specs.declared.syntax.Syntax.{Syntax}
 use Rattle.element.specs.declared.tag.Tag.{Tag}
-use Rattle.element.specs.Numbers.{IsBytes}
 use Rattle.element.specs.Header.{number}
 use Rattle.element.specs.Uid.{uid_of}
 use Rattle.dictionary.specs.declared.class.Class.{Class}
@@ -12,24 +11,24 @@ use Rattle.negotiate.specs.declared.proposals.Service.{Service}
 use Rattle.negotiate.specs.declared.proposals.Service.TheVariants.{Known, Further}
 use Rattle.negotiate.specs.Contexts.{service_of}
 use Rattle.dictionary.proofs.Public.{class_back}
-use Rattle.sequence.specs.Tree.{Elements, DataSet}
+use Rattle.sequence.specs.declared.fault.Fault.{Fault}
+use Rattle.sequence.specs.Tree.{Elements, no_elements, DataSet}
 use Rattle.sequence.specs.Open.{PathEntry, Tail, in_header, in_value, last_of, Nested, at_elements, in_sequence_of, in_item_of, IsTail, header_tail, value_tail, Open}
 use Rattle.sequence.specs.Rules.{Limits}
-use Rattle.sequence.specs.Wanted.{Values, KeepsWanted, kept_of, value_of}
-use Rattle.sequence.specs.FirstFault.{IsUnbroken, FirstFault, EndFault, tag_of_tail}
+use Rattle.sequence.specs.Wanted.{Values, kept_of, value_of}
+use Rattle.sequence.specs.FirstFault.{IsUnbroken, tag_of_tail}
+use Rattle.sequence.specs.Ending.{Fails, breaks_rule, ends_early}
 use Rattle.sequence.specs.Walk.{Told, Tells, going, refused}
 use Rattle.sequence.proofs.Public.{no_header}
 use Rattle.sequence.proofs.Public.{one_path}
 use Rattle.sequence.proofs.Public.{some_telling}
 use Rattle.dimse.specs.Command.{CommandRecord}
-use Rattle.dimse.specs.Status.{class_not_supported, data_set_mismatch, cannot_understand}
+use Rattle.dimse.specs.Status.{class_not_supported, out_of_resources, data_set_mismatch}
 use Rattle.negotiate.specs.declared.proposals.Context.{Context}
 use Rattle.engine.specs.Timeline.{Finding, good}
 use Rattle.dimse.specs.Detail.{class_mismatch, instance_mismatch}
-use Rattle.engine.specs.Stores.{IsOfContext, is_storage_service, NamesUid, NamesInstance, Verdict, other_class, cut, names_class, names_instance, unfiled, filed, wanted, limits, class_tag, instance_tag, cause}
+use Rattle.engine.specs.Stores.{IsOfContext, is_storage_service, NamesUid, NamesInstance, HasNoFault, Submitted, OwnClass, OwnInstance, Filed, FirstFinding, Verdict, wanted, limits, class_tag, instance_tag, failure, cause, of_fault}
 use Rattle.engine.specs.StoreLaws.{AVerdictIsThere}
-use Rattle.engine.specs.machine.Verdicts.{no_resources, of_fault}
-use Rattle.engine.proofs.WalkVerdictLemmas.{rule_found}
 
 -- ---- what is decided
 
@@ -102,16 +101,9 @@ of_context_or_not context command = by (service_of command.class) refl
 
 -- ---- how a text ends
 
--- the elements of a text without a fault, which is a front with nothing open
-pub record IsFine (s : Syntax) (lim : Limits) (b : List ℕ) : Type 0 where
-  pub elements : Elements
-  pub whole : DataSet s 0 elements b
-  pub unbroken : IsUnbroken s lim b
-
-pub data Ends (s : Syntax) (lim : Limits) (b : List ℕ) : Type 0 where
-  ends_broken : (p u : List ℕ) (rule : ℕ) (tag : Tag) → FirstFault s lim b p u rule tag → Ends s lim b
-  ends_short : (tag : Tag) → EndFault s lim b tag → Ends s lim b
-  ends_fine : IsFine s lim b → Ends s lim b
+data Ends (s : Syntax) (lim : Limits) (b : List ℕ) : Type 0 where
+  faulty : (fault : Fault) → Fails s lim b fault → Ends s lim b
+  fine : (elements : Elements) → HasNoFault s lim b elements → Ends s lim b
 
 -- a whole data set is a front of itself with nothing open
 pub whole_front : (s : Syntax) (es : Elements) (b : List ℕ) → DataSet s 0 es b → Open s b es [] (last_of 0 es) (in_header [])
@@ -136,7 +128,7 @@ front_whole s b es path last tail (in_sequence_of q level part) e k = absurd cc
 front_whole s b es path last tail (in_item_of q {path = inside} level item level2 deeper) e k = absurd (some_path inside _ _ e)
 
 short_of : (s : Syntax) (lim : Limits) (b : List ℕ) (es : Elements) (path : List PathEntry) (last : ℕ) (tail : Tail) → IsUnbroken s lim b → Open s b es path last tail → (path ≡ [] → tail ≡ in_header [] → ⊥) → Ends s lim b
-short_of s lim b es path last tail unbroken o open_still = ends_short (tag_of_tail tail) (record {
+short_of s lim b es path last tail unbroken o open_still = faulty _ (ends_early {tag = tag_of_tail tail} (record {
   unbroken = unbroken;
   elements = es;
   path = path;
@@ -145,57 +137,38 @@ short_of s lim b es path last tail unbroken o open_still = ends_short (tag_of_ta
   front = o;
   unfinished = λ es2 set. let k = one_path s b es es2 path [] last (last_of 0 es2) tail (in_header []) o (whole_front s es2 b set) in open_still k.1 k.3;
   tagged = refl;
-})
+}))
 
 ends_at : (s : Syntax) (lim : Limits) (b : List ℕ) (es : Elements) (path : List PathEntry) (last : ℕ) (tail : Tail) → IsUnbroken s lim b → Open s b es path last tail → Ends s lim b
-ends_at s lim b es [] last (in_header []) unbroken o = ends_fine (record { elements = es; whole = front_whole s b es [] last (in_header []) o.nested refl refl; unbroken = unbroken })
+ends_at s lim b es [] last (in_header []) unbroken o = fine es (record { whole = front_whole s b es [] last (in_header []) o.nested refl refl; unbroken = unbroken })
 ends_at s lim b es [] last (in_header (x ∷ t)) unbroken o = short_of s lim b es [] last (in_header (x ∷ t)) unbroken o (λ e k. cc)
 ends_at s lim b es [] last (in_value h v) unbroken o = short_of s lim b es [] last (in_value h v) unbroken o (λ e k. cc)
 ends_at s lim b es (e ∷ path) last tail unbroken o = short_of s lim b es (e ∷ path) last tail unbroken o (λ e k. cc)
 
 ends_told : (s : Syntax) (lim : Limits) (b : List ℕ) (told : Told) → Tells s lim b told → Ends s lim b
 ends_told s lim b told (going {es = es} {path = path} {last = last} {tail = tail} unbroken o) = ends_at s lim b es path last tail unbroken o
-ends_told s lim b told (refused {p = p} {u = u} {rule = rule} {tag = tag} f o) = ends_broken p u rule tag f
+ends_told s lim b told (refused f o) = faulty _ (breaks_rule f)
 
-pub every_end : (s : Syntax) (lim : Limits) (b : List ℕ) → IsBytes b → Ends s lim b
-every_end s lim b bytes = let k = some_telling s lim b bytes in ends_told s lim b k.0 k.1
+-- ---- the finding
 
--- ---- the finding on each
-
-abbrev pub finding_on_names : (values : Values) (command : CommandRecord) (failed : Bool) → NamesUid values class_tag command.class ⊎ (NamesUid values class_tag command.class → ⊥) → NamesInstance values command ⊎ (NamesInstance values command → ⊥) → Finding
-finding_on_names values command failed (inr other) i = cause data_set_mismatch class_mismatch class_tag
-finding_on_names values command failed (inl class) (inr other) = cause data_set_mismatch instance_mismatch instance_tag
-finding_on_names values command true (inl class) (inl instance) = no_resources
-finding_on_names values command false (inl class) (inl instance) = good
-
-abbrev pub found_on : (s : Syntax) (lim : Limits) (b : List ℕ) (command : CommandRecord) (failed : Bool) → Ends s lim b → Finding
-found_on s lim b command failed (ends_broken p u rule tag f) = of_fault (record { number = rule; place = 0; tag = tag })
-found_on s lim b command failed (ends_short tag f) = cause cannot_understand 20 tag
-found_on s lim b command failed (ends_fine w) =
-    let values = kept_of wanted w.elements in finding_on_names values command failed (names_or_not values class_tag command.class) (instance_or_not values command)
-
--- the same, where the data set is fine
-fine_kept : (s : Syntax) (lim : Limits) (b : List ℕ) (w : IsFine s lim b) → KeepsWanted s wanted b (kept_of wanted w.elements)
-fine_kept s lim b w = record { elements = w.elements; path = []; last = last_of 0 w.elements; tail = in_header []; front = whole_front s w.elements b w.whole; kept = refl }
-
--- ---- it is a verdict
-
-module _ (depth most : ℕ) (context : Context) (command : CommandRecord) (set : List ℕ) (failed : Bool) (of : IsOfContext context command) where
-  named_verdict : (w : IsFine context.syntax (limits depth most) set) (c : NamesUid (kept_of wanted w.elements) class_tag command.class ⊎ (NamesUid (kept_of wanted w.elements) class_tag command.class → ⊥)) (i : NamesInstance (kept_of wanted w.elements) command ⊎ (NamesInstance (kept_of wanted w.elements) command → ⊥)) (b : Bool) → failed ≡ b
-      → Verdict depth most context command set failed (finding_on_names (kept_of wanted w.elements) command b c i)
-  named_verdict w (inr other) i b e = names_class of (record { elements = w.elements; whole = w.whole; unbroken = w.unbroken }) (fine_kept context.syntax (limits depth most) set w) other
-  named_verdict w (inl class) (inr other) b e = names_instance of (record { elements = w.elements; whole = w.whole; unbroken = w.unbroken }) (fine_kept context.syntax (limits depth most) set w) class other
-  named_verdict w (inl class) (inl instance) true e = unfiled of (record { elements = w.elements; whole = w.whole; unbroken = w.unbroken }) (fine_kept context.syntax (limits depth most) set w) class instance e
-  named_verdict w (inl class) (inl instance) false e = filed of (record { elements = w.elements; whole = w.whole; unbroken = w.unbroken }) (fine_kept context.syntax (limits depth most) set w) class instance e
-
-  found_verdict : (e : Ends context.syntax (limits depth most) set) → Verdict depth most context command set failed (found_on context.syntax (limits depth most) set command failed e)
-  found_verdict (ends_broken p u rule tag f) = rule_found context command depth most set p u rule 0 tag failed of f (nat_eq rule 18) (nat_eq rule 19) refl refl
-  found_verdict (ends_short tag f) = cut of f
-  found_verdict (ends_fine w) = named_verdict w (names_or_not (kept_of wanted w.elements) class_tag command.class) (instance_or_not (kept_of wanted w.elements) command) failed refl
+-- the checks on a store whose data set is whole
+named : (x : Submitted) → NamesUid (kept_of wanted x.elements) class_tag x.command.class ⊎ (NamesUid (kept_of wanted x.elements) class_tag x.command.class → ⊥)
+    → NamesInstance (kept_of wanted x.elements) x.command ⊎ (NamesInstance (kept_of wanted x.elements) x.command → ⊥) → (failed : Bool) → x.failed ≡ failed → (finding : Finding) × FirstFinding x (OwnClass ∷ OwnInstance ∷ Filed ∷ []) finding
+named x (inr other) instance failed e = (cause data_set_mismatch class_mismatch class_tag, inl (other, refl))
+named x (inl class) (inr other) failed e = (cause data_set_mismatch instance_mismatch instance_tag, inr (class, inl (other, refl)))
+named x (inl class) (inl instance) true e = (failure out_of_resources, inr (class, inr (instance, inl ((λ n. let wrong : true ≡ false = sym e ∙ n in cc), refl))))
+named x (inl class) (inl instance) false e = (good, inr (class, inr (instance, inr (e, refl))))
 
 pub a_verdict_is_there : AVerdictIsThere
 a_verdict_is_there depth most context command set failed bytes = by (of_context_or_not context command)
   where
+    ending : IsOfContext context command → Ends context.syntax (limits depth most) set → (finding : Finding) × Verdict depth most context command set failed finding
+    ending of (faulty fault f) = (of_fault fault, record { elements = no_elements; first = inr (of, inl (fault, f, refl)) })
+    ending of (fine es whole) =
+        let x : Submitted = record { context = context; command = command; data_set = set; limits = limits depth most; elements = es; failed = failed } in
+        let found = named x (names_or_not (kept_of wanted es) class_tag command.class) (instance_or_not (kept_of wanted es) command) failed refl in
+        (found.0, record { elements = es; first = inr (of, inr (whole, found.1)) })
+
     by : IsOfContext context command ⊎ (IsOfContext context command → ⊥) → (finding : Finding) × Verdict depth most context command set failed finding
-    by (inl of) = let e = every_end context.syntax (limits depth most) set bytes in (found_on context.syntax (limits depth most) set command failed e, found_verdict depth most context command set failed of e)
-    by (inr other) = (record { status = class_not_supported; detail = None }, other_class other)
+    by (inl of) = let k = some_telling context.syntax (limits depth most) set bytes in ending of (ends_told context.syntax (limits depth most) set k.0 k.1)
+    by (inr other) = (failure class_not_supported, record { elements = no_elements; first = inl (other, refl) })

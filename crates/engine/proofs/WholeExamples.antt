@@ -1,14 +1,10 @@
 -- The associations of which the whole is shown.
-use Rattle.std.proofs.Common.{◌≡◌, ℕ, ◌+◌, ◌^◌, Bool, List, [], ◌∷◌, ◌++◌, length, drop, eqb, false, Option, Some, None, Result, Ok, refl, ap, subst, arith, codes}
+use Rattle.std.proofs.Common.{◌≡◌, ℕ, ◌+◌, ◌^◌, Bool, List, [], ◌∷◌, ◌++◌, length, drop, eqb, false, Option, Some, None, Result, Ok, refl, ap, subst, arith, codes, inl, inr}
 use Rattle.element.specs.declared.syntax.Syntax.TheVariants.{Explicit}
 use Rattle.element.specs.Vr.{is_short}
-use Rattle.element.specs.Header.{need, is_whole}
-use Rattle.element.specs.declared.size.Need.{Need}
-use Rattle.element.specs.declared.size.Need.TheVariants.{More, BadVr}
 use Rattle.dictionary.specs.declared.class.Class.TheVariants.{Ct, Mr}
 use Rattle.dictionary.specs.Classes.{class_named}
 use Rattle.sequence.specs.Tree.{no_elements, nothing}
-use Rattle.sequence.specs.Open.{Open, in_header, at_elements, header_tail}
 use Rattle.sequence.specs.FirstFault.{IsUnbroken}
 use Rattle.sequence.proofs.Public.{nothing_unbroken}
 use Rattle.dictionary.specs.Syntaxes.{syntax_named}
@@ -37,7 +33,7 @@ use Rattle.engine.specs.Run.{Rooms}
 use Rattle.engine.specs.Held.{IsHeldOfMessage, walked, not_walked}
 use Rattle.engine.specs.Drafts.{none_due}
 use Rattle.engine.specs.StoredData as storing
-use Rattle.engine.specs.Stores.{limits, Verdict, other_class, no_room, faulty, cut, names_class, names_instance, unfiled, filed, IsOfContext}
+use Rattle.engine.specs.Stores.{limits, Verdict, IsOfContext}
 use Rattle.engine.specs.Recording.{request, accept, reply, released}
 use Rattle.engine.specs.Examples.{rooms, settings, calm}
 use Rattle.engine.specs.WholeExamples.{unsupported, echo_inputs, request_inputs, TheEchoRuns, TheRequestIsHeld, ItStandsEstablished, VerdictsOnStores, ct_context, store_of}
@@ -127,14 +123,7 @@ it_stands_established = (
 -- ---- verdicts
 
 only_other : {d l : ℕ} {c : Context} {r : CommandRecord} {b : List ℕ} {f : Bool} {n : Finding} → (IsOfContext c r → ⊥) → Verdict d l c r b f n → n ≡ unsupported
-only_other not (other_class other) = refl
-only_other not (no_room of fault rule) = absurd (not of)
-only_other not (faulty of fault deep long) = absurd (not of)
-only_other not (cut of end) = absurd (not of)
-only_other not (names_class of whole kept other) = absurd (not of)
-only_other not (names_instance of whole kept class other) = absurd (not of)
-only_other not (unfiled of whole kept class same failed) = absurd (not of)
-only_other not (filed of whole kept class same failed) = absurd (not of)
+only_other not verdict = elim verdict.first [ inl fails ↦ fails.1 | inr passes ↦ absurd (not passes.0) ]
 
 mr_is_no_ct : IsOfContext ct_context (store_of (codes "1.2.840.10008.5.1.4.1.1.4")) → ⊥
 unfolding class_named
@@ -143,22 +132,13 @@ mr_is_no_ct of = let e : ◌≡◌ {A = Option Service} (Some (Known Mr)) (Some 
 nothing_breaks : IsUnbroken Explicit (limits 64 (2 ^ 40)) []
 nothing_breaks = nothing_unbroken Explicit (limits 64 (2 ^ 40))
 
-at_nothing : Open Explicit [] no_elements [] 0 (in_header [])
-unfolding need is_whole
-at_nothing = record {
-  nested = at_elements {b = []} {t = []} nothing (header_tail (record { part = refl; good = λ e. let f : ◌≡◌ {A = Need} More BadVr = e in cc }));
-  left = tt;
-  innermost = tt;
-}
-
 pub verdicts_on_stores : VerdictsOnStores
 unfolding class_named
 verdicts_on_stores = (
-  λ data_set failed. other_class mr_is_no_ct,
+  λ data_set failed. record { elements = no_elements; first = inl (mr_is_no_ct, refl) },
   λ data_set failed finding verdict. only_other mr_is_no_ct verdict,
-  λ failed. names_class
-      (record { named = refl; storage = refl })
-      (record { elements = no_elements; whole = nothing; unbroken = nothing_breaks })
-      (record { elements = no_elements; path = []; last = 0; tail = in_header []; front = at_nothing; kept = refl })
-      (λ same. let e : ◌≡◌ {A = Option (List ℕ)} None (Some same.0) = same.1 in cc),
+  λ failed. record {
+    elements = no_elements;
+    first = inr (record { named = refl; storage = refl }, inr (record { whole = nothing; unbroken = nothing_breaks }, inl ((λ same. let e : ◌≡◌ {A = Option (List ℕ)} None (Some same.0) = same.1 in cc), refl)));
+  },
 )

@@ -1,5 +1,5 @@
 -- What an association shows of the PDU that has begun: where its deframer stands, and what is kept.
-use Rattle.std.specs.Prelude.{◌≡◌, ℕ, false, List, [], drop}
+use Rattle.std.specs.Prelude.{◌≡◌, ℕ, false, List, []}
 use Rattle.pdu.specs.declared.position.Position.{Position}
 use Rattle.pdu.specs.Marks.{Mark, frame_kind, frame_body}
 use Rattle.pdu.specs.Spot.{spot}

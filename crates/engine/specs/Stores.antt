@@ -1,6 +1,6 @@
 -- C-STORE (PS3.7 section 9.1.1, PS3.4 annex B): the file of a stored instance, and the status of its reply. Which fault
 -- has which status is this product's own profile.
-use Rattle.std.specs.Prelude.{◌≡◌, ◌≢◌, ◌⊎◌, ℕ, Bool, true, false, List, [], ◌∷◌, Some, None}
+use Rattle.std.specs.Prelude.{◌≡◌, ◌⊎◌, ℕ, Bool, true, false, ◌||◌, List, [], ◌∷◌, Some, None, nat_eq, if◌then◌else◌}
 use Rattle.element.specs.declared.syntax.Syntax.{Syntax}
 use Rattle.element.specs.declared.tag.Tag.{Tag}
 use Rattle.element.specs.Header.{number}
@@ -13,11 +13,13 @@ use Rattle.negotiate.specs.declared.proposals.Context.{Context}
 use Rattle.dimse.specs.Command.{CommandRecord}
 use Rattle.dimse.specs.Detail.{class_mismatch, instance_mismatch}
 use Rattle.dimse.specs.Status.{class_not_supported, out_of_resources, data_set_mismatch, cannot_understand}
+use Rattle.sequence.specs.declared.fault.Fault.{Fault}
 use Rattle.sequence.specs.declared.wanted.Want.{Want}
-use Rattle.sequence.specs.Rules.{Limits, too_deep, too_long, truncated}
-use Rattle.sequence.specs.Wanted.{Values, KeepsWanted, value_of}
+use Rattle.sequence.specs.Rules.{Limits, too_deep, too_long}
+use Rattle.sequence.specs.Wanted.{Values, kept_of, value_of}
 use Rattle.sequence.specs.Tree.{Elements, DataSet}
-use Rattle.sequence.specs.FirstFault.{IsUnbroken, FirstFault, EndFault}
+use Rattle.sequence.specs.FirstFault.{IsUnbroken}
+use Rattle.sequence.specs.Ending.{Fails}
 use Rattle.engine.specs.Timeline.{Finding, good}
 
 -- (0008,0016) SOP Class UID and (0008,0018) SOP Instance UID
@@ -27,19 +29,29 @@ class_tag = record { 0 = 0x0008; 1 = 0x0016 }
 abbrev pub instance_tag : Tag
 instance_tag = record { 0 = 0x0008; 1 = 0x0018 }
 
--- what a receiver wants of a data set: both, with 64 bytes of room each
+-- the longest UID (PS3.5 section 9.1)
+abbrev pub uid_most : ℕ
+uid_most = 64
+
+-- what a receiver wants of a data set: both, as far as they are no longer
 abbrev pub wanted : List Want
-wanted = record { tag = class_tag; room = 64 } ∷ record { tag = instance_tag; room = 64 } ∷ []
+wanted = record { tag = class_tag; room = uid_most } ∷ record { tag = instance_tag; room = uid_most } ∷ []
 
 -- what a data set is held to: so many open levels and so many bytes
 abbrev pub limits : ℕ → ℕ → Limits
 limits depth bytes = record { wanted = wanted; depth = depth; bytes = bytes }
 
--- the text is a whole data set, and breaks no rule
-pub record HasNoFault (syntax : Syntax) (lim : Limits) (data_set : List ℕ) : Type 0 where
+-- ---- the checks
+
+-- What is judged of a store: its command in this context, the data set that came after it, what this is held to, its
+-- elements where it is whole, and whether a filing call failed in the message.
+pub record Submitted : Type 0 where
+  pub context : Context
+  pub command : CommandRecord
+  pub data_set : List ℕ
+  pub limits : Limits
   pub elements : Elements
-  pub whole : DataSet syntax 0 elements data_set
-  pub unbroken : IsUnbroken syntax lim data_set
+  pub failed : Bool
 
 abbrev pub is_storage_service : Service → Bool
 is_storage_service (Known class) = is_storage class
@@ -58,37 +70,56 @@ NamesUid values tag uid = (value : List ℕ) × (value_of values (number tag) �
 abbrev pub NamesInstance : Values → CommandRecord → Type 0
 NamesInstance values command = (uid : List ℕ) × (command.instance ≡ Some uid) × NamesUid values instance_tag uid
 
+-- the data set is whole, of these elements, and breaks no rule
+pub record HasNoFault (syntax : Syntax) (lim : Limits) (data_set : List ℕ) (elements : Elements) : Type 0 where
+  pub whole : DataSet syntax 0 elements data_set
+  pub unbroken : IsUnbroken syntax lim data_set
+
+-- what is checked of a store: that its class is the context's, the data set, the class and the instance that this names,
+-- and the calls of the filing
+pub data Check : Type 0 where
+  OfContext WholeSet OwnClass OwnInstance Filed : Check
+
+-- the checks in their order
+abbrev pub checks : List Check
+checks = OfContext ∷ WholeSet ∷ OwnClass ∷ OwnInstance ∷ Filed ∷ []
+
+-- what a store has to be to pass a check
+abbrev pub Passes : Submitted → Check → Type 0
+Passes x OfContext = IsOfContext x.context x.command
+Passes x WholeSet = HasNoFault x.context.syntax x.limits x.data_set x.elements
+Passes x OwnClass = NamesUid (kept_of wanted x.elements) class_tag x.command.class
+Passes x OwnInstance = NamesInstance (kept_of wanted x.elements) x.command
+Passes x Filed = x.failed ≡ false
+
+-- ---- the findings
+
+-- a failure without a cause
+abbrev pub failure : ℕ → Finding
+failure status = record { status = status; detail = None }
+
 -- a failure that names its cause: a fault of the data set, or what doesn't match the command
 abbrev pub cause : ℕ → ℕ → Tag → Finding
 cause status number tag = record { status = status; detail = Some (record { number = number; tag = tag }) }
 
--- The finding on a store: of the whole data set that came after the command in this context, the first of these that
--- holds. `failed` says whether a filing call failed in the message.
-pub data Verdict (depth bytes : ℕ) (context : Context) (command : CommandRecord) (data_set : List ℕ) (failed : Bool) : Finding → Type 0 where
-  -- the class is not that of the context, or not one of storage
-  other_class : (IsOfContext context command → ⊥) → Verdict depth bytes context command data_set failed (record { status = class_not_supported; detail = None })
-  -- too many open levels, or too many bytes
-  no_room : {p u : List ℕ} {rule : ℕ} {tag : Tag} → IsOfContext context command
-      → FirstFault context.syntax (limits depth bytes) data_set p u rule tag → (rule ≡ too_deep) ⊎ (rule ≡ too_long)
-      → Verdict depth bytes context command data_set failed (record { status = out_of_resources; detail = None })
-  -- another fault
-  faulty : {p u : List ℕ} {rule : ℕ} {tag : Tag} → IsOfContext context command
-      → FirstFault context.syntax (limits depth bytes) data_set p u rule tag → rule ≢ too_deep → rule ≢ too_long
-      → Verdict depth bytes context command data_set failed (cause cannot_understand rule tag)
-  cut : {tag : Tag} → IsOfContext context command → EndFault context.syntax (limits depth bytes) data_set tag
-      → Verdict depth bytes context command data_set failed (cause cannot_understand truncated tag)
-  -- the data set's class is missing, unreadable or other than the command's
-  names_class : {values : Values} → IsOfContext context command → HasNoFault context.syntax (limits depth bytes) data_set
-      → KeepsWanted context.syntax wanted data_set values → (NamesUid values class_tag command.class → ⊥)
-      → Verdict depth bytes context command data_set failed (cause data_set_mismatch class_mismatch class_tag)
-  -- its instance is
-  names_instance : {values : Values} → IsOfContext context command → HasNoFault context.syntax (limits depth bytes) data_set
-      → KeepsWanted context.syntax wanted data_set values → NamesUid values class_tag command.class → (NamesInstance values command → ⊥)
-      → Verdict depth bytes context command data_set failed (cause data_set_mismatch instance_mismatch instance_tag)
-  -- a filing call failed
-  unfiled : {values : Values} → IsOfContext context command → HasNoFault context.syntax (limits depth bytes) data_set
-      → KeepsWanted context.syntax wanted data_set values → NamesUid values class_tag command.class → NamesInstance values command → failed ≡ true
-      → Verdict depth bytes context command data_set failed (record { status = out_of_resources; detail = None })
-  filed : {values : Values} → IsOfContext context command → HasNoFault context.syntax (limits depth bytes) data_set
-      → KeepsWanted context.syntax wanted data_set values → NamesUid values class_tag command.class → NamesInstance values command → failed ≡ false
-      → Verdict depth bytes context command data_set failed good
+-- a fault of the data set: too many open levels or too many bytes are a lack of resources
+abbrev pub of_fault : Fault → Finding
+of_fault fault = if nat_eq fault.number too_deep || nat_eq fault.number too_long then failure out_of_resources else cause cannot_understand fault.number fault.tag
+
+-- the finding on a store that fails a check
+abbrev pub FailsWith : Submitted → Check → Finding → Type 0
+FailsWith x OfContext finding = (Passes x OfContext → ⊥) × (finding ≡ failure class_not_supported)
+FailsWith x WholeSet finding = (fault : Fault) × Fails x.context.syntax x.limits x.data_set fault × (finding ≡ of_fault fault)
+FailsWith x OwnClass finding = (Passes x OwnClass → ⊥) × (finding ≡ cause data_set_mismatch class_mismatch class_tag)
+FailsWith x OwnInstance finding = (Passes x OwnInstance → ⊥) × (finding ≡ cause data_set_mismatch instance_mismatch instance_tag)
+FailsWith x Filed finding = (Passes x Filed → ⊥) × (finding ≡ failure out_of_resources)
+
+-- the finding of the first check that fails, all before it passed; success where none fails
+abbrev pub FirstFinding : Submitted → List Check → Finding → Type 0
+FirstFinding x [] finding = finding ≡ good
+FirstFinding x (check ∷ later) finding = FailsWith x check finding ⊎ (Passes x check × FirstFinding x later finding)
+
+-- the finding on a store
+pub record Verdict (depth bytes : ℕ) (context : Context) (command : CommandRecord) (data_set : List ℕ) (failed : Bool) (finding : Finding) : Type 0 where
+  pub elements : Elements
+  pub first : FirstFinding (record { context = context; command = command; data_set = data_set; limits = limits depth bytes; elements = elements; failed = failed }) checks finding

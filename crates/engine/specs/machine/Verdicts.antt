@@ -1,33 +1,26 @@
 -- What judging a whole data set finds, and what comes of its draft.
-use Rattle.std.specs.Prelude.{◌≡◌, ℕ, Bool, false, ◌||◌, List, Result, Ok, Err, None, nat_eq, if◌then◌else◌}
-use Rattle.sequence.specs.declared.fault.Fault.{Fault}
+use Rattle.std.specs.Prelude.{◌≡◌, ℕ, Bool, false, List, Result, Ok, Err, None}
 use Rattle.sequence.specs.declared.walker.Walker.{Walker}
-use Rattle.sequence.specs.Wanted.{Values, KeepsWanted}
+use Rattle.sequence.specs.Tree.{Elements}
+use Rattle.sequence.specs.Wanted.{Values, kept_of}
 use Rattle.dimse.specs.Command.{CommandRecord}
-use Rattle.dimse.specs.Status.{success, class_not_supported, out_of_resources, data_set_mismatch, cannot_understand}
+use Rattle.dimse.specs.Status.{success, class_not_supported, out_of_resources, data_set_mismatch}
 use Rattle.negotiate.specs.declared.proposals.Context.{Context}
 use Rattle.part10.specs.Store.{Store, stepped, committed, failed}
 use Rattle.engine.specs.declared.stores.StoreStatus.{StoreStatus}
 use Rattle.dimse.specs.Detail.{class_mismatch, instance_mismatch}
-use Rattle.engine.specs.Stores.{IsOfContext, HasNoFault, NamesUid, NamesInstance, Verdict, wanted, limits, class_tag, instance_tag, cause}
+use Rattle.engine.specs.Stores.{IsOfContext, HasNoFault, NamesUid, NamesInstance, Verdict, wanted, limits, class_tag, instance_tag, failure, cause}
+pub use Rattle.engine.specs.Stores.{of_fault}
 use Rattle.engine.specs.Timeline.{Finding, good}
 use Rattle.engine.specs.StoredData.{Stored, Nothing, Walking, HasWalked}
 use Rattle.engine.specs.machine.Storing.{EndsStore, finding_of}
 
-abbrev pub no_resources : Finding
-no_resources = record { status = out_of_resources; detail = None }
-
--- the failure that a fault of the data set is
-abbrev pub of_fault : Fault → Finding
-of_fault fault = if nat_eq fault.number 18 || nat_eq fault.number 19 then no_resources else cause cannot_understand fault.number fault.tag
-
 -- the data set is whole and within its limits, and names what the command names
 pub record IsGood (depth most : ℕ) (context : Context) (command : CommandRecord) (set : List ℕ) : Type 0 where
-  pub values : Values
-  pub fault_free : HasNoFault context.syntax (limits depth most) set
-  pub kept : KeepsWanted context.syntax wanted set values
-  pub class : NamesUid values class_tag command.class
-  pub instance : NamesInstance values command
+  pub elements : Elements
+  pub fault_free : HasNoFault context.syntax (limits depth most) set elements
+  pub class : NamesUid (kept_of wanted elements) class_tag command.class
+  pub instance : NamesInstance (kept_of wanted elements) command
 
 -- what the kept values name beside the command
 pub data Differs (values : Values) (command : CommandRecord) : Finding → Type 0 where
@@ -57,7 +50,7 @@ HasVerdict command (Walking walker drafting) result = WalkHasVerdict walker comm
 -- the draft was committed, with success; or the filing failed
 pub data Commits (finding : Finding) (old new : Store) : Type 0 where
   done : finding ≡ good → new ≡ stepped committed false old → Commits finding old new
-  undone : finding ≡ no_resources → new ≡ failed old → Commits finding old new
+  undone : finding ≡ failure out_of_resources → new ≡ failed old → Commits finding old new
 
 -- the walk ended
 abbrev pub EndsAs : CommandRecord → Finding → Store → Store → Stored → Type 0
