@@ -17,7 +17,7 @@ use Rattle.part10.proofs.Public.{one_header, one_verdict}
 use Rattle.sequence.proofs.Public.{one_tree, one_fault, one_path, whole_breaks_no_rule}
 use Rattle.std.specs.List.{list_all}
 use Rattle.dicomdir.specs.Paths.{Links, Turn, named_by, level_of, paths_from, paths_of}
-use Rattle.dicomdir.specs.DirFault.{fault, offset_fault, records_fault, each_fault, unreached_fault, links_of, directory_fault, Fault, check_limits, in_header, in_syntax, in_data_set, at_the_end, in_directory}
+use Rattle.dicomdir.specs.DirFault.{fault, offset_fault, each_fault, unreached_fault, links_of, directory_fault, Fault, check_limits, in_header, in_syntax, in_data_set, at_the_end, in_directory}
 use Rattle.dicomdir.proofs.PathForests.{forest_from, lower_path, next_path, forest_places, forest_last, followed_is, is_good, AreFree, free_paths, two_none}
 use Rattle.element.specs.declared.tag.Tag.{Tag}
 use Rattle.dictionary.specs.Syntaxes.{syntax_uid}
@@ -156,11 +156,6 @@ offset_none : (start : ℕ) (f : Found) (n : ℕ) → number_in 4 f ≡ Some n �
 offset_none start missing n e = absurd cc
 offset_none start (value_at place v) n e = sized (nat_eq (length v) 4) _ n place e
 offset_none start (items_at place h is) n e = absurd cc
-
-records_none : (start : ℕ) (f : Found) (records : List Record) → records_in f ≡ Some records → records_fault start f ≡ None
-records_none start missing records e = absurd cc
-records_none start (value_at place v) records e = absurd cc
-records_none start (items_at place h is) records e = refl
 
 each_none : (records : List Record) → are_records records ≡ true → each_fault records ≡ None
 each_none [] e = refl

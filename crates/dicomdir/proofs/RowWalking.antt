@@ -1,7 +1,7 @@
 -- Walking the data set of a file for its row, piece by piece, and what that gives.
-use Rattle.std.proofs.Common.{◌≡◌, ℕ, ◌-◌, ◌<◌, ◌≤◌, List, [], ◌++◌, length, take, drop, Option, Some, None, IfSome, refl, sym, ap, subst, ◌∙◌, arith, append_assoc, suc, ◌∷◌, Result, Err}
+use Rattle.std.proofs.Common.{◌≡◌, ℕ, ◌-◌, ◌≤◌, List, [], ◌++◌, length, take, drop, Option, Some, None, IfSome, refl, sym, ap, subst, ◌∙◌, arith, append_assoc, suc, ◌∷◌, Result, Err}
 use Rattle.std.proofs.lemmas.List.{take_rest, append-nil}
-use Rattle.std.specs.Io.KnownBytes.{Consumes, IsAtEnd}
+use Rattle.std.specs.Io.KnownBytes.{Consumes}
 use Rattle.std.proofs.KnownBytes.{Consumes-trans}
 use Rattle.element.specs.Numbers.{IsBytes}
 use Rattle.sequence.specs.declared.fault.Fault.{Fault}
@@ -98,9 +98,6 @@ pub record Reads {V D : ℕ} (w0 w : Walker V D) (old new : Option (List ℕ)) :
 
 pub reads_first : {V D : ℕ} (w : Walker V D) (old : Option (List ℕ)) → StandsAt w [] → Reads w w old old
 reads_first w old stands = grind (arith, common_steps, tells_none stands.tells (nothing_unbroken (walker_syntax w) (limits_of w)), nothing_unbroken (walker_syntax w) (limits_of w))
-
-pub ended : (new : Option (List ℕ)) (n : ℕ) (old room : List ℕ) → n ≡ 0 → length room ≡ length old → length old ≡ 4096 → (n ≡ 0 → 0 < length room → IsAtEnd new) → IsAtEnd new
-ended new n old room none same size end = end none (omega (arith, same, size))
 
 by_same : {V D : ℕ} (w0 w : Walker V D) (text : List ℕ) (reason : Skip) → IsSameSet w0 w → FailsBy (walker_syntax w) (limits_of w) text reason → FailsBy (walker_syntax w0) (limits_of w0) text reason
 by_same w0 w text reason same f = (f.0, failed_text (walker_syntax w0) (limits_of w0) text f.0 same.0 same.1 f.1, f.2)

@@ -8,7 +8,7 @@ use Rattle.element.specs.Header.{tag_at, need}
 use Rattle.sequence.specs.declared.fault.Fault.{Fault}
 use Rattle.sequence.specs.declared.spot.Spot.{Spot}
 use Rattle.sequence.specs.Ending.{Fails, breaks_rule, ends_early}
-use Rattle.sequence.specs.Rules.{Limits, Broken, broken_tag, broken_need, broken_header, broken, when, ◌or_else◌, no_tag}
+use Rattle.sequence.specs.Rules.{Limits, Broken, broken_tag, broken_need, broken_header, broken, ◌or_else◌, no_tag}
 use Rattle.std.proofs.lemmas.Bool.Decides.{nat_tests}
 use Rattle.std.proofs.lemmas.Grind.{common_steps}
 use Rattle.std.proofs.lemmas.List.{length-append, append-nil, length-drop, drop-drop, take-append-drop}
@@ -43,9 +43,6 @@ some_rule k u le n t e = grind (arith, common_steps)
 
 if_rule : (b : Bool) (x y : Broken) → IsRule x → IsRule y → IsRule (if b then x else y)
 if_rule v1 x y p q = grind (arith, nat_tests)
-
-when_rule : (b : Bool) (x : Broken) → IsRule x → IsRule (when b x)
-when_rule v1 x p = grind (arith, nat_tests)
 
 or_rule : (x y : Broken) → IsRule x → IsRule y → IsRule (x or_else y)
 or_rule v1 y p q = grind (arith, nat_tests)

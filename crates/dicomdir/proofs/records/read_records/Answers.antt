@@ -9,10 +9,7 @@ use Rattle.dicomdir.proofs.records.read_records.Goals as goal
 use Rattle.std.proofs.lemmas.Grind.{common_steps}
 
 pub loop-head-init : goal.loop-head-init
-loop-head-init g c = record {
-  fits = omega arith;
-  read = λ items has. read_none c.args.syntax c.args.first items c.args.text.now c.args.records.now.items has;
-}
+loop-head-init g c = grind (arith, common_steps, read_none)
 
 pub returns-then-ne-clause-read : goal.returns-then-ne-clause-read
 returns-then-ne-clause-read g c ok items before has are = grind (arith, common_steps, read_to_mark c.args.syntax c.args.first items c.args.text.now c.loop-head.rest.now c.args.records.now.items c.loop-head.records.items before c.in-Some.head (c.loop-head.invariant.read items has) (sym c.head_of.ensures.value ∙ c.in-Some.is) (other_tag c.in-Some.head.header.tag item_tag (sym c.ne.ensures ∙ c.if-ne.true)) are)
