@@ -13,6 +13,7 @@ use Rattle.std.proofs.lemmas.Grind.{common_steps}
 use Rattle.std.specs.Borrow.{Bor}
 use Rattle.dicomdir.specs.machine.FirstSeen.{texts, is_seen, Sees, Puts, TakesRow}
 use Rattle.dicomdir.specs.Places.{doubles_of, doubles_after}
+use Rattle.std.proofs.lemmas.Bool.Decides.{nat_tests}
 
 -- the same bytes
 
@@ -215,9 +216,7 @@ leaves_all rows at before kept doubles le l = grind (arith, common_steps, append
 pub all_more : {X : Type 0} (P : X → Type 0) (xs : List X) (at : ℕ) (x : X) → at < length xs → x ≡ get_or xs at x → P x → AllByRecursion P (take at xs) → AllByRecursion P (take (at + 1) xs)
 all_more P [] at x lt is one all = absurd (omega (arith, lt))
 all_more P (y ∷ xs) zero x lt is one all = (subst P is one, tt)
-all_more P (y ∷ xs) (suc at) x lt is one all =
-    let next : suc at + 1 ≡ suc (at + 1) = omega arith in
-    rw next (all.0, all_more P xs at x (omega (arith, lt)) is one all.1)
+all_more P (y ∷ xs) (suc at) x lt is one all = grind (arith, nat_tests, all_more P xs at x (omega (arith, lt)) is one all.1)
 
 pub all_taken : {X : Type 0} (P : X → Type 0) (xs : List X) (at : ℕ) → length xs ≤ at → AllByRecursion P (take at xs) → AllByRecursion P xs
 all_taken P xs at le all = rw (← take_all at xs le) all

@@ -1,10 +1,9 @@
 -- Worked directories: what is linked, the faults, the places and what is kept compute.
-use Rattle.std.proofs.Common.{◌≡◌, ℕ, ◌≤◌, false, List, [], ◌∷◌, ◌++◌, length, Option, Some, None, refl, subst, arith, codes, sym}
+use Rattle.std.proofs.Common.{◌≡◌, ℕ, false, List, [], ◌∷◌, ◌++◌, length, Option, Some, None, refl, subst, arith, codes, sym}
 use Rattle.element.specs.Vr.{is_short}
-use Rattle.part10.specs.declared.meta.Meta.{Meta}
-use Rattle.part10.specs.File.{head, meta_group, identity_elements, implementation_elements, title_element}
+use Rattle.part10.specs.File.{identity_elements, implementation_elements, title_element}
 use Rattle.part10.specs.MetaText.{SpellsMeta, said_of, HasMeta}
-use Rattle.part10.proofs.Public.{head_is_read, no_headers, other_syntax_is_a_fault, least_read}
+use Rattle.part10.proofs.Public.{no_headers, other_syntax_is_a_fault, least_read}
 use Rattle.sequence.specs.Tree.{Elements}
 use Rattle.dicomdir.specs.TreeOf.{Forest, no_nodes, node, TreeOf}
 use Rattle.dicomdir.specs.Directory.{IsExplicitFile, IsDirectoryFile, Record, records_of}
@@ -14,7 +13,7 @@ use Rattle.dicomdir.specs.Record.{spelled}
 use Rattle.dicomdir.specs.Examples.{one_image_row, one_image_header, one_image_file, one_image_elements, OneImageIsLinked, OneImageFaults, preamble_left_out, PreambleCounts, RecordFaults, no_rows_elements, NoRowsAreLinked, OneImageHasNodes, RowsAreGrouped, FileIdsAreRead, InactiveRecords, PlacesAreAssigned, HeaderFaults}
 use Rattle.dicomdir.proofs.Laid.{laid_elements}
 use Rattle.dicomdir.proofs.CheckLemmas.{file_nodes}
-use Rattle.dicomdir.proofs.WrittenLinked.{written_is_linked}
+use Rattle.dicomdir.proofs.WrittenLinked.{header_read, written_is_linked}
 use Rattle.dicomdir.specs.Built.{directory_meta, directory_header, directory_file, file_is_too_large}
 use Rattle.dicomdir.specs.Keys.{IsRow}
 use Rattle.dicomdir.specs.Row.{Row}
@@ -23,17 +22,11 @@ use Rattle.dicomdir.specs.Places.{directory_elements}
 use Rattle.std.proofs.lemmas.List.{append-nil}
 use Rattle.part10.specs.declared.meta_fault.MetaFault.TheVariants.{NotPart10, OtherSyntax}
 use Rattle.part10.specs.Examples.{least_header, least_said}
+use Rattle.std.proofs.lemmas.Bool.Decides.{nat_tests}
 
-one_image_meta : Meta
-one_image_meta = directory_meta (codes "2.25.1")
-
-header_is : head one_image_meta ≡ one_image_header
-unfolding one_image_meta identity_elements implementation_elements title_element is_short
+header_is : directory_header (codes "2.25.1") ≡ one_image_header
+unfolding directory_header identity_elements implementation_elements title_element is_short
 header_is = refl
-
-group_short : length (meta_group one_image_meta) ≤ 360
-unfolding one_image_meta identity_elements implementation_elements title_element is_short
-group_short = omega arith
 
 elements_are : one_image_file ≡ one_image_header ++ spelled (one_image_elements 320 320 0 404 534 626)
 unfolding is_short
@@ -45,11 +38,10 @@ one_image_faults = (refl, refl, refl, refl, refl, refl, refl)
 
 -- behind that header stands the data set
 explicit_file : (file back : List ℕ) → file ≡ one_image_header ++ back → IsExplicitFile file one_image_header back
-unfolding one_image_meta
 explicit_file file back whole = record {
-  said = said_of one_image_meta;
+  said = said_of (directory_meta (codes "2.25.1"));
   whole = whole;
-  header = subst (λ b. SpellsMeta (said_of one_image_meta) b) header_is (head_is_read one_image_meta refl refl refl group_short);
+  header = subst (λ b. SpellsMeta (said_of (directory_meta (codes "2.25.1"))) b) header_is (header_read (codes "2.25.1") refl);
   syntax = refl;
 }
 
@@ -80,21 +72,10 @@ one_image_has_nodes =
 
 preamble_is_file : IsDirectoryFile (one_image_header ++ spelled preamble_left_out) 266 preamble_left_out
 unfolding is_short
-preamble_is_file = record {
-  front = one_image_header;
-  back = spelled preamble_left_out;
-  explicit = explicit_file (one_image_header ++ spelled preamble_left_out) (spelled preamble_left_out) refl;
-  data_set = laid_elements 0 preamble_left_out refl;
-  begins = refl;
-}
+preamble_is_file = grind (arith, nat_tests, explicit_file (one_image_header ++ spelled preamble_left_out) (spelled preamble_left_out) refl, laid_elements 0 preamble_left_out refl)
 
 preamble_records : List Record
 preamble_records = records_or_none (records_of 266 preamble_left_out)
-
-records_are : (o : Option (List Record)) (records : List Record) → o ≡ Some records → records ≡ records_or_none o
-unfolding records_or_none
-records_are None records e = absurd cc
-records_are (Some found) records e = cc
 
 none_there : record_at 192 preamble_records ≡ None
 unfolding preamble_records records_or_none is_short
@@ -102,18 +83,11 @@ none_there = refl
 
 not_linked : (records : List Record) (placed : Forest PlacedNode) → records ≡ preamble_records → Some 192 ≡ Some (first_place placed) → AreLinked records 1 placed → ⊥
 not_linked records no_nodes is first linked = absurd cc
-not_linked records (node n below next) is first linked =
-    let here : n.place ≡ 192 = cc in
-    let nothing : record_at n.place records ≡ None = rw (here, is) none_there in
-    let something : record_at n.place records ≡ Some linked.0.elements = linked.0.stands in
-    absurd cc
+not_linked records (node n below next) is first linked = grind (arith, nat_tests, none_there)
 
 pub preamble_counts : PreambleCounts
 unfolding preamble_records is_short
-preamble_counts = (
-  preamble_is_file,
-  λ tree linked. not_linked linked.records linked.placed (records_are (records_of 266 preamble_left_out) linked.records linked.has_records) linked.names_first linked.linked,
-)
+preamble_counts = grind (arith, nat_tests, not_linked, preamble_is_file)
 
 pub rows_are_grouped : RowsAreGrouped
 unfolding TreeOf

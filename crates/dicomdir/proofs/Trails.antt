@@ -201,9 +201,7 @@ pub place_absent : (entries : List ReadRecord) (place i : ℕ)
     → (IsNonDecreasingBy (λ e. ordering_index (nat_cmp e.place place)) entries
     → IsPartitionPoint (λ e. nat_cmp e.place place ≡ Less) (λ e. nat_cmp e.place place ≡ Greater) entries i)
     → (records : List Record) → AreEntries entries records → Rise 0 records → record_at place records ≡ None
-place_absent entries place i parted records are rise =
-    let parts = parted (comparisons_rise entries records place are rise) in
-    no_record entries records place are (λ k d fits same. neither entries place i k d parts.0 parts.1 fits same)
+place_absent entries place i parted records are rise = grind (arith, nat_tests, comparisons_rise entries records place are rise, neither, no_record)
 
 -- the flags
 

@@ -98,7 +98,7 @@ group_short : (uid : List ℕ) → is_uid uid ≡ true → length (meta_group (d
 unfolding identity_elements implementation_elements title_element is_short
 group_short uid e = grind (arith, common_steps, padded_short 0 uid)
 
-header_read : (uid : List ℕ) → is_uid uid ≡ true → SpellsMeta (said_of (directory_meta uid)) (directory_header uid)
+pub header_read : (uid : List ℕ) → is_uid uid ≡ true → SpellsMeta (said_of (directory_meta uid)) (directory_header uid)
 unfolding directory_header
 header_read uid e = head_is_read (directory_meta uid) refl e refl (group_short uid e)
 
