@@ -1,8 +1,9 @@
 -- Each message that ends has come in an accepted presentation context: the head of each of its values was judged first.
-use Rattle.std.proofs.Common.{◌≡◌, ℕ, ◌+◌, ◌-◌, Bool, true, false, not, ◌&&◌, List, [], ◌∷◌, ◌++◌, length, Option, Some, None, Result, Ok, Err, refl, sym, ap, subst, ◌∙◌, nat_eq, if◌then◌else◌}
+use Rattle.std.proofs.Common.{◌≡◌, ℕ, ◌+◌, ◌-◌, Bool, true, false, not, ◌&&◌, List, [], ◌∷◌, ◌++◌, length, Option, Some, None, Result, Ok, Err, refl, sym, ap, subst, ◌∙◌, nat_eq, if◌then◌else◌, arith}
+use Rattle.std.proofs.lemmas.Grind.{common_steps}
 use Rattle.pdu.specs.Heads.{is_last}
 use Rattle.acceptor.specs.declared.state.State.{State}
-use Rattle.acceptor.specs.declared.state.State.TheVariants.{Sta1, Sta2, Sta3, Sta6, Sta8, Sta13}
+use Rattle.acceptor.specs.declared.state.State.TheVariants.{Sta1, Sta6}
 use Rattle.acceptor.specs.declared.event.Event.{Event}
 use Rattle.acceptor.specs.declared.event.Event.TheVariants as event
 use Rattle.acceptor.specs.Table.{table}
@@ -105,17 +106,14 @@ BroughtKnown request (Refuses fault) = Unit {0}
 
 announced_known : (request : Requested) (id : ℕ) (command : List ℕ) (with_data : Bool) → IsKnown request id
     → BroughtKnown request (if with_data then Goes (InSet id command []) else Ends (record { context = id; command = command; set = [] }))
-announced_known request id command true h = h
-announced_known request id command false h = h
+announced_known request id command with_data h = grind (arith, common_steps)
 
 command_known : (request : Requested) (id : ℕ) (command : List ℕ) (r : Result CommandRecord DimseFault) → IsKnown request id → BroughtKnown request (with_command id command r)
 command_known request id command (Err fault) h = tt
 command_known request id command (Ok c) h = announced_known request id command c.with_data h
 
 come_known : (request : Requested) (b : Begun) (id : ℕ) (bytes : List ℕ) → MessageKnown request b → IsKnown request id → MessageKnown request (with_fragment id bytes b)
-come_known request NoMessage id bytes m h = h
-come_known request (InCommand first command) id bytes m h = m
-come_known request (InSet first command set) id bytes m h = m
+come_known request b id bytes h k = grind (arith, common_steps)
 
 row_known : (request : Requested) (come : Begun) (last : Bool) → MessageKnown request come → BroughtKnown request (if last then completed come else Goes come)
 row_known request come false m = m
@@ -129,8 +127,7 @@ message_known request (Ends whole) m e h = let same : whole ≡ m = cc in subst 
 message_known request (Refuses fault) m e h = absurd cc
 
 replied_quiet : (p : Progress) (finding : Finding) (m : Message) (r : Result CommandRecord DimseFault) → (replied p finding m r).next.message ≡ NoMessage
-replied_quiet p finding m (Err fault) = refl
-replied_quiet p finding m (Ok command) = refl
+replied_quiet p finding m r = grind (arith, common_steps)
 
 -- ---- one entry
 
@@ -182,12 +179,7 @@ head_sound room most p kind n TooLong e h =
 -- ---- a whole PDU
 
 moved_quiet : (st : State) (p : Progress) → p.message ≡ NoMessage → (moved st p).message ≡ NoMessage
-moved_quiet Sta1 p e = refl
-moved_quiet Sta13 p e = refl
-moved_quiet Sta2 p e = e
-moved_quiet Sta3 p e = e
-moved_quiet Sta6 p e = e
-moved_quiet Sta8 p e = e
+moved_quiet st p h = grind (arith, common_steps)
 
 done_quiet : (answer : List ℕ) (reason : ℕ) (p : Progress) (e : Event) → p.message ≡ NoMessage → (done answer reason p e).next.message ≡ NoMessage
 done_quiet answer reason p e q = moved_quiet (table p.state e).1 p q
@@ -227,8 +219,7 @@ end_sound s p o body true request release h = event_sound p Between event.Abort 
 end_sound s p o body false request release h = by (request && is_due p.state) (release && is_established p.state) refl refl
   where
     second : (a b : Bool) → a && b ≡ true → b ≡ true
-    second true b e = e
-    second false b e = absurd cc
+    second a b h = grind (arith, common_steps)
 
     by : (a b : Bool) → request && is_due p.state ≡ a → release && is_established p.state ≡ b → Sound (if a then at_request s p body else (if b then released p else nothing p)).next Between
     by true b e f = quiet_sound (at_request s p body).next (request_quiet s p body (h.quiet (second request (is_due p.state) e)))

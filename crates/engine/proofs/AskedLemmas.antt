@@ -1,5 +1,6 @@
 -- Which commands ask for a store, and that what counts for nothing needs no room.
 use Rattle.std.proofs.Common.{◌≡◌, ◌∙◌, ℕ, Bool, true, false, not, ◌&&◌, List, Option, None, Some, nat_eq, refl, ap, sym, arith}
+use Rattle.std.proofs.lemmas.Grind.{common_steps}
 use Rattle.std.proofs.lemmas.Bool.Decides.{nat_tests}
 use Rattle.acceptor.specs.declared.state.State.{State}
 use Rattle.acceptor.specs.declared.state.State.TheVariants.{Sta6}
@@ -11,9 +12,7 @@ use Rattle.engine.specs.Kept.{Kept, takes_pdvs_in}
 pub store_if_data : (field : ℕ) (announced : Bool) (instance : Option (List ℕ)) → is_request field announced instance ≡ true → announced ≡ true → field ≡ 1
 store_if_data field announced None r d = by (nat_eq field 0x0030) announced r d where
   by : (t a : Bool) → (t && not a) ≡ true → a ≡ true → field ≡ 1
-  by true true x y = absurd cc
-  by true false x y = absurd cc
-  by false a x y = absurd cc
+  by t a h k = grind (arith, common_steps)
 store_if_data field announced (Some instance) r d = by (nat_eq field 0x0001) refl announced r where
   by : (t : Bool) → nat_eq field 0x0001 ≡ t → (a : Bool) → (t && a) ≡ true → field ≡ 1
   by true is a x = grind (arith, nat_tests)
@@ -23,9 +22,7 @@ store_if_data field announced (Some instance) r d = by (nat_eq field 0x0001) ref
 pub instance_if_data : {P : Type 0} → (field : ℕ) (announced : Bool) (instance : Option (List ℕ)) → None ≡ instance → is_request field announced instance ≡ true → announced ≡ true → P
 instance_if_data {P = P} field announced None e r d = by (nat_eq field 0x0030) announced r d where
   by : (t a : Bool) → (t && not a) ≡ true → a ≡ true → P
-  by true true x y = absurd cc
-  by true false x y = absurd cc
-  by false a x y = absurd cc
+  by t a h k = grind (arith, common_steps)
 instance_if_data {P = P} field announced (Some instance) e r d = absurd cc
 
 -- a request that is a C-STORE announces one

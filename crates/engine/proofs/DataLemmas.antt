@@ -1,5 +1,6 @@
 -- What comes of the data of a store as they begin and go on.
 use Rattle.std.proofs.Common.{◌≡◌, ◌⊎◌, ℕ, ◌≤◌, Bool, true, false, ◌||◌, List, [], ◌++◌, length, drop, get_or, Option, Some, None, option_map, Result, Ok, Err, refl, ap, sym, subst, ◌∙◌, arith, inl, inr}
+use Rattle.std.proofs.lemmas.Grind.{common_steps}
 use Rattle.std.proofs.lemmas.List.{append-nil}
 use Rattle.acceptor.specs.declared.state.State.TheVariants.{Sta6}
 use Rattle.element.specs.declared.syntax.Syntax.{Syntax}
@@ -46,12 +47,10 @@ use Rattle.pdu.specs.Heads.{pdv_head_of}
 -- ---- the data of a store begin
 
 told_begun : (told : Option Shelf) (bytes file : List ℕ) → bytes ≡ file → TellsDraft (told_after (λ shelf. record { files = shelf.files; draft = bytes }) told) file
-told_begun None bytes file e = tt
-told_begun (Some shelf) bytes file e = e
+told_begun told bytes file h = grind (arith, common_steps)
 
 told_files : (told : Option Shelf) (bytes : List ℕ) → option_map (λ (shelf : Shelf). shelf.files) (told_after (λ shelf. record { files = shelf.files; draft = bytes }) told) ≡ option_map (λ (shelf : Shelf). shelf.files) told
-told_files None bytes = refl
-told_files (Some shelf) bytes = refl
+told_files told bytes = grind (arith, common_steps)
 
 -- which commands are none of a store that is walked
 
@@ -116,8 +115,7 @@ begun_proceeds depth most request m s bytes (Walking walker false) old new none 
     }
 
 either_failed : (f g : Bool) → (f || g) ≡ true → (f ≡ true) ⊎ (g ≡ true)
-either_failed true g e = inl refl
-either_failed false g e = inr e
+either_failed f g h = grind (arith, common_steps)
 
 pub does_due : (rooms : Rooms) (s : Settings) (p : Progress) (begun : List ℕ) (room : ℕ) (k : Kept) (j : Joining) (z : Stored) (l : Line) (so sn : Store) (later : Begun) → Pends k so p [] begun → takes_pdvs p ≡ true
     → brought p.message (pdv_of begun) ≡ Goes later → ShowsMessage k.room j later [] → IsDataDue room p.message (pdv_head_of begun) (drop 6 begun) later → Proceeds k.depth k.most p.request later false z so sn

@@ -1,9 +1,9 @@
 -- One entry after the other.
-use Rattle.std.proofs.Common.{◌≡◌, ℕ, ◌+◌, Bool, true, false, ◌||◌, List, [], ◌∷◌, ◌++◌, Option, Some, None, refl, sym, ap, subst, ◌∙◌, arith, inl, inr}
+use Rattle.std.proofs.Common.{◌≡◌, ℕ, ◌+◌, Bool, true, false, ◌||◌, List, [], ◌∷◌, ◌++◌, Option, refl, sym, ap, subst, ◌∙◌, arith, inl, inr}
+use Rattle.std.proofs.lemmas.Grind.{common_steps}
 use Rattle.std.proofs.lemmas.List.{append-nil, map-append}
 use Rattle.negotiate.specs.Settings.{Settings}
-use Rattle.pdu.specs.Marks.{Head, PdvHead, Pdv, BadPdv, Leftover, End}
-use Rattle.engine.specs.Timeline.{Entry, At, Shut, TimedOut, Aborted, Outcome, Happened, entries_of}
+use Rattle.engine.specs.Timeline.{Entry, Outcome, Happened, entries_of}
 use Rattle.engine.specs.Progress.{Progress, Advance, absorb}
 use Rattle.engine.specs.Devices.{Devices, line_with, files_in, with_files}
 use Rattle.engine.specs.Run.{Rooms, at_entry, cut, gives, progress_of, sent_of, files_of, counted, wire_failures, filing_failures}
@@ -13,35 +13,21 @@ use Rattle.engine.specs.Kept.{Kept, Pends}
 use Rattle.engine.specs.machine.Does.{Does, DoesAll, Appends, push, still_failed}
 
 pub absorb_twice : (f g : Bool) (p : Progress) → absorb (f || g) p ≡ absorb g (absorb f p)
-absorb_twice true true p = refl
-absorb_twice true false p = refl
-absorb_twice false true p = refl
-absorb_twice false false p = refl
+absorb_twice f g p = grind (arith, common_steps)
 
 cut_absorbed : (f : Bool) (w : Option ℕ) (p : Progress) (g : Advance) → cut w p g ≡ cut w (absorb f p) g
-cut_absorbed f None p g = refl
-cut_absorbed f (Some k) p g = refl
+cut_absorbed f w p g = grind (arith, common_steps)
 
 pub message_absorbed : (f : Bool) (p : Progress) (e : Entry) → message_at (absorb f p) e ≡ message_at p e
-message_absorbed f p (At (Head kind n)) = refl
-message_absorbed f p (At (PdvHead n context control)) = refl
-message_absorbed f p (At (Pdv context control fragment)) = refl
-message_absorbed f p (At BadPdv) = refl
-message_absorbed f p (At Leftover) = refl
-message_absorbed f p (At (End kind body)) = refl
-message_absorbed f p Shut = refl
-message_absorbed f p TimedOut = refl
-message_absorbed f p Aborted = refl
+message_absorbed f p e = grind (arith, common_steps)
 
 -- ---- a failure before the next entry counts at it
 
 pub push_entries : (f : Bool) (st : List Happened) → entries_of (push f st) ≡ entries_of st
-push_entries f [] = refl
-push_entries f ((e, o) ∷ st) = refl
+push_entries f st = grind (arith, common_steps)
 
 pub push_wire : (f : Bool) (st : List Happened) → wire_failures (push f st) ≡ wire_failures st
-push_wire f [] = refl
-push_wire f ((e, o) ∷ st) = refl
+push_wire f st = grind (arith, common_steps)
 
 module _ (rooms : Rooms) (s : Settings) where
   push_gives : (f : Bool) (p : Progress) (e : Entry) (o : Outcome) → gives rooms s p (e, record o { filing = f || o.filing }) ≡ gives rooms s (absorb f p) (e, o)

@@ -43,8 +43,7 @@ line_gained None p g l = ap (λ (n : ℕ). record { sent = append_known l.sent g
 line_gained (Some k) p g l = refl
 
 pub files_cut : (wire : Option ℕ) (p : Progress) (g : Advance) → (cut wire p g).files ≡ g.files
-files_cut None p g = refl
-files_cut (Some k) p g = refl
+files_cut wire p g = grind (arith, common_steps)
 
 -- ---- an entry
 
@@ -70,8 +69,7 @@ does_nothing rooms s p e k body begun d is verdict h = does_by rooms s p e (noth
 -- ---- the PDU is refused
 
 pub not_counted : (b : Bool) (xs : List ℕ) → ◌≡◌ {A = List ℕ} [] (if b && false then xs else [])
-not_counted true xs = refl
-not_counted false xs = refl
+not_counted b xs = grind (arith, common_steps)
 
 pends_refused : (q : Progress) (mid : Kept) (store : Store) (body begun body2 begun2 : List ℕ) → counted_body q body ≡ [] → counted_pdv q begun ≡ [] → Pends mid store q body begun
     → Pends (record mid { refused = true }) store (record q { refused = true }) body2 begun2
@@ -114,8 +112,7 @@ refused_by p g mid body begun body2 begun2 old new b d t = by t.wire refl where
   }
 
 pub if_nothing : (t : Bool) → ◌≡◌ {A = List ℕ} (if t then [] else []) []
-if_nothing true = refl
-if_nothing false = refl
+if_nothing t = grind (arith, common_steps)
 
 pub none_counted_body : (q : Progress) → counted_body q [] ≡ []
 none_counted_body q = if_nothing (is_due q.state && not q.refused)
@@ -129,8 +126,7 @@ pub taken_when : (e r : Bool) (a b : Advance) → (if r then b else (if e then a
 taken_when e r a b = grind arith
 
 no_files : (t : Bool) (p : Progress) → (if t then invalid p else nothing p).files ≡ []
-no_files true p = refl
-no_files false p = refl
+no_files t p = grind (arith, common_steps)
 
 -- a PDV that is bad or leaves bytes over
 module _ (rooms : Rooms) (s : Settings) (p : Progress) (new : Kept) (old later : Devices) (due : DoesDue p (if takes_pdvs p then invalid p else nothing p) new [] [] old later) where

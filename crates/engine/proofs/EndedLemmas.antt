@@ -1,5 +1,6 @@
 -- What comes of a message that ends.
 use Rattle.std.proofs.Common.{◌≡◌, ◌⊎◌, nat_lt, ℕ, zero, suc, ◌+◌, ◌<◌, ◌≤◌, Bool, true, false, not, ◌&&◌, ◌||◌, List, [], ◌∷◌, ◌++◌, length, take, drop, Option, Some, None, option_map, Result, Ok, Err, OnErr, nat_eq, nat_le, refl, ap, sym, subst, ◌∙◌, arith, if◌then◌else◌, inl, inr}
+use Rattle.std.proofs.lemmas.Grind.{common_steps}
 use Rattle.std.proofs.lemmas.Bool.Decides.{nat_tests}
 use Rattle.acceptor.specs.declared.state.State.{State}
 use Rattle.acceptor.specs.declared.state.State.TheVariants.{Sta6}
@@ -27,7 +28,7 @@ use Rattle.engine.specs.Drafts.{IsDraft, TellsDraft}
 use Rattle.engine.specs.Progress.{Progress, Advance, absorb}
 use Rattle.engine.specs.Reached.{takes_pdvs}
 use Rattle.engine.specs.Replies.{replied, ended_message, finding_on, echo_status, file_in, file_put}
-use Rattle.engine.specs.Stores.{IsOfContext, Submitted, Check, OfContext, WholeSet, OwnClass, OwnInstance, Filed, Passes, FailsWith, FirstFinding, Verdict, limits}
+use Rattle.engine.specs.Stores.{IsOfContext, Submitted, Check, OfContext, WholeSet, OwnClass, OwnInstance, Filed, Passes, FailsWith, FirstFinding, Verdict}
 use Rattle.engine.specs.Run.{Rooms, at_entry, fails, counted}
 use Rattle.engine.specs.Run as run
 use Rattle.engine.specs.Fair.{InStore}
@@ -49,8 +50,7 @@ use Rattle.engine.proofs.WalkVerdictLemmas.{fault_is_failure}
 -- ---- replies
 
 pdus_some : (context : ℕ) (f : List ℕ) (fs : List (List ℕ)) → 0 < length (command_pdus context (f ∷ fs))
-pdus_some context f [] = omega arith
-pdus_some context f (x ∷ fs) = omega arith
+pdus_some context f fs = grind (arith, common_steps)
 
 fragments_some : (context k size : ℕ) (text : List ℕ) → 0 < length (command_pdus context (fragments_in k size text))
 fragments_some context zero size text = pdus_some context text []
@@ -65,8 +65,7 @@ reply_some c status detail context maximum =
     fragments_some context (length (reply_command c status detail)) (fragment_size maximum (length (reply_command c status detail))) (reply_command c status detail)
 
 pub on_failure : (r : Result (Unit {0}) WireFailed) (n : ℕ) → 0 < n → OnErr r (0 < n)
-on_failure (Ok u) n h = tt
-on_failure (Err f) n h = h
+on_failure r n h = grind (arith, common_steps)
 
 -- what is sent is the reply to the command, in the words of the code
 pub replied_sent : (p : Progress) (f : Finding) (m : Message) (c : CommandRecord) (id maximum : ℕ) (accepted : Option Context) → command_in m.command ≡ Ok c
@@ -79,12 +78,10 @@ replied_sent p f m c id maximum accepted e a i x =
     ∙ ap (λ (r : Result CommandRecord DimseFault). (replied p f m r).sent) (sym e)
 
 replied_next : (p : Progress) (f : Finding) (m : Message) (r : Result CommandRecord DimseFault) → (replied p f m r).next ≡ ended_message p
-replied_next p f m (Ok c) = refl
-replied_next p f m (Err x) = refl
+replied_next p f m r = grind (arith, common_steps)
 
 replied_absorbed : (p : Progress) (b : Bool) (f : Finding) (m : Message) (r : Result CommandRecord DimseFault) → replied (absorb b p) f m r ≡ replied p f m r
-replied_absorbed p b f m (Ok c) = refl
-replied_absorbed p b f m (Err x) = refl
+replied_absorbed p b f m r = grind (arith, common_steps)
 
 -- ---- a command that does not read, and an echo
 
@@ -149,8 +146,7 @@ is_zero n true e h = absurd (h (grind (arith, nat_tests)))
 is_zero n false e h = refl
 
 and_false : (t : Bool) → (t && false) ≡ false
-and_false true = refl
-and_false false = refl
+and_false t = grind (arith, common_steps)
 
 not_put : (r : RequestRecord) (id : ℕ) (c : CommandRecord) (set : List ℕ) (f : Finding) → (f.status ≡ success → ⊥) → file_put r id c set f ≡ []
 not_put r id c set f h =

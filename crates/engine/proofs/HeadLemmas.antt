@@ -1,7 +1,8 @@
 -- What the head of a PDU brings.
 use Rattle.std.proofs.Common.{◌≡◌, ℕ, ◌-◌, Bool, true, false, not, ◌&&◌, ◌||◌, [], nat_eq, nat_lt, refl, ap, sym, subst, ◌∙◌, if◌then◌else◌, arith}
+use Rattle.std.proofs.lemmas.Grind.{common_steps}
 use Rattle.acceptor.specs.declared.state.State.{State}
-use Rattle.acceptor.specs.declared.state.State.TheVariants.{Sta1, Sta2, Sta3, Sta6, Sta8, Sta13}
+use Rattle.acceptor.specs.declared.state.State.TheVariants.{Sta2}
 use Rattle.acceptor.specs.declared.event.Event.{Event}
 use Rattle.acceptor.specs.declared.event.Event.TheVariants.{Request, Invalid}
 use Rattle.acceptor.specs.Table.{table}
@@ -47,12 +48,7 @@ head_stays room most st kind n e r =
     (λ v. either (is_established st && nat_eq kind 4) (data_length most n) (out_of_place st kind) (AtOnce e r) (Stays st e) (λ w h. of_data h) (λ w h. out h))))
 
 due_is : (st : State) (b : Bool) → (is_due st && b) ≡ true → st ≡ Sta2
-due_is Sta1 b h = absurd cc
-due_is Sta2 b h = refl
-due_is Sta3 b h = absurd cc
-due_is Sta6 b h = absurd cc
-due_is Sta8 b h = absurd cc
-due_is Sta13 b h = absurd cc
+due_is st b h = grind (arith, common_steps)
 
 pub head_too_long : (room most : ℕ) (st : State) (kind n : ℕ) → head_event room most st kind n ≡ TooLong → st ≡ Sta2
 head_too_long room most st kind n =

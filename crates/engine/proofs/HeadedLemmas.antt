@@ -1,6 +1,7 @@
 -- Along a timeline the mark of a presentation data value comes after that of its head, and the end of an association
 -- request after its head; and the last mark says what has begun at the end of the stream.
 use Rattle.std.proofs.Common.{◌≡◌, ℕ, zero, suc, ◌+◌, ◌-◌, ◌≤◌, Bool, true, false, ◌||◌, List, [], ◌∷◌, ◌++◌, length, take, drop, get_or, map, Option, Some, None, refl, sym, ap, subst, ◌∙◌, append_assoc, arith, nat_eq, nat_lt, eqb-true, ltb-true, ltb-false, if◌then◌else◌}
+use Rattle.std.proofs.lemmas.Grind.{common_steps}
 use Rattle.std.proofs.lemmas.List.{take-append-drop, length-take, length-drop}
 use Rattle.std.specs.List.{flat_map, AllByRecursion}
 use Rattle.byteorder.specs.Endian.{big_number}
@@ -146,8 +147,7 @@ module _ (P : List ℕ → Type 0) (parts : HoldsOfParts P) where
 
   leftover_begun : (b : Bool) (later : Pdvs) (o : Opened) → IsBegunAt later.spot (open_after o later.marks)
       → IsBegunAt (if b then record { marks = Leftover ∷ []; spot = Dropped } else later).spot (open_after o (if b then record { marks = Leftover ∷ []; spot = Dropped } else later).marks)
-  leftover_begun true later o h = tt
-  leftover_begun false later o h = h
+  leftover_begun b later o h = grind (arith, common_steps)
 
   pdvs_begun : (k room : ℕ) (bytes : List ℕ) → P bytes → length bytes ≤ k → (o : Opened) → IsBegunAt (pdvs_in k room bytes).spot (open_after o (pdvs_in k room bytes).marks)
   pdvs_begun zero room bytes p few o = (p, λ six. absurd (omega (arith, few, six)))
@@ -168,8 +168,7 @@ module _ (P : List ℕ → Type 0) (parts : HoldsOfParts P) where
     size : length (drop 6 f) ≡ frame_length f
 
   either_headed : (b : Bool) (xs : List Mark) (o : Opened) → AreHeaded P o xs → AreHeaded P o (if b then xs else [])
-  either_headed true xs o h = h
-  either_headed false xs o h = tt
+  either_headed b xs o h = grind (arith, common_steps)
 
   -- the end of a request comes right after its head
   end_headed : (f : List ℕ) (b : Bool) → nat_eq (frame_kind f) 4 ≡ b → IsGood f → (ms : List Mark) → AreHeaded P (open_after (OfPdu (frame_kind f) (frame_length f)) (if b then ms else [])) (End (frame_kind f) (drop 6 f) ∷ [])

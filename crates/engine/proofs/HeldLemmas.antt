@@ -1,10 +1,11 @@
 -- How many bytes are held.
 use Rattle.std.proofs.Common.{◌≡◌, ℕ, ◌+◌, ◌<◌, ◌≤◌, Bool, true, false, List, [], ◌∷◌, length, if◌then◌else◌, refl, sym, ap, ◌∙◌, arith, inl, inr}
+use Rattle.std.proofs.lemmas.Grind.{common_steps}
 use Rattle.std.proofs.lemmas.Bool.{cases_Bool, cases_lt, lt-ltb, le-ltb}
 use Rattle.pdu.specs.declared.position.Position.{Position}
 use Rattle.pdu.specs.declared.position.Position.TheVariants as position
 use Rattle.pdu.specs.Marks.{Mark, Pdv, End}
-use Rattle.pdu.specs.Spot.{Spot, Opening, Plain, InPdv, spot}
+use Rattle.pdu.specs.Spot.{Spot, spot}
 use Rattle.pdu.specs.Deframing.{At, SkipsAt, AtBody, in_body, after_body, AtFragment, in_fragment, after_fragment, unfinished_heads, unfinished_pdv_head}
 use Rattle.pdu.proofs.Public.{spot_opening}
 use Rattle.negotiate.specs.Settings.{Settings}
@@ -47,8 +48,7 @@ heads_open r b n m e is first second =
 -- ---- heads
 
 pub unfinished_none : (t : Bool) → unfinished (if t then [] else []) ≡ 0
-unfinished_none true = refl
-unfinished_none false = refl
+unfinished_none t = grind (arith, common_steps)
 
 -- of a frame that stands past the head of a PDV
 no_pdv_head : (q : Position) (r : List ℕ) → At q r [] → in_pdv_head q ≡ false → 6 ≤ length r → unfinished_pdv_head (spot r) ≡ 0
@@ -66,9 +66,7 @@ no_pdv_head (position.Leftover left) r a e six = ap unfinished_pdv_head a.inside
 no_pdv_head (position.Skipped kind left) r a e six = absurd (let wrong : [] ≡ End kind a.body ∷ [] = a.due_is in cc)
 
 heads_of_pdv : (x : Spot) → unfinished_pdv_head x ≡ unfinished (begun_in x)
-heads_of_pdv Opening = refl
-heads_of_pdv Plain = refl
-heads_of_pdv (InPdv part) = refl
+heads_of_pdv x = grind (arith, common_steps)
 
 module _ (q : Position) (k : Kept) (store : Store) (r : Reached) where
   -- the deframer holds those that count: no head of a PDV is gathered where PDVs don't

@@ -1,12 +1,13 @@
 -- How many bytes are kept, by where the timeline has led.
 use Rattle.std.proofs.Common.{◌≡◌, ℕ, ◌+◌, ◌-◌, ◌*◌, Bool, true, false, not, ◌&&◌, List, [], length, drop, nat_eq, refl, ap, ◌∙◌, arith, if◌then◌else◌}
+use Rattle.std.proofs.lemmas.Grind.{common_steps}
 use Rattle.std.proofs.lemmas.List.{length-drop}
 use Rattle.acceptor.specs.declared.state.State.{State}
 use Rattle.acceptor.specs.declared.state.State.TheVariants.{Sta1, Sta2, Sta3, Sta6, Sta8, Sta13}
 use Rattle.pdu.specs.Marks.{frame_kind}
 use Rattle.engine.specs.Requested.{request_record}
 use Rattle.pdu.specs.Spot.{spot}
-use Rattle.dimse.specs.Messages.{Begun, NoMessage, InCommand, InSet}
+use Rattle.dimse.specs.Messages.{Begun}
 use Rattle.dimse.specs.Joining as joining
 use Rattle.dimse.specs.Joining.{Joining, command_bytes}
 use Rattle.engine.specs.Progress.{Progress, is_due, is_established}
@@ -19,9 +20,7 @@ use Rattle.engine.proofs.ShownLemmas.{ended_unestablished, ended_stored, ended_p
 use Rattle.engine.proofs.StateLemmas.{ended_is}
 
 command_size : (m : Begun) → length (command_bytes m) ≡ of_command m
-command_size NoMessage = refl
-command_size (InCommand context command) = refl
-command_size (InSet context command set) = refl
+command_size m = grind (arith, common_steps)
 
 command_kept : (k : Kept) (store : Store) (p : Progress) (body begun : List ℕ) → Pends k store p body begun → length k.join.command ≡ of_command (joining.with_pdv (counted_pdv p begun) p.message)
 command_kept k store p body begun h = ap (λ (j : Joining). length j.command) h.join_is.shows ∙ command_size (joining.with_pdv (counted_pdv p begun) p.message)
@@ -30,15 +29,7 @@ command_kept k store p body begun h = ap (λ (j : Joining). length j.command) h.
 kept_of_request : (st : State) (r one : Bool) (table body : ℕ) (xs rest : List ℕ) → is_ended st ≡ false → length xs ≡ length rest - 6
     → (if is_established st then 20 + 4 * table else 0) + length (if is_due st && not r then (if one then xs else []) else [])
     ≡ (if is_due st then (if not r && one then length rest - 6 else 0) else (if is_established st then 20 + 4 * table else 0))
-kept_of_request Sta1 r one table body xs rest e f = absurd cc
-kept_of_request Sta2 true true table body xs rest e f = refl
-kept_of_request Sta2 true false table body xs rest e f = refl
-kept_of_request Sta2 false true table body xs rest e f = omega (arith, f)
-kept_of_request Sta2 false false table body xs rest e f = refl
-kept_of_request Sta3 r one table body xs rest e f = refl
-kept_of_request Sta6 r one table body xs rest e f = omega arith
-kept_of_request Sta8 r one table body xs rest e f = refl
-kept_of_request Sta13 r one table body xs rest e f = refl
+kept_of_request st r one table body xs rest h k = grind (arith, common_steps)
 
 -- after the end
 nothing_kept : (st : State) (r : Bool) (table : ℕ) (xs : List ℕ) → is_ended st ≡ true

@@ -1,10 +1,11 @@
 -- What the heads and the fragments of PDVs come to.
 use Rattle.std.proofs.Common.{◌≡◌, ℕ, ◌≤◌, Bool, true, false, not, ◌&&◌, List, [], ◌++◌, length, drop, get_or, Option, Some, None, Result, Ok, Err, nat_eq, refl, ap, sym, subst, ◌∙◌, arith, if◌then◌else◌, inl, inr}
+use Rattle.std.proofs.lemmas.Grind.{common_steps}
 use Rattle.std.proofs.lemmas.Bool.{cases_Bool, eqb-true}
 use Rattle.std.proofs.lemmas.Bool.Decides.{nat_tests}
 use Rattle.dimse.specs.declared.fault.DimseFault.TheVariants.{OtherContext}
 use Rattle.acceptor.specs.declared.state.State.{State}
-use Rattle.acceptor.specs.declared.state.State.TheVariants.{Sta1, Sta2, Sta3, Sta6, Sta8, Sta13}
+use Rattle.acceptor.specs.declared.state.State.TheVariants.{Sta6}
 use Rattle.acceptor.specs.declared.event.Event.TheVariants as event
 use Rattle.pdu.specs.declared.head.PdvHead.{PdvHead}
 use Rattle.pdu.specs.Heads.{pdv_head_of, is_last}
@@ -43,12 +44,7 @@ use Rattle.engine.proofs.ShownLemmas.{no_store}
 -- ---- where PDVs count
 
 established_when : (st : State) (r : Bool) → (is_established st && not r) ≡ true → st ≡ Sta6
-established_when Sta1 r h = absurd cc
-established_when Sta2 r h = absurd cc
-established_when Sta3 r h = absurd cc
-established_when Sta6 r h = refl
-established_when Sta8 r h = absurd cc
-established_when Sta13 r h = absurd cc
+established_when st r h = grind (arith, common_steps)
 
 pub taken_state : (p : Progress) → takes_pdvs p ≡ true → p.state ≡ Sta6
 taken_state p h = established_when p.state p.refused h
@@ -136,8 +132,7 @@ head_accepted room p n c x a o e f =
     ap (λ (y : Option Context). elim y [ None ↦ invalid p | Some accepted ↦ aborted_if_refused (refusal room p.message n c x) p ]) e ∙ ap (λ (y : Option DimseFault). aborted_if_refused y p) f
 
 pub judged_none : (o : Option DimseFault) (u : Unit {0}) → ok_unless o ≡ Ok u → o ≡ None
-judged_none None u e = refl
-judged_none (Some fault) u e = absurd cc
+judged_none o u h = grind (arith, common_steps)
 
 pub judged_some : (o : Option DimseFault) (f : DimseFault) → ok_unless o ≡ Err f → o ≡ Some f
 judged_some None f e = absurd cc
@@ -174,9 +169,7 @@ by_brought p f (Refuses fault) = user_aborts p
 
 pub brought_is : (p : Progress) (f : Finding) (b : Brought) →
     ◌≡◌ {A = Advance} (elim b [ Goes begun ↦ nothing (going_on begun p) | Ends m ↦ replied p f m (command_in m.command) | Refuses fault ↦ user_aborts p ]) (by_brought p f b)
-brought_is p f (Goes later) = refl
-brought_is p f (Ends m) = refl
-brought_is p f (Refuses fault) = refl
+brought_is p f b = grind (arith, common_steps)
 
 pub pdv_comes : (p : Progress) (f : Finding) (begun : List ℕ) (b : Brought) → brought p.message (pdv_of begun) ≡ b → at_pdv p f (pdv_of begun) ≡ by_brought p f b
 pdv_comes p f begun b e = brought_is p f (brought p.message (pdv_of begun)) ∙ ap (by_brought p f) e
@@ -294,13 +287,7 @@ module _ (room : ℕ) (before : Begun) (begun : List ℕ) (six : 6 ≤ length be
     by (Refuses f) is (e, h) = let x : ◌≡◌ {A = Result Joined DimseFault} (Ok joined.DataDue) (Err f) = e in absurd cc
 
   not_message : (a b : Begun) → joined.Message ≡ goes_on a b → ⊥
-  not_message NoMessage NoMessage e = cc
-  not_message NoMessage (InCommand context command) e = cc
-  not_message NoMessage (InSet context command set) e = cc
-  not_message (InCommand c k) NoMessage e = cc
-  not_message (InCommand c k) (InCommand context command) e = cc
-  not_message (InCommand c k) (InSet context command set) e = cc
-  not_message (InSet c k t) later e = cc
+  not_message a b h = grind (arith, common_steps)
 
   pub ends_of : Joins room before (brought before (pdv_of begun)) old new (Ok joined.Message)
       → (m : Message) × (brought before (pdv_of begun) ≡ Ends m) × (new ≡ lending m.command) × HasCome m (with_pdv begun before) × (m.context ≡ get_or begun 4 0)

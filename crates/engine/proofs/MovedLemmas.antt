@@ -1,5 +1,6 @@
 -- One input more.
 use Rattle.std.proofs.Common.{◌≡◌, ℕ, Bool, true, false, List, [], ◌∷◌, ◌++◌, map, refl, sym, ap, subst, ◌∙◌, append_assoc, arith}
+use Rattle.std.proofs.lemmas.Grind.{common_steps}
 use Rattle.std.proofs.lemmas.List.{append-nil, map-append}
 use Rattle.acceptor.specs.declared.state.State.TheVariants.{Sta1}
 use Rattle.acceptor.specs.declared.event.Event.{Event}
@@ -50,21 +51,15 @@ stream_then (Expiry ∷ xs) ys = stream_then xs ys
 stream_then (UserAbort ∷ xs) ys = stream_then xs ys
 
 pushed_charged : (failed : Bool) (story : List Happened) (last : Bool) → StaysCharged failed (push failed story) (still_failed failed story last)
-pushed_charged false story last = tt
-pushed_charged true [] last = refl
-pushed_charged true ((entry, o) ∷ story) last = refl
+pushed_charged failed story last = grind (arith, common_steps)
 
 -- ---- an input that brings no byte
 
 entry_outside : (event : Event) (x : Received) (entry : Entry) → Outside event x entry → (before : List ℕ) → entries before (x ∷ []) ≡ entry ∷ []
-entry_outside _ _ _ closed before = refl
-entry_outside _ _ _ expired before = refl
-entry_outside _ _ _ aborted before = refl
+entry_outside event x entry h before = grind (arith, common_steps)
 
 stream_outside : (event : Event) (x : Received) (entry : Entry) → Outside event x entry → stream_of (x ∷ []) ≡ []
-stream_outside _ _ _ closed = refl
-stream_outside _ _ _ expired = refl
-stream_outside _ _ _ aborted = refl
+stream_outside event x entry h = grind (arith, common_steps)
 
 does_outside : (rooms : Rooms) (s : Settings) (p : Progress) (new : Kept) (body begun : List ℕ) (old later : Devices) (event : Event) (x : Received) (entry : Entry) → Outside event x entry
     → DoesDue p (done [] 0 p event) new body begun old later → Does rooms s p entry new body begun old later

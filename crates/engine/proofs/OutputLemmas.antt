@@ -1,7 +1,8 @@
 -- A byte completes four marks at most, and a piece has an association send no more than its marks do.
 use Rattle.std.proofs.Common.{◌≡◌, ◌⊎◌, ◌&&◌, Option, Some, None, Result, Ok, Err, ℕ, ◌+◌, ◌-◌, ◌*◌, ◌<◌, ◌≤◌, Bool, true, false, List, [], ◌∷◌, ◌++◌, length, drop, map, nat_eq, nat_lt, refl, ap, arith, if◌then◌else◌, inl, inr}
+use Rattle.std.proofs.lemmas.Grind.{common_steps}
 use Rattle.std.proofs.lemmas.Bool.{cases_lt}
-use Rattle.std.proofs.lemmas.List.{append-nil, length-append, length-map, length-take}
+use Rattle.std.proofs.lemmas.List.{append-nil, length-append, length-map}
 use Rattle.std.proofs.lemmas.Nat.{mul-le}
 use Rattle.byteorder.specs.Endian.{big_number}
 use Rattle.element.specs.Numbers.{IsBytes}
@@ -9,7 +10,6 @@ use Rattle.pdu.specs.Frames.{IsFrame, IsRest, rest_of}
 use Rattle.acceptor.specs.declared.event.Event.{Event}
 use Rattle.acceptor.specs.declared.event.Event.TheVariants as event
 use Rattle.acceptor.specs.declared.effect.Sending.{Sending}
-use Rattle.acceptor.specs.declared.effect.Sending.TheVariants as effect
 use Rattle.acceptor.specs.Effect.{sending, bytes_sent}
 use Rattle.acceptor.specs.Table.{table}
 use Rattle.pdu.specs.declared.fault.PduFault.{PduFault}
@@ -19,7 +19,7 @@ use Rattle.pdu.specs.Record.{RequestRecord}
 use Rattle.pdu.specs.Refusal.{request_fault}
 use Rattle.pdu.specs.Texts.{reject_text, release_text, abort_text}
 use Rattle.pdu.specs.Marks.{Mark, Head, PdvHead, Pdv, BadPdv, Leftover, End, pdv_size, is_leftover, frame_kind, frame_length, new_marks}
-use Rattle.pdu.specs.Pdvs.{DataSpot, Dropped, Within, data_spot}
+use Rattle.pdu.specs.Pdvs.{DataSpot, data_spot}
 use Rattle.pdu.specs.Spot.{Spot, Opening, Plain, InPdv, spot, spot_of, room_left}
 use Rattle.pdu.specs.Parts.{Comes, IsUnfinishedPdv, in_head, in_fragment, end_mark}
 use Rattle.pdu.proofs.Public.{new_nothing, new_then, new_rest, rest_is_rest, unfinished_pdv, head_part, head_done, plain_part, pdv_head_part, pdv_head_bad, pdv_head_done, pdv_head_whole, fragment_part, fragment_done}
@@ -55,12 +55,10 @@ few_of r c ms s comes few (inl rest) = omega (arith, ap length (comes.goes_on re
 few_of r c ms s comes few (inr frame) = omega (arith, ap length (comes.ends frame).marks, length-append ms (end_mark (r ++ c) ∷ []), few)
 
 few_left : (t : Bool) → length (if t then Leftover ∷ [] else []) ≤ 1
-few_left true = omega arith
-few_left false = omega arith
+few_left t = grind (arith, common_steps)
 
 never_opening : (d : DataSpot) → spot_of d ≡ Opening → ⊥
-never_opening Dropped e = absurd cc
-never_opening (Within room part) e = absurd cc
+never_opening d h = grind (arith, common_steps)
 
 in_body : (short is_data : Bool) (d : DataSpot) → short ≡ false → (if short then Opening else (if is_data then spot_of d else Plain)) ≡ Opening → ⊥
 in_body true is_data d f e = absurd cc
@@ -160,14 +158,10 @@ abbrev pub Few : ℕ → Advance → Type 0
 Few n g = length g.sent ≤ n
 
 pick : (t : Bool) (a b : Advance) (n : ℕ) → Few n a → Few n b → Few n (if t then a else b)
-pick true a b n x y = x
-pick false a b n x y = y
+pick t a b n h k = grind (arith, common_steps)
 
 bytes_few : (answer : List ℕ) (x : Sending) → length (bytes_sent answer release_text abort_text x) ≤ length answer + 10
-bytes_few answer effect.Nothing = omega arith
-bytes_few answer effect.Answer = omega arith
-bytes_few answer effect.ReleaseResponse = omega arith
-bytes_few answer (effect.Abort source reason) = omega arith
+bytes_few answer x = grind (arith, common_steps)
 
 done_few : (answer : List ℕ) (reason : ℕ) (p : Progress) (e : Event) → Few (length answer + 10) (done answer reason p e)
 done_few answer reason p e = bytes_few answer (sending (table p.state e).0 (table p.state e).1 reason)
@@ -185,9 +179,7 @@ head_few p n (AtOnce e reason) = omega (arith, done_few [] reason p e)
 head_few p n TooLong = omega (arith, done_few (reject_text rejected_transient service_provider_presentation local_limit_exceeded) 0 p (event.Request false))
 
 pdv_head_few : (p : Progress) (refused : Option DimseFault) (known : Option Context) → Few 30 (elim known [ None ↦ invalid p | Some accepted ↦ aborted_if_refused refused p ])
-pdv_head_few p refused None = omega (arith, done_few [] invalid_parameter p event.Invalid)
-pdv_head_few p None (Some context) = omega arith
-pdv_head_few p (Some fault) (Some context) = omega (arith, done_few [] 0 p event.UserAborts)
+pdv_head_few p refused known = grind (arith, common_steps)
 
 pdv_few : (p : Progress) (finding : Finding) (b : Brought) → Few (30 + elim b [ Goes begun ↦ 0 | Ends m ↦ length (replied p finding m (command_in m.command)).sent | Refuses fault ↦ 0 ]) (elim b [
   | Goes begun ↦ nothing (going_on begun p)
@@ -259,8 +251,7 @@ few_bytes_but_answers rooms s p finding e = entry_few rooms s p finding e
 -- ---- what a piece has an association send
 
 pub cut_few : (wire : Option ℕ) (p : Progress) (g : Advance) (n : ℕ) → Few n g → Few n (cut wire p g)
-cut_few None p g n few = few
-cut_few (Some k) p g n few = omega (arith, few, length-take k g.sent)
+cut_few wire p g n h = grind (arith, common_steps)
 
 pub sent_few : (rooms : Rooms) (s : Settings) (most : ℕ) (p : Progress) (story : List Happened) → AnswersHave rooms s most p story → length (sent_of rooms s p story) ≤ length story * (30 + most)
 sent_few rooms s most p [] e = omega arith

@@ -1,5 +1,6 @@
 -- What an event makes of the fields.
 use Rattle.std.proofs.Common.{◌≡◌, ℕ, ◌+◌, ◌<◌, ◌≤◌, Bool, true, false, not, ◌&&◌, nat_eq, List, [], length, Option, Some, None, Result, Ok, Err, OnErr, refl, ap, sym, subst, ◌∙◌, if◌then◌else◌, inl, inr, arith}
+use Rattle.std.proofs.lemmas.Grind.{common_steps}
 use Rattle.std.proofs.lemmas.Bool.{cases_Bool}
 use Rattle.acceptor.specs.declared.state.State.{State}
 use Rattle.acceptor.specs.declared.state.State.TheVariants.{Sta1, Sta2, Sta3, Sta6, Sta8, Sta13}
@@ -47,12 +48,7 @@ pub moved_stays : (st : State) (p : Progress) → is_left st ≡ false → moved
 moved_stays st p l = grind arith
 
 pub stays_there : (st : State) → (st ≡ Sta1 → ⊥) → (st ≡ Sta13 → ⊥) → is_left st ≡ false
-stays_there Sta1 a b = absurd (a refl)
-stays_there Sta13 a b = absurd (b refl)
-stays_there Sta2 a b = refl
-stays_there Sta3 a b = refl
-stays_there Sta6 a b = refl
-stays_there Sta8 a b = refl
+stays_there st h k = grind (arith, common_steps)
 
 counted_left : (st : State) (p : Progress) (k : Kept) (body : List ℕ) → is_left st ≡ true → IsLeft k → k.body ≡ counted_body (left st p) body
 counted_left Sta1 p k body l h = h.body
@@ -211,8 +207,7 @@ settles_uncounted n r old new so sn kind s stays u =
 -- ---- a PDU begins
 
 if_nothing : (t : Bool) → ◌≡◌ {A = List ℕ} [] (if t then [] else [])
-if_nothing true = refl
-if_nothing false = refl
+if_nothing t = grind (arith, common_steps)
 
 pub pends_begins : (k : Kept) (store : Store) (p : Progress) → Pends k store p [] [] → Pends (record k { refused = false; body = [] }) store (record p { refused = false }) [] []
 pends_begins k store p h =

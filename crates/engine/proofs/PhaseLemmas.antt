@@ -1,5 +1,6 @@
 -- What is kept in a phase, and after it has been left.
 use Rattle.std.proofs.Common.{◌≡◌, ◌≤◌, ◌+◌, length, ℕ, Bool, false, true, not, ◌&&◌, nat_eq, [], refl, ap, sym, subst, ◌∙◌, arith, Result, Ok, Err}
+use Rattle.std.proofs.lemmas.Grind.{common_steps}
 use Rattle.std.proofs.lemmas.Bool.Decides.{nat_tests}
 use Rattle.acceptor.specs.declared.state.State.{State}
 use Rattle.acceptor.specs.declared.state.State.TheVariants.{Sta1, Sta2}
@@ -52,23 +53,14 @@ unawaited AwaitingClose other = refl
 unawaited Ended other = refl
 
 pub unended : {A C V D : ℕ} → (phase : Phase A C V D) → (phase ≡ Ended → ⊥) → is_ended (state_in phase) ≡ false
-unended (AwaitingRequest body) other = refl
-unended (Established peer message) other = refl
-unended AwaitingClose other = refl
-unended Ended other = absurd (other refl)
+unended phase h = grind (arith, common_steps)
 
 -- while a request is due
 pub awaiting_stored : {A C V D : ℕ} → (phase : Phase A C V D) → state_in phase ≡ Sta2 → stored_in phase ≡ Nothing
-awaiting_stored (AwaitingRequest body) due = refl
-awaiting_stored (Established peer message) due = absurd cc
-awaiting_stored AwaitingClose due = absurd cc
-awaiting_stored Ended due = absurd cc
+awaiting_stored phase h = grind (arith, common_steps)
 
 pub awaiting_room : {A C V D : ℕ} → (phase : Phase A C V D) → state_in phase ≡ Sta2 → length (request_in phase) + 12 ≡ taken_in phase
-awaiting_room (AwaitingRequest body) due = refl
-awaiting_room (Established peer message) due = absurd cc
-awaiting_room AwaitingClose due = absurd cc
-awaiting_room Ended due = absurd cc
+awaiting_room phase h = grind (arith, common_steps)
 
 -- an association that is not left after a send keeps its state
 pub state_kept : (r : Result (Unit {0}) WireFailed) (next state : State) → is_left (state_after r next) ≡ false → (is_left next ≡ false → next ≡ state) → state ≡ state_after r next
@@ -77,8 +69,7 @@ state_kept (Err f) next state l stays = let x : is_left Sta1 ≡ false = l in ab
 
 -- nothing of a PDU that was refused counts
 pub never_both : (t : Bool) → t && false ≡ false
-never_both true = refl
-never_both false = refl
+never_both t = grind (arith, common_steps)
 
 pub refused_pdvs : (k : Kept) → k.refused ≡ true → takes_pdvs_in k ≡ false
 refused_pdvs k r = ap (λ (b : Bool). is_established k.state && not b) r ∙ never_both (is_established k.state)

@@ -1,12 +1,12 @@
 -- A portion of a piece has an association send few bytes: it completes four marks at most, or marks that send nothing and one
 -- end.
-use Rattle.std.proofs.Common.{◌≡◌, ◌⊎◌, ℕ, zero, suc, ◌+◌, ◌-◌, ◌*◌, ◌<◌, ◌≤◌, Bool, false, List, [], ◌∷◌, ◌++◌, length, take, drop, map, Option, Some, None, refl, sym, ap, subst, ◌∙◌, arith, inl, inr}
+use Rattle.std.proofs.Common.{◌≡◌, ◌⊎◌, ℕ, ◌+◌, ◌-◌, ◌*◌, ◌<◌, ◌≤◌, Bool, false, List, [], ◌∷◌, ◌++◌, length, take, drop, map, Option, Some, None, refl, sym, ap, subst, ◌∙◌, arith, inl, inr}
+use Rattle.std.proofs.lemmas.Grind.{common_steps}
 use Rattle.std.proofs.Math.Nat.{min-le_left, min-le_right}
 use Rattle.std.proofs.lemmas.Bool.{cases_lt}
 use Rattle.std.proofs.lemmas.List.{append-nil, append_cancel_left, length-append, length-drop, length-map, length-take, map-append, take-append-drop}
 use Rattle.std.specs.List.{AllByRecursion}
 use Rattle.acceptor.specs.declared.state.State.{State}
-use Rattle.acceptor.specs.declared.state.State.TheVariants.{Sta1, Sta2, Sta3, Sta6, Sta8, Sta13}
 use Rattle.acceptor.specs.declared.event.Event.TheVariants as event
 use Rattle.acceptor.specs.Effect.{sending, bytes_sent}
 use Rattle.acceptor.specs.Table.{table}
@@ -126,17 +126,14 @@ module _ (rooms : Rooms) (s : Settings) where
   inner_nothing p finding (End kind body) i t = absurd i
 
   take_nothing : (k : ℕ) (xs : List ℕ) → xs ≡ [] → take k xs ≡ []
-  take_nothing zero xs e = refl
-  take_nothing (suc k) [] e = refl
-  take_nothing (suc k) (x ∷ xs) e = absurd cc
+  take_nothing k xs h = grind (arith, common_steps)
 
   cut_nothing : (wire : Option ℕ) (p : Progress) (g : Advance) → g.sent ≡ [] → (cut wire p g).sent ≡ []
   cut_nothing None p g e = e
   cut_nothing (Some k) p g e = take_nothing k g.sent e
 
   still_uncounted : (wire : Option ℕ) (p q : Progress) → takes_pdvs q ≡ false → takes_pdvs (cut wire p (nothing q)).next ≡ false
-  still_uncounted None p q t = t
-  still_uncounted (Some k) p q t = refl
+  still_uncounted wire p q h = grind (arith, common_steps)
 
   -- what comes after them is all that is sent
   past_inner : (ms : List Mark) (es : List Entry) (p : Progress) (story : List Happened) → AreInner ms → takes_pdvs p ≡ false → entries_of story ≡ map timeline.At ms ++ es → AnswersHave rooms s 4108 p story
@@ -218,20 +215,10 @@ entries_of_more rooms s inputs input story after failed failed_then h g =
     append_cancel_left (entries [] inputs) (entries_of after) (entries (stream_of inputs) (input ∷ [])) (ap (λ (es : List Entry). es ++ entries_of after) (sym h.told) ∙ all)
 
 closed_silent : (state : State) → bytes_sent [] release_text abort_text (sending (table state event.Closed).0 (table state event.Closed).1 0) ≡ []
-closed_silent Sta1 = refl
-closed_silent Sta2 = refl
-closed_silent Sta3 = refl
-closed_silent Sta6 = refl
-closed_silent Sta8 = refl
-closed_silent Sta13 = refl
+closed_silent state = grind (arith, common_steps)
 
 expired_silent : (state : State) → bytes_sent [] release_text abort_text (sending (table state event.Expired).0 (table state event.Expired).1 0) ≡ []
-expired_silent Sta1 = refl
-expired_silent Sta2 = refl
-expired_silent Sta3 = refl
-expired_silent Sta6 = refl
-expired_silent Sta8 = refl
-expired_silent Sta13 = refl
+expired_silent state = grind (arith, common_steps)
 
 entry_silent : (rooms : Rooms) (s : Settings) (p : Progress) (finding : Finding) (before : List ℕ) (input : Received) (e : Entry) → IsSilent input → entries before (input ∷ []) ≡ e ∷ [] → (at_entry rooms s p finding e).sent ≡ []
 entry_silent rooms s p finding before (Bytes piece) e i told = absurd i
@@ -240,10 +227,7 @@ entry_silent rooms s p finding before Expiry e i told = let at : e ≡ TimedOut 
 entry_silent rooms s p finding before UserAbort e i told = absurd i
 
 one_entry : (before : List ℕ) (input : Received) → IsSilent input → length (entries before (input ∷ [])) ≡ 1
-one_entry before (Bytes piece) i = absurd i
-one_entry before Close i = refl
-one_entry before Expiry i = refl
-one_entry before UserAbort i = absurd i
+one_entry before input h = grind (arith, common_steps)
 
 pub silent_sends_nothing : SilentSendsNothing
 silent_sends_nothing rooms s p before input [] i told = refl

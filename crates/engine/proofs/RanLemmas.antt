@@ -1,5 +1,6 @@
 -- One turn after another.
 use Rattle.std.proofs.Common.{◌≡◌, ◌≢◌, ℕ, zero, suc, ◌+◌, ◌*◌, ◌≤◌, Bool, false, List, [], ◌∷◌, ◌++◌, length, take, drop, option_map, Option, Some, None, refl, sym, ap, subst, ◌∙◌, arith, inl, inr}
+use Rattle.std.proofs.lemmas.Grind.{common_steps}
 use Rattle.std.proofs.lemmas.Bool.{cases_lt}
 use Rattle.std.proofs.lemmas.List.{append_assoc, append-nil, length-append, length-map, take-append-drop, take-append-le, take_all}
 use Rattle.acceptor.specs.declared.state.State.TheVariants.{Sta1, Sta6}
@@ -59,8 +60,7 @@ follows_more old now next taken bytes kind f g = record {
 }
 
 front_start : (source : Option (List Received)) → TakesFront source source []
-front_start None = refl
-front_start (Some all) = (refl, refl)
+front_start source = grind (arith, common_steps)
 
 follows_start : (source : Supply) → Follows source source []
 follows_start source = record { front = front_start source.to_come; given = given_nothing source.given }

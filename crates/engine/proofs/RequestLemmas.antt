@@ -1,5 +1,6 @@
 -- What a whole association request, and a whole release request, come to.
-use Rattle.std.proofs.Common.{◌≡◌, ℕ, ◌<◌, ◌≤◌, Bool, true, false, not, ◌&&◌, List, [], length, Option, Some, None, Result, Ok, Err, OnErr, nat_eq, refl, ap, sym, subst, ◌∙◌, if◌then◌else◌, ◌⊎◌, inl, inr}
+use Rattle.std.proofs.Common.{◌≡◌, ℕ, ◌<◌, ◌≤◌, Bool, true, false, not, ◌&&◌, List, [], length, Option, Some, None, Result, Ok, Err, OnErr, nat_eq, refl, ap, sym, subst, ◌∙◌, if◌then◌else◌, ◌⊎◌, inl, inr, arith}
+use Rattle.std.proofs.lemmas.Grind.{common_steps}
 use Rattle.acceptor.specs.declared.state.State.{State}
 use Rattle.acceptor.specs.declared.state.State.TheVariants.{Sta2, Sta6, Sta8, Sta13}
 use Rattle.acceptor.specs.declared.action.Action.{Action}
@@ -46,8 +47,7 @@ by_fault s body p None a = answered s (request_record body) (keeping s body p) a
 elim_is : (s : Settings) (p : Progress) (body : List ℕ) (o : Option PduFault) →
     ◌≡◌ {A = Advance} (elim o [ Some fault ↦ done [] 6 p event.Invalid | None ↦ answered s (request_record body) (keeping s body p) (judged s (request_record body)) ])
     (by_fault s body p o (judged s (request_record body)))
-elim_is s p body None = refl
-elim_is s p body (Some f) = refl
+elim_is s p body o = grind (arith, common_steps)
 
 request_is : (s : Settings) (p : Progress) (body : List ℕ) → at_request s p body ≡ by_fault s body p (request_fault body) (judged s (request_record body))
 request_is s p body = elim_is s p body (request_fault body)

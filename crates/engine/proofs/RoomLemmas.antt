@@ -1,5 +1,6 @@
 -- What has come of a request and of a message fits the rooms, wherever a timeline has led.
 use Rattle.std.proofs.Common.{◌≡◌, ℕ, ◌+◌, ◌-◌, ◌*◌, ◌≤◌, Bool, true, false, not, ◌&&◌, List, [], ◌∷◌, length, map, Option, Some, None, Result, Ok, Err, refl, sym, ap, subst, ◌∙◌, arith, lit<, nat_eq, nat_le, nat_lt, eqb-true, leb-true, ltb-false, length-append, if◌then◌else◌}
+use Rattle.std.proofs.lemmas.Grind.{common_steps}
 use Rattle.std.proofs.lemmas.List.{length-map}
 use Rattle.std.proofs.lemmas.List.Sums.{count_by-le-length}
 use Rattle.acceptor.specs.declared.state.State.{State}
@@ -117,8 +118,7 @@ command_fits room size true h = room_fits room size (nat_le size room) refl h
 command_fits room size false h = absurd cc
 
 pub same_context : (b : Bool) (o : Option DimseFault) → (if b then o else Some OtherContext) ≡ None → o ≡ None
-same_context true o h = h
-same_context false o h = absurd cc
+same_context b o h = grind (arith, common_steps)
 
 abbrev pub MessageFits : Rooms → Begun → Type 0
 MessageFits rooms b = (of_command b ≤ rooms.command) × IsBytes (set_of b)
@@ -140,8 +140,7 @@ BroughtFits rooms (Refuses fault) = Unit {0}
 
 announced_fits : (rooms : Rooms) (id : ℕ) (command : List ℕ) (with_data : Bool) → length command ≤ rooms.command
     → BroughtFits rooms (if with_data then Goes (InSet id command []) else Ends (record { context = id; command = command; set = [] }))
-announced_fits rooms id command true le = (le, no_bytes)
-announced_fits rooms id command false le = tt
+announced_fits rooms id command with_data h = grind (arith, common_steps)
 
 whole_fits : (rooms : Rooms) (id : ℕ) (command : List ℕ) (r : Result CommandRecord DimseFault) → length command ≤ rooms.command → BroughtFits rooms (with_command id command r)
 whole_fits rooms id command (Err fault) le = tt
@@ -257,8 +256,7 @@ module _ (rooms : Rooms) where
     released_fits e = subst (λ (st : State). Fits rooms (released (record p { state = st })).next Between) (established_is p.state e) (left_fits Sta13 (record p { state = Sta8 }) Between refl)
 
     both_of : (a b : Bool) → a && b ≡ true → (a ≡ true) × (b ≡ true)
-    both_of true b e = (refl, e)
-    both_of false b e = absurd cc
+    both_of a b h = grind (arith, common_steps)
 
     end_fits : (kind : ℕ) (body : List ℕ) → p.refused ≡ false → (nat_eq kind 1 ≡ true → o ≡ OfPdu kind (length body)) → IsBytes body → Fits rooms (at_end s p kind body).next Between
     end_fits kind body r is bytes = by (nat_eq kind abort) (nat_eq kind associate_rq && is_due p.state) (nat_eq kind release_rq && is_established p.state) refl refl

@@ -1,5 +1,6 @@
 -- A request has more bytes than its contexts' rows.
 use Rattle.std.proofs.Common.{◌≡◌, ℕ, ◌+◌, ◌*◌, ◌≤◌, List, [], ◌∷◌, ◌++◌, length, ap, arith, map}
+use Rattle.std.proofs.lemmas.Grind.{common_steps}
 use Rattle.std.proofs.lemmas.List.{length-append}
 use Rattle.std.proofs.lemmas.List.Sums.{length-filter, count_by-le-length}
 use Rattle.std.specs.List.{AllByRecursion}
@@ -25,8 +26,7 @@ contexts_items (p ∷ ps) [] h = absurd h
 contexts_items (p ∷ ps) (i ∷ is) h = omega (arith, contexts_items ps is h.1)
 
 seen_length : (further : List (List ℕ)) (ps : List Proposal) → length (map (seen further) ps) ≡ length ps
-seen_length further [] = omega arith
-seen_length further (p ∷ ps) = omega (arith, seen_length further ps)
+seen_length further ps = grind (arith, common_steps)
 
 pub few_rows : (further : List (List ℕ)) (r : RequestRecord) (b : List ℕ) → RequestText r b → 68 + 4 * accepted_count (offered further r) ≤ length b
 few_rows further r b h =

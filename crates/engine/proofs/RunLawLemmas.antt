@@ -1,5 +1,6 @@
 -- Stores in a whole run, and runs without failures.
 use Rattle.std.proofs.Common.{◌≡◌, ◌⊎◌, inl, inr, ℕ, Bool, true, false, not, ◌&&◌, List, [], ◌∷◌, ◌++◌, Option, Some, None, Result, Ok, Err, refl, sym, ap, subst, ◌∙◌, append_assoc, arith, nat_eq, if◌then◌else◌}
+use Rattle.std.proofs.lemmas.Grind.{common_steps}
 use Rattle.element.specs.Uid.{uid_of}
 use Rattle.pdu.specs.Sent.{Line}
 use Rattle.pdu.specs.Frames.{rest_of}
@@ -109,9 +110,7 @@ replied_same p f g m (Ok command) (inl echo) same =
     λ i. record { next = ended_message p; sent = reply_bytes command (findings i).status (findings i).detail m.context r.maximum; files = files i }
 
 brought_same : (p : Progress) (f g : Finding) (b : Brought) → message_by b ≡ None → by_brought p f b ≡ by_brought p g b
-brought_same p f g (Goes later) k = refl
-brought_same p f g (Ends m) k = absurd cc
-brought_same p f g (Refuses fault) k = refl
+brought_same p f g b h = grind (arith, common_steps)
 
 -- no message ends
 chosen_none : (established refused : Bool) (ended : Option Message) (x y z : Advance) → (if established && not refused then ended else None) ≡ None → (ended ≡ None → x ≡ y)
@@ -173,12 +172,10 @@ module _ (rooms : Rooms) (s : Settings) where
 -- ---- a run without failures
 
 no_front : (wire : Option ℕ) → fails wire ≡ 0 → wire ≡ None
-no_front None k = refl
-no_front (Some n) k = absurd cc
+no_front wire h = grind (arith, common_steps)
 
 not_counted : (b : Bool) → counted b ≡ 0 → b ≡ false
-not_counted true k = absurd cc
-not_counted false k = refl
+not_counted b h = grind (arith, common_steps)
 
 heads_and_tails : (a b : Entry) (more more2 : List Entry) → a ∷ more ≡ b ∷ more2 → (a ≡ b) × (more ≡ more2)
 heads_and_tails a b more more2 e = (cc, cc)

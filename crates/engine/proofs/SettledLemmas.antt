@@ -1,5 +1,6 @@
 -- The marks of events, a frame with one more part, and what is due where nothing of a body is pending.
 use Rattle.std.proofs.Common.{◌≡◌, ℕ, ◌+◌, ◌-◌, ◌<◌, ◌≤◌, true, nat_eq, List, [], ◌∷◌, ◌++◌, length, take, drop, get_or, refl, sym, ap, subst, ◌∙◌, arith, inl, inr, ◌⊎◌}
+use Rattle.std.proofs.lemmas.Grind.{common_steps}
 use Rattle.std.proofs.lemmas.Bool.{cases_Bool, cases_lt}
 use Rattle.std.proofs.lemmas.Bool.Decides.{nat_tests}
 use Rattle.std.proofs.lemmas.List.{length-append, length-drop, drop_all, take_all, append-nil}
@@ -93,12 +94,7 @@ mark_of_head head Leftover e = absurd cc
 mark_of_head head (End kind body) e = absurd cc
 
 pub mark_of_bad : (m : Mark) → event.BadPdv ≡ event_of m → m ≡ BadPdv
-mark_of_bad (Head kind n) e = absurd cc
-mark_of_bad (PdvHead n context control) e = absurd cc
-mark_of_bad (Pdv context control fragment) e = absurd cc
-mark_of_bad BadPdv e = refl
-mark_of_bad Leftover e = absurd cc
-mark_of_bad (End kind body) e = absurd cc
+mark_of_bad m h = grind (arith, common_steps)
 
 pub mark_of_end : (k : ℕ) (m : Mark) → event.PduEnd k ≡ event_of m → (body : List ℕ) × (m ≡ End k body)
 mark_of_end k (Head kind n) e = absurd cc
@@ -143,28 +139,13 @@ settled (position.Leftover left) r later t a = record { begun = []; short = omeg
 settled (position.Skipped kind left) r later t a = absurd t
 
 pub quiet_in_head : (q : Position) → IsInHead q → Quiet q
-quiet_in_head (position.Head bytes) t = tt
-quiet_in_head (position.Body kind left) t = absurd t
-quiet_in_head (position.PdvHead left bytes) t = absurd t
-quiet_in_head (position.Fragment left more) t = absurd t
-quiet_in_head (position.Leftover left) t = absurd t
-quiet_in_head (position.Skipped kind left) t = absurd t
+quiet_in_head q h = grind (arith, common_steps)
 
 pub quiet_in_pdv_head : (q : Position) → IsInPdvHead q → Quiet q
-quiet_in_pdv_head (position.Head bytes) t = absurd t
-quiet_in_pdv_head (position.Body kind left) t = absurd t
-quiet_in_pdv_head (position.PdvHead left bytes) t = tt
-quiet_in_pdv_head (position.Fragment left more) t = absurd t
-quiet_in_pdv_head (position.Leftover left) t = absurd t
-quiet_in_pdv_head (position.Skipped kind left) t = absurd t
+quiet_in_pdv_head q h = grind (arith, common_steps)
 
 pub quiet_after_pdv : (q : Position) → FollowsPdv q → Quiet q
-quiet_after_pdv (position.Head bytes) t = absurd t
-quiet_after_pdv (position.Body kind left) t = t
-quiet_after_pdv (position.PdvHead left bytes) t = tt
-quiet_after_pdv (position.Fragment left more) t = absurd t
-quiet_after_pdv (position.Leftover left) t = tt
-quiet_after_pdv (position.Skipped kind left) t = absurd t
+quiet_after_pdv q h = grind (arith, common_steps)
 
 pub quiet_plain : (q : Position) (left : ℕ) → q ≡ position.Body 4 left → Quiet q
 quiet_plain q left is = subst Quiet (sym is) refl

@@ -1,5 +1,6 @@
 -- What is kept where fewer than six bytes of a value have come, and once the association has ended.
 use Rattle.std.proofs.Common.{◌≡◌, ◌⊎◌, ℕ, ◌<◌, nat_lt, Bool, true, false, not, ◌&&◌, List, [], length, refl, ap, sym, subst, ◌∙◌, if◌then◌else◌, inl, inr, arith}
+use Rattle.std.proofs.lemmas.Grind.{common_steps}
 use Rattle.std.proofs.lemmas.Bool.Decides.{nat_tests}
 use Rattle.acceptor.specs.declared.state.State.{State}
 use Rattle.acceptor.specs.declared.state.State.TheVariants.{Sta1, Sta2, Sta3, Sta6, Sta8, Sta13}
@@ -77,8 +78,7 @@ pends_ended k store other p q body begun body2 begun2 e same m h =
 -- ---- fewer than the six bytes of its head change nothing
 
 if_short : (t : Bool) (b : List ℕ) → length b < 6 → length (if t then b else []) < 6
-if_short true b l = l
-if_short false b l = omega arith
+if_short t b h = grind (arith, common_steps)
 
 counted_short : (p : Progress) (b : List ℕ) → length b < 6 → length (counted_pdv p b) < 6
 counted_short p b l = if_short (takes_pdvs p) b l

@@ -1,5 +1,6 @@
 -- A PDU of which nothing counts goes by: its marks before its end do nothing.
 use Rattle.std.proofs.Common.{◌≡◌, ℕ, ◌<◌, ◌≤◌, Bool, true, false, not, ◌&&◌, ◌||◌, if◌then◌else◌, nat_eq, List, [], ◌∷◌, ◌++◌, length, drop, map, Option, Some, None, refl, sym, ap, subst, ◌∙◌, append_assoc, arith, inl, inr}
+use Rattle.std.proofs.lemmas.Grind.{common_steps}
 use Rattle.std.proofs.lemmas.Bool.{cases_Bool}
 use Rattle.std.proofs.lemmas.List.{append-nil, map-append}
 use Rattle.acceptor.specs.declared.state.State.{State}
@@ -94,9 +95,7 @@ pends_past k store p body other begun begun_too same t was =
     }
 
 not_due : (a b : Bool) → (a && (b && false)) ≡ false
-not_due true true = refl
-not_due true false = refl
-not_due false b = refl
+not_due a b = grind (arith, common_steps)
 
 data_uncounted : (k : Kept) (kind : ℕ) → kind ≡ 4 → takes_body_in k kind ≡ false
 data_uncounted k kind e = subst (λ (x : ℕ). takes_body_in k x ≡ false) (sym e) (not_due (is_due k.state) (not k.refused))
@@ -133,40 +132,24 @@ pending_end r (Leftover ∷ ms) kind whole body begun i only h = h.0 ∙ no_data
 pending_end r (End x b ∷ ms) kind whole body begun i only h = absurd i.0
 
 some_last : (before : List Mark) (m : Mark) → before ++ m ∷ [] ≡ [] → ⊥
-some_last [] m e = absurd cc
-some_last (x ∷ before) m e = absurd cc
+some_last before m h = grind (arith, common_steps)
 
 -- ---- the head of a PDV
 
 pub heads_still : (q : Position) (n : ℕ) (c : List ℕ) (new : Position) → Steps q n c None new → in_pdv_head q ≡ false → in_pdv_head new ≡ false
 heads_still (position.Head bytes) n c new s e = at_head new s where
   at_head : (x : Position) → IsInHead x → in_pdv_head x ≡ false
-  at_head (position.Head bytes) w = refl
-  at_head (position.Body kind left) w = absurd w
-  at_head (position.PdvHead left bytes) w = absurd w
-  at_head (position.Fragment left more) w = absurd w
-  at_head (position.Leftover left) w = absurd w
-  at_head (position.Skipped kind left) w = absurd w
+  at_head x h = grind (arith, common_steps)
 heads_still (position.Body kind left) n c new s e = ap in_pdv_head s.1
 heads_still (position.PdvHead left bytes) n c new s e = absurd cc
 heads_still (position.Fragment left more) n c new s e = ap in_pdv_head s.1
 heads_still (position.Leftover left) n c new s e = absurd s
 heads_still (position.Skipped kind left) n c new s e = at_skipped new s where
   at_skipped : (x : Position) → IsSkipped x → in_pdv_head x ≡ false
-  at_skipped (position.Head bytes) w = absurd w
-  at_skipped (position.Body kind left) w = absurd w
-  at_skipped (position.PdvHead left bytes) w = absurd w
-  at_skipped (position.Fragment left more) w = absurd w
-  at_skipped (position.Leftover left) w = absurd w
-  at_skipped (position.Skipped kind left) w = refl
+  at_skipped x h = grind (arith, common_steps)
 
 skipped_no_head : (q : Position) → in_pdv_head (skip_of q) ≡ false
-skipped_no_head (position.Head bytes) = refl
-skipped_no_head (position.Body kind left) = refl
-skipped_no_head (position.PdvHead left bytes) = refl
-skipped_no_head (position.Fragment left more) = refl
-skipped_no_head (position.Leftover left) = refl
-skipped_no_head (position.Skipped kind left) = refl
+skipped_no_head q = grind (arith, common_steps)
 
 body_no_head : (q : Position) (k : Kept) → takes_body_in k (body_kind q) ≡ true → in_pdv_head q ≡ false
 body_no_head (position.Head bytes) k t = refl
@@ -203,8 +186,7 @@ room_passed room k q h =
 -- ---- where it stands once it goes by
 
 neither : (a b : Bool) → (a || b) ≡ false → (a ≡ false) × (b ≡ false)
-neither true b e = absurd cc
-neither false b e = (refl, e)
+neither a b h = grind (arith, common_steps)
 
 pub stands_passed : (q : Position) (k n : Kept) (r : List ℕ) → ((kind : ℕ) → IsUncounted k kind → IsUncounted n kind) → StandsAt q k r [] → StandsAt (passed n q) n r []
 stands_passed q k n r still h =

@@ -1,19 +1,15 @@
 -- By the acceptor's state: that in which a request is due, that of an established association, and those in which it is left.
 use Rattle.std.proofs.Common.{◌≡◌, true, arith}
+use Rattle.std.proofs.lemmas.Grind.{common_steps}
 use Rattle.acceptor.specs.declared.state.State.{State}
-use Rattle.acceptor.specs.declared.state.State.TheVariants.{Sta1, Sta2, Sta3, Sta6, Sta8, Sta13}
+use Rattle.acceptor.specs.declared.state.State.TheVariants.{Sta1, Sta2, Sta6, Sta13}
 use Rattle.engine.specs.Held.{is_ended}
 use Rattle.engine.specs.Progress.{is_due, is_established}
 use Rattle.engine.specs.machine.DoesDue.{is_left}
 
 -- what holds in Sta1 and Sta13 holds where the association is left
 pub by_left : (P : State → Type 0) → P Sta1 → P Sta13 → (st : State) → is_left st ≡ true → P st
-by_left P one thirteen Sta1 l = one
-by_left P one thirteen Sta2 l = absurd cc
-by_left P one thirteen Sta3 l = absurd cc
-by_left P one thirteen Sta6 l = absurd cc
-by_left P one thirteen Sta8 l = absurd cc
-by_left P one thirteen Sta13 l = thirteen
+by_left P h k st e = grind (arith, common_steps)
 
 pub ended_is : (st : State) → is_ended st ≡ true → st ≡ Sta1
 ended_is st e = grind arith

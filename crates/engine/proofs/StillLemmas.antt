@@ -1,5 +1,6 @@
 -- Marks do nothing to an association that has ended (PS3.8 section 9.2.2: in Sta1 there is none).
 use Rattle.std.proofs.Common.{◌≡◌, ◌⊎◌, ℕ, ◌-◌, Bool, true, false, not, ◌&&◌, nat_eq, if◌then◌else◌, List, [], ◌∷◌, ◌++◌, map, None, refl, sym, ap, subst, ◌∙◌, arith, inl, inr}
+use Rattle.std.proofs.lemmas.Grind.{common_steps}
 use Rattle.acceptor.specs.declared.state.State.{State}
 use Rattle.acceptor.specs.declared.state.State.TheVariants.{Sta1}
 use Rattle.acceptor.specs.declared.action.Action.{Action}
@@ -33,14 +34,7 @@ pub record IsStill (p : Progress) (g : Advance) : Type 0 where
 
 -- no PDU's type has an event in Sta1
 idle_event : (a b c d e f g : Bool) → table Sta1 (if a then event.Request true else (if b then event.Ac else (if c then event.Rj else (if d then event.Data else (if e then event.ReleaseRq else (if f then event.ReleaseRp else (if g then event.Abort else event.Invalid))))))) ≡ (action.Nothing, Sta1)
-idle_event true b c d e f g = refl
-idle_event false true c d e f g = refl
-idle_event false false true d e f g = refl
-idle_event false false false true e f g = refl
-idle_event false false false false true f g = refl
-idle_event false false false false false true g = refl
-idle_event false false false false false false true = refl
-idle_event false false false false false false false = refl
+idle_event a b c d e f g = grind (arith, common_steps)
 
 -- a head by_head nothing, or an event that does nothing
 pub data BringsNothing : HeadEvent → Type 0 where
@@ -96,15 +90,7 @@ module _ (rq : Requested) (m : Begun) (f : Bool) where
   entry_still rooms s v b Aborted = other_still b event.UserAborts refl
 
   no_message : (b : Bool) (x : Entry) → message_at (at_end_with rq m f b) x ≡ None
-  no_message b (At (Head kind n)) = refl
-  no_message b (At (PdvHead n context control)) = refl
-  no_message b (At (Pdv context control fragment)) = refl
-  no_message b (At BadPdv) = refl
-  no_message b (At Leftover) = refl
-  no_message b (At (End kind body)) = refl
-  no_message b Shut = refl
-  no_message b TimedOut = refl
-  no_message b Aborted = refl
+  no_message b x = grind (arith, common_steps)
 
 -- nothing failed
 abbrev pub calmly : Outcome

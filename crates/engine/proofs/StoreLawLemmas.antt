@@ -1,5 +1,6 @@
 -- What comes of a store at the entry where it ends.
-use Rattle.std.proofs.Common.{◌≡◌, ℕ, Bool, true, false, not, ◌&&◌, ◌||◌, List, [], ◌∷◌, Option, Some, None, Result, Ok, refl, sym, ap, subst, ◌∙◌, nat_eq, if◌then◌else◌, inr}
+use Rattle.std.proofs.Common.{◌≡◌, ℕ, Bool, true, false, not, ◌&&◌, ◌||◌, List, [], ◌∷◌, Option, Some, None, Result, Ok, refl, sym, ap, subst, ◌∙◌, nat_eq, if◌then◌else◌, inr, arith}
+use Rattle.std.proofs.lemmas.Grind.{common_steps}
 use Rattle.pdu.specs.Marks.{Head, PdvHead, Pdv, BadPdv, Leftover, End}
 use Rattle.engine.specs.Requested.{request_record}
 use Rattle.pdu.specs.Record.{RequestRecord}
@@ -39,16 +40,10 @@ replied_at p finding pdv m k = brought_is p finding (brought p.message pdv) ∙ 
 
 -- PDVs count where a message may end
 chosen : (established refused : Bool) (ended : Option Message) (m : Message) (x y : Advance) → (if established && not refused then ended else None) ≡ Some m → (if refused then y else (if established then x else y)) ≡ x
-chosen true true o m x y k = absurd cc
-chosen true false o m x y k = refl
-chosen false true o m x y k = absurd cc
-chosen false false o m x y k = absurd cc
+chosen established refused ended m x y h = grind (arith, common_steps)
 
 is_ended : (established refused : Bool) (ended : Option Message) (m : Message) → (if established && not refused then ended else None) ≡ Some m → ended ≡ Some m
-is_ended true true o m k = absurd cc
-is_ended true false o m k = k
-is_ended false true o m k = absurd cc
-is_ended false false o m k = absurd cc
+is_ended established refused ended m h = grind (arith, common_steps)
 
 ended_at : (rooms : Rooms) (s : Settings) (p : Progress) (finding : Finding) (context control : ℕ) (fragment : List ℕ) (m : Message)
     → message_at p (At (Pdv context control fragment)) ≡ Some m → at_entry rooms s p finding (At (Pdv context control fragment)) ≡ replied p finding m (command_in m.command)

@@ -1,5 +1,6 @@
 -- What is kept of the data of a store, by what has come of the message; and what the filing's calls leave.
 use Rattle.std.proofs.Common.{◌≡◌, ℕ, ◌+◌, ◌≤◌, nat_lt, Bool, true, false, not, ◌||◌, List, [], ◌∷◌, ◌++◌, length, drop, get_or, Option, Some, None, option_map, Result, Ok, refl, ap, sym, subst, ◌∙◌, append_assoc, arith, if◌then◌else◌}
+use Rattle.std.proofs.lemmas.Grind.{common_steps}
 use Rattle.std.proofs.lemmas.Bool.Decides.{nat_tests}
 use Rattle.std.proofs.lemmas.List.{append-nil, length-append, drop_all, drop-append-le, get_or_append_left}
 use Rattle.engine.specs.Requested.{Requested, request_record}
@@ -61,8 +62,7 @@ idle_carried depth most stored store other request later m n failed failed_then 
 -- ---- the filing
 
 pub files_kept : (told : Option Shelf) → option_map (λ (shelf : Shelf). shelf.files) (told_after without_draft told) ≡ option_map (λ (shelf : Shelf). shelf.files) told
-files_kept None = refl
-files_kept (Some shelf) = refl
+files_kept told = grind (arith, common_steps)
 
 pub unfiled_same : (store : Store) → Unfiled store store
 unfiled_same store = record { files = refl; count = refl }
@@ -208,8 +208,7 @@ grown None file part h = tt
 grown (Some shelf) file part h = ap (λ (xs : List ℕ). xs ++ part) h
 
 files_grown : (told : Option Shelf) (part : List ℕ) → option_map (λ (shelf : Shelf). shelf.files) (told_after (appended part) told) ≡ option_map (λ (shelf : Shelf). shelf.files) told
-files_grown None part = refl
-files_grown (Some shelf) part = refl
+files_grown told part = grind (arith, common_steps)
 
 module _ (depth most : ℕ) (request : Requested) (m : Begun) (before : Bool) (context : ℕ) (part : List ℕ) (old new : Store) where
   abbrev later : Begun

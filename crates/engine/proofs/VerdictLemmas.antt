@@ -1,5 +1,6 @@
 -- There is a verdict on each store.
-use Rattle.std.proofs.Common.{◌≡◌, ◌≢◌, ◌⊎◌, inl, inr, ℕ, Bool, true, false, List, [], ◌∷◌, ◌++◌, Option, Some, None, refl, sym, ap, subst, ◌∙◌, append-nil, nat_eq}
+use Rattle.std.proofs.Common.{◌≡◌, ◌≢◌, ◌⊎◌, inl, inr, ℕ, Bool, true, false, List, [], ◌∷◌, ◌++◌, Option, Some, None, refl, sym, ap, subst, ◌∙◌, append-nil, nat_eq, arith}
+use Rattle.std.proofs.lemmas.Grind.{common_steps}
 use Rattle.std.proofs.lemmas.Bool.Decides.{eqb_tells}
 use Rattle.element.specs.declared.syntax.Syntax.{Syntax}
 use Rattle.element.specs.declared.tag.Tag.{Tag}
@@ -13,7 +14,7 @@ use Rattle.negotiate.specs.Contexts.{service_of}
 use Rattle.dictionary.proofs.Public.{class_back}
 use Rattle.sequence.specs.declared.fault.Fault.{Fault}
 use Rattle.sequence.specs.Tree.{Elements, no_elements, DataSet}
-use Rattle.sequence.specs.Open.{PathEntry, Tail, in_header, in_value, last_of, Nested, at_elements, in_sequence_of, in_item_of, IsTail, header_tail, value_tail, Open}
+use Rattle.sequence.specs.Open.{PathEntry, Tail, in_header, in_value, last_of, Nested, at_elements, in_sequence_of, in_item_of, IsTail, header_tail, Open}
 use Rattle.sequence.specs.Rules.{Limits}
 use Rattle.sequence.specs.Wanted.{Values, kept_of, value_of}
 use Rattle.sequence.specs.FirstFault.{IsUnbroken, tag_of_tail}
@@ -114,8 +115,7 @@ whole_front s es b set = record {
 }
 
 none_left : (s : Syntax) (last : ℕ) (tail : Tail) (t : List ℕ) → IsTail s last tail t → tail ≡ in_header [] → t ≡ []
-none_left s last tail t (header_tail part) e = cc
-none_left s last tail t (value_tail v el sh lt) e = absurd cc
+none_left s last tail t h k = grind (arith, common_steps)
 
 some_path : (a : List PathEntry) (x y : PathEntry) → a ++ (x ∷ y ∷ []) ≡ [] → ⊥
 some_path [] x y e = cc

@@ -1,5 +1,6 @@
 -- What judging a data set finds, from what its walker reports; and what comes of its draft.
 use Rattle.std.proofs.Common.{◌≡◌, inl, inr, ℕ, Bool, true, false, ◌||◌, List, [], ◌∷◌, Result, Ok, Err, nat_eq, refl, sym, ap, subst, ◌∙◌, arith}
+use Rattle.std.proofs.lemmas.Grind.{common_steps}
 use Rattle.element.specs.declared.syntax.Syntax.{Syntax}
 use Rattle.sequence.specs.declared.fault.Fault.{Fault}
 use Rattle.sequence.specs.declared.walker.Walker.{Walker}
@@ -73,8 +74,7 @@ differs_fails w command finding whole differs context depth most set k of filing
     record { elements = r.elements; first = inr (of, inr (r.fault_free, differs_first x (told_by w).kept finding r.kept differs)) }
 
 pub differs_is_failure : (values : Values) (command : CommandRecord) (finding : Finding) → Differs values command finding → finding.status ≡ success → ⊥
-differs_is_failure values command finding (other_class other) e = omega (arith, e)
-differs_is_failure values command finding (other_instance class other) e = omega (arith, e)
+differs_is_failure values command finding h k = grind (arith, common_steps)
 
 -- the comparison of a whole data set is the judgement
 pub judged_by : {V D : ℕ} (w : Walker V D) (command : CommandRecord) (result : Result (Unit {0}) StoreStatus) → ((b : List ℕ) → StandsAt w b → IsWholeDataSet (walker_syntax w) (limits_of w) b) → Compared (told_by w).kept command result → WalkHasVerdict w command result

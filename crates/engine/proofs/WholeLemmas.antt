@@ -1,5 +1,6 @@
 -- What a whole PDU comes to, by its type.
 use Rattle.std.proofs.Common.{◌≡◌, ℕ, Bool, true, false, not, ◌&&◌, List, [], Option, Some, None, nat_eq, refl, ap, sym, subst, ◌∙◌, arith, if◌then◌else◌, ◌⊎◌, inl, inr}
+use Rattle.std.proofs.lemmas.Grind.{common_steps}
 use Rattle.std.proofs.lemmas.Bool.Decides.{nat_tests}
 use Rattle.acceptor.specs.declared.state.State.{State}
 use Rattle.acceptor.specs.declared.state.State.TheVariants.{Sta1}
@@ -148,9 +149,7 @@ end_files_by s p body true seven one five = refl
 end_files_by s p body false true one five = refl
 end_files_by s p body false false one five = request_files one (is_due p.state) refl five where
   release_files : (f e : Bool) → (if f && e then released p else nothing p).files ≡ []
-  release_files true true = refl
-  release_files true false = refl
-  release_files false e = refl
+  release_files f e = grind (arith, common_steps)
 
   request_files : (a d : Bool) → is_due p.state ≡ d → (f : Bool) → (if a && d then at_request s p body else (if f && is_established p.state then released p else nothing p)).files ≡ []
   request_files true true e f = (request_comes s body p (due_is p.state e)).1
