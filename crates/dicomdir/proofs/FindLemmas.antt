@@ -99,8 +99,6 @@ end_of_items s head rest text some read other = after_mark s sequence_end_tag re
 pub always_items : (s : Syntax) (rest text : List ℕ) → SomeItems s (delimitation sequence_end_tag ++ rest) text → head_at s text ≡ None → ⊥
 always_items s rest text some read = always_mark s sequence_end_tag rest text refl fits_sequence_end (no_items_here some.spelled (λ one there tagged. absurd cc)).1 read
 
--- ---- finding an element under its tag
-
 -- ---- what a length announces
 
 defined_content : (h : Header) (b more text : List ℕ) → h.length ≢ undefined_length → length b ≡ h.length → text ≡ b ++ more → content_at h text ≡ b

@@ -145,7 +145,7 @@ mutual
       (counted h.length header.defined header.even (eqb-true _ _ front.1))
       (laid_items is back.1)
 
--- ---- elements that are written with a VR whose length takes two bytes, and with even values, are laid down as the standard has it
+-- ---- elements with even values and a VR whose length takes two bytes
 
 -- whether an element with this tag and this VR, whose length takes two bytes, can follow the tag with number `last`
 abbrev pub is_fixed : ℕ → Tag → List ℕ → Bool

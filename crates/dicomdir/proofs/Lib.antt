@@ -1,5 +1,5 @@
 pub mod FileIds
-pub mod OneImage
+pub mod Examples
 pub mod Laid
 pub mod NoFault
 pub mod Distinct

@@ -199,8 +199,6 @@ linked_has_no_fault start elements tree linked all =
     } in
     grind (arith, common_steps, forest_from most linked.records links.first, followed start elements tree linked, paths_name_nodes start elements tree linked, forest_last most links [] 0 refl, unreached_none (places_of linked.placed) linked.records all, free_paths links [] (paths_of links) free, each_none linked.records linked.good, good_paths, last_named, offset_none, two_none)
 
--- ---- a file is a directory or has one first fault
-
 -- ---- the file header
 
 header_is_taken : {file front back : List ℕ} → IsExplicitFile file front back → (fault : MetaFault) → MetaFaultOf file fault → ⊥

@@ -73,8 +73,6 @@ pub file_id_as : (place : ℕ) (es : Elements) (e : ReadRecord) (found_id : Elem
     → entry_has_file_id e found_id ≡ has_file_id es
 file_id_as place es e found_id is finds = grind (arith, common_steps, finds_missing found_id (found 0x00041500 0 es) finds)
 
--- ---- reading one record after the other
-
 -- ---- entries and their faults
 
 are_more : {es : List ReadRecord} {rs : List Record} {e : ReadRecord} {r : Record} → AreEntries es rs → IsEntry e r → AreEntries (es ++ e ∷ []) (rs ++ r ∷ [])

@@ -58,8 +58,6 @@ kept_by values (rule ∷ rules) n room e r =
 pub room_kept : (row : Row) (n room : ℕ) → IsRow row → room_of row_wants n ≡ Some room → optional_size (value_of row.values n) ≤ room
 room_kept row n room is r = kept_by row.values key_table n room is.fits r
 
--- ---- a file has one row, and its keys fit
-
 -- ---- a file has one row
 
 has_meta : {file : List ℕ} (is : IsInstance file) → HasMeta (record { class = is.class; instance = is.instance; syntax = syntax_uid is.syntax }) file

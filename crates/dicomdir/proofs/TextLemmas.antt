@@ -37,8 +37,6 @@ head_some s b r e = head_size s b (need s b) r refl e
 pub head_read : (s : Syntax) (h : Header) (front rest b : List ℕ) → SpellsHeader s h front → b ≡ front ++ rest → head_at s b ≡ Some (record { header = h; size = length front })
 head_read s h front rest b spelled whole = grind (arith, common_steps, spelled_need s h front rest b spelled whole, spelled_header s h front rest b spelled whole, length-append front rest)
 
--- ---- what stands at the front of a text that spells elements or items
-
 -- ---- sizes
 
 pub header_length : {s : Syntax} {h : Header} {b : List ℕ} → SpellsHeader s h b → length b ≡ header_size h

@@ -1,4 +1,4 @@
--- Worked directories: of one image (PS3.3 annex F), byte by byte, with the row that it is built from, of two patients, and of none.
+-- Worked directories: of one image (PS3.3 annex F), byte by byte, of more images, and of none.
 use Rattle.std.specs.Prelude.{◌≡◌, ℕ, List, [], ◌∷◌, ◌++◌, length, replicate, None, codes, Some, ◌+◌}
 use Rattle.element.specs.declared.syntax.Syntax.TheVariants.{Explicit}
 use Rattle.element.specs.Numbers.{le}

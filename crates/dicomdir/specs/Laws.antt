@@ -103,7 +103,7 @@ WrittenIsLinked =
     → file_is_too_large uid rows ≡ false
     → IsDirectoryOf (directory_file (record { uid = uid; rows = rows })) rows
 
--- ---- longer paths change nothing; paths name the nodes of a linked directory; and the paths of the directory of one image, and of one of two patients
+-- ---- longer paths change nothing, and what paths name
 
 -- paths of however many records more have the same first fault, and are no others where they have none
 abbrev pub LongerPathsChangeNothing : Type 0

@@ -1,4 +1,4 @@
--- The records in use of a linked directory, depth first, each with its place and its level, and the files that it keeps.
+-- The records in use of a linked directory, depth first, each with its place and level, and the files that it keeps.
 use Rattle.std.specs.Prelude.{◌≡◌, ℕ, suc, List, [], ◌∷◌, ◌++◌, if◌then◌else◌, Option, Some, None, codes, true, map}
 use Rattle.sequence.specs.Tree.{Elements}
 use Rattle.dicomdir.specs.TreeOf.{Forest, no_nodes, node}
@@ -32,7 +32,7 @@ pub record HasNodes (file : List ℕ) (nodes : List LevelNode) : Type 0 where
   pub all_reached : IsAllReached linked
   pub nodes_are : nodes_in_use 1 linked.placed ≡ nodes
 
--- ---- what is left of a directory's tree without its inactive records (PS3.3 section F.5.1), and the files that it keeps
+-- ---- what is left of a tree without its inactive records (PS3.3 section F.5.1), and the files that it keeps
 
 -- the tree without inactive nodes and what is below them
 abbrev pub pruned : Forest Node → Forest Node

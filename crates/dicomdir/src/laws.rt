@@ -24,51 +24,51 @@ pub fn fault_numbers() -> [u8; 9]
 }
 
 /// The directory of one image, laid out byte by byte, is linked to the tree of its row.
-#[tactic(auto, using(crate::proofs::OneImage::one_image_is_linked))]
+#[tactic(auto, using(crate::proofs::Examples::one_image_is_linked))]
 pub fn one_image_is_linked()
     ensures { OneImageIsLinked }
 {}
 
 /// Offsets that are counted from behind the preamble link that directory to no tree.
-#[tactic(auto, using(crate::proofs::OneImage::preamble_counts))]
+#[tactic(auto, using(crate::proofs::Examples::preamble_counts))]
 pub fn preamble_counts()
     ensures { PreambleCounts }
 {}
 
 /// Where one of its offsets is changed, the fault that is found first and its place are those of the
 /// rules.
-#[tactic(auto, using(crate::proofs::OneImage::one_image_faults))]
+#[tactic(auto, using(crate::proofs::Examples::one_image_faults))]
 pub fn one_image_faults()
     ensures { OneImageFaults }
 {}
 
 /// Rows are grouped in first-seen order, padding does not count in keys, and doubles are left out.
-#[tactic(auto, using(crate::proofs::OneImage::rows_are_grouped))]
+#[tactic(auto, using(crate::proofs::Examples::rows_are_grouped))]
 pub fn rows_are_grouped()
     ensures { RowsAreGrouped }
 {}
 
 /// File IDs have one to eight components, and spaces at the end of the value do not count.
-#[tactic(auto, using(crate::proofs::OneImage::file_ids_are_read))]
+#[tactic(auto, using(crate::proofs::Examples::file_ids_are_read))]
 pub fn file_ids_are_read()
     ensures { FileIdsAreRead }
 {}
 
 /// What a record or the root lacks is told at the place of the rules, and so is a level that does not
 /// fit.
-#[tactic(auto, using(crate::proofs::OneImage::record_faults))]
+#[tactic(auto, using(crate::proofs::Examples::record_faults))]
 pub fn record_faults()
     ensures { RecordFaults }
 {}
 
 /// The directory of no rows has 320 bytes and is linked.
-#[tactic(auto, using(crate::proofs::OneImage::no_rows_are_linked))]
+#[tactic(auto, using(crate::proofs::Examples::no_rows_are_linked))]
 pub fn no_rows_are_linked()
     ensures { NoRowsAreLinked }
 {}
 
 /// Files without a file header, and of another syntax than Explicit, are told so.
-#[tactic(auto, using(crate::proofs::OneImage::header_faults))]
+#[tactic(auto, using(crate::proofs::Examples::header_faults))]
 pub fn header_faults()
     ensures { HeaderFaults }
 {}
@@ -112,7 +112,7 @@ pub fn one_list_of_nodes()
 
 /// Records stand depth first, without gaps: the directory that the definitions lay down of one image
 /// is the known one, byte by byte.
-#[tactic(auto, using(crate::proofs::OneImage::places_are_assigned))]
+#[tactic(auto, using(crate::proofs::Examples::places_are_assigned))]
 pub fn places_are_assigned()
     ensures { PlacesAreAssigned }
 {}
@@ -124,13 +124,13 @@ pub fn sizes_are_true()
 {}
 
 /// Inactive records are followed as any other, and keep neither themselves nor what is below them.
-#[tactic(auto, using(crate::proofs::OneImage::inactive_records))]
+#[tactic(auto, using(crate::proofs::Examples::inactive_records))]
 pub fn inactive_records()
     ensures { InactiveRecords }
 {}
 
 /// The directory of one image has these four records, with their places and levels.
-#[tactic(auto, using(crate::proofs::OneImage::one_image_has_nodes))]
+#[tactic(auto, using(crate::proofs::Examples::one_image_has_nodes))]
 pub fn one_image_has_nodes()
     ensures { OneImageHasNodes }
 {}

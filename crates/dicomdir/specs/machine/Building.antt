@@ -63,7 +63,7 @@ pub record Lays {A : Type 0} (forest : Forest Elements) (old new : List (LaidRec
   pub last_is : (start : ℕ) → place_from_end (start + new_size) last ≡ last_record_place (with_places start forest)
   pub none : nat_eq first 0 ≡ has_none forest
 
--- ---- what a built directory keeps beside its rows: the records with their offsets, the size of the file, and the doubles
+-- ---- what a built directory keeps beside its rows: its records, the size of the file, and the doubles
 
 -- the records of `records_size` bytes are laid down to the end of a file of `file_size` bytes
 pub record IsBuilt {A : Type 0} (uid : List ℕ) (rows : List Row) (entries : List (LaidRecord A)) (records_size first last file_size : ℕ) (doubles : List ℕ) : Type 0 where

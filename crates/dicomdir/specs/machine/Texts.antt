@@ -1,4 +1,4 @@
--- The header at the front of a text.
+-- What is read of a text: the header at its front, what it spells, and what is found in it under a tag.
 use Rattle.std.specs.Prelude.{ℕ, List, length, Option, Some, None, nat_le, if◌then◌else◌, ◌≡◌, ◌≤◌, ◌+◌, Bool, true, false, not, ◌&&◌, [], ◌++◌, take}
 use Rattle.element.specs.declared.syntax.Syntax.{Syntax}
 use Rattle.element.specs.declared.size.Need.{Need}
