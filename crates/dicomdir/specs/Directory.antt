@@ -1,6 +1,6 @@
 -- A directory as it is read (PS3.3 sections F.3 and F.4): its root, its records with their places, and what a
 -- record says. Offsets count from the file's first byte to the tag of a record's item.
-use Rattle.std.specs.Prelude.{◌≡◌, ℕ, ◌+◌, Bool, true, false, not, ◌&&◌, ◌||◌, List, [], ◌∷◌, ◌++◌, length, Option, Some, None, is_some, nat_eq, if◌then◌else◌, codes}
+use Rattle.std.specs.Prelude.{◌≡◌, ℕ, ◌+◌, Bool, true, false, not, ◌&&◌, ◌||◌, List, [], ◌∷◌, ◌++◌, length, Option, Some, None, is_some, nat_eq, if◌then◌else◌}
 use Rattle.std.specs.Str.{bytes_eq}
 use Rattle.byteorder.specs.Endian.{little_number}
 use Rattle.element.specs.declared.syntax.Syntax.TheVariants.{Explicit}
@@ -12,6 +12,8 @@ use Rattle.sequence.specs.Shape.{is_undefined}
 use Rattle.sequence.specs.Tree.{Elements, no_elements, value, sequence, Items, no_items, item, DataSet}
 use Rattle.dicomdir.specs.FileId.{file_id_of}
 use Rattle.dicomdir.specs.Row.{key}
+use Rattle.dicomdir.specs.declared.level.Level.TheVariants.{Image}
+use Rattle.dicomdir.specs.Record.{kind_of}
 
 -- the file is a file header that names Explicit, and what follows
 pub record IsExplicitFile (file front back : List ℕ) : Type 0 where
@@ -156,4 +158,4 @@ abbrev pub has_file_id : Elements → Bool
 has_file_id es =
     not (carried_node es).in_use
     || is_some (carried_node es).file_id
-    || (is_missing (found 0x00041500 0 es) && not (bytes_eq (carried_node es).kind (codes "IMAGE")))
+    || (is_missing (found 0x00041500 0 es) && not (bytes_eq (carried_node es).kind (kind_of Image)))

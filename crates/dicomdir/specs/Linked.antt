@@ -1,11 +1,13 @@
 -- When a directory's records are linked to a tree (PS3.3 section F.4; that an image directory has just these
 -- levels is this product's own profile).
-use Rattle.std.specs.Prelude.{◌≡◌, ℕ, suc, Bool, true, not, ◌&&◌, ◌||◌, List, [], ◌∷◌, ◌++◌, Option, Some, None, nat_eq, if◌then◌else◌, codes}
+use Rattle.std.specs.Prelude.{◌≡◌, ℕ, suc, Bool, true, not, ◌&&◌, ◌||◌, List, [], ◌∷◌, ◌++◌, Option, Some, None, nat_eq, if◌then◌else◌}
 use Rattle.std.specs.List.{list_any, list_all}
 use Rattle.std.specs.Str.{bytes_eq}
 use Rattle.sequence.specs.Tree.{Elements, no_elements}
 use Rattle.dicomdir.specs.TreeOf.{Forest, no_nodes, node}
 use Rattle.dicomdir.specs.Directory.{IsDirectoryFile, Record, Node, carried_node, first_offset, last_offset, records_of, next_offset, lower_offset, or_zero, has_record, has_file_id}
+use Rattle.dicomdir.specs.declared.level.Level.TheVariants.{Patient, Study, Series}
+use Rattle.dicomdir.specs.Record.{kind_of}
 
 -- what the nodes carry whose elements are those of a forest
 abbrev pub carried_forest : Forest Elements → Forest Node
@@ -13,14 +15,14 @@ carried_forest no_nodes = no_nodes
 carried_forest (node es below next) = node (carried_node es) (carried_forest below) (carried_forest next)
 
 abbrev pub is_upper_kind : List ℕ → Bool
-is_upper_kind kind = bytes_eq kind (codes "PATIENT") || bytes_eq kind (codes "STUDY") || bytes_eq kind (codes "SERIES")
+is_upper_kind kind = bytes_eq kind (kind_of Patient) || bytes_eq kind (kind_of Study) || bytes_eq kind (kind_of Series)
 
 -- levels 1 to 3 are patients, studies and series; level 4 has any other type, and nothing stands below it
 abbrev pub fits_level : ℕ → List ℕ → Bool
 fits_level level kind =
-    if nat_eq level 1 then bytes_eq kind (codes "PATIENT")
-    else (if nat_eq level 2 then bytes_eq kind (codes "STUDY")
-    else (if nat_eq level 3 then bytes_eq kind (codes "SERIES")
+    if nat_eq level 1 then bytes_eq kind (kind_of Patient)
+    else (if nat_eq level 2 then bytes_eq kind (kind_of Study)
+    else (if nat_eq level 3 then bytes_eq kind (kind_of Series)
     else (nat_eq level 4 && not (is_upper_kind kind))))
 
 -- an inactive record fits any level

@@ -1,5 +1,5 @@
 -- The records in use of a linked directory, depth first, each with its place and level, and the files that it keeps.
-use Rattle.std.specs.Prelude.{◌≡◌, ℕ, suc, List, [], ◌∷◌, ◌++◌, if◌then◌else◌, Option, Some, None, codes, true, map}
+use Rattle.std.specs.Prelude.{◌≡◌, ℕ, suc, List, [], ◌∷◌, ◌++◌, if◌then◌else◌, Option, Some, None, true, map}
 use Rattle.sequence.specs.Tree.{Elements}
 use Rattle.dicomdir.specs.TreeOf.{Forest, no_nodes, node}
 use Rattle.dicomdir.specs.Directory.{IsDirectoryFile, Node}
@@ -7,6 +7,8 @@ use Rattle.dicomdir.specs.Linked.{PlacedNode, LinkedElements, IsAllReached}
 use Rattle.std.specs.Str.{bytes_eq}
 use Rattle.dicomdir.specs.declared.tree.TreeRecord.{TreeRecord}
 use Rattle.dicomdir.specs.declared.tree.Tree.{Tree}
+use Rattle.dicomdir.specs.declared.level.Level.TheVariants.{Image}
+use Rattle.dicomdir.specs.Record.{kind_of}
 
 -- a record of the tree: 1 is a patient's level, and 4 an image's
 pub record LevelNode : Type 0 where
@@ -44,7 +46,7 @@ listed None = []
 listed (Some file_id) = file_id ∷ []
 
 abbrev pub file_id_of_image : Node → List (List ℕ)
-file_id_of_image n = if bytes_eq n.kind (codes "IMAGE") then listed n.file_id else []
+file_id_of_image n = if bytes_eq n.kind (kind_of Image) then listed n.file_id else []
 
 -- depth first
 abbrev pub images_of : Forest Node → List (List ℕ)

@@ -5,6 +5,7 @@ ghost use Rattle.dicomdir.specs.NodesInUse.{listed, file_id_of_image, KeptOf, Ha
 
 use crate::fault::DirFault;
 use crate::file_id::FileId;
+use crate::level::Level;
 use crate::records::is_text;
 use crate::tree::{Tree, TreeRecord};
 use std::alloc::Allocator;
@@ -13,7 +14,7 @@ use std::alloc::Allocator;
 fn image_id(record: &TreeRecord) -> Option<FileId>
     ensures { listed result ≡ file_id_of_image (node_of record.now).carries }
 {
-    if is_text(record.kind(), b"IMAGE") {
+    if is_text(record.kind(), Level::Image.kind()) {
         record.file_id()
     } else {
         None

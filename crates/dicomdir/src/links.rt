@@ -8,6 +8,7 @@ ghost use Rattle.dicomdir.specs.Paths.{line_of};
 ghost use Rattle.dicomdir.specs.Linked.{is_one_of};
 
 use crate::fault::DirFault;
+use crate::level::Level;
 use crate::records::{ReadRecord, is_text};
 use crate::tree::TreeRecord;
 use std::alloc::Allocator;
@@ -45,18 +46,20 @@ struct Step {
 fn is_upper_kind(kind: &[u8]) -> bool
     ensures { result ≡ linked.is_upper_kind kind.now }
 {
-    is_text(kind, b"PATIENT") || is_text(kind, b"STUDY") || is_text(kind, b"SERIES")
+    is_text(kind, Level::Patient.kind())
+        || is_text(kind, Level::Study.kind())
+        || is_text(kind, Level::Series.kind())
 }
 
 fn fits_level(level: u8, kind: &[u8]) -> bool
     ensures { result ≡ linked.fits_level level kind.now }
 {
     if level == 1 {
-        is_text(kind, b"PATIENT")
+        is_text(kind, Level::Patient.kind())
     } else if level == 2 {
-        is_text(kind, b"STUDY")
+        is_text(kind, Level::Study.kind())
     } else if level == 3 {
-        is_text(kind, b"SERIES")
+        is_text(kind, Level::Series.kind())
     } else {
         level == 4 && !is_upper_kind(kind)
     }

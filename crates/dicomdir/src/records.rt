@@ -10,6 +10,7 @@ ghost use Rattle.std.specs.Str.{bytes_eq};
 use crate::fault::DirFault;
 use crate::file_id::FileId;
 use crate::found::{Element, after, after_item, content_of, find, head_of};
+use crate::level::Level;
 use element::{Syntax, Tag, unpadded};
 use std::alloc::Allocator;
 
@@ -89,7 +90,7 @@ fn has_file_id(entry: &ReadRecord, element: &Element) -> bool
 {
     !entry.in_use
         || entry.file_id.is_some()
-        || (element.is_missing() && !is_text(entry.kind, b"IMAGE"))
+        || (element.is_missing() && !is_text(entry.kind, Level::Image.kind()))
 }
 
 /// Reads the record at a place.

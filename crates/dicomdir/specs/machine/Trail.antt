@@ -1,5 +1,5 @@
 -- The path that is open while links are followed, and the paths that are still to come.
-use Rattle.std.specs.Prelude.{◌≡◌, ℕ, suc, ◌<◌, ◌-◌, min, Bool, true, false, ◌&&◌, List, [], ◌∷◌, ◌++◌, length, Option, Some, None, if◌then◌else◌, ◌≢◌, ◌≤◌, map, slice_index_or, not, ◌||◌, is_some, nat_eq, codes}
+use Rattle.std.specs.Prelude.{◌≡◌, ℕ, suc, ◌<◌, ◌-◌, min, Bool, true, false, ◌&&◌, List, [], ◌∷◌, ◌++◌, length, Option, Some, None, if◌then◌else◌, ◌≢◌, ◌≤◌, map, slice_index_or, not, ◌||◌, is_some, nat_eq}
 use Rattle.dicomdir.specs.declared.links.Mark.{Mark}
 use Rattle.dicomdir.specs.declared.links.Step.{Step}
 use Rattle.dicomdir.specs.declared.records.ReadRecord.{ReadRecord}
@@ -18,6 +18,8 @@ use Rattle.dicomdir.specs.DirFault.{place_in, links_of, links_fault, path_fault,
 use Rattle.std.specs.Str.{bytes_eq}
 use Rattle.dicomdir.specs.declared.found.Element.{Element}
 use Rattle.dicomdir.specs.machine.Texts.{got_none, HasItems}
+use Rattle.dicomdir.specs.declared.level.Level.TheVariants.{Image}
+use Rattle.dicomdir.specs.Record.{kind_of}
 
 -- Marks stand here with the last one first.
 
@@ -222,7 +224,7 @@ use_flag (Some flag) = if nat_eq flag 0xffff then Some true else (if nat_eq flag
 
 -- whether an entry has the file ID that it needs, where this is found under its tag
 abbrev pub entry_has_file_id : ReadRecord → Element → Bool
-entry_has_file_id e found = not e.in_use || is_some e.file_id || (got_none found && not (bytes_eq e.kind.now (codes "IMAGE")))
+entry_has_file_id e found = not e.in_use || is_some e.file_id || (got_none found && not (bytes_eq e.kind.now (kind_of Image)))
 
 -- the nodes of a directory without a fault
 pub record ChecksAs (start : ℕ) (es : Elements) (nodes : List LevelNode) : Type 0 where
