@@ -7,9 +7,7 @@ use part10::Filing;
 use pdu::{Event, Wire};
 
 impl<const A: usize, const C: usize, const V: usize, const D: usize> Provider<A, C, V, D> {
-    ghost use Rattle.engine.specs.machine.Lent.{before, after, KeepsDraft};
-    ghost use Rattle.engine.specs.Drafts.{IsThere};
-    ghost use Rattle.engine.specs.StoredData.{drafting_in};
+    ghost use Rattle.engine.specs.machine.Lent.{before, after, DraftIsThere, KeepsDraft};
     ghost use Rattle.engine.specs.machine.Events.{Takes, HasRoom, LeavesRoom};
     ghost use Rattle.engine.specs.Kept.{kept_of, settings_in};
     ghost use Rattle.engine.specs.Run.{rooms_of};
@@ -21,10 +19,10 @@ impl<const A: usize, const C: usize, const V: usize, const D: usize> Provider<A,
         kind: u8,
         devices: Devices<'_, W, F>,
     )
-        requires draft { IsThere (drafting_in (kept_of self.old).storing) (F.store devices.filing.now) }
+        requires draft { DraftIsThere (kept_of self.old) (F.store devices.filing.now) }
         requires room { HasRoom (A - 12) (kept_of self.old) kind event }
         ensures settings { settings_in self.new ≡ settings_in self.old }
-        ensures drafts { KeepsDraft (kept_of self.old) (kept_of self.new) (before W.line F.store devices.entry) (after W.line F.store devices.exit) }
+        ensures drafts { KeepsDraft (kept_of self.old) (kept_of self.new) (F.store devices.entry.filing.now) (after W.line F.store devices.exit).store }
         ensures room { LeavesRoom (A - 12) (kept_of self.old) (kept_of self.new) kind event.entry }
         ensures takes { Takes (rooms_of A C V D) (settings_in self.old) (kept_of self.old) (kept_of self.new) kind event.entry
             (before W.line F.store devices.entry) (after W.line F.store devices.exit) }

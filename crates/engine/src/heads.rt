@@ -128,11 +128,9 @@ pub(crate) fn head_event(room: usize, most: u32, state: State, kind: u8, length:
 
 impl<const A: usize, const C: usize, const V: usize, const D: usize> Provider<A, C, V, D> {
     ghost use Rattle.std.specs.Prelude.{◌-◌, []};
-    ghost use Rattle.engine.specs.machine.Lent.{before, after, KeepsDraft};
+    ghost use Rattle.engine.specs.machine.Lent.{before, after, DraftIsThere, KeepsDraft};
     ghost use Rattle.engine.specs.Kept.{kept_of, settings_in};
     ghost use Rattle.engine.specs.machine.Capacity.{BodyFits};
-    ghost use Rattle.engine.specs.Drafts.{IsThere};
-    ghost use Rattle.engine.specs.StoredData.{drafting_in};
     ghost use Rattle.engine.specs.machine.Events.{TakesHead};
     ghost use Rattle.engine.specs.Run.{rooms_of};
 
@@ -143,11 +141,11 @@ impl<const A: usize, const C: usize, const V: usize, const D: usize> Provider<A,
         length: u32,
         devices: Devices<'_, W, F>,
     )
-        requires draft { IsThere (drafting_in (kept_of self.old).storing) (F.store devices.filing.now) }
+        requires draft { DraftIsThere (kept_of self.old) (F.store devices.filing.now) }
         ensures body { (kept_of self.new).body ≡ [] }
         ensures fits { BodyFits (A - 12) (kept_of self.new) kind length }
         ensures settings { settings_in self.new ≡ settings_in self.old }
-        ensures drafts { KeepsDraft (kept_of self.old) (kept_of self.new) (before W.line F.store devices.entry) (after W.line F.store devices.exit) }
+        ensures drafts { KeepsDraft (kept_of self.old) (kept_of self.new) (F.store devices.entry.filing.now) (after W.line F.store devices.exit).store }
         ensures does { TakesHead (rooms_of A C V D) (settings_in self.old) (kept_of self.old) (kept_of self.new) kind length (before W.line F.store devices.entry) (after W.line F.store devices.exit) }
     {
         let state = self.phase.state();

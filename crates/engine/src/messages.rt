@@ -94,11 +94,9 @@ impl<const C: usize, const V: usize, const D: usize> Message<C, V, D> {
 
 impl<const A: usize, const C: usize, const V: usize, const D: usize> Provider<A, C, V, D> {
     ghost use Rattle.engine.specs.Devices.{devices};
-    ghost use Rattle.engine.specs.machine.Lent.{before, after, KeepsDraft};
+    ghost use Rattle.engine.specs.machine.Lent.{before, after, DraftIsThere, KeepsDraft};
     ghost use Rattle.engine.specs.Kept.{kept_of, settings_in};
     ghost use Rattle.engine.specs.machine.Capacity.{FragmentFits};
-    ghost use Rattle.engine.specs.Drafts.{IsThere, Drafts};
-    ghost use Rattle.engine.specs.StoredData.{drafting_in};
     ghost use Rattle.engine.specs.machine.Events.{TakesFragment, TakesPdvEnd, TakesPdvHead};
     ghost use Rattle.engine.specs.Run.{rooms_of};
 
@@ -108,10 +106,10 @@ impl<const A: usize, const C: usize, const V: usize, const D: usize> Provider<A,
         head: PdvHead,
         devices: Devices<'_, W, F>,
     )
-        requires draft { IsThere (drafting_in (kept_of self.old).storing) (F.store devices.filing.now) }
+        requires draft { DraftIsThere (kept_of self.old) (F.store devices.filing.now) }
         requires two { 2 ≤ head.length }
         ensures settings { settings_in self.new ≡ settings_in self.old }
-        ensures drafts { KeepsDraft (kept_of self.old) (kept_of self.new) (before W.line F.store devices.entry) (after W.line F.store devices.exit) }
+        ensures drafts { KeepsDraft (kept_of self.old) (kept_of self.new) (F.store devices.entry.filing.now) (after W.line F.store devices.exit).store }
         ensures fits { FragmentFits (kept_of self.new) (head.length - 2) }
         ensures does { TakesPdvHead (rooms_of A C V D) (settings_in self.old) (kept_of self.old) (kept_of self.new) head (before W.line F.store devices.entry) (after W.line F.store devices.exit) }
     {
@@ -133,10 +131,10 @@ impl<const A: usize, const C: usize, const V: usize, const D: usize> Provider<A,
 
     /// A part of the fragment of a PDV.
     pub(crate) fn on_data<F: Filing>(&mut self, part: &[u8], filing: &mut F)
-        requires draft { IsThere (drafting_in (kept_of self.old).storing) (F.store filing.old) }
+        requires draft { DraftIsThere (kept_of self.old) (F.store filing.old) }
         requires fits { FragmentFits (kept_of self.old) (length part.now) }
         ensures settings { settings_in self.new ≡ settings_in self.old }
-        ensures drafts { Drafts (drafting_in (kept_of self.old).storing) (F.store filing.old) (drafting_in (kept_of self.new).storing) (F.store filing.new) }
+        ensures drafts { KeepsDraft (kept_of self.old) (kept_of self.new) (F.store filing.old) (F.store filing.new) }
         ensures fits { (m : ℕ) → FragmentFits (kept_of self.old) (length part.now + m) → FragmentFits (kept_of self.new) m }
         ensures takes { (l : Line) → TakesFragment (rooms_of A C V D) (settings_in self.old) (kept_of self.old) (kept_of self.new) part.now (devices l (F.store filing.old)) (devices l (F.store filing.new)) }
     {
@@ -151,9 +149,9 @@ impl<const A: usize, const C: usize, const V: usize, const D: usize> Provider<A,
 
     /// A PDV is whole.
     pub(crate) fn on_pdv<W: Wire, F: Filing>(&mut self, devices: Devices<'_, W, F>)
-        requires draft { IsThere (drafting_in (kept_of self.old).storing) (F.store devices.filing.now) }
+        requires draft { DraftIsThere (kept_of self.old) (F.store devices.filing.now) }
         ensures settings { settings_in self.new ≡ settings_in self.old }
-        ensures drafts { KeepsDraft (kept_of self.old) (kept_of self.new) (before W.line F.store devices.entry) (after W.line F.store devices.exit) }
+        ensures drafts { KeepsDraft (kept_of self.old) (kept_of self.new) (F.store devices.entry.filing.now) (after W.line F.store devices.exit).store }
         ensures does { TakesPdvEnd (rooms_of A C V D) (settings_in self.old) (kept_of self.old) (kept_of self.new) (before W.line F.store devices.entry) (after W.line F.store devices.exit) }
     {
         if self.refused {

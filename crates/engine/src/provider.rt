@@ -36,11 +36,10 @@ pub(crate) struct Provider<const A: usize, const C: usize, const V: usize, const
 impl<const A: usize, const C: usize, const V: usize, const D: usize> Provider<A, C, V, D> {
     ghost use Rattle.std.specs.Prelude.{ℕ, true};
     ghost use Rattle.engine.specs.Progress.{at_start};
-    ghost use Rattle.engine.specs.machine.Lent.{before, after, KeepsDraft};
+    ghost use Rattle.engine.specs.machine.Lent.{before, after, DraftIsThere, KeepsDraft};
     ghost use Rattle.engine.specs.machine.Answers.{done_by};
     ghost use Rattle.negotiate.specs.Settings.{settings_of};
     ghost use Rattle.part10.specs.Store.{Store};
-    ghost use Rattle.engine.specs.Drafts.{IsThere, Drafts};
     ghost use Rattle.engine.specs.Kept.{Pends, held_by, takes_pdvs_in, kept_of, settings_in};
     ghost use Rattle.engine.specs.machine.Capacity.{BodyFits, FragmentFits};
     ghost use Rattle.pdu.specs.Deframed.{position_of};
@@ -133,7 +132,7 @@ impl<const A: usize, const C: usize, const V: usize, const D: usize> Provider<A,
 
     /// Drops the draft of a store.
     fn drop_draft<F: Filing>(&mut self, filing: &mut F)
-        requires draft { IsThere (drafting_in (kept_of self.old).storing) (F.store filing.old) }
+        requires draft { DraftIsThere (kept_of self.old) (F.store filing.old) }
         ensures kept { kept_of self.new ≡ with_storing (kept_of self.new).storing (kept_of self.old) }
         ensures settings { settings_in self.new ≡ settings_in self.old }
         ensures drops { Drops (drafting_in (kept_of self.old).storing) (F.store filing.old) (F.store filing.new) }
@@ -151,11 +150,11 @@ impl<const A: usize, const C: usize, const V: usize, const D: usize> Provider<A,
         sent: Result<(), WireFailed>,
         filing: &mut F,
     )
-        requires draft { IsThere (drafting_in (kept_of self.old).storing) (F.store filing.old) }
+        requires draft { DraftIsThere (kept_of self.old) (F.store filing.old) }
         requires stays { is_left next ≡ false → next ≡ (kept_of self.old).state }
         ensures settings { settings_in self.new ≡ settings_in self.old }
         ensures settles { ComesTo next sent (kept_of self.old) (kept_of self.new) (F.store filing.old) (F.store filing.new) }
-        ensures drafts { Drafts (drafting_in (kept_of self.old).storing) (F.store filing.old) (drafting_in (kept_of self.new).storing) (F.store filing.new) }
+        ensures drafts { KeepsDraft (kept_of self.old) (kept_of self.new) (F.store filing.old) (F.store filing.new) }
     {
         let next = state_after(next, sent);
         match next {
@@ -178,9 +177,9 @@ impl<const A: usize, const C: usize, const V: usize, const D: usize> Provider<A,
         answering: Answering,
         devices: Devices<'_, W, F>,
     )
-        requires draft { IsThere (drafting_in (kept_of self.old).storing) (F.store devices.filing.now) }
+        requires draft { DraftIsThere (kept_of self.old) (F.store devices.filing.now) }
         requires stays { Stays (kept_of self.old).state event }
-        ensures drafts { KeepsDraft (kept_of self.old) (kept_of self.new) (before W.line F.store devices.entry) (after W.line F.store devices.exit) }
+        ensures drafts { KeepsDraft (kept_of self.old) (kept_of self.new) (F.store devices.entry.filing.now) (after W.line F.store devices.exit).store }
         ensures settings { settings_in self.new ≡ settings_in self.old }
         ensures refused { self.new.refused ≡ self.old.refused }
         ensures body { (kept_of self.old).body ≡ [] → (kept_of self.new).body ≡ [] }
@@ -200,9 +199,9 @@ impl<const A: usize, const C: usize, const V: usize, const D: usize> Provider<A,
         answering: Answering,
         devices: Devices<'_, W, F>,
     )
-        requires draft { IsThere (drafting_in (kept_of self.old).storing) (F.store devices.filing.now) }
+        requires draft { DraftIsThere (kept_of self.old) (F.store devices.filing.now) }
         requires stays { Stays (kept_of self.old).state event }
-        ensures drafts { KeepsDraft (kept_of self.old) (kept_of self.new) (before W.line F.store devices.entry) (after W.line F.store devices.exit) }
+        ensures drafts { KeepsDraft (kept_of self.old) (kept_of self.new) (F.store devices.entry.filing.now) (after W.line F.store devices.exit).store }
         ensures settings { settings_in self.new ≡ settings_in self.old }
         ensures refused { self.new.refused ≡ true }
         ensures body { (kept_of self.old).body ≡ [] → (kept_of self.new).body ≡ [] }
@@ -214,9 +213,9 @@ impl<const A: usize, const C: usize, const V: usize, const D: usize> Provider<A,
 
     /// The head of a PDV is bad, or bytes are left over after a PDV.
     pub(crate) fn on_invalid<W: Wire, F: Filing>(&mut self, devices: Devices<'_, W, F>)
-        requires draft { IsThere (drafting_in (kept_of self.old).storing) (F.store devices.filing.now) }
+        requires draft { DraftIsThere (kept_of self.old) (F.store devices.filing.now) }
         ensures settings { settings_in self.new ≡ settings_in self.old }
-        ensures drafts { KeepsDraft (kept_of self.old) (kept_of self.new) (before W.line F.store devices.entry) (after W.line F.store devices.exit) }
+        ensures drafts { KeepsDraft (kept_of self.old) (kept_of self.new) (F.store devices.entry.filing.now) (after W.line F.store devices.exit).store }
         ensures tries { TriesInvalid (kept_of self.old) (kept_of self.new) (before W.line F.store devices.entry) (after W.line F.store devices.exit) }
     {
         if self.takes_pdvs() {

@@ -99,12 +99,10 @@ fn answer_request<W: Wire>(
 
 impl<const A: usize, const C: usize, const V: usize, const D: usize> Provider<A, C, V, D> {
     ghost use Rattle.engine.specs.Run.{rooms_of};
-    ghost use Rattle.engine.specs.machine.Lent.{before, after, KeepsDraft};
+    ghost use Rattle.engine.specs.machine.Lent.{before, after, DraftIsThere, KeepsDraft};
     ghost use Rattle.engine.specs.Kept.{takes_body_in, kept_of, settings_in};
     ghost use Rattle.engine.specs.machine.Capacity.{BodyFits};
     ghost use Rattle.part10.specs.Store.{Store};
-    ghost use Rattle.engine.specs.Drafts.{IsThere};
-    ghost use Rattle.engine.specs.StoredData.{drafting_in};
     ghost use Rattle.engine.specs.machine.Events.{TakesBody, TakesEnd};
     ghost use Rattle.engine.specs.machine.Tries.{TriesRelease, TriesRequest, TriesWhole};
 
@@ -137,9 +135,9 @@ impl<const A: usize, const C: usize, const V: usize, const D: usize> Provider<A,
     /// An association request is whole: where one is due, it is read, judged and answered, and then
     /// given up.
     fn on_request<W: Wire, F: Filing>(&mut self, devices: Devices<'_, W, F>)
-        requires draft { IsThere (drafting_in (kept_of self.old).storing) (F.store devices.filing.now) }
+        requires draft { DraftIsThere (kept_of self.old) (F.store devices.filing.now) }
         ensures settings { settings_in self.new ≡ settings_in self.old }
-        ensures drafts { KeepsDraft (kept_of self.old) (kept_of self.new) (before W.line F.store devices.entry) (after W.line F.store devices.exit) }
+        ensures drafts { KeepsDraft (kept_of self.old) (kept_of self.new) (F.store devices.entry.filing.now) (after W.line F.store devices.exit).store }
         ensures tries { TriesRequest (settings_in self.old) (kept_of self.old) (kept_of self.new) (before W.line F.store devices.entry) (after W.line F.store devices.exit) }
     {
         let Phase::AwaitingRequest { body } = &self.phase else {
@@ -161,9 +159,9 @@ impl<const A: usize, const C: usize, const V: usize, const D: usize> Provider<A,
 
     /// A release request is whole: the local user of an established association agrees to it at once.
     fn on_release<W: Wire, F: Filing>(&mut self, devices: Devices<'_, W, F>)
-        requires draft { IsThere (drafting_in (kept_of self.old).storing) (F.store devices.filing.now) }
+        requires draft { DraftIsThere (kept_of self.old) (F.store devices.filing.now) }
         ensures settings { settings_in self.new ≡ settings_in self.old }
-        ensures drafts { KeepsDraft (kept_of self.old) (kept_of self.new) (before W.line F.store devices.entry) (after W.line F.store devices.exit) }
+        ensures drafts { KeepsDraft (kept_of self.old) (kept_of self.new) (F.store devices.entry.filing.now) (after W.line F.store devices.exit).store }
         ensures tries { TriesRelease (kept_of self.old) (kept_of self.new) (before W.line F.store devices.entry) (after W.line F.store devices.exit) }
     {
         let Phase::Established { .. } = &self.phase else {
@@ -176,9 +174,9 @@ impl<const A: usize, const C: usize, const V: usize, const D: usize> Provider<A,
 
     /// A PDU is whole: a request, a release request and an abort act where they are due, others do not.
     fn on_whole<W: Wire, F: Filing>(&mut self, kind: u8, devices: Devices<'_, W, F>)
-        requires draft { IsThere (drafting_in (kept_of self.old).storing) (F.store devices.filing.now) }
+        requires draft { DraftIsThere (kept_of self.old) (F.store devices.filing.now) }
         ensures settings { settings_in self.new ≡ settings_in self.old }
-        ensures drafts { KeepsDraft (kept_of self.old) (kept_of self.new) (before W.line F.store devices.entry) (after W.line F.store devices.exit) }
+        ensures drafts { KeepsDraft (kept_of self.old) (kept_of self.new) (F.store devices.entry.filing.now) (after W.line F.store devices.exit).store }
         ensures tries { TriesWhole (rooms_of A C V D) (settings_in self.old) (kept_of self.old) (kept_of self.new) kind (before W.line F.store devices.entry) (after W.line F.store devices.exit) }
     {
         if let Phase::Ended = &self.phase {
@@ -197,9 +195,9 @@ impl<const A: usize, const C: usize, const V: usize, const D: usize> Provider<A,
 
     /// A PDU of this type is whole; nothing is kept of its body.
     pub(crate) fn on_end<W: Wire, F: Filing>(&mut self, kind: u8, devices: Devices<'_, W, F>)
-        requires draft { IsThere (drafting_in (kept_of self.old).storing) (F.store devices.filing.now) }
+        requires draft { DraftIsThere (kept_of self.old) (F.store devices.filing.now) }
         ensures settings { settings_in self.new ≡ settings_in self.old }
-        ensures drafts { KeepsDraft (kept_of self.old) (kept_of self.new) (before W.line F.store devices.entry) (after W.line F.store devices.exit) }
+        ensures drafts { KeepsDraft (kept_of self.old) (kept_of self.new) (F.store devices.entry.filing.now) (after W.line F.store devices.exit).store }
         ensures does { TakesEnd (rooms_of A C V D) (settings_in self.old) (kept_of self.old) (kept_of self.new) kind (before W.line F.store devices.entry) (after W.line F.store devices.exit) }
     {
         self.on_whole(kind, devices);

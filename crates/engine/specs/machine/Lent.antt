@@ -1,11 +1,11 @@
--- The devices that are lent for a call, and what it leaves of a draft.
+-- The devices that are lent for a call, and the draft that they hold.
 use Rattle.std.specs.Borrow.{MutBor}
 use Rattle.pdu.specs.Sent.{Line}
 use Rattle.part10.specs.Store.{Store}
 use Rattle.engine.specs.Devices as model
 use Rattle.engine.specs.Devices.{devices}
 use Rattle.engine.specs.declared.devices.Devices.{Devices}
-use Rattle.engine.specs.Drafts.{Drafts}
+use Rattle.engine.specs.Drafts.{IsThere, Drafts}
 use Rattle.engine.specs.StoredData.{drafting_in}
 use Rattle.engine.specs.Kept.{Kept}
 
@@ -17,6 +17,10 @@ before line store lent = devices (line lent.wire.now) (store lent.filing.now)
 abbrev pub after : {W F : Type 0} → (W → Line) → (F → Store) → MutBor W × (MutBor F × Unit {0}) → model.Devices
 after line store left = devices (line left.0.now) (store left.1.0.now)
 
--- a draft of what is kept stays in the filing or goes, and the filing gets no other one
-abbrev pub KeepsDraft : Kept → Kept → model.Devices → model.Devices → Type 0
-KeepsDraft old new devices_old devices_new = Drafts (drafting_in old.storing) devices_old.store (drafting_in new.storing) devices_new.store
+-- where what is kept has a draft, the filing has one
+abbrev pub DraftIsThere : Kept → Store → Type 0
+DraftIsThere kept store = IsThere (drafting_in kept.storing) store
+
+-- the draft of what is kept stays in the filing or goes, and the filing gets no other one
+abbrev pub KeepsDraft : Kept → Kept → Store → Store → Type 0
+KeepsDraft old new store_old store_new = Drafts (drafting_in old.storing) store_old (drafting_in new.storing) store_new

@@ -2,9 +2,7 @@
 ghost use Rattle.std.specs.Prelude.{◌≡◌, ◌≤◌, ◌<◌, ◌+◌, ◌*◌, length, true, false};
 ghost use Rattle.pdu.specs.Deframed.{position_of};
 ghost use Rattle.pdu.specs.Steps.{events_due};
-ghost use Rattle.engine.specs.machine.Lent.{before, after, KeepsDraft};
-ghost use Rattle.engine.specs.Drafts.{IsThere};
-ghost use Rattle.engine.specs.StoredData.{drafting_in};
+ghost use Rattle.engine.specs.machine.Lent.{before, after, DraftIsThere, KeepsDraft};
 ghost use Rattle.engine.specs.Kept.{kept_of};
 ghost use Rattle.engine.specs.Run.{rooms_of};
 
@@ -24,12 +22,12 @@ impl<const A: usize, const C: usize, const V: usize, const D: usize> Association
         piece: &[u8],
         devices: Devices<'_, W, F>,
     ) -> (usize, bool)
-        requires draft { IsThere (drafting_in (kept_of self.old.provider).storing) (F.store devices.filing.now) }
+        requires draft { DraftIsThere (kept_of self.old.provider) (F.store devices.filing.now) }
         ensures within { result.0 ≤ length piece.now }
         ensures used_up { result.1 ≡ false → result.0 ≡ length piece.now }
         ensures fewer { result.1 ≡ true → events_due (position_of self.new.deframer) < events_due (position_of self.old.deframer) + 4 * result.0 }
         ensures settings { settings_in self.new ≡ settings_in self.old }
-        ensures drafts { KeepsDraft (kept_of self.old.provider) (kept_of self.new.provider) (before W.line F.store devices.entry) (after W.line F.store devices.exit) }
+        ensures drafts { KeepsDraft (kept_of self.old.provider) (kept_of self.new.provider) (F.store devices.entry.filing.now) (after W.line F.store devices.exit).store }
         ensures does { DoesNext (rooms_of A C V D) (settings_in self.old) (fields_of self.old) (fields_of self.new) piece.now result (before W.line F.store devices.entry) (after W.line F.store devices.exit) }
     {
         let (count, event) = self.deframer.next(piece);
@@ -44,9 +42,9 @@ impl<const A: usize, const C: usize, const V: usize, const D: usize> Association
 
     /// Takes all bytes of a piece.
     pub(super) fn take_all<W: Wire, F: Filing>(&mut self, piece: &[u8], devices: Devices<'_, W, F>)
-        requires draft { IsThere (drafting_in (kept_of self.old.provider).storing) (F.store devices.filing.now) }
+        requires draft { DraftIsThere (kept_of self.old.provider) (F.store devices.filing.now) }
         ensures settings { settings_in self.new ≡ settings_in self.old }
-        ensures drafts { KeepsDraft (kept_of self.old.provider) (kept_of self.new.provider) (before W.line F.store devices.entry) (after W.line F.store devices.exit) }
+        ensures drafts { KeepsDraft (kept_of self.old.provider) (kept_of self.new.provider) (F.store devices.entry.filing.now) (after W.line F.store devices.exit).store }
         ensures took { DoesPiece (rooms_of A C V D) (settings_in self.old) (fields_of self.old) (fields_of self.new) piece.now (before W.line F.store devices.entry) (after W.line F.store devices.exit) }
     {
         let Devices { wire, filing } = devices;

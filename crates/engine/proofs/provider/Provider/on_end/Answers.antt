@@ -5,6 +5,7 @@ use Rattle.engine.specs.Timeline.{At, good}
 use Rattle.engine.specs.Run.{at_entry, rooms_of}
 use Rattle.engine.specs.Devices.{devices}
 use Rattle.engine.specs.Drafts.{Drafts}
+use Rattle.engine.specs.machine.Lent.{before}
 use Rattle.engine.specs.Kept.{Kept, body_in, kept_of, settings_in}
 use Rattle.engine.specs.StoredData.{drafting_in}
 use Rattle.engine.specs.machine.DoesDue.{DoesDue}
@@ -19,7 +20,7 @@ returns-clause-does g c = λ p body h.
     let given = at_entry rooms s p good (At (End c.args.kind body)) in
     let k = kept_of c.on_whole.new.self in
     does_by rooms s p (At (End c.args.kind body)) given (kept_of c.clear_body.new.self) [] [] _ _ refl (end_files rooms s p c.args.kind body) tt
-    (subst (λ (x : Kept). DoesDue p given x [] [] (devices (g.W.Wire.line c.args.devices.wire.now) (g.F.Filing.store c.args.devices.filing.now)) (devices (g.W.Wire.line c.on_whole.new.devices.0) (g.F.Filing.store c.on_whole.new.devices.1.0))) (sym c.clear_body.ensures.kept)
+    (subst (λ (x : Kept). DoesDue p given x [] [] (before g.W.Wire.line g.F.Filing.store c.args.devices) (devices (g.W.Wire.line c.on_whole.new.devices.0) (g.F.Filing.store c.on_whole.new.devices.1.0))) (sym c.clear_body.ensures.kept)
     (tries_cleared p given k (body_in c.args.kind body) _ _ (end_gone rooms s p c.args.kind body) (c.on_whole.ensures.tries p body h)))
 
 pub returns-clause-drafts : goal.returns-clause-drafts

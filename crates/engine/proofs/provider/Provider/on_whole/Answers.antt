@@ -8,6 +8,7 @@ use Rattle.engine.specs.Run.{at_end, at_entry, rooms_of}
 use Rattle.engine.specs.Devices.{devices}
 use Rattle.engine.specs.Phases.{state_in}
 use Rattle.engine.specs.machine.DoesDue.{DoesDue}
+use Rattle.engine.specs.machine.Lent.{before}
 use Rattle.engine.specs.Kept.{kept_of, settings_in, Pends, body_in}
 use Rattle.engine.proofs.StoreLemmas.{same_drafts}
 use Rattle.engine.proofs.DueLemmas.{tries_nothing}
@@ -48,7 +49,7 @@ returns-in-1-clause-tries g c = λ p body h.
     let xs = body_in c.args.kind body in
     let one : Pends k (g.F.Filing.store c.args.devices.filing.now) p body [] = subst (λ (n : ℕ). Pends k (g.F.Filing.store c.args.devices.filing.now) p (body_in n body) []) c.in-1.is h in
     tries_taken (rooms_of g.row.A g.row.C g.row.V g.row.D) s p c.args.kind body xs k new _ _ h (unended c.args.self.now.phase c.in_default.not-Ended) c.if-self.false
-    (λ r. subst (λ (n : ℕ). DoesDue p (at_end s p n body) new (body_in n body) [] (devices (g.W.Wire.line c.args.devices.wire.now) (g.F.Filing.store c.args.devices.filing.now)) (devices (g.W.Wire.line c.on_request.new.devices.0) (g.F.Filing.store c.on_request.new.devices.1.0)))
+    (λ r. subst (λ (n : ℕ). DoesDue p (at_end s p n body) new (body_in n body) [] (before g.W.Wire.line g.F.Filing.store c.args.devices) (devices (g.W.Wire.line c.on_request.new.devices.0) (g.F.Filing.store c.on_request.new.devices.1.0)))
     (sym c.in-1.is) (c.on_request.ensures.tries p body one r))
 
 pub returns-in-5-clause-tries : goal.returns-in-5-clause-tries
@@ -57,7 +58,7 @@ returns-in-5-clause-tries g c = λ p body h.
     let new = kept_of c.on_release.new.self in
     let xs = body_in c.args.kind body in
     tries_taken (rooms_of g.row.A g.row.C g.row.V g.row.D) s p c.args.kind body xs (kept_of c.args.self.now) new _ _ h (unended c.args.self.now.phase c.in_default.not-Ended) c.if-self.false
-    (λ r. subst (λ (n : ℕ). DoesDue p (at_end s p n body) new xs [] (devices (g.W.Wire.line c.args.devices.wire.now) (g.F.Filing.store c.args.devices.filing.now)) (devices (g.W.Wire.line c.on_release.new.devices.0) (g.F.Filing.store c.on_release.new.devices.1.0)))
+    (λ r. subst (λ (n : ℕ). DoesDue p (at_end s p n body) new xs [] (before g.W.Wire.line g.F.Filing.store c.args.devices) (devices (g.W.Wire.line c.on_release.new.devices.0) (g.F.Filing.store c.on_release.new.devices.1.0)))
     (sym c.in-5.is) (c.on_release.ensures.tries p xs [] h))
 
 pub returns-in_default-kind : goal.returns-in_default-kind
