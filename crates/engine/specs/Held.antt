@@ -41,10 +41,6 @@ peer_size = title_size + 4
 abbrev pub row_size : ℕ
 row_size = 4
 
--- an open level of a data set
-abbrev pub level_size : ℕ
-level_size = 16
-
 -- at most so many of the heads and of an accepted request, which has 128 contexts at most
 abbrev pub accepted_most : ℕ
 accepted_most = heads_size + peer_size + row_size * 128
@@ -82,7 +78,7 @@ held_before_data r =
     else (of_head r + of_pdv_head r + of_request r.progress r.rest + of_command (message_so_far r))
 
 -- What a walk holds of the bytes of a data set that have come: where no rule is broken, the unfinished header, the wanted
--- values with what has come of a begun one, and 16 for each open level; else the values and the levels at the fault's
+-- values with what has come of a begun one, and the open levels; else the values and the levels at the fault's
 -- place.
 pub data IsHeldOfSet (syntax : Syntax) (lim : Limits) (bytes : List ℕ) : ℕ → Type 0 where
   unbroken : {es : Elements} {path : List PathEntry} {last : ℕ} {tail : Tail} → IsUnbroken syntax lim bytes → Open syntax bytes es path last tail

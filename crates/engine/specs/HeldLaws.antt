@@ -3,8 +3,9 @@ use Rattle.std.specs.Prelude.{◌≡◌, ℕ, ◌+◌, ◌*◌, ◌≤◌, Bool,
 use Rattle.acceptor.specs.declared.state.State.{State}
 use Rattle.acceptor.specs.declared.state.State.TheVariants.{Sta6}
 use Rattle.element.specs.Numbers.{IsBytes}
+use Rattle.sequence.specs.Wanted.{level_size}
 use Rattle.negotiate.specs.Settings.{Settings}
-use Rattle.engine.specs.Held.{Held, accepted_most, level_size}
+use Rattle.engine.specs.Held.{Held, accepted_most}
 use Rattle.engine.specs.Inputs.{Received, stream_of}
 use Rattle.engine.specs.Progress.{at_start}
 use Rattle.engine.specs.Reached.{Reached, reached}

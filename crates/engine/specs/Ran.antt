@@ -2,6 +2,7 @@
 use Rattle.std.specs.Prelude.{◌≡◌, ◌≢◌, ℕ, zero, suc, ◌+◌, ◌*◌, ◌<◌, ◌≤◌, Bool, false, List, [], length, take, Option, Some}
 use Rattle.acceptor.specs.declared.state.State.{State}
 use Rattle.acceptor.specs.declared.state.State.TheVariants.{Sta1, Sta6, Sta13}
+use Rattle.sequence.specs.Wanted.{level_size}
 use Rattle.negotiate.specs.Settings.{Settings}
 use Rattle.part10.specs.Store.{told_after}
 use Rattle.engine.specs.declared.report.Standing.{Standing}
@@ -9,7 +10,7 @@ use Rattle.engine.specs.declared.report.Standing.TheVariants as standing
 use Rattle.engine.specs.declared.report.Report.{Report}
 use Rattle.engine.specs.Devices.{Devices, line_with, filed}
 use Rattle.engine.specs.Fair.{IsStory}
-use Rattle.engine.specs.Held.{Held, accepted_most, level_size}
+use Rattle.engine.specs.Held.{Held, accepted_most}
 use Rattle.engine.specs.Inputs.{Received, Supply, first_inputs, others_of, with_given}
 use Rattle.engine.specs.Progress.{at_start}
 use Rattle.engine.specs.Reached.{reached}

@@ -1,12 +1,13 @@
 -- A run turn by turn: what was taken and what came of it between two of them, and what one turn does.
 use Rattle.std.specs.Prelude.{◌≡◌, ℕ, ◌+◌, ◌*◌, ◌≤◌, Bool, false, List, length, Option, Some, None}
 use Rattle.acceptor.specs.declared.state.State.TheVariants.{Sta6}
+use Rattle.sequence.specs.Wanted.{level_size}
 use Rattle.negotiate.specs.Settings.{Settings}
 use Rattle.part10.specs.Store.{Store}
 use Rattle.engine.specs.Devices.{Devices}
 use Rattle.engine.specs.declared.source.Input.{Input}
 use Rattle.engine.specs.declared.report.Report.{Report}
-use Rattle.engine.specs.Held.{Held, accepted_most, level_size}
+use Rattle.engine.specs.Held.{Held, accepted_most}
 use Rattle.engine.specs.Reached.{reached}
 use Rattle.engine.specs.Inputs.{Received, Supply, Gives, first_inputs, input_of, with_given}
 use Rattle.engine.specs.Moves.{Moved}

@@ -9,7 +9,7 @@ use Rattle.sequence.specs.declared.fault.Fault.{Fault}
 use Rattle.sequence.specs.Tree.{Elements, DataSet}
 use Rattle.sequence.specs.Open.{PathEntry, Tail, IsUnfinishedHeader, Open}
 use Rattle.sequence.specs.Rules.{Limits}
-use Rattle.sequence.specs.Wanted.{rooms}
+use Rattle.sequence.specs.Wanted.{rooms, level_size}
 use Rattle.sequence.specs.FirstFault.{IsUnbroken, FirstFault}
 use Rattle.sequence.specs.declared.walker.Walker.{Walker}
 use Rattle.sequence.specs.Taken.{StandsAt, fault_of}
@@ -63,10 +63,10 @@ OneFault = (s : Syntax) (lim : Limits) (b p p2 u u2 : List ℕ) (rule rule2 : �
 abbrev pub OneTelling : Type 0
 OneTelling = (s : Syntax) (lim : Limits) (b : List ℕ) (told told2 : Told) → Tells s lim b told → Tells s lim b told2 → told ≡ told2
 
--- the bytes that are held after a text of bytes: an unfinished header, the rooms of the wanted values, and 16 for each level
+-- the bytes that are held after a text of bytes: an unfinished header, the rooms of the wanted values, and the levels
 -- of the limit at most
 abbrev pub HeldHasABound : Type 0
-HeldHasABound = (s : Syntax) (lim : Limits) (b : List ℕ) (told : Told) → IsBytes b → Tells s lim b told → told.held ≤ 12 + rooms lim.wanted + 16 * lim.depth
+HeldHasABound = (s : Syntax) (lim : Limits) (b : List ℕ) (told : Told) → IsBytes b → Tells s lim b told → told.held ≤ 12 + rooms lim.wanted + level_size * lim.depth
 
 -- there is at most one thing to hold after a text
 abbrev pub OneHolding : Type 0

@@ -4,7 +4,7 @@ use Rattle.element.specs.Numbers.{IsBytes}
 use Rattle.element.specs.declared.syntax.Syntax.{Syntax}
 use Rattle.sequence.specs.declared.fault.Fault.{Fault}
 use Rattle.sequence.specs.declared.walker.Walker.{Walker}
-use Rattle.sequence.specs.Wanted.{size_of_values}
+use Rattle.sequence.specs.Wanted.{size_of_values, level_size}
 use Rattle.sequence.specs.Rules.{Limits}
 use Rattle.sequence.specs.Walk.{Told, Tells}
 use Rattle.sequence.specs.Holding.{Holding, Holds}
@@ -29,7 +29,7 @@ told_by w = record {
   fault = fault_by w.stage;
   levels = length w.levels.items;
   place = w.place;
-  held = length w.header.items + size_of_values (values_of w.kept) + 16 * length w.levels.items;
+  held = length w.header.items + size_of_values (values_of w.kept) + level_size * length w.levels.items;
   kept = told_values (is_kept w.stage) (values_of w.kept);
 }
 

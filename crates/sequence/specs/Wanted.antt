@@ -1,10 +1,9 @@
 -- What is kept of a data set: the values of wanted tags among its own elements (this product's own profile).
-use Rattle.std.specs.Prelude.{◌≡◌, ℕ, ◌+◌, ◌*◌, Bool, true, ◌&&◌, List, [], ◌∷◌, length, Option, Some, None, is_some, nat_eq, nat_lt, if◌then◌else◌}
-use Rattle.element.specs.declared.syntax.Syntax.{Syntax}
+use Rattle.std.specs.Prelude.{ℕ, ◌+◌, ◌*◌, Bool, true, ◌&&◌, List, [], ◌∷◌, length, Option, Some, None, is_some, nat_eq, nat_lt, if◌then◌else◌}
 use Rattle.element.specs.Header.{number}
 use Rattle.sequence.specs.declared.wanted.Want.{Want}
 use Rattle.sequence.specs.Tree.{Elements, no_elements, value, sequence}
-use Rattle.sequence.specs.Open.{PathEntry, Tail, in_header, in_value, Open}
+use Rattle.sequence.specs.Open.{PathEntry, Tail, in_header, in_value}
 
 -- the room for the value of a tag, by its number, where the tag is wanted
 abbrev pub room_of : List Want → ℕ → Option ℕ
@@ -43,15 +42,6 @@ kept_of ws no_elements = []
 kept_of ws (value h v es) = if is_wanted ws (number h.tag) then (number h.tag, v) ∷ kept_of ws es else kept_of ws es
 kept_of ws (sequence h is es) = kept_of ws es
 
--- the values of the wanted tags among the whole elements of the front b
-pub record KeepsWanted (s : Syntax) (ws : List Want) (b : List ℕ) (values : Values) : Type 0 where
-  pub elements : Elements
-  pub path : List PathEntry
-  pub last : ℕ
-  pub tail : Tail
-  pub front : Open s b elements path last tail
-  pub kept : values ≡ kept_of ws elements
-
 -- what came of a wanted value of the data set itself that is not whole
 abbrev pub begun_bytes : List Want → List PathEntry → Tail → ℕ
 begun_bytes ws [] (in_value h v) = if is_wanted ws (number h.tag) then length v else 0
@@ -62,7 +52,11 @@ abbrev pub unfinished_bytes : Tail → ℕ
 unfinished_bytes (in_header t) = length t
 unfinished_bytes (in_value h v) = 0
 
--- the bytes that a walk holds of a front: its unfinished header, the wanted values with what came of a begun one,
--- and 16 for each open level
+-- what is kept of an open level
+abbrev pub level_size : ℕ
+level_size = 16
+
+-- the bytes that a walk holds of a front: its unfinished header, the wanted values with what came of a begun one, and the
+-- open levels
 abbrev pub held_of : List Want → Elements → List PathEntry → Tail → ℕ
-held_of ws es path tail = unfinished_bytes tail + (size_of_values (kept_of ws es) + begun_bytes ws path tail) + 16 * length path
+held_of ws es path tail = unfinished_bytes tail + (size_of_values (kept_of ws es) + begun_bytes ws path tail) + level_size * length path

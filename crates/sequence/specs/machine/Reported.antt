@@ -3,7 +3,7 @@ use Rattle.std.specs.Prelude.{ℕ, ◌+◌, ◌*◌, Option, None, Some, length}
 use Rattle.sequence.specs.declared.fault.Fault.{Fault}
 use Rattle.sequence.specs.Rules.{Limits}
 use Rattle.sequence.specs.Walk.{Told}
-use Rattle.sequence.specs.Wanted.{Values, size_of_values}
+use Rattle.sequence.specs.Wanted.{Values, size_of_values, level_size}
 use Rattle.sequence.specs.machine.Machine.{State, Mode, Heading, Reading, Stopped}
 use Rattle.sequence.specs.machine.Keeping.{whole_by}
 
@@ -22,6 +22,6 @@ told_in lim st values = record {
   fault = fault_in st.mode;
   levels = length st.below;
   place = st.place;
-  held = header_in st.mode + size_of_values values + 16 * length st.below;
+  held = header_in st.mode + size_of_values values + level_size * length st.below;
   kept = whole_by lim st.below st.mode values;
 }
