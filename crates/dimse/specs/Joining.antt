@@ -34,9 +34,8 @@ pub record Joining : Type 0 where
   pub last : Bool
 
 abbrev pub without_set : Begun → Begun
-without_set NoMessage = NoMessage
-without_set (InCommand context command) = InCommand context command
 without_set (InSet context command set) = InSet context command []
+without_set other = other
 
 abbrev pub command_bytes : Begun → List ℕ
 command_bytes NoMessage = []

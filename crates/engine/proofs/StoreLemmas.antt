@@ -8,14 +8,13 @@ use Rattle.negotiate.specs.declared.proposals.Context.{Context}
 use Rattle.negotiate.specs.Contexts.{context_of}
 use Rattle.part10.specs.declared.meta.Meta.{Meta}
 use Rattle.part10.specs.File.{head, File}
-use Rattle.part10.specs.Store.{Shelf, Store, stepped, appended, without_draft, told_after}
+use Rattle.part10.specs.Store.{Shelf, Store, stepped, appended, without_draft, told_after, or_nothing}
 use Rattle.dimse.specs.declared.fault.DimseFault.{DimseFault}
 use Rattle.dimse.specs.Command.{CommandRecord}
 use Rattle.dimse.specs.Reading.{command_in}
 use Rattle.dimse.specs.Messages.{Begun, NoMessage, InCommand, InSet, with_fragment}
 use Rattle.dimse.specs.Joining.{with_pdv}
 use Rattle.engine.specs.Devices.{files_in}
-use Rattle.engine.specs.Replies.{some_or_nothing}
 use Rattle.engine.specs.Stores.{limits}
 use Rattle.engine.specs.Drafts.{IsDue, TellsDraft, HasDraft, IsDraft, draft_due, none_due, IsThere, Drafts}
 use Rattle.engine.specs.Fair.{InStore}
@@ -177,7 +176,7 @@ same_file request m a b =
 
 abbrev pub meta_by : Requested → Context → CommandRecord → Meta
 meta_by request context asked =
-    record { class = asked.class; instance = some_or_nothing asked.instance; syntax = context.syntax; calling = record { 0 = (request_record request).calling } }
+    record { class = asked.class; instance = or_nothing asked.instance; syntax = context.syntax; calling = record { 0 = (request_record request).calling } }
 
 -- a draft is due of these bytes
 pub due_file : (request : Requested) (m : Begun) (failed : Bool) (s : InStore request m) → failed ≡ false → IsDue request m failed (File (meta_by request s.context s.asked) s.set)

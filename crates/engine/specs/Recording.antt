@@ -1,5 +1,6 @@
 -- The recorded echo: the bytes of its three PDUs, and of the three that answer them (PS3.8 section 9.3, PS3.7 section 9.3.5).
 use Rattle.std.specs.Prelude.{ℕ, List, [], ◌∷◌}
+use Rattle.dimse.specs.Worked.{echo_reply}
 
 -- A-ASSOCIATE-RQ: SCANNER1 calls DCMBOX, and proposes Verification in Implicit VR Little Endian
 abbrev pub request : List ℕ
@@ -52,11 +53,7 @@ accept =
 
 -- P-DATA-TF with a C-ECHO-RSP of success
 abbrev pub reply : List ℕ
-reply =
-    4 ∷ 0 ∷ 0 ∷ 0 ∷ 0 ∷ 84 ∷ 0 ∷ 0 ∷ 0 ∷ 80 ∷ 1 ∷ 3 ∷ 0 ∷ 0 ∷ 0 ∷ 0 ∷ 4 ∷ 0 ∷ 0 ∷ 0 ∷ 66 ∷ 0 ∷ 0 ∷ 0
-    ∷ 0 ∷ 0 ∷ 2 ∷ 0 ∷ 18 ∷ 0 ∷ 0 ∷ 0 ∷ 49 ∷ 46 ∷ 50 ∷ 46 ∷ 56 ∷ 52 ∷ 48 ∷ 46 ∷ 49 ∷ 48 ∷ 48 ∷ 48 ∷ 56 ∷ 46 ∷ 49 ∷ 46
-    ∷ 49 ∷ 0 ∷ 0 ∷ 0 ∷ 0 ∷ 1 ∷ 2 ∷ 0 ∷ 0 ∷ 0 ∷ 48 ∷ 128 ∷ 0 ∷ 0 ∷ 32 ∷ 1 ∷ 2 ∷ 0 ∷ 0 ∷ 0 ∷ 1 ∷ 0 ∷ 0 ∷ 0
-    ∷ 0 ∷ 8 ∷ 2 ∷ 0 ∷ 0 ∷ 0 ∷ 1 ∷ 1 ∷ 0 ∷ 0 ∷ 0 ∷ 9 ∷ 2 ∷ 0 ∷ 0 ∷ 0 ∷ 0 ∷ 0 ∷ []
+reply = echo_reply
 
 -- A-RELEASE-RP
 abbrev pub released : List ℕ

@@ -18,6 +18,7 @@ use Rattle.dimse.specs.Messages.{Pdv, Message, Begun, NoMessage, refusal, Goes, 
 use Rattle.dimse.specs.Reply.{reply_bytes}
 use Rattle.dimse.specs.Status.{success, class_not_supported}
 use Rattle.part10.specs.File.{File}
+use Rattle.part10.specs.Store.{or_nothing}
 use Rattle.engine.specs.Timeline.{Finding}
 use Rattle.engine.specs.Progress.{Progress, Advance, nothing, done, refusing}
 use Rattle.engine.specs.Heads.{invalid_parameter}
@@ -61,15 +62,11 @@ echo_status context command = if is_verification (class_of command.class) && is_
 abbrev pub finding_on : Option Context → CommandRecord → Finding → Finding
 finding_on context command finding = if nat_eq command.field c_echo then record { status = echo_status context command; detail = None } else finding
 
-abbrev pub some_or_nothing : Option (List ℕ) → List ℕ
-some_or_nothing None = []
-some_or_nothing (Some bytes) = bytes
-
 -- the file of a stored instance
 abbrev pub file_in : RequestRecord → Option Context → CommandRecord → List ℕ → List (List ℕ)
 file_in r None command data_set = []
 file_in r (Some context) command data_set =
-    File (record { class = command.class; instance = some_or_nothing command.instance; syntax = context.syntax; calling = record { 0 = r.calling } }) data_set ∷ []
+    File (record { class = command.class; instance = or_nothing command.instance; syntax = context.syntax; calling = record { 0 = r.calling } }) data_set ∷ []
 
 -- a C-STORE of status 0000 puts its file last
 abbrev pub file_put : RequestRecord → ℕ → CommandRecord → List ℕ → Finding → List (List ℕ)

@@ -4,6 +4,7 @@ use Rattle.std.specs.Prelude.{◌≡◌, ℕ, Bool, true, false, List, [], ◌�
 use Rattle.acceptor.specs.declared.state.State.{State}
 use Rattle.acceptor.specs.declared.state.State.TheVariants.{Sta1, Sta6}
 use Rattle.pdu.specs.Marks.{Pdv}
+use Rattle.sequence.specs.Examples.{one_store}
 use Rattle.dimse.specs.Messages.{NoMessage, InSet}
 use Rattle.dimse.specs.Status.{out_of_resources}
 use Rattle.engine.specs.Timeline.{Entry, At, Shut, Finding, good, Happened}
@@ -35,10 +36,7 @@ command =
 
 -- its class and its instance
 abbrev pub data_set : List ℕ
-data_set =
-    8 ∷ 0 ∷ 22 ∷ 0 ∷ 85 ∷ 73 ∷ 26 ∷ 0 ∷ 49 ∷ 46 ∷ 50 ∷ 46 ∷ 56 ∷ 52 ∷ 48 ∷ 46 ∷ 49 ∷ 48 ∷ 48 ∷ 48 ∷ 56 ∷ 46 ∷ 53
-    ∷ 46 ∷ 49 ∷ 46 ∷ 52 ∷ 46 ∷ 49 ∷ 46 ∷ 49 ∷ 46 ∷ 50 ∷ 0 ∷ 8 ∷ 0 ∷ 24 ∷ 0 ∷ 85 ∷ 73 ∷ 6 ∷ 0 ∷ 49 ∷ 46 ∷ 50 ∷ 46
-    ∷ 51 ∷ 0 ∷ []
+data_set = one_store
 
 -- the association of this request
 abbrev pub accepted : Progress

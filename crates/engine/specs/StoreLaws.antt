@@ -3,6 +3,7 @@
 use Rattle.std.specs.Prelude.{◌≡◌, ℕ, Bool, false, List, [], ◌∷◌, Some, None, Ok}
 use Rattle.element.specs.Numbers.{IsBytes}
 use Rattle.element.specs.declared.syntax.Syntax.{Syntax}
+use Rattle.part10.specs.Store.{or_nothing}
 use Rattle.engine.specs.Requested.{request_record}
 use Rattle.dimse.specs.Command.{CommandRecord, c_store}
 use Rattle.dimse.specs.Messages.{Message}
@@ -17,7 +18,6 @@ use Rattle.sequence.specs.Wanted.{kept_of}
 use Rattle.sequence.specs.Ending.{IsWholeDataSet}
 use Rattle.engine.specs.Timeline.{Finding, Happened, good}
 use Rattle.engine.specs.Progress.{Progress}
-use Rattle.engine.specs.Replies.{some_or_nothing}
 use Rattle.engine.specs.Stores.{IsOfContext, NamesUid, NamesInstance, Verdict, wanted, limits, class_tag}
 use Rattle.engine.specs.Run.{Rooms, gives}
 use Rattle.engine.specs.Fair.{IsFair, message_at}
@@ -58,7 +58,7 @@ pub record IsCalm (p : Progress) (h : Happened) : Type 0 where
 
 -- the file of a store with these bytes, from a sender with this title
 abbrev pub file_of : CommandRecord → Syntax → List ℕ → List ℕ → List ℕ
-file_of command syntax title data_set = File (record { class = command.class; instance = some_or_nothing command.instance; syntax = syntax; calling = record { 0 = title } }) data_set
+file_of command syntax title data_set = File (record { class = command.class; instance = or_nothing command.instance; syntax = syntax; calling = record { 0 = title } }) data_set
 
 -- A good image is answered by success, and its file is put, in any association, wherever its last byte comes: no verdict
 -- but success may stand beside it where no device fails.

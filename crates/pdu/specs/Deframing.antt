@@ -9,7 +9,7 @@ use Rattle.pdu.specs.declared.event.Event.TheVariants as event
 use Rattle.pdu.specs.Types.{p_data_tf}
 use Rattle.pdu.specs.Sizes.{head_size, pdv_head_size}
 use Rattle.pdu.specs.Frames.{IsFrame, IsRest, rest_of}
-use Rattle.pdu.specs.Marks.{Mark, Head, PdvHead, Pdv, BadPdv, Leftover, End, pdv_size, is_leftover, frame_kind, new_marks}
+use Rattle.pdu.specs.Marks.{Mark, Head, Pdv, Leftover, End, pdv_size, is_leftover, frame_kind, new_marks}
 use Rattle.pdu.specs.Spot.{Spot, Opening, Plain, InPdv, spot, room_left}
 use Rattle.pdu.specs.Parts.{end_mark}
 use Rattle.pdu.specs.Events.{Token, Completes, tokens, Reports}
@@ -103,11 +103,7 @@ pub record Longest (r : List ℕ) (there taken : ℕ) : Type 0 where
 -- of the unfinished frame r, this much is to come
 abbrev pub SkipsAt : Position → List ℕ → Type 0
 SkipsAt (position.Skipped kind left) r = (0 < left) × IsRest r × (head_size ≤ length r) × (frame_kind r ≡ kind) × (left ≡ room_left r)
-SkipsAt (position.Head bytes) r = ⊥
-SkipsAt (position.Body kind left) r = ⊥
-SkipsAt (position.PdvHead left bytes) r = ⊥
-SkipsAt (position.Fragment left more) r = ⊥
-SkipsAt (position.Leftover left) r = ⊥
+SkipsAt other r = ⊥
 
 -- what these bytes do in a frame that is skipped: it goes on, or its end is reported
 pub data Skipped (new : Position) (r taken : List ℕ) (e : Option Event) : Type 0 where
@@ -117,11 +113,8 @@ pub data Skipped (new : Position) (r taken : List ℕ) (e : Option Event) : Type
 -- a mark within a frame: neither its head nor its end
 abbrev pub IsInner : Mark → Type 0
 IsInner (Head kind n) = ⊥
-IsInner (PdvHead n context control) = Unit {0}
-IsInner (Pdv context control fragment) = Unit {0}
-IsInner BadPdv = Unit {0}
-IsInner Leftover = Unit {0}
 IsInner (End kind body) = ⊥
+IsInner mark = Unit {0}
 
 abbrev pub AreInner : List Mark → Type 0
 AreInner [] = Unit {0}
@@ -149,11 +142,8 @@ pub data Skip (new : Position) (r : List ℕ) (due : List Mark) : Type 0 where
 
 abbrev pub bytes_held : Position → ℕ
 bytes_held (position.Head bytes) = array_vec_len bytes
-bytes_held (position.Body kind left) = 0
 bytes_held (position.PdvHead left bytes) = array_vec_len bytes
-bytes_held (position.Fragment left more) = 0
-bytes_held (position.Leftover left) = 0
-bytes_held (position.Skipped kind left) = 0
+bytes_held other = 0
 
 abbrev pub unfinished_pdv_head : Spot → ℕ
 unfinished_pdv_head Opening = 0

@@ -15,30 +15,18 @@ use Rattle.pdu.specs.Heads.{pdu_head_of, pdv_head_of}
 
 -- the type of the frame whose body is lent
 abbrev pub body_kind : Position → ℕ
-body_kind (position.Head bytes) = 0
 body_kind (position.Body kind left) = kind
-body_kind (position.PdvHead left bytes) = 0
-body_kind (position.Fragment left more) = 0
-body_kind (position.Leftover left) = 0
-body_kind (position.Skipped kind left) = 0
+body_kind other = 0
 
 -- how many bytes of that body are to come
 abbrev pub body_due : Position → ℕ
-body_due (position.Head bytes) = 0
 body_due (position.Body kind left) = left
-body_due (position.PdvHead left bytes) = 0
-body_due (position.Fragment left more) = 0
-body_due (position.Leftover left) = 0
-body_due (position.Skipped kind left) = 0
+body_due other = 0
 
 -- how many bytes of a fragment are to come
 abbrev pub fragment_due : Position → ℕ
-fragment_due (position.Head bytes) = 0
-fragment_due (position.Body kind left) = 0
-fragment_due (position.PdvHead left bytes) = 0
 fragment_due (position.Fragment left more) = more
-fragment_due (position.Leftover left) = 0
-fragment_due (position.Skipped kind left) = 0
+fragment_due other = 0
 
 -- how many bytes are to come of the part that has begun: a head, a body, a fragment, or a frame that is skipped
 abbrev pub bytes_due : Position → ℕ

@@ -7,19 +7,18 @@ use Rattle.dimse.specs.Command.{CommandRecord}
 use Rattle.dimse.specs.Status.{success}
 use Rattle.negotiate.specs.declared.proposals.Context.{Context}
 use Rattle.part10.specs.File.{head}
-use Rattle.part10.specs.Store.{Store, stepped, appended, committed, without_draft, failed}
+use Rattle.part10.specs.Store.{Store, stepped, appended, committed, without_draft, failed, or_nothing}
 use Rattle.engine.specs.declared.stores.StoreStatus.{StoreStatus}
 use Rattle.engine.specs.StoredData.{Stored, Nothing, Walking, HasWalked}
 use Rattle.engine.specs.Stores.{IsOfContext, Verdict}
 use Rattle.engine.specs.Timeline.{Finding}
-use Rattle.engine.specs.Replies.{some_or_nothing}
 
 abbrev pub finding_of : StoreStatus → Finding
 finding_of s = record { status = s.status; detail = s.detail }
 
 -- the file header of the instance that a store sends, from this caller
 abbrev pub header_of : CommandRecord → Syntax → AeTitle → List ℕ
-header_of command syntax caller = head (record { class = command.class; instance = some_or_nothing command.instance; syntax = syntax; calling = caller })
+header_of command syntax caller = head (record { class = command.class; instance = or_nothing command.instance; syntax = syntax; calling = caller })
 
 -- ---- calls
 

@@ -3,15 +3,12 @@ use Rattle.std.specs.Prelude.{ℕ, ◌<◌, ◌≤◌}
 use Rattle.pdu.specs.declared.position.Position.{Position}
 use Rattle.pdu.specs.declared.position.Position.TheVariants.{Head, Body, PdvHead, Fragment, Leftover, Skipped}
 use Rattle.pdu.specs.Deframing.{bytes_held}
+pub use Rattle.pdu.specs.Steps.{fragment_due}
 
 -- how many bytes of the frame are to come, at least
 abbrev pub left_least : Position → ℕ
-left_least (Head bytes) = 1
-left_least (Body kind left) = 1
 left_least (PdvHead left bytes) = left
-left_least (Fragment left more) = 1
-left_least (Leftover left) = 1
-left_least (Skipped kind left) = 1
+left_least other = 1
 
 abbrev pub left_of : Position → ℕ
 left_of (Head bytes) = 0
@@ -20,14 +17,6 @@ left_of (PdvHead left bytes) = left
 left_of (Fragment left more) = left
 left_of (Leftover left) = left
 left_of (Skipped kind left) = left
-
-abbrev pub fragment_due : Position → ℕ
-fragment_due (Head bytes) = 0
-fragment_due (Body kind left) = 0
-fragment_due (PdvHead left bytes) = 0
-fragment_due (Fragment left more) = more
-fragment_due (Leftover left) = 0
-fragment_due (Skipped kind left) = 0
 
 pub record IsSound (p : Position) : Type 0 where
   pub short : bytes_held p < 6

@@ -1,12 +1,12 @@
 -- The data are walked where the command's class is that of its context.
 use Rattle.std.proofs.Common.{◌≡◌, ◌∙◌, ap, sym, List, ℕ, [], Ok, Some, None, true, false, refl}
+use Rattle.part10.specs.Store.{or_nothing}
 use Rattle.engine.specs.Requested.{request_record}
 use Rattle.negotiate.specs.Contexts.{context_of}
 use Rattle.part10.specs.File.{head}
 use Rattle.dimse.specs.Reading.{command_in}
 use Rattle.dimse.specs.Messages.{InSet}
 use Rattle.engine.specs.Fair.{InStore}
-use Rattle.engine.specs.Replies.{some_or_nothing}
 use Rattle.engine.specs.StoredData.{stored_of, drafting_in}
 use Rattle.engine.proofs.DataLemmas.{unread_store, unaccepted_store, other_store, begins_drafts, idle_proceeds, begun_proceeds}
 use Rattle.engine.proofs.StoreLemmas.{same_drafts}
@@ -77,6 +77,6 @@ returns-then-is_of_context g c = record {
         of_context = c.is_of_context.ensures.yes c.if-is_of_context.true;
       } in
       begun_proceeds g.row.D c.args.origin.config.now.max_data request (InSet c.args.origin.context command []) store _ (stored_of c.begin_store-self.result) _ _ refl
-      (ap (λ (xs : List ℕ). head (record { class = c.in-Ok.command.class; instance = some_or_nothing c.in-Ok.command.instance; syntax = c.in-Some.accepted.syntax; calling = record { 0 = xs } })) peer.caller)
+      (ap (λ (xs : List ℕ). head (record { class = c.in-Ok.command.class; instance = or_nothing c.in-Ok.command.instance; syntax = c.in-Some.accepted.syntax; calling = record { 0 = xs } })) peer.caller)
       (c.begin_store-self.ensures.begins (sym c.with_data.ensures ∙ c.if-not-with_data.false));
 }
