@@ -33,6 +33,3 @@ data_if_store field announced (Some instance) r one without = absurd (let x = rw
 -- where PDVs count for nothing
 pub not_taking : {P : Type 0} → (k : Kept) → takes_pdvs_in k ≡ false → k.state ≡ Sta6 → k.refused ≡ false → P
 not_taking k none six kept = absurd (let wrong : true ≡ false = sym (ap (λ (st : State). is_established st && not k.refused) six ∙ ap not kept) ∙ none in cc)
-
-pub is_refused : {P : Type 0} → (r : Bool) → r ≡ true → r ≡ false → P
-is_refused r refused kept = absurd (let wrong : true ≡ false = sym refused ∙ kept in cc)

@@ -5,7 +5,7 @@ use Rattle.std.specs.Io.KnownBytes.{append_known}
 use Rattle.acceptor.specs.declared.state.State.{State}
 use Rattle.acceptor.specs.declared.state.State.TheVariants.{Sta1}
 use Rattle.acceptor.specs.declared.event.Event.TheVariants as event
-use Rattle.pdu.specs.Marks.{BadPdv, Leftover}
+use Rattle.pdu.specs.Marks.{BadPdv}
 use Rattle.negotiate.specs.Settings.{Settings}
 use Rattle.pdu.specs.Sent.{Line}
 use Rattle.part10.specs.Store.{Store}
@@ -71,7 +71,7 @@ does_nothing rooms s p e k body begun d is verdict h = does_by rooms s p e (noth
 pub not_counted : (b : Bool) (xs : List ℕ) → ◌≡◌ {A = List ℕ} [] (if b && false then xs else [])
 not_counted b xs = grind (arith, common_steps)
 
-pends_refused : (q : Progress) (mid : Kept) (store : Store) (body begun body2 begun2 : List ℕ) → counted_body q body ≡ [] → counted_pdv q begun ≡ [] → Pends mid store q body begun
+pub pends_refused : (q : Progress) (mid : Kept) (store : Store) (body begun body2 begun2 : List ℕ) → counted_body q body ≡ [] → counted_pdv q begun ≡ [] → Pends mid store q body begun
     → Pends (record mid { refused = true }) store (record q { refused = true }) body2 begun2
 pends_refused q mid store body begun body2 begun2 b d h =
     let same : counted_pdv q begun ≡ counted_pdv (record q { refused = true }) begun2 = d ∙ not_counted (is_established q.state) begun2 in
@@ -125,16 +125,9 @@ none_counted_pdv q = if_nothing (takes_pdvs q)
 pub taken_when : (e r : Bool) (a b : Advance) → (if r then b else (if e then a else b)) ≡ (if e && not r then a else b)
 taken_when e r a b = grind arith
 
-no_files : (t : Bool) (p : Progress) → (if t then invalid p else nothing p).files ≡ []
-no_files t p = grind (arith, common_steps)
-
 -- a PDV that is bad or leaves bytes over
-module _ (rooms : Rooms) (s : Settings) (p : Progress) (new : Kept) (old later : Devices) (due : DoesDue p (if takes_pdvs p then invalid p else nothing p) new [] [] old later) where
-  pub does_bad : Does rooms s p (At BadPdv) new [] [] old later
-  does_bad = does_by rooms s p (At BadPdv) _ new [] [] old later (taken_when (is_established p.state) p.refused (invalid p) (nothing p)) (no_files (takes_pdvs p) p) tt due
-
-  pub does_leftover : Does rooms s p (At Leftover) new [] [] old later
-  does_leftover = does_by rooms s p (At Leftover) _ new [] [] old later (taken_when (is_established p.state) p.refused (invalid p) (nothing p)) (no_files (takes_pdvs p) p) tt due
+pub at_invalid : (rooms : Rooms) (s : Settings) (p : Progress) (t : Bool) → takes_pdvs p ≡ t → at_entry rooms s p good (At BadPdv) ≡ (if t then invalid p else nothing p)
+at_invalid rooms s p t e = taken_when (is_established p.state) p.refused (invalid p) (nothing p) ∙ ap (λ (x : Bool). if x then invalid p else nothing p) e
 
 -- ---- events that leave the association or keep its state
 

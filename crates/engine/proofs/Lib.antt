@@ -5,6 +5,7 @@ pub mod StoreLemmas
 pub mod PendsLemmas
 pub mod PhaseLemmas
 pub mod DueLemmas
+pub mod JudgedLemmas
 pub mod HeadLemmas
 pub mod RequestLemmas
 pub mod WholeLemmas

@@ -165,44 +165,34 @@ happened p e reason answer r old new body begun lo ln so sn h stays s sends due 
 
 -- ---- rooms after an event
 
-pub settles_body : (n : State) (r : Result (Unit {0}) WireFailed) (old new : Kept) (so sn : Store) → ComesTo n r old new so sn → old.body ≡ [] → new.body ≡ []
-settles_body n r old new so sn s e = by (is_left new.state) refl where
-  by : (t : Bool) → is_left new.state ≡ t → new.body ≡ []
-  by true l = (s.left l).body
-  by false l = ap (λ (k : Kept). k.body) (s.same l) ∙ e
-
-not_left : (n : State) (r : Result (Unit {0}) WireFailed) (old new : Kept) (so sn : Store) → ComesTo n r old new so sn → (is_left n ≡ false → n ≡ old.state) → is_left new.state ≡ false → new ≡ old
-not_left n (Ok u) old new so sn s stays l =
-    let same = stays (sym (ap is_left s.state_is) ∙ l) in
-    s.same l ∙ ap (λ (x : State). with_state x old) (s.state_is ∙ same)
-not_left n (Err f) old new so sn s stays l = let x : is_left Sta1 ≡ false = sym (ap is_left s.state_is) ∙ l in absurd cc
-
-pub settles_body_fits : (room : ℕ) (n : State) (r : Result (Unit {0}) WireFailed) (old new : Kept) (so sn : Store) (kind m : ℕ) → ComesTo n r old new so sn → (is_left n ≡ false → n ≡ old.state)
-    → BodyFits room old kind m → BodyFits room new kind m
-settles_body_fits room n r old new so sn kind m s stays h =
-    λ due. subst (λ (k : Kept). k.refused ≡ false → kind ≡ 1 → length k.body + m ≤ room) (sym (not_left n r old new so sn s stays (ap is_left due)))
-    (h (sym (ap (λ (k : Kept). k.state) (not_left n r old new so sn s stays (ap is_left due))) ∙ due))
-
-pub settles_fragment_fits : (n : State) (r : Result (Unit {0}) WireFailed) (old new : Kept) (so sn : Store) (m : ℕ) → ComesTo n r old new so sn → (is_left n ≡ false → n ≡ old.state)
-    → FragmentFits old m → FragmentFits new m
-settles_fragment_fits n r old new so sn m s stays h =
-    λ six. subst (λ (k : Kept). k.refused ≡ false → m ≤ k.join.left) (sym (not_left n r old new so sn s stays (ap is_left six)))
-    (h (sym (ap (λ (k : Kept). k.state) (not_left n r old new so sn s stays (ap is_left six))) ∙ six))
-
 left_pdvs : (st : State) (r : Bool) → is_left st ≡ true → (is_established st && not r) ≡ false
 left_pdvs st r l = by_left (λ (x : State). (is_established x && not r) ≡ false) refl refl st l
 
 left_body : (st : State) (counts : Bool) → is_left st ≡ true → (is_due st && counts) ≡ false
 left_body st counts l = by_left (λ (x : State). (is_due x && counts) ≡ false) refl refl st l
 
--- what did not count doesn't count then
-pub settles_uncounted : (n : State) (r : Result (Unit {0}) WireFailed) (old new : Kept) (so sn : Store) (kind : ℕ) → ComesTo n r old new so sn → (is_left n ≡ false → n ≡ old.state)
-    → IsUncounted old kind → IsUncounted new kind
-settles_uncounted n r old new so sn kind s stays u =
-    elim (cases_Bool (is_left new.state)) [
-      | inl t ↦ record { pdvs = left_pdvs new.state new.refused t; body = left_body new.state (not new.refused && nat_eq kind 1) t }
-      | inr t ↦ subst (λ (k : Kept). IsUncounted k kind) (sym (not_left n r old new so sn s stays t)) u
-    ]
+pub not_left : (n : State) (r : Result (Unit {0}) WireFailed) (old new : Kept) (so sn : Store) → ComesTo n r old new so sn → (is_left n ≡ false → n ≡ old.state) → is_left new.state ≡ false → new ≡ old
+not_left n (Ok u) old new so sn s stays l =
+    let same = stays (sym (ap is_left s.state_is) ∙ l) in
+    s.same l ∙ ap (λ (x : State). with_state x old) (s.state_is ∙ same)
+not_left n (Err f) old new so sn s stays l = let x : is_left Sta1 ≡ false = sym (ap is_left s.state_is) ∙ l in absurd cc
+
+-- the association was left, or nothing changed
+module _ (old new : Kept) (same : is_left new.state ≡ false → new ≡ old) where
+  pub body_fits_then : (room kind m : ℕ) → BodyFits room old kind m → BodyFits room new kind m
+  body_fits_then room kind m h =
+      λ due. subst (λ (k : Kept). k.refused ≡ false → kind ≡ 1 → length k.body + m ≤ room) (sym (same (ap is_left due))) (h (sym (ap (λ (k : Kept). k.state) (same (ap is_left due))) ∙ due))
+
+  pub fragment_fits_then : (m : ℕ) → FragmentFits old m → FragmentFits new m
+  fragment_fits_then m h = λ six. subst (λ (k : Kept). k.refused ≡ false → m ≤ k.join.left) (sym (same (ap is_left six))) (h (sym (ap (λ (k : Kept). k.state) (same (ap is_left six))) ∙ six))
+
+  -- what did not count doesn't count then
+  pub uncounted_then : (kind : ℕ) → IsUncounted old kind → IsUncounted new kind
+  uncounted_then kind u =
+      elim (cases_Bool (is_left new.state)) [
+        | inl t ↦ record { pdvs = left_pdvs new.state new.refused t; body = left_body new.state (not new.refused && nat_eq kind 1) t }
+        | inr t ↦ subst (λ (k : Kept). IsUncounted k kind) (sym (same t)) u
+      ]
 
 -- ---- a PDU begins
 

@@ -234,3 +234,9 @@ release_tries p x n r old new body begun lo ln so sn h six e f settles sends som
     let state : n ≡ Sta13 = f ∙ ap (λ (y : State). (table y event.UserReleases).1) asked in
     let text : step_text x.1 event.UserReleases 0 [] ≡ (released p).sent = ap (λ (y : State). step_text y event.UserReleases 0 []) asked ∙ sym c.1 in
     tries_left p (released p) n r old new body begun lo ln so sn h (sym h.state_is ∙ six) state c.0 settles (subst (λ (t : List ℕ). Sends t r lo ln) text sends) (subst (λ (t : List ℕ). OnErr r (0 < length t)) text some)
+
+-- it leaves the association
+pub release_stays : (x : Action × State) (n st : State) → x ≡ table Sta6 event.ReleaseRq → n ≡ (table x.1 event.UserReleases).1 → is_left n ≡ false → n ≡ st
+release_stays x n st e f l =
+    let thirteen : n ≡ Sta13 = f ∙ ap (λ (y : Action × State). (table y.1 event.UserReleases).1) e in
+    let wrong : is_left Sta13 ≡ false = sym (ap is_left thirteen) ∙ l in absurd cc

@@ -8,6 +8,7 @@ pub mod Verdicts
 pub mod Capacity
 pub mod DoesDue
 pub mod Tries
+pub mod Judged
 pub mod Messages
 pub mod Does
 pub mod Events

@@ -12,7 +12,7 @@ mod taking;
 use crate::devices::Devices;
 use crate::phase::Phase;
 use crate::provider::Provider;
-use crate::sending::Answering;
+use crate::sending::{Answering, Due};
 use acceptor::{Event, State};
 use negotiate::Config;
 use part10::Filing;
@@ -217,7 +217,8 @@ impl<const A: usize, const C: usize, const V: usize, const D: usize> Association
         if self.is_ended() {
             return;
         }
-        self.provider.happens(event, Answering::Nothing, devices);
+        self.provider
+            .happens(Due::Happens(event, Answering::Nothing), devices);
         self.provider.skip_uncounted(&mut self.deframer);
         self.drop_heads();
     }

@@ -28,14 +28,33 @@ impl<const A: usize, const C: usize, const V: usize, const D: usize> Provider<A,
             (before W.line F.store devices.entry) (after W.line F.store devices.exit) }
     {
         match event {
-            Event::PduHead(head) => self.on_head(head.kind, head.length, devices),
+            Event::PduHead(head) => {
+                let due = self.on_head(head.kind, head.length);
+                self.happens(due, devices);
+            }
             Event::Body(part) => self.on_body(kind, part),
-            Event::PdvHead(head) => self.on_pdv_head(head, devices),
+            Event::PdvHead(head) => {
+                let due = self.on_pdv_head(head);
+                self.happens(due, devices);
+            }
             Event::Fragment(part) => self.on_data(part, devices.filing),
             Event::PdvEnd => self.on_pdv(devices),
-            Event::BadPdv => self.on_invalid(devices),
-            Event::Leftover => self.on_invalid(devices),
-            Event::PduEnd(kind) => self.on_end(kind, devices),
+            Event::BadPdv => {
+                let due = self.on_invalid();
+                self.happens(due, devices);
+            }
+            Event::Leftover => {
+                let due = self.on_invalid();
+                self.happens(due, devices);
+            }
+            Event::PduEnd(kind) => {
+                if self.takes_body(kind) {
+                    self.on_request(devices);
+                } else {
+                    let due = self.on_end(kind);
+                    self.happens(due, devices);
+                }
+            }
         }
     }
 }

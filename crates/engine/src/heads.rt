@@ -5,12 +5,10 @@ ghost use Rattle.acceptor.specs.declared.state.State.TheVariants.{Sta2};
 ghost use Rattle.engine.specs.Heads as spelling;
 ghost use Rattle.engine.specs.machine.HeadEvents.{brings};
 
-use crate::devices::Devices;
 use crate::provider::Provider;
-use crate::sending::Answering;
+use crate::sending::{Answering, Due};
 use acceptor::{Action, Event, State, act};
-use part10::Filing;
-use pdu::{Wire, pdu_type};
+use pdu::pdu_type;
 
 /// The reasons of a service provider's abort (PS3.8 section 9.3.8).
 const UNRECOGNIZED: u8 = 1;
@@ -127,39 +125,34 @@ pub(crate) fn head_event(room: usize, most: u32, state: State, kind: u8, length:
 }
 
 impl<const A: usize, const C: usize, const V: usize, const D: usize> Provider<A, C, V, D> {
-    ghost use Rattle.std.specs.Prelude.{◌-◌, []};
-    ghost use Rattle.engine.specs.machine.Lent.{before, after, DraftIsThere, KeepsDraft};
+    ghost use Rattle.std.specs.Prelude.{◌-◌};
+    ghost use Rattle.part10.specs.Store.{Store};
     ghost use Rattle.engine.specs.Kept.{kept_of, settings_in};
     ghost use Rattle.engine.specs.machine.Capacity.{BodyFits};
-    ghost use Rattle.engine.specs.machine.Events.{TakesHead};
+    ghost use Rattle.engine.specs.machine.Judged.{StaysThen, Judges};
+    ghost use Rattle.engine.specs.Timeline.{At};
+    ghost use Rattle.pdu.specs.Marks.{Head};
     ghost use Rattle.engine.specs.Run.{rooms_of};
 
     /// The head of a PDU: it is judged by its type, its length and the state.
-    pub(crate) fn on_head<W: Wire, F: Filing>(
-        &mut self,
-        kind: u8,
-        length: u32,
-        devices: Devices<'_, W, F>,
-    )
-        requires draft { DraftIsThere (kept_of self.old) (F.store devices.filing.now) }
-        ensures body { (kept_of self.new).body ≡ [] }
+    pub(crate) fn on_head(&mut self, kind: u8, length: u32) -> Due
         ensures fits { BodyFits (A - 12) (kept_of self.new) kind length }
         ensures settings { settings_in self.new ≡ settings_in self.old }
-        ensures drafts { KeepsDraft (kept_of self.old) (kept_of self.new) (F.store devices.entry.filing.now) (after W.line F.store devices.exit).store }
-        ensures does { TakesHead (rooms_of A C V D) (settings_in self.old) (kept_of self.old) (kept_of self.new) kind length (before W.line F.store devices.entry) (after W.line F.store devices.exit) }
+        ensures storing { (kept_of self.new).storing ≡ (kept_of self.old).storing }
+        ensures stays { StaysThen (kept_of self.new).state result }
+        ensures due { (store : Store) → Judges (rooms_of A C V D) (settings_in self.old) (kept_of self.old) (kept_of self.new) (At (Head kind length)) result store }
     {
         let state = self.phase.state();
         let event = head_event(A - HEADS, self.config.max_pdu, state, kind, length);
         self.clear_body();
-        self.refused = false;
+        self.refused = true;
         match event {
-            HeadEvent::Nothing => {}
-            HeadEvent::AtOnce(event, reason) => {
-                self.refuse(event, Answering::Abort(reason), devices);
+            HeadEvent::Nothing => {
+                self.refused = false;
+                Due::Nothing
             }
-            HeadEvent::TooLong => {
-                self.refuse(Event::Request(false), Answering::TooLong, devices);
-            }
+            HeadEvent::AtOnce(event, reason) => Due::Happens(event, Answering::Abort(reason)),
+            HeadEvent::TooLong => Due::Happens(Event::Request(false), Answering::TooLong),
         }
     }
 }

@@ -7,7 +7,7 @@ use crate::devices::Devices;
 use crate::heads::INVALID_PARAMETER;
 use crate::phase::{Message, Peer, Phase};
 use crate::provider::Provider;
-use crate::sending::Answering;
+use crate::sending::{Answering, Due};
 use crate::status::echo_status;
 use crate::stores::{begin_store, is_of_context};
 use acceptor::{Event, State};
@@ -97,34 +97,35 @@ impl<const A: usize, const C: usize, const V: usize, const D: usize> Provider<A,
     ghost use Rattle.engine.specs.machine.Lent.{before, after, DraftIsThere, KeepsDraft};
     ghost use Rattle.engine.specs.Kept.{kept_of, settings_in};
     ghost use Rattle.engine.specs.machine.Capacity.{FragmentFits};
-    ghost use Rattle.engine.specs.machine.Events.{TakesFragment, TakesPdvEnd, TakesPdvHead};
+    ghost use Rattle.engine.specs.machine.Events.{TakesFragment, TakesPdvEnd};
+    ghost use Rattle.engine.specs.machine.Judged.{StaysThen, JudgesPdvHead};
+    ghost use Rattle.part10.specs.Store.{Store};
     ghost use Rattle.engine.specs.Run.{rooms_of};
 
     /// The head of a PDV: its context has to be an accepted one, and it has to go on with the message.
-    pub(crate) fn on_pdv_head<W: Wire, F: Filing>(
-        &mut self,
-        head: PdvHead,
-        devices: Devices<'_, W, F>,
-    )
-        requires draft { DraftIsThere (kept_of self.old) (F.store devices.filing.now) }
+    pub(crate) fn on_pdv_head(&mut self, head: PdvHead) -> Due
         requires two { 2 ≤ head.length }
         ensures settings { settings_in self.new ≡ settings_in self.old }
-        ensures drafts { KeepsDraft (kept_of self.old) (kept_of self.new) (F.store devices.entry.filing.now) (after W.line F.store devices.exit).store }
+        ensures storing { (kept_of self.new).storing ≡ (kept_of self.old).storing }
+        ensures stays { StaysThen (kept_of self.new).state result }
         ensures fits { FragmentFits (kept_of self.new) (head.length - 2) }
-        ensures does { TakesPdvHead (rooms_of A C V D) (settings_in self.old) (kept_of self.old) (kept_of self.new) head (before W.line F.store devices.entry) (after W.line F.store devices.exit) }
+        ensures due { (store : Store) → JudgesPdvHead (rooms_of A C V D) (settings_in self.old) (kept_of self.old) (kept_of self.new) head result store }
     {
         if self.refused {
-            return;
+            return Due::Nothing;
         }
-        if let Phase::Established { peer, message } = &mut self.phase {
-            let Some(_) = peer.context(&self.config, head.context) else {
-                let answering = Answering::Abort(INVALID_PARAMETER);
-                self.refuse(Event::Invalid, answering, devices);
-                return;
-            };
-            match message.join.head(&head) {
-                Ok(()) => {}
-                Err(_) => self.refuse(Event::UserAborts, Answering::Nothing, devices),
+        let Phase::Established { peer, message } = &mut self.phase else {
+            return Due::Nothing;
+        };
+        let Some(_) = peer.context(&self.config, head.context) else {
+            self.refused = true;
+            return Due::Happens(Event::Invalid, Answering::Abort(INVALID_PARAMETER));
+        };
+        match message.join.head(&head) {
+            Ok(()) => Due::Nothing,
+            Err(_) => {
+                self.refused = true;
+                Due::Happens(Event::UserAborts, Answering::Nothing)
             }
         }
     }
@@ -173,7 +174,10 @@ impl<const A: usize, const C: usize, const V: usize, const D: usize> Provider<A,
                     self.settle(State::Sta6, sent, filing);
                 }
                 Ok(Joined::DataDue) => message.begin(origin, devices.filing),
-                Err(_) => self.refuse(Event::UserAborts, Answering::Nothing, devices),
+                Err(_) => {
+                    self.happens(Due::Happens(Event::UserAborts, Answering::Nothing), devices);
+                    self.refused = true;
+                }
             }
         }
     }

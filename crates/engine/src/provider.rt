@@ -7,8 +7,8 @@ ghost use Rattle.engine.specs.StoredData.{drafting_in};
 use crate::devices::Devices;
 use crate::heads::INVALID_PARAMETER;
 use crate::phase::Phase;
-use crate::sending::{Answering, state_after, step};
-use acceptor::{Event, State};
+use crate::sending::{Answering, Due, state_after, step};
+use acceptor::{Event, State, act};
 use arrayvec::ArrayVec;
 use negotiate::Config;
 use part10::Filing;
@@ -37,17 +37,19 @@ impl<const A: usize, const C: usize, const V: usize, const D: usize> Provider<A,
     ghost use Rattle.std.specs.Prelude.{ℕ, true};
     ghost use Rattle.engine.specs.Progress.{at_start};
     ghost use Rattle.engine.specs.machine.Lent.{before, after, DraftIsThere, KeepsDraft};
-    ghost use Rattle.engine.specs.machine.Answers.{done_by};
+    ghost use Rattle.engine.specs.machine.Answers.{due_at};
     ghost use Rattle.negotiate.specs.Settings.{settings_of};
     ghost use Rattle.part10.specs.Store.{Store};
     ghost use Rattle.engine.specs.Kept.{Pends, held_by, takes_pdvs_in, kept_of, settings_in};
-    ghost use Rattle.engine.specs.machine.Capacity.{BodyFits, FragmentFits};
     ghost use Rattle.pdu.specs.Deframed.{position_of};
     ghost use Rattle.pdu.specs.Steps.{events_due};
-    ghost use Rattle.engine.specs.FrameFields.{IsUncounted};
     ghost use Rattle.engine.specs.machine.Skips.{passed};
     ghost use Rattle.engine.specs.machine.DoesDue.{ComesTo, Stays, is_left};
-    ghost use Rattle.engine.specs.machine.Tries.{TriesDue, TriesInvalid, TriesRefusing};
+    ghost use Rattle.engine.specs.machine.Judged.{StaysThen, Judges};
+    ghost use Rattle.engine.specs.Timeline.{At};
+    ghost use Rattle.engine.specs.Run.{rooms_of};
+    ghost use Rattle.pdu.specs.Marks.{BadPdv};
+    ghost use Rattle.engine.specs.machine.Tries.{TriesDue};
     ghost use Rattle.engine.specs.machine.Messages.{with_body, with_storing};
     ghost use Rattle.engine.specs.machine.Storing.{Drops};
 
@@ -170,57 +172,41 @@ impl<const A: usize, const C: usize, const V: usize, const D: usize> Provider<A,
         }
     }
 
-    /// An event happens that leaves the association or keeps its state.
-    pub(crate) fn happens<W: Wire, F: Filing>(
-        &mut self,
-        event: Event,
-        answering: Answering,
-        devices: Devices<'_, W, F>,
-    )
+    /// What is due happens: the association is left, or keeps its state.
+    pub(crate) fn happens<W: Wire, F: Filing>(&mut self, due: Due, devices: Devices<'_, W, F>)
         requires draft { DraftIsThere (kept_of self.old) (F.store devices.filing.now) }
-        requires stays { Stays (kept_of self.old).state event }
+        requires stays { StaysThen (kept_of self.old).state due }
         ensures drafts { KeepsDraft (kept_of self.old) (kept_of self.new) (F.store devices.entry.filing.now) (after W.line F.store devices.exit).store }
         ensures settings { settings_in self.new ≡ settings_in self.old }
-        ensures refused { self.new.refused ≡ self.old.refused }
-        ensures body { (kept_of self.old).body ≡ [] → (kept_of self.new).body ≡ [] }
-        ensures body_fits { (kind m : ℕ) → BodyFits (A - 12) (kept_of self.old) kind m → BodyFits (A - 12) (kept_of self.new) kind m }
-        ensures fragment_fits { (m : ℕ) → FragmentFits (kept_of self.old) m → FragmentFits (kept_of self.new) m }
-        ensures uncounted { (kind : ℕ) → IsUncounted (kept_of self.old) kind → IsUncounted (kept_of self.new) kind }
-        ensures tries { TriesDue (done_by answering.entry event) (kept_of self.old) (kept_of self.new) (before W.line F.store devices.entry) (after W.line F.store devices.exit) }
+        ensures same { is_left (kept_of self.new).state ≡ false → kept_of self.new ≡ kept_of self.old }
+        ensures tries { TriesDue (due_at due) (kept_of self.old) (kept_of self.new) (before W.line F.store devices.entry) (after W.line F.store devices.exit) }
     {
-        let (next, sent) = step(self.phase.state(), event, answering, devices.wire);
-        self.settle(next, sent, devices.filing);
-    }
-
-    /// An event happens, and the later marks of the PDU count for nothing.
-    pub(crate) fn refuse<W: Wire, F: Filing>(
-        &mut self,
-        event: Event,
-        answering: Answering,
-        devices: Devices<'_, W, F>,
-    )
-        requires draft { DraftIsThere (kept_of self.old) (F.store devices.filing.now) }
-        requires stays { Stays (kept_of self.old).state event }
-        ensures drafts { KeepsDraft (kept_of self.old) (kept_of self.new) (F.store devices.entry.filing.now) (after W.line F.store devices.exit).store }
-        ensures settings { settings_in self.new ≡ settings_in self.old }
-        ensures refused { self.new.refused ≡ true }
-        ensures body { (kept_of self.old).body ≡ [] → (kept_of self.new).body ≡ [] }
-        ensures tries { TriesRefusing (done_by answering.entry event) (kept_of self.old) (kept_of self.new) (before W.line F.store devices.entry) (after W.line F.store devices.exit) }
-    {
-        self.happens(event, answering, devices);
-        self.refused = true;
+        match due {
+            Due::Nothing => {}
+            Due::Happens(event, answering) => {
+                let (next, sent) = step(self.phase.state(), event, answering, devices.wire);
+                self.settle(next, sent, devices.filing);
+            }
+            Due::Releases => {
+                let (_, asked) = act(State::Sta6, Event::ReleaseRq);
+                let answering = Answering::Nothing;
+                let (next, sent) = step(asked, Event::UserReleases, answering, devices.wire);
+                self.settle(next, sent, devices.filing);
+            }
+        }
     }
 
     /// The head of a PDV is bad, or bytes are left over after a PDV.
-    pub(crate) fn on_invalid<W: Wire, F: Filing>(&mut self, devices: Devices<'_, W, F>)
-        requires draft { DraftIsThere (kept_of self.old) (F.store devices.filing.now) }
+    pub(crate) fn on_invalid(&mut self) -> Due
         ensures settings { settings_in self.new ≡ settings_in self.old }
-        ensures drafts { KeepsDraft (kept_of self.old) (kept_of self.new) (F.store devices.entry.filing.now) (after W.line F.store devices.exit).store }
-        ensures tries { TriesInvalid (kept_of self.old) (kept_of self.new) (before W.line F.store devices.entry) (after W.line F.store devices.exit) }
+        ensures storing { (kept_of self.new).storing ≡ (kept_of self.old).storing }
+        ensures stays { StaysThen (kept_of self.new).state result }
+        ensures due { (store : Store) → Judges (rooms_of A C V D) (settings_in self.old) (kept_of self.old) (kept_of self.new) (At BadPdv) result store }
     {
-        if self.takes_pdvs() {
-            let answering = Answering::Abort(INVALID_PARAMETER);
-            self.refuse(Event::Invalid, answering, devices);
+        if !self.takes_pdvs() {
+            return Due::Nothing;
         }
+        self.refused = true;
+        Due::Happens(Event::Invalid, Answering::Abort(INVALID_PARAMETER))
     }
 }

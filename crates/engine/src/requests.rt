@@ -16,7 +16,7 @@ use crate::devices::Devices;
 use crate::heads::INVALID_PARAMETER;
 use crate::phase::{Message, Peer, Phase};
 use crate::provider::Provider;
-use crate::sending::{Answering, step};
+use crate::sending::{Answering, Due, step};
 use crate::stores::Storing;
 use acceptor::{Event, State, act};
 use arrayvec::ArrayVec;
@@ -103,8 +103,9 @@ impl<const A: usize, const C: usize, const V: usize, const D: usize> Provider<A,
     ghost use Rattle.engine.specs.Kept.{takes_body_in, kept_of, settings_in};
     ghost use Rattle.engine.specs.machine.Capacity.{BodyFits};
     ghost use Rattle.part10.specs.Store.{Store};
-    ghost use Rattle.engine.specs.machine.Events.{TakesBody, TakesEnd};
-    ghost use Rattle.engine.specs.machine.Tries.{TriesRelease, TriesRequest, TriesWhole};
+    ghost use Rattle.engine.specs.machine.Events.{TakesBody};
+    ghost use Rattle.engine.specs.machine.Tries.{TriesRequest};
+    ghost use Rattle.engine.specs.machine.Judged.{StaysThen, JudgesEnd};
 
     /// Whether the body of a PDU of this type is kept.
     pub(crate) fn takes_body(&self, kind: u8) -> bool
@@ -134,7 +135,7 @@ impl<const A: usize, const C: usize, const V: usize, const D: usize> Provider<A,
 
     /// An association request is whole: where one is due, it is read, judged and answered, and then
     /// given up.
-    fn on_request<W: Wire, F: Filing>(&mut self, devices: Devices<'_, W, F>)
+    pub(crate) fn on_request<W: Wire, F: Filing>(&mut self, devices: Devices<'_, W, F>)
         requires draft { DraftIsThere (kept_of self.old) (F.store devices.filing.now) }
         ensures settings { settings_in self.new ≡ settings_in self.old }
         ensures drafts { KeepsDraft (kept_of self.old) (kept_of self.new) (F.store devices.entry.filing.now) (after W.line F.store devices.exit).store }
@@ -157,50 +158,26 @@ impl<const A: usize, const C: usize, const V: usize, const D: usize> Provider<A,
         }
     }
 
-    /// A release request is whole: the local user of an established association agrees to it at once.
-    fn on_release<W: Wire, F: Filing>(&mut self, devices: Devices<'_, W, F>)
-        requires draft { DraftIsThere (kept_of self.old) (F.store devices.filing.now) }
-        ensures settings { settings_in self.new ≡ settings_in self.old }
-        ensures drafts { KeepsDraft (kept_of self.old) (kept_of self.new) (F.store devices.entry.filing.now) (after W.line F.store devices.exit).store }
-        ensures tries { TriesRelease (kept_of self.old) (kept_of self.new) (before W.line F.store devices.entry) (after W.line F.store devices.exit) }
-    {
-        let Phase::Established { .. } = &self.phase else {
-            return;
-        };
-        let (_, asked) = act(State::Sta6, Event::ReleaseRq);
-        let (next, sent) = step(asked, Event::UserReleases, Answering::Nothing, devices.wire);
-        self.settle(next, sent, devices.filing);
-    }
-
-    /// A PDU is whole: a request, a release request and an abort act where they are due, others do not.
-    fn on_whole<W: Wire, F: Filing>(&mut self, kind: u8, devices: Devices<'_, W, F>)
-        requires draft { DraftIsThere (kept_of self.old) (F.store devices.filing.now) }
-        ensures settings { settings_in self.new ≡ settings_in self.old }
-        ensures drafts { KeepsDraft (kept_of self.old) (kept_of self.new) (F.store devices.entry.filing.now) (after W.line F.store devices.exit).store }
-        ensures tries { TriesWhole (rooms_of A C V D) (settings_in self.old) (kept_of self.old) (kept_of self.new) kind (before W.line F.store devices.entry) (after W.line F.store devices.exit) }
+    /// A PDU of this type is whole, of whose body nothing was kept: a release request and an abort count
+    /// where they are due, others do not.
+    pub(crate) fn on_end(&self, kind: u8) -> Due
+        requires unkept { takes_body_in (kept_of self.now) kind ≡ false }
+        ensures stays { StaysThen (kept_of self.now).state result }
+        ensures due { (store : Store) → JudgesEnd (rooms_of A C V D) (settings_in self.now) (kept_of self.now) kind result store }
     {
         if let Phase::Ended = &self.phase {
-            return;
+            return Due::Nothing;
         }
         if self.refused {
-            return;
+            return Due::Nothing;
         }
         match kind {
-            pdu_type::A_ABORT => self.happens(Event::Abort, Answering::Nothing, devices),
-            pdu_type::A_ASSOCIATE_RQ => self.on_request(devices),
-            pdu_type::A_RELEASE_RQ => self.on_release(devices),
-            _ => {}
+            pdu_type::A_ABORT => Due::Happens(Event::Abort, Answering::Nothing),
+            pdu_type::A_RELEASE_RQ => match &self.phase {
+                Phase::Established { .. } => Due::Releases,
+                _ => Due::Nothing,
+            },
+            _ => Due::Nothing,
         }
-    }
-
-    /// A PDU of this type is whole; nothing is kept of its body.
-    pub(crate) fn on_end<W: Wire, F: Filing>(&mut self, kind: u8, devices: Devices<'_, W, F>)
-        requires draft { DraftIsThere (kept_of self.old) (F.store devices.filing.now) }
-        ensures settings { settings_in self.new ≡ settings_in self.old }
-        ensures drafts { KeepsDraft (kept_of self.old) (kept_of self.new) (F.store devices.entry.filing.now) (after W.line F.store devices.exit).store }
-        ensures does { TakesEnd (rooms_of A C V D) (settings_in self.old) (kept_of self.old) (kept_of self.new) kind (before W.line F.store devices.entry) (after W.line F.store devices.exit) }
-    {
-        self.on_whole(kind, devices);
-        self.clear_body();
     }
 }

@@ -26,6 +26,17 @@ pub(crate) enum Answering<'a> {
     Request(&'a Config, &'a Request<'a>),
 }
 
+/// What is due once a mark of the stream has been judged.
+#[derive(Clone, Copy)]
+pub(crate) enum Due {
+    /// Nothing.
+    Nothing,
+    /// This event, which is answered so.
+    Happens(Event, Answering<'static>),
+    /// A release request, to which the local user of an established association agrees at once.
+    Releases,
+}
+
 /// Sends the answer to an association request.
 fn answer<W: Wire>(answering: Answering, wire: &mut W) -> Result<(), WireFailed>
     ensures sends { Sends (answer_text answering.entry) result (W.line wire.old) (W.line wire.new) }

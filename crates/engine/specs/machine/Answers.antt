@@ -7,7 +7,10 @@ use Rattle.negotiate.specs.Accept.{answer_bytes}
 use Rattle.engine.specs.declared.sending.Answering.{Answering}
 use Rattle.engine.specs.declared.sending.Answering.TheVariants as answering
 use Rattle.acceptor.specs.declared.event.Event.{Event}
-use Rattle.engine.specs.Progress.{Progress, Advance, done}
+use Rattle.engine.specs.declared.sending.Due.{Due}
+use Rattle.engine.specs.declared.sending.Due.TheVariants as due
+use Rattle.engine.specs.Progress.{Progress, Advance, nothing, done}
+use Rattle.engine.specs.Run.{released}
 
 abbrev pub answer_text : Answering → List ℕ
 answer_text answering.Nothing = []
@@ -22,3 +25,9 @@ reason_of other = 0
 -- what an event brings that is answered so
 abbrev pub done_by : Answering → Event → Progress → Advance
 done_by a event p = done (answer_text a) (reason_of a) p event
+
+-- what is due in this progress
+abbrev pub due_at : Due → Progress → Advance
+due_at due.Nothing p = nothing p
+due_at (due.Happens event a) p = done_by a event p
+due_at due.Releases p = released p

@@ -1,6 +1,7 @@
 use Rattle.std.proofs.Common.{◌-◌, ◌∙◌, sym}
 use Rattle.pdu.specs.Deframed.{position_of}
 use Rattle.engine.specs.Kept.{kept_of}
+use Rattle.engine.proofs.PendsLemmas.{body_fits_then, fragment_fits_then, uncounted_then}
 use Rattle.engine.proofs.MovedLemmas.{moved_still, moved_call}
 use Rattle.engine.proofs.SkipLemmas.{room_passed, heads_passed}
 use Rattle.engine.proofs.SizeLemmas.{association_small, provider_small}
@@ -14,13 +15,13 @@ invariant_of-self g c =
     let was = c.args.self.now in
     let k = kept_of c.happens.new.self in
     let q = position_of was.deframer in
-    let fits = room_passed (g.row.A - 12) k q (c.happens.ensures.body_fits _ _ was.body_fits, c.happens.ensures.fragment_fits _ was.fragment_fits) in
+    let fits = room_passed (g.row.A - 12) k q (body_fits_then _ k c.happens.ensures.same _ _ _ was.body_fits, fragment_fits_then _ k c.happens.ensures.same _ was.fragment_fits) in
     rw c.skip_uncounted.ensures.passes (record { body_fits = fits.0; fragment_fits = fits.1; headless = heads_passed k q })
 
 pub returns-clause-moved : goal.returns-clause-moved
 returns-clause-moved g c input entry o inputs story failed h =
     let dropped = c.drop_heads.ensures in
-    moved_call _ _ inputs story failed _ input entry o _ _ _ _ _ _ h (sym c.is_ended.ensures.ended ∙ c.if-is_ended.false) c.happens.ensures.tries c.happens.ensures.uncounted
+    moved_call _ _ inputs story failed _ input entry o _ _ _ _ _ _ h (sym c.is_ended.ensures.ended ∙ c.if-is_ended.false) c.happens.ensures.tries (uncounted_then _ _ c.happens.ensures.same)
     (rw (← c.skip_uncounted.ensures.passes) (record { kept = dropped.kept; same = dropped.same; headless = dropped.headless })) c.happens.ensures.drafts
 
 pub is_ended-requires : goal.is_ended-requires

@@ -1,27 +1,60 @@
--- What the whole PDU gives, and no body is kept.
-use Rattle.std.proofs.Common.{[], refl, sym, subst}
-use Rattle.pdu.specs.Marks.{End}
-use Rattle.engine.specs.Timeline.{At, good}
-use Rattle.engine.specs.Run.{at_entry, rooms_of}
-use Rattle.engine.specs.Devices.{devices}
-use Rattle.engine.specs.Drafts.{Drafts}
-use Rattle.engine.specs.machine.Lent.{before}
-use Rattle.engine.specs.Kept.{Kept, body_in, kept_of, settings_in}
-use Rattle.engine.specs.StoredData.{drafting_in}
-use Rattle.engine.specs.machine.DoesDue.{DoesDue}
-use Rattle.engine.proofs.DueLemmas.{does_by}
-use Rattle.engine.proofs.WholeLemmas.{end_gone, end_files, tries_cleared}
+-- By its type and the phase.
+use Rattle.std.proofs.Common.{◌≡◌, true, false, ap, sym, ◌∙◌, arith}
+use Rattle.engine.specs.Phases.{state_in}
+use Rattle.engine.specs.Progress.{is_established}
+use Rattle.engine.specs.Kept.{kept_of, settings_in, body_in}
+use Rattle.engine.specs.Run.{rooms_of}
+use Rattle.engine.proofs.DueLemmas.{stays_abort}
+use Rattle.engine.proofs.JudgedLemmas.{leaves_due}
+use Rattle.engine.proofs.PhaseLemmas.{unended, unestablished}
+use Rattle.engine.proofs.WholeLemmas.{leaves_ended, refused_shown, refused_end, taken_end, whole_abort, whole_release, whole_other, undue, pends_unkept}
 use Rattle.engine.proofs.provider.Provider.on_end.Goals as goal
 
-pub returns-clause-does : goal.returns-clause-does
-returns-clause-does g c = λ p body h.
-    let rooms = rooms_of g.row.A g.row.C g.row.V g.row.D in
-    let s = settings_in c.args.self.now in
-    let given = at_entry rooms s p good (At (End c.args.kind body)) in
-    let k = kept_of c.on_whole.new.self in
-    does_by rooms s p (At (End c.args.kind body)) given (kept_of c.clear_body.new.self) [] [] _ _ refl (end_files rooms s p c.args.kind body) tt
-    (subst (λ (x : Kept). DoesDue p given x [] [] (before g.W.Wire.line g.F.Filing.store c.args.devices) (devices (g.W.Wire.line c.on_whole.new.devices.0) (g.F.Filing.store c.on_whole.new.devices.1.0))) (sym c.clear_body.ensures.kept)
-    (tries_cleared p given k (body_in c.args.kind body) _ _ (end_gone rooms s p c.args.kind body) (c.on_whole.ensures.tries p body h)))
+pub returns-in-Ended-clause-due : goal.returns-in-Ended-clause-due
+returns-in-Ended-clause-due g c = λ store p body h.
+    leaves_ended (rooms_of g.row.A g.row.C g.row.V g.row.D) (settings_in c.args.self.now) p c.args.kind body (body_in c.args.kind body) (kept_of c.args.self.now) store h (ap state_in c.in-Ended.is)
 
-pub returns-clause-drafts : goal.returns-clause-drafts
-returns-clause-drafts g c = subst (λ (x : Kept). Drafts (drafting_in (kept_of c.args.self.now).storing) (g.F.Filing.store c.args.devices.filing.now) (drafting_in x.storing) (g.F.Filing.store c.on_whole.new.devices.1.0)) (sym c.clear_body.ensures.kept) c.on_whole.ensures.drafts
+pub returns-then-self-clause-due : goal.returns-then-self-clause-due
+returns-then-self-clause-due g c = λ store p body h.
+    let k = kept_of c.args.self.now in
+    let refused = sym (refused_shown k _ p _ _ h (unended c.args.self.now.phase c.in_default.not-Ended)) ∙ c.if-self.true in
+    leaves_due p _ _ k store _ _ (refused_end (rooms_of g.row.A g.row.C g.row.V g.row.D) (settings_in c.args.self.now) p c.args.kind body refused) (pends_unkept k store p c.args.kind body c.requires.unkept h)
+
+pub returns-in-7-clause-due : goal.returns-in-7-clause-due
+returns-in-7-clause-due g c = λ store p body h.
+    let k = kept_of c.args.self.now in
+    let s = settings_in c.args.self.now in
+    let taken = sym (refused_shown k _ p _ _ h (unended c.args.self.now.phase c.in_default.not-Ended)) ∙ c.if-self.false in
+    leaves_due p _ _ k store _ _ (taken_end (rooms_of g.row.A g.row.C g.row.V g.row.D) s p c.args.kind body taken ∙ whole_abort s p c.args.kind body c.in-7.is) (pends_unkept k store p c.args.kind body c.requires.unkept h)
+
+pub returns-in-7-clause-stays : goal.returns-in-7-clause-stays
+returns-in-7-clause-stays g c = stays_abort _
+
+pub returns-in-Established : goal.returns-in-Established
+returns-in-Established g c = record {
+  stays = ap state_in c.in-Established.is;
+  due = λ store p body h.
+      let k = kept_of c.args.self.now in
+      let s = settings_in c.args.self.now in
+      let taken = sym (refused_shown k _ p _ _ h (unended c.args.self.now.phase c.in_default.not-Ended)) ∙ c.if-self.false in
+      leaves_due p _ _ k store _ _ (taken_end (rooms_of g.row.A g.row.C g.row.V g.row.D) s p c.args.kind body taken ∙ whole_release s p c.args.kind body true c.in-5.is (ap is_established (sym h.state_is ∙ ap state_in c.in-Established.is))) (pends_unkept k store p c.args.kind body c.requires.unkept h);
+}
+
+pub returns-in_default-phase : goal.returns-in_default-phase
+returns-in_default-phase g c = record {
+  stays = tt;
+  due = λ store p body h.
+      let k = kept_of c.args.self.now in
+      let s = settings_in c.args.self.now in
+      let taken = sym (refused_shown k _ p _ _ h (unended c.args.self.now.phase c.in_default.not-Ended)) ∙ c.if-self.false in
+      leaves_due p _ _ k store _ _ (taken_end (rooms_of g.row.A g.row.C g.row.V g.row.D) s p c.args.kind body taken ∙ whole_release s p c.args.kind body false c.in-5.is (ap is_established (sym h.state_is) ∙ unestablished c.args.self.now.phase c.in_default-phase.not-Established)) (pends_unkept k store p c.args.kind body c.requires.unkept h);
+}
+
+pub returns-in_default-kind-clause-due : goal.returns-in_default-kind-clause-due
+returns-in_default-kind-clause-due g c = λ store p body h.
+    let k = kept_of c.args.self.now in
+    let s = settings_in c.args.self.now in
+    let taken = sym (refused_shown k _ p _ _ h (unended c.args.self.now.phase c.in_default.not-Ended)) ∙ c.if-self.false in
+    let seven : c.args.kind ≡ 7 → ⊥ = λ e. omega (arith, e) in
+    let five : c.args.kind ≡ 5 → ⊥ = λ e. omega (arith, e) in
+    leaves_due p _ _ k store _ _ (taken_end (rooms_of g.row.A g.row.C g.row.V g.row.D) s p c.args.kind body taken ∙ whole_other s p c.args.kind body seven (undue k store p c.args.kind _ _ h c.requires.unkept c.if-self.false) five) (pends_unkept k store p c.args.kind body c.requires.unkept h)

@@ -1,5 +1,6 @@
 -- By what the join makes of the PDV.
-use Rattle.std.proofs.Common.{◌≡◌, ◌∙◌, ◌&&◌, Bool, not, ap, sym, subst, refl, List, ℕ, [], get_or, false, Ok, Result}
+use Rattle.std.proofs.Common.{◌≡◌, ◌∙◌, ◌&&◌, Bool, not, ap, sym, subst, refl, List, ℕ, [], get_or, false, true, Ok, Result}
+use Rattle.acceptor.specs.declared.event.Event.TheVariants as event
 use Rattle.dimse.specs.declared.joined.Joined.{Joined}
 use Rattle.dimse.specs.declared.joined.Joined.TheVariants as joined
 use Rattle.dimse.specs.declared.fault.DimseFault.{DimseFault}
@@ -7,7 +8,7 @@ use Rattle.dimse.specs.Reading.{command_in}
 use Rattle.dimse.specs.Messages.{Begun, InSet, Goes, Refuses, brought}
 use Rattle.dimse.specs.Joining.{Joining, Joins, ShowsMessage, pdv_of, with_pdv, command_bytes}
 use Rattle.engine.specs.Timeline.{At, good}
-use Rattle.engine.specs.Progress.{nothing}
+use Rattle.engine.specs.Progress.{nothing, done}
 use Rattle.engine.specs.Replies.{user_aborts, going_on}
 use Rattle.engine.specs.Devices.{devices}
 use Rattle.engine.specs.Kept.{Pends, kept_of, settings_in}
@@ -17,7 +18,7 @@ use Rattle.engine.specs.Run.{rooms_of}
 use Rattle.engine.specs.StoredData.{stored_of}
 use Rattle.engine.proofs.ShownLemmas.{takes_shown}
 use Rattle.engine.proofs.StoreLemmas.{Carried, carried, nothing_walked, no_store_yet, long_pdv, pdv_store, same_drafts, drops_drafts, drops_unfiled, drafts_then}
-use Rattle.engine.proofs.DueLemmas.{does_by, does_nothing}
+use Rattle.engine.proofs.DueLemmas.{does_by, does_nothing, refused_by}
 use Rattle.engine.proofs.MessageLemmas.{entry_of, pdv_taken, pdv_dropped, pdv_comes, pends_dropped, goes_of, ends_of, refuses_of, due_of, counted_taken, pends_going_on, aside_of, aside_joined, taken_state, aborted_pdv, aborted_body, verdict_by, verdict_none, tries_still, pdv_context}
 use Rattle.engine.proofs.EndedLemmas.{concludes, does_concluded}
 use Rattle.engine.proofs.DataLemmas.{does_due}
@@ -138,6 +139,7 @@ returns-in-Err-clause-does g c = rw c.in-Established.is (λ p begun six whole h.
     let told = subst (λ (r : Result Joined DimseFault). Joins g.row.C p.message (brought p.message (pdv_of begun)) k.join j r) c.in-Err.is joins in
     let got = refuses_of g.row.C p.message begun six (was.accepted six) k.join j c.in-Err.field-0 told in
     let pends : Pends (with_join j k) so p [] begun = subst (λ (x : Joining). Pends (with_join x k) so p [] begun) (sym got.1) h in
-    does_by rooms s p (At (entry_of begun)) (user_aborts p) (kept_of c.refuse.new.self) [] [] _ _
+    let new = kept_of c.happens.new.self in
+    does_by rooms s p (At (entry_of begun)) (user_aborts p) (record new { refused = true }) [] [] _ _
     (pdv_taken rooms s p good begun taken ∙ pdv_comes p good begun (Refuses c.in-Err.field-0) got.0) refl (verdict_by rooms s p p good begun (Refuses c.in-Err.field-0) taken got.0 tt)
-    (c.refuse.ensures.tries p [] begun [] [] pends (aborted_body p taken) (aborted_pdv p begun taken)))
+    (refused_by p (done [] 0 p event.UserAborts) new [] begun [] [] _ _ (aborted_body p taken) (aborted_pdv p begun taken) (c.happens.ensures.tries p [] begun pends)))

@@ -1,5 +1,5 @@
 -- The request is answered, and what is kept of it is what was agreed.
-use Rattle.std.proofs.Common.{◌≡◌, [], ◌<◌, ◌∙◌, ap, sym, subst, refl, true, List, ℕ, length, OnErr, arith}
+use Rattle.std.proofs.Common.{◌≡◌, ◌<◌, ◌∙◌, ap, sym, subst, refl, true, false, List, ℕ, length, OnErr, arith}
 use Rattle.acceptor.specs.declared.state.State.TheVariants.{Sta6}
 use Rattle.pdu.specs.Sent.{Sends}
 use Rattle.engine.specs.Drafts.{Drafts}
@@ -15,15 +15,13 @@ use Rattle.engine.specs.machine.DoesDue.{is_left}
 use Rattle.engine.proofs.PhaseLemmas.{kept_by, awaiting_stored, awaiting_room, unawaited}
 use Rattle.engine.proofs.RequestLemmas.{asked, request_tries}
 use Rattle.engine.proofs.StoreLemmas.{same_drafts}
-use Rattle.engine.proofs.WholeLemmas.{tries_where, tries_nowhere}
 use Rattle.engine.proofs.provider.Provider.on_request.Goals as goal
 
 pub returns-in_default : goal.returns-in_default
 returns-in_default g c = record {
   settings = refl;
   drafts = same_drafts _ _ c.requires.draft;
-  tries = λ p body h unrefused.
-      tries_nowhere (is_due p.state) p (at_request (settings_in c.args.self.now) p body) (kept_of c.args.self.now) body [] _ (ap is_due (sym h.state_is) ∙ unawaited c.args.self.now.phase c.in_default.not-AwaitingRequest) h;
+  tries = λ p body h unrefused awaited. let wrong : true ≡ false = sym awaited ∙ ap is_due (sym h.state_is) ∙ unawaited c.args.self.now.phase c.in_default.not-AwaitingRequest in absurd cc;
 }
 
 pub returns-in-Some : goal.returns-in-Some
@@ -35,11 +33,11 @@ returns-in-Some g c =
     record {
       settings = c.settle.ensures.settings;
       drafts = subst (λ (z : Stored). Drafts (drafting_in z) (g.F.Filing.store c.args.devices.filing.now) (drafting_in (kept_of c.settle.new.self).storing) (g.F.Filing.store c.settle.new.filing)) nothing c.settle.ensures.drafts;
-      tries = λ p body h unrefused.
+      tries = λ p body h unrefused awaited.
           let s = settings_in c.args.self.now in
           let given = kept_by c.args.self.now c.in-Some.peer (record { join = c.new.result; storing = Nothing }) in
           let bytes = c.as_slice.ensures.value ∙ sym (ap request_in c.in-AwaitingRequest.is) in
-          tries_where (is_due p.state) p (at_request s p body) _ body [] _ _ (ap is_due (sym h.state_is ∙ due)) (request_tries s p body a.result.1 a.result.2 (kept_of c.args.self.now) given (kept_of c.settle.new.self) _ _ _ _ h due unrefused refl
+          request_tries s p body a.result.1 a.result.2 (kept_of c.args.self.now) given (kept_of c.settle.new.self) _ _ _ _ h due unrefused refl
           (a.ensures.state ∙ ap (λ (b : List ℕ). (at_request s at_start b).next.state) bytes) c.settle.ensures.settles
           (λ six. record {
             body = refl;
@@ -48,7 +46,7 @@ returns-in-Some g c =
             agreed = subst (λ (b : List ℕ). IsPeerOf c.in-Some.peer s.further (request_record (asked s.further b))) bytes accepted.1;
           })
           (subst (λ (b : List ℕ). Sends (at_request s at_start b).sent a.result.2 (g.W.Wire.line c.args.devices.wire.now) (g.W.Wire.line a.new.wire)) bytes a.ensures.sends)
-          (subst (λ (b : List ℕ). OnErr a.result.2 (0 < length (at_request s at_start b).sent)) bytes a.ensures.due));
+          (subst (λ (b : List ℕ). OnErr a.result.2 (0 < length (at_request s at_start b).sent)) bytes a.ensures.due);
     }
 
 pub returns-in-None : goal.returns-in-None
@@ -59,15 +57,15 @@ returns-in-None g c =
     record {
       settings = c.settle-in-None.ensures.settings;
       drafts = c.settle-in-None.ensures.drafts;
-      tries = λ p body h unrefused.
+      tries = λ p body h unrefused awaited.
           let s = settings_in c.args.self.now in
           let old = kept_of c.args.self.now in
           let bytes = c.as_slice.ensures.value ∙ sym (ap request_in c.in-AwaitingRequest.is) in
-          tries_where (is_due p.state) p (at_request s p body) _ body [] _ _ (ap is_due (sym h.state_is ∙ due)) (request_tries s p body a.result.1 a.result.2 old old (kept_of c.settle-in-None.new.self) _ _ _ _ h due unrefused refl
+          request_tries s p body a.result.1 a.result.2 old old (kept_of c.settle-in-None.new.self) _ _ _ _ h due unrefused refl
           (a.ensures.state ∙ ap (λ (b : List ℕ). (at_request s at_start b).next.state) bytes) c.settle-in-None.ensures.settles
           (λ six. let wrong : is_left Sta6 ≡ true = sym (ap is_left six) ∙ gone in absurd cc)
           (subst (λ (b : List ℕ). Sends (at_request s at_start b).sent a.result.2 (g.W.Wire.line c.args.devices.wire.now) (g.W.Wire.line a.new.wire)) bytes a.ensures.sends)
-          (subst (λ (b : List ℕ). OnErr a.result.2 (0 < length (at_request s at_start b).sent)) bytes a.ensures.due));
+          (subst (λ (b : List ℕ). OnErr a.result.2 (0 < length (at_request s at_start b).sent)) bytes a.ensures.due);
     }
 
 pub invariant_of-self-in-Some-clause-room : goal.invariant_of-self-in-Some-clause-room
