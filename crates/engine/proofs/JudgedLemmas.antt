@@ -1,4 +1,4 @@
--- What a call without devices leaves due, and that it is done then.
+-- What a call without devices leaves due is done then.
 use Rattle.std.proofs.Common.{◌≡◌, ℕ, true, List, [], refl, ap, sym, subst, ◌∙◌, arith}
 use Rattle.std.proofs.lemmas.Grind.{common_steps}
 use Rattle.acceptor.specs.declared.state.State.{State}
@@ -33,14 +33,14 @@ due_done p g due mid new body begun old later h t =
 due_files : (due : Due) (p : Progress) → (due_at due p).files ≡ []
 due_files due p = grind (arith, common_steps)
 
--- so an entry was taken
+-- so the entry is done
 pub does_judged : (rooms : Rooms) (s : Settings) (p : Progress) (entry : Entry) (due : Due) (mid new : Kept) (body begun : List ℕ) (old later : Devices)
     → IsVerdict rooms s p good (message_at p entry) → LeavesDue (at_entry rooms s p good entry) due mid old.store body begun → TriesDue (due_at due) mid new old later → Does rooms s p entry new body begun old later
 does_judged rooms s p entry due mid new body begun old later verdict h t =
     let g = at_entry rooms s p good entry in
     does_by rooms s p entry g new body begun old later refl (ap (λ (x : Advance). x.files) h.gives ∙ due_files due h.shown) verdict (due_done p g due mid new body begun old later h t)
 
--- this is due, and nothing changed
+-- in the progress that the fields show
 pub leaves_due : (p : Progress) (g : Advance) (due : Due) (k : Kept) (store : Store) (body begun : List ℕ) → g ≡ due_at due p → Pends k store p body begun → LeavesDue g due k store body begun
 leaves_due p g due k store body begun is h = record { shown = p; pends = h; gives = is }
 

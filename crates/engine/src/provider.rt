@@ -34,7 +34,6 @@ pub(crate) struct Provider<const A: usize, const C: usize, const V: usize, const
 }
 
 impl<const A: usize, const C: usize, const V: usize, const D: usize> Provider<A, C, V, D> {
-    ghost use Rattle.std.specs.Prelude.{ℕ, true};
     ghost use Rattle.engine.specs.Progress.{at_start};
     ghost use Rattle.engine.specs.machine.Lent.{before, after, DraftIsThere, KeepsDraft};
     ghost use Rattle.engine.specs.machine.Answers.{due_at};
@@ -44,7 +43,7 @@ impl<const A: usize, const C: usize, const V: usize, const D: usize> Provider<A,
     ghost use Rattle.pdu.specs.Deframed.{position_of};
     ghost use Rattle.pdu.specs.Steps.{events_due};
     ghost use Rattle.engine.specs.machine.Skips.{passed};
-    ghost use Rattle.engine.specs.machine.DoesDue.{ComesTo, Stays, is_left};
+    ghost use Rattle.engine.specs.machine.DoesDue.{ComesTo, is_left};
     ghost use Rattle.engine.specs.machine.Judged.{StaysThen, Judges};
     ghost use Rattle.engine.specs.Timeline.{At};
     ghost use Rattle.engine.specs.Run.{rooms_of};

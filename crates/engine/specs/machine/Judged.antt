@@ -23,7 +23,7 @@ StaysThen state due.Nothing = Unit {0}
 StaysThen state (due.Happens event answering) = Stays state event
 StaysThen state due.Releases = state ≡ Sta6
 
--- the fields show a progress where that which is due is this
+-- the fields show a progress in which what is due gives this
 pub record LeavesDue (g : Advance) (due : Due) (new : Kept) (store : Store) (body begun : List ℕ) : Type 0 where
   pub shown : Progress
   pub pends : Pends new store shown body begun
