@@ -145,7 +145,8 @@ pub(crate) enum Element<'a> {
 fn element_at<'a>(syntax: Syntax, head: Head, place: u64, text: &'a [u8]) -> Element<'a>
     requires { place + head.size < 2 ^ 64 }
     ensures end { EndsBefore (place + head.size + length text.now) result }
-    ensures found { (f : Found) (content more : List ℕ) → head.size ≡ header_size head.header → IsContent syntax head.header place f content → text.now ≡ content ++ more → Finds result f }
+    ensures found { (f : Found) (content more : List ℕ) → head.size ≡ header_size head.header → IsContent syntax head.header place f content
+        → text.now ≡ content ++ more → Finds result f }
 {
     let text = content_of(head.header, text);
     match shape_of(syntax, &head.header) {

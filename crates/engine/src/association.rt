@@ -210,7 +210,8 @@ impl<const A: usize, const C: usize, const V: usize, const D: usize> Association
         requires stays { Stays (state_of self.old) event }
         ensures draft { IsThere (drafting_of self.new) (after W.line F.store devices.exit).store }
         ensures settings { settings_in self.new ≡ settings_in self.old }
-        ensures moved { MovesOutside (rooms_of A C V D) (settings_in self.old) event (fields_of self.old) (fields_of self.new) (before W.line F.store devices.entry) (after W.line F.store devices.exit) }
+        ensures moved { MovesOutside (rooms_of A C V D) (settings_in self.old) event (fields_of self.old) (fields_of self.new)
+            (before W.line F.store devices.entry) (after W.line F.store devices.exit) }
         ensures ended { state_of self.old ≡ Sta1
             → StaysEnded (fields_of self.old) (fields_of self.new) (before W.line F.store devices.entry) (after W.line F.store devices.exit) }
     {

@@ -137,7 +137,8 @@ impl<const A: usize, const C: usize, const V: usize, const D: usize> Provider<A,
         ensures settings { settings_in self.new ≡ settings_in self.old }
         ensures drafts { KeepsDraft (kept_of self.old) (kept_of self.new) (F.store filing.old) (F.store filing.new) }
         ensures fits { (m : ℕ) → FragmentFits (kept_of self.old) (length part.now + m) → FragmentFits (kept_of self.new) m }
-        ensures takes { (l : Line) → TakesFragment (rooms_of A C V D) (settings_in self.old) (kept_of self.old) (kept_of self.new) part.now (devices l (F.store filing.old)) (devices l (F.store filing.new)) }
+        ensures takes { (l : Line) → TakesFragment (rooms_of A C V D) (settings_in self.old) (kept_of self.old) (kept_of self.new) part.now
+            (devices l (F.store filing.old)) (devices l (F.store filing.new)) }
     {
         if self.refused {
             return;

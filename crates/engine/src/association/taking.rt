@@ -28,7 +28,8 @@ impl<const A: usize, const C: usize, const V: usize, const D: usize> Association
         ensures fewer { result.1 ≡ true → events_due (position_of self.new.deframer) < events_due (position_of self.old.deframer) + 4 * result.0 }
         ensures settings { settings_in self.new ≡ settings_in self.old }
         ensures drafts { KeepsDraft (kept_of self.old.provider) (kept_of self.new.provider) (F.store devices.entry.filing.now) (after W.line F.store devices.exit).store }
-        ensures does { DoesNext (rooms_of A C V D) (settings_in self.old) (fields_of self.old) (fields_of self.new) piece.now result (before W.line F.store devices.entry) (after W.line F.store devices.exit) }
+        ensures does { DoesNext (rooms_of A C V D) (settings_in self.old) (fields_of self.old) (fields_of self.new) piece.now result
+            (before W.line F.store devices.entry) (after W.line F.store devices.exit) }
     {
         let (count, event) = self.deframer.next(piece);
         let Some(event) = event else {
@@ -45,7 +46,8 @@ impl<const A: usize, const C: usize, const V: usize, const D: usize> Association
         requires draft { DraftIsThere (kept_of self.old.provider) (F.store devices.filing.now) }
         ensures settings { settings_in self.new ≡ settings_in self.old }
         ensures drafts { KeepsDraft (kept_of self.old.provider) (kept_of self.new.provider) (F.store devices.entry.filing.now) (after W.line F.store devices.exit).store }
-        ensures took { DoesPiece (rooms_of A C V D) (settings_in self.old) (fields_of self.old) (fields_of self.new) piece.now (before W.line F.store devices.entry) (after W.line F.store devices.exit) }
+        ensures took { DoesPiece (rooms_of A C V D) (settings_in self.old) (fields_of self.old) (fields_of self.new) piece.now
+            (before W.line F.store devices.entry) (after W.line F.store devices.exit) }
     {
         let Devices { wire, filing } = devices;
         let mut at = 0;
