@@ -1,5 +1,6 @@
 -- The bytes of a record are those of its elements, one after the other.
-use Rattle.std.proofs.Common.{◌≡◌, ℕ, ◌≤◌, ◌<◌, ◌+◌, Bool, true, false, ◌&&◌, cond, if◌then◌else◌, nat_eq, List, [], ◌∷◌, ◌++◌, length, get_or, drop, Some, codes, refl, ◌∙◌, arith, rules}
+use Rattle.std.proofs.Common.{◌≡◌, ℕ, ◌≤◌, ◌<◌, ◌+◌, Bool, true, false, ◌&&◌, cond, if◌then◌else◌, nat_eq, nat_le, nat_lt, not, List, [], ◌∷◌, ◌++◌, length, get_or, drop, Option, Some, refl, ◌∙◌, arith, rules}
+use Rattle.std.proofs.lemmas.Bool.{and_parts, le-leb}
 use Rattle.std.proofs.lemmas.Bool.Decides.{nat_tests}
 use Rattle.std.specs.List.{list_all}
 use Rattle.std.proofs.lemmas.List.{append-nil, at_drop_more}
@@ -11,11 +12,16 @@ use Rattle.element.specs.Padding.{is_empty, without_trailing, is_padding, padded
 use Rattle.element.specs.Vr.{is_capital, is_short, is_short_vr, vr_of}
 use Rattle.dictionary.specs.Syntaxes.{syntax_uid}
 use Rattle.sequence.specs.Tree.{Elements, no_elements}
-use Rattle.sequence.specs.Wanted.{Values, value_of}
-use Rattle.dicomdir.specs.declared.key_table.KeyRule.{KeyRule}
+use Rattle.sequence.specs.Wanted.{Values}
+use Rattle.dicomdir.specs.declared.record_table.RecordRule.{RecordRule}
 use Rattle.dicomdir.specs.declared.level.Level.{Level}
-use Rattle.dicomdir.specs.KeyTable.{has_level, key_table}
-use Rattle.dicomdir.specs.Record.{spelled, with_offsets, tag, field, record_elements, padding_for, key_field, key_field_of, written, key_fields, kind_of, file_fields, record_for}
+use Rattle.dicomdir.specs.declared.level.Level.TheVariants.{Patient, Study, Series, Image}
+use Rattle.dicomdir.specs.RecordTable.{has_level, key_table, record_table}
+use Rattle.dicomdir.specs.Keys.{IsRow, fits_room}
+use Rattle.dicomdir.specs.machine.RowRecords.{rule_room, rules_room, has_short_header, fits_rule}
+use Rattle.dicomdir.proofs.FileIds.{file_id_room}
+use Rattle.element.specs.Uid.{is_uid}
+use Rattle.dicomdir.specs.Record.{spelled, with_offsets, field, padding_for, field_of, written, fields, kind_of, values_with_offsets, says, record_for}
 use Rattle.dicomdir.specs.Row.{Row, key}
 use Rattle.dicomdir.specs.Record as text
 use Rattle.std.proofs.lemmas.Grind.{common_steps}
@@ -33,9 +39,6 @@ trailing_length p (x ∷ xs) =
 pub key_length : (v : List ℕ) → length (key v) ≤ length v
 key_length v = trailing_length is_padding v
 
-pub syntax_uid_short : (s : Syntax) → length (syntax_uid s) ≤ 64
-syntax_uid_short v1 = grind (arith, nat_tests)
-
 -- elements and their bytes
 record Spells (es : Elements) (bytes : List ℕ) : Type 0 where
   pub is : spelled es ≡ bytes
@@ -52,74 +55,90 @@ pub four_fields : (old : List ℕ) (t t2 t3 t4 : Tag) (vr v vr2 v2 vr3 v3 vr4 v4
     ≡ old ++ spelled (field t vr v (field t2 vr2 v2 (field t3 vr3 v3 (field t4 vr4 v4 no_elements))))
 four_fields old t t2 t3 t4 vr v vr2 v2 vr3 v3 vr4 v4 = grind (arith, common_steps, field_then t vr v (field_then t2 vr2 v2 (field_then t3 vr3 v3 (field_last t4 vr4 v4))))
 
--- a key of a record, and those behind it
+-- an element of a record, and those behind it
 
-pub key_text : (rule : KeyRule) (v : List ℕ) → spelled (key_field rule v no_elements) ≡ text.element_text rule.tag rule.vr (padded (padding_for rule.vr) (key v))
-key_text rule v = (field_last rule.tag rule.vr (padded (padding_for rule.vr) (key v))).is
+pub field_text : (rule : RecordRule) (v : List ℕ) → spelled (field_of rule (Some v) no_elements) ≡ text.element_text rule.tag rule.vr (padded (padding_for rule.vr) v)
+field_text rule v = (field_last rule.tag rule.vr (padded (padding_for rule.vr) v)).is
 
--- one step of the loop over the keys
+-- one step of the loop over the elements of a record
 
-abbrev own_text : KeyRule → Values → List ℕ
-own_text rule values = spelled (key_field_of rule (written rule.kind (value_of values (number rule.tag))) no_elements)
+abbrev own_text : RecordRule → (ℕ → Option (List ℕ)) → List ℕ
+own_text rule says = spelled (field_of rule (written rule.kind (says (number rule.tag))) no_elements)
 
-pub keys_more : (level : Level) (rules : List KeyRule) (values : Values) (out new whole : List ℕ) (i : ℕ) (d : KeyRule) → i < length rules
-    → has_level (get_or rules i d).levels level ≡ true → new ≡ out ++ own_text (get_or rules i d) values
-    → out ++ spelled (key_fields level (drop i rules) values) ≡ whole → new ++ spelled (key_fields level (drop (i + 1) rules) values) ≡ whole
-keys_more level rules values out new whole i d lt has put h = grind (arith, common_steps)
+pub fields_more : (level : Level) (rules : List RecordRule) (says : ℕ → Option (List ℕ)) (out new whole : List ℕ) (i : ℕ) (d : RecordRule) → i < length rules
+    → has_level (get_or rules i d).levels level ≡ true → new ≡ out ++ own_text (get_or rules i d) says
+    → out ++ spelled (fields level (drop i rules) says) ≡ whole → new ++ spelled (fields level (drop (i + 1) rules) says) ≡ whole
+fields_more level rules says out new whole i d lt has put h = grind (arith, common_steps)
 
-pub keys_skip : (level : Level) (rules : List KeyRule) (values : Values) (out whole : List ℕ) (i : ℕ) (d : KeyRule) → i < length rules
+pub fields_skip : (level : Level) (rules : List RecordRule) (says : ℕ → Option (List ℕ)) (out whole : List ℕ) (i : ℕ) (d : RecordRule) → i < length rules
     → has_level (get_or rules i d).levels level ≡ false
-    → out ++ spelled (key_fields level (drop i rules) values) ≡ whole → out ++ spelled (key_fields level (drop (i + 1) rules) values) ≡ whole
-keys_skip level rules values out whole i d lt has h = grind (arith, common_steps)
+    → out ++ spelled (fields level (drop i rules) says) ≡ whole → out ++ spelled (fields level (drop (i + 1) rules) says) ≡ whole
+fields_skip level rules says out whole i d lt has h = grind (arith, common_steps)
 
 -- the room that the loop has left
 
-room_step : (level : Level) (rules : List KeyRule) (i : ℕ) (d : KeyRule) → i < length rules
-    → text.keys_room level (drop i rules) ≡ text.key_room level (get_or rules i d) + text.keys_room level (drop (i + 1) rules)
-room_step level rules i d lt = at_drop_more (λ r. text.keys_room level r) rules i d lt
+room_step : (level : Level) (rules : List RecordRule) (i : ℕ) (d : RecordRule) → i < length rules
+    → rules_room level (drop i rules) ≡ rule_room level (get_or rules i d) + rules_room level (drop (i + 1) rules)
+room_step level rules i d lt = at_drop_more (λ r. rules_room level r) rules i d lt
 
-pub room_more : (level : Level) (rules : List KeyRule) (i : ℕ) (d : KeyRule) (before after most : ℕ) → i < length rules
+pub room_more : (level : Level) (rules : List RecordRule) (i : ℕ) (d : RecordRule) (before after most : ℕ) → i < length rules
     → has_level (get_or rules i d).levels level ≡ true → after ≤ before + (get_or rules i d).room + 9
-    → before + text.keys_room level (drop i rules) ≤ most → after + text.keys_room level (drop (i + 1) rules) ≤ most
+    → before + rules_room level (drop i rules) ≤ most → after + rules_room level (drop (i + 1) rules) ≤ most
 room_more level rules i d before after most lt has put h = grind (arith, common_steps, room_step level rules i d lt)
 
-pub room_skip : (level : Level) (rules : List KeyRule) (i : ℕ) (d : KeyRule) (before most : ℕ) → i < length rules → has_level (get_or rules i d).levels level ≡ false
-    → before + text.keys_room level (drop i rules) ≤ most → before + text.keys_room level (drop (i + 1) rules) ≤ most
+pub room_skip : (level : Level) (rules : List RecordRule) (i : ℕ) (d : RecordRule) (before most : ℕ) → i < length rules → has_level (get_or rules i d).levels level ≡ false
+    → before + rules_room level (drop i rules) ≤ most → before + rules_room level (drop (i + 1) rules) ≤ most
 room_skip level rules i d before most lt has h = let step = room_step level rules i d lt in omega (arith, step, h)
 
-file_then : (level : Level) (row : Row) (es : Elements) → spelled (file_fields level row es) ≡ spelled (file_fields level row no_elements) ++ spelled es
-file_then v1 row es = grind (arith, common_steps, field_then)
+-- a record with its offsets has them in the order of their tags
 
-started : (next lower : ℕ) (kind : List ℕ) (es : Elements) (rest : List ℕ) → Spells es rest
-    → spelled (with_offsets next lower (record_elements kind es)) ≡ spelled (with_offsets next lower (record_elements kind no_elements)) ++ rest
-started next lower kind es rest e = grind (arith, common_steps, field_then (tag 0x0004 0x1400) (codes "UL") (le next 4) (field_then (tag 0x0004 0x1410) (codes "US") (le 0xffff 2) (field_then (tag 0x0004 0x1420) (codes "UL") (le lower 4) (field_then (tag 0x0004 0x1430) (codes "CS") (padded 32 kind) e))), four_fields [] (tag 0x0004 0x1400) (tag 0x0004 0x1410) (tag 0x0004 0x1420) (tag 0x0004 0x1430) (codes "UL") (le next 4) (codes "US") (le 0xffff 2) (codes "UL") (le lower 4) (codes "CS") (padded 32 kind))
-
-pub record_spelled : (level : Level) (next lower : ℕ) (row : Row) → spelled (with_offsets next lower (record_for level row))
-    ≡ spelled (with_offsets next lower (record_elements (kind_of level) no_elements)) ++ (spelled (file_fields level row no_elements) ++ spelled (key_fields level key_table row.values))
-record_spelled level next lower row =
-    started next lower (kind_of level) (file_fields level row (key_fields level key_table row.values)) _ (record { is = file_then level row (key_fields level key_table row.values) })
-
--- a record that is written by its parts
-pub record_whole : (level : Level) (next lower : ℕ) (row : Row) (empty kind start file whole : List ℕ) (rules : List KeyRule)
-    → empty ≡ [] → kind ≡ kind_of level → rules ≡ key_table → start ≡ empty ++ spelled (with_offsets next lower (record_elements kind no_elements))
-    → file ≡ start ++ spelled (file_fields level row no_elements) → whole ≡ file ++ spelled (key_fields level rules row.values)
-    → whole ≡ spelled (with_offsets next lower (record_for level row))
-record_whole level next lower row empty kind start file whole rules none is table a b c = grind (arith, common_steps, record_spelled level next lower row)
+pub record_fields : (level : Level) (row : Row) (next lower : ℕ)
+    → with_offsets next lower (record_for level row) ≡ fields level record_table (says (values_with_offsets (le next 4) (le lower 4) level row) row.values)
+record_fields Patient row next lower = refl
+record_fields Study row next lower = refl
+record_fields Series row next lower = refl
+record_fields Image row next lower = refl
 
 -- what the longest record takes
 
-pub kind_short : (level : Level) → length (kind_of level) ≤ 7
-kind_short v1 = grind (arith, nat_tests)
-
-pub record_fits : (level : Level) → text.file_room level + text.keys_room level key_table ≤ 859
+pub record_fits : (level : Level) → rules_room level record_table ≤ 960
 record_fits v1 = grind (arith, nat_tests)
 
-pub short_table : list_all text.has_short_vr key_table ≡ true
+pub short_table : list_all has_short_header record_table ≡ true
 unfolding is_short
 short_table = refl
 
-pub element_table : list_all text.is_element key_table ≡ true
-element_table = refl
+-- what a record says fits the rooms
+
+kind_fits : (level : Level) → nat_le (length (kind_of level)) 7 ≡ true
+kind_fits v1 = grind (arith, nat_tests)
+
+uid_fits : (text : List ℕ) → is_uid text ≡ true → nat_le (length text) 64 ≡ true
+uid_fits text e = (and_parts _ _ (and_parts _ _ e).0).1
+
+syntax_fits : (s : Syntax) → nat_le (length (syntax_uid s)) 64 ≡ true
+syntax_fits v1 = grind (arith, nat_tests)
+
+-- keys are of groups above 0004
+abbrev are_keys : List RecordRule → Bool
+are_keys rules = list_all (λ rule. not (nat_lt (number rule.tag) 0x00050000)) rules
+
+key_fits : (rule : RecordRule) (values : Values) (next lower : List ℕ) (level : Level) (row : Row) → not (nat_lt (number rule.tag) 0x00050000) ≡ true → fits_room row.values rule ≡ true
+    → fits_rule (says (values_with_offsets next lower level row) row.values) rule ≡ true
+key_fits rule values next lower level row above fits = grind (arith, nat_tests, common_steps, key_length)
+
+keys_fit : (rules : List RecordRule) (next lower : List ℕ) (level : Level) (row : Row) → are_keys rules ≡ true → list_all (fits_room row.values) rules ≡ true
+    → list_all (fits_rule (says (values_with_offsets next lower level row) row.values)) rules ≡ true
+keys_fit [] next lower level row above fits = refl
+keys_fit (rule ∷ rules) next lower level row above fits =
+    let these = and_parts (not (nat_lt (number rule.tag) 0x00050000)) _ above in
+    let those = and_parts (fits_room row.values rule) _ fits in
+    rw (key_fits rule row.values next lower level row these.0 those.0) (keys_fit rules next lower level row these.1 those.1)
+
+pub record_rooms : (level : Level) (row : Row) (next lower : ℕ) → IsRow row → list_all (fits_rule (says (values_with_offsets (le next 4) (le lower 4) level row) row.values)) record_table ≡ true
+record_rooms level row next lower is =
+    rw (kind_fits level, le-leb _ _ (file_id_room row.file_id is.file_id), uid_fits row.class is.class, uid_fits row.instance is.instance, syntax_fits row.syntax)
+    (keys_fit key_table (le next 4) (le lower 4) level row refl is.fits)
 
 -- the VRs with a length of two bytes are capital letters
 

@@ -4,8 +4,8 @@ use Rattle.std.specs.List.{list_all, find}
 use Rattle.std.proofs.lemmas.Bool.{and_parts, leb-true, le-leb}
 use Rattle.element.specs.Header.{number}
 use Rattle.sequence.specs.Wanted.{Values, value_of, room_of, is_wanted, kept_of}
-use Rattle.dicomdir.specs.declared.key_table.KeyRule.{KeyRule}
-use Rattle.dicomdir.specs.KeyTable.{key_table, want_of}
+use Rattle.dicomdir.specs.declared.record_table.RecordRule.{RecordRule}
+use Rattle.dicomdir.specs.RecordTable.{key_table, want_of}
 use Rattle.dicomdir.specs.Keys.{optional_size, fits_room, fits_rooms, is_missing, first_empty, row_unless, checked_row, IsRow}
 use Rattle.dicomdir.specs.Row.{Row}
 use Rattle.dicomdir.specs.RowOf.{row_wants, row_limits, row_from, with_value, values_for, IsInstance, in_header, in_data_set, of_values}
@@ -32,7 +32,7 @@ use Rattle.dicomdir.specs.declared.skip.Skip.TheVariants as skip
 pub too_long : (row : Row) → fits_rooms row ≡ false → checked_row row ≡ Err (skip.Fault 21)
 too_long row e = ap (λ (b : Bool). cond b (row_unless row (first_empty row)) (Err (skip.Fault 21))) e
 
-pub one_empty : (row : Row) (rule : KeyRule) → fits_rooms row ≡ true → find (is_missing row.values) key_table ≡ Some rule → checked_row row ≡ Err (skip.Missing rule.tag)
+pub one_empty : (row : Row) (rule : RecordRule) → fits_rooms row ≡ true → find (is_missing row.values) key_table ≡ Some rule → checked_row row ≡ Err (skip.Missing rule.tag)
 one_empty row rule e f = grind (arith, common_steps)
 
 pub none_empty : (row : Row) → fits_rooms row ≡ true → find (is_missing row.values) key_table ≡ None → checked_row row ≡ Ok row
@@ -40,7 +40,7 @@ none_empty row e f = grind (arith, common_steps)
 
 -- no value is longer than the room for its tag
 
-kept_by : (values : Values) (rules : List KeyRule) (n room : ℕ) → list_all (fits_room values) rules ≡ true → room_of (map want_of rules) n ≡ Some room → optional_size (value_of values n) ≤ room
+kept_by : (values : Values) (rules : List RecordRule) (n room : ℕ) → list_all (fits_room values) rules ≡ true → room_of (map want_of rules) n ≡ Some room → optional_size (value_of values n) ≤ room
 kept_by values [] n room e r = absurd cc
 kept_by values (rule ∷ rules) n room e r =
     let parts = and_parts (fits_room values rule) _ e in
@@ -166,7 +166,7 @@ kept_fits ws (value h w es) t room v fit r e =
     some_fits ws (number h.tag) t room w v (kept_of ws es) (is_wanted ws (number h.tag)) fit.0 r (λ f. kept_fits ws es t room v fit.1 r f) e
 
 -- what a row takes of the values is among them
-taken_from : (rules : List KeyRule) (values : Values) (t : ℕ) (v : List ℕ) → value_of (values_for rules values) t ≡ Some v → value_of values t ≡ Some v
+taken_from : (rules : List RecordRule) (values : Values) (t : ℕ) (v : List ℕ) → value_of (values_for rules values) t ≡ Some v → value_of values t ≡ Some v
 taken_from [] values t v e = absurd cc
 taken_from (rule ∷ rules) values t v e = by (λ f. taken_from rules values t v f) (value_of values (number rule.tag)) refl e
   where
@@ -180,13 +180,13 @@ taken_from (rule ∷ rules) values t v e = by (λ f. taken_from rules values t v
     by more (Some w) is e = here more w (nat_eq (number rule.tag) t) refl is e
 
 -- each key has its room
-abbrev has_room : List Want → KeyRule → Bool
+abbrev has_room : List Want → RecordRule → Bool
 has_room ws rule = nat_eq (unwrap_or (room_of ws (number rule.tag)) 0) rule.room && is_some (room_of ws (number rule.tag))
 
-room_is : (ws : List Want) (rule : KeyRule) → has_room ws rule ≡ true → room_of ws (number rule.tag) ≡ Some rule.room
+room_is : (ws : List Want) (rule : RecordRule) → has_room ws rule ≡ true → room_of ws (number rule.tag) ≡ Some rule.room
 room_is ws rule e = grind (arith, nat_tests)
 
-rooms_fit : (ws : List Want) (es : Elements) (taken rules : List KeyRule) → FitRooms ws es → list_all (has_room ws) rules ≡ true → list_all (fits_room (values_for taken (kept_of ws es))) rules ≡ true
+rooms_fit : (ws : List Want) (es : Elements) (taken rules : List RecordRule) → FitRooms ws es → list_all (has_room ws) rules ≡ true → list_all (fits_room (values_for taken (kept_of ws es))) rules ≡ true
 rooms_fit ws es taken [] fit e = refl
 rooms_fit ws es taken (rule ∷ rules) fit e =
     let parts = and_parts (has_room ws rule) _ e in

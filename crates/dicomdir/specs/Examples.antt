@@ -5,7 +5,7 @@ use Rattle.element.specs.Numbers.{le}
 use Rattle.sequence.specs.Tree.{Elements, no_elements, no_items, value, sequence}
 use Rattle.dicomdir.specs.declared.level.Level.TheVariants.{Patient, Study, Series, Image}
 use Rattle.dicomdir.specs.Row.{Row}
-use Rattle.dicomdir.specs.Record.{tag, field, record_elements, item_of, record_item, root_elements, spelled, record_for}
+use Rattle.dicomdir.specs.Record.{tag, field, item_of, record_item, root_elements, spelled, record_for}
 use Rattle.dicomdir.specs.TreeOf.{Forest, TreeOf, no_nodes, node, count_of}
 use Rattle.dicomdir.specs.Directory.{IsDirectoryFile, Node, carried_node}
 use Rattle.dicomdir.specs.Linked.{Linked, LinkedElements, carried_forest}
@@ -172,7 +172,7 @@ RecordFaults =
     × (directory_fault 266 (field (tag 0x0004 0x1200) (codes "UL") (le 0 4) no_elements) ≡ fault 68 266)
     × (directory_fault 266 (field (tag 0x0004 0x1130) (codes "CS") [] (field (tag 0x0004 0x1200) (codes "UL") (le 0 2) no_elements)) ≡ fault 68 274)
     × (directory_fault 266 (root_elements 320 320 (item_of (record_for Patient one_image_row) no_items)) ≡ fault 68 320)
-    × (directory_fault 266 (root_elements 320 320 (record_item 0 0 (record_elements (codes "IMAGE") no_elements) no_items)) ≡ fault 65 320)
+    × (directory_fault 266 (root_elements 320 320 (record_item 0 0 (field (tag 0x0004 0x1410) (codes "US") (le 0xffff 2) (field (tag 0x0004 0x1430) (codes "CS") (codes "IMAGE ") no_elements)) no_items)) ≡ fault 65 320)
 
 -- the directory of no rows has 320 bytes, and is linked to no node
 abbrev pub no_rows_elements : Elements

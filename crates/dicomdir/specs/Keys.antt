@@ -7,13 +7,13 @@ use Rattle.element.specs.Header.{number}
 use Rattle.element.specs.Padding.{is_empty}
 use Rattle.element.specs.Uid.{is_uid}
 use Rattle.sequence.specs.Wanted.{Values, value_of}
-use Rattle.dicomdir.specs.declared.key_table.KeyRule.{KeyRule}
-use Rattle.dicomdir.specs.declared.key_table.KeyType.{KeyType}
-use Rattle.dicomdir.specs.declared.key_table.KeyType.TheVariants.{Unique, Type1}
+use Rattle.dicomdir.specs.declared.record_table.RecordRule.{RecordRule}
+use Rattle.dicomdir.specs.declared.record_table.ElementType.{ElementType}
+use Rattle.dicomdir.specs.declared.record_table.ElementType.TheVariants.{Unique, Type1}
 use Rattle.dicomdir.specs.declared.skip.Skip.{Skip}
 use Rattle.dicomdir.specs.declared.skip.Skip.TheVariants.{Fault, Missing}
 use Rattle.dicomdir.specs.FileId.{is_file_id}
-use Rattle.dicomdir.specs.KeyTable.{key_table}
+use Rattle.dicomdir.specs.RecordTable.{key_table}
 use Rattle.dicomdir.specs.Row.{Row, key, key_in}
 use Rattle.element.specs.declared.syntax.Syntax.{Syntax}
 use Rattle.dicomdir.specs.declared.keys.Entry.{Entry}
@@ -25,7 +25,7 @@ optional_size (Some v) = length v
 
 -- no key is longer than its room
 
-abbrev pub fits_room : Values → KeyRule → Bool
+abbrev pub fits_room : Values → RecordRule → Bool
 fits_room values rule = nat_le (optional_size (value_of values (number rule.tag))) rule.room
 
 abbrev pub fits_rooms : Row → Bool
@@ -35,12 +35,12 @@ fits_rooms row = list_all (fits_room row.values) key_table
 abbrev pub is_empty_key : List ℕ → Bool
 is_empty_key value = is_empty (key value)
 
-abbrev pub needs_value : KeyType → Bool
+abbrev pub needs_value : ElementType → Bool
 needs_value Unique = true
 needs_value Type1 = true
 needs_value kind = false
 
-abbrev pub is_missing : Values → KeyRule → Bool
+abbrev pub is_missing : Values → RecordRule → Bool
 is_missing values rule = needs_value rule.kind && is_empty_key (key_in values rule.tag)
 
 -- of the keys that must not be empty, the first empty one, by rising tags

@@ -12,7 +12,7 @@ pub mod Examples
 pub mod Places
 pub mod NodesInUse
 pub mod machine
-pub mod KeyTable
+pub mod RecordTable
 pub mod Keys
 pub mod RowOf
 pub mod Built

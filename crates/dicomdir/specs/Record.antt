@@ -1,22 +1,21 @@
--- The directory records of a row (PS3.3 section F.5): their elements but for the two offsets.
-use Rattle.std.specs.Prelude.{ℕ, List, [], ◌∷◌, length, Option, Some, None, unwrap_or, codes, nat_eq, if◌then◌else◌, ◌++◌, Bool, not, ◌+◌}
+-- The directory records of a row (PS3.3 table F.3-3 and section F.5).
+use Rattle.std.specs.Prelude.{ℕ, List, [], ◌∷◌, length, Option, Some, None, unwrap_or, option_map, codes, nat_eq, nat_lt, if◌then◌else◌, ◌++◌}
 use Rattle.std.specs.Cmp.Lexicographic.{pointwise}
 use Rattle.element.specs.declared.tag.Tag.{Tag}
-use Rattle.element.specs.Header.{number, header_bytes, item_tag, is_marker}
+use Rattle.element.specs.Header.{number, header_bytes, item_tag}
 use Rattle.element.specs.Numbers.{le}
 use Rattle.dictionary.specs.Syntaxes.{syntax_uid}
 use Rattle.element.specs.Padding.{padded}
 use Rattle.sequence.specs.Tree.{Elements, no_elements, value, sequence, Items, no_items, item}
 use Rattle.sequence.specs.Wanted.{Values, value_of}
-use Rattle.dicomdir.specs.declared.key_table.KeyRule.{KeyRule}
-use Rattle.dicomdir.specs.declared.key_table.KeyType.{KeyType}
-use Rattle.dicomdir.specs.declared.key_table.KeyType.TheVariants.{Unique, Type1, Type1C, Type2, Type3}
+use Rattle.dicomdir.specs.declared.record_table.RecordRule.{RecordRule}
+use Rattle.dicomdir.specs.declared.record_table.ElementType.{ElementType}
+use Rattle.dicomdir.specs.declared.record_table.ElementType.TheVariants.{Unique, Type1, Type1C, Type2, Type3}
 use Rattle.dicomdir.specs.declared.level.Level.{Level}
 use Rattle.dicomdir.specs.declared.level.Level.TheVariants.{Patient, Study, Series, Image}
-use Rattle.dicomdir.specs.KeyTable.{has_level, key_table}
+use Rattle.dicomdir.specs.RecordTable.{has_level, record_table}
 use Rattle.dicomdir.specs.Row.{Row, key}
 use Rattle.element.specs.declared.header.Header.{Header}
-use Rattle.element.specs.Vr.{is_short_vr}
 
 abbrev pub tag : ℕ → ℕ → Tag
 tag group element = record { 0 = group; 1 = element }
@@ -29,34 +28,25 @@ field t vr v behind = value (record { tag = t; vr = Some vr; length = length v }
 abbrev pub padding_for : List ℕ → ℕ
 padding_for vr = if pointwise nat_eq vr (codes "UI") then 0 else 32
 
--- keys are written anew
-abbrev pub key_field : KeyRule → List ℕ → Elements → Elements
-key_field rule v behind = field rule.tag rule.vr (padded (padding_for rule.vr) (key v)) behind
+-- an element, with its padding, and those behind it, if the record has it
+abbrev pub field_of : RecordRule → Option (List ℕ) → Elements → Elements
+field_of rule None behind = behind
+field_of rule (Some v) behind = field rule.tag rule.vr (padded (padding_for rule.vr) v) behind
 
-abbrev pub key_field_of : KeyRule → Option (List ℕ) → Elements → Elements
-key_field_of rule None behind = behind
-key_field_of rule (Some v) behind = key_field rule v behind
-
--- what a record has of a key: nothing, or the value, which may be empty
-abbrev pub written : KeyType → Option (List ℕ) → Option (List ℕ)
+-- what a record has of an element: nothing, or the value, which may be empty
+abbrev pub written : ElementType → Option (List ℕ) → Option (List ℕ)
 written Unique v = Some (unwrap_or v [])
 written Type1 v = Some (unwrap_or v [])
 written Type1C v = v
 written Type2 v = Some (unwrap_or v [])
 written Type3 v = v
 
--- the keys of a record at a level, in the order of their tags
-abbrev pub key_fields : Level → List KeyRule → Values → Elements
-key_fields level [] values = no_elements
-key_fields level (rule ∷ rules) values =
-    if has_level rule.levels level then key_field_of rule (written rule.kind (value_of values (number rule.tag))) (key_fields level rules values)
-    else key_fields level rules values
-
--- Record In-use Flag, FFFFH, and Directory Record Type
-abbrev pub record_elements : List ℕ → Elements → Elements
-record_elements kind behind =
-    field (tag 0x0004 0x1410) (codes "US") (le 0xffff 2)
-    (field (tag 0x0004 0x1430) (codes "CS") (padded 32 kind) behind)
+-- those of these elements that a record at a level has, with what it says under each tag
+abbrev pub fields : Level → List RecordRule → (ℕ → Option (List ℕ)) → Elements
+fields level [] says = no_elements
+fields level (rule ∷ rules) says =
+    if has_level rule.levels level then field_of rule (written rule.kind (says (number rule.tag))) (fields level rules says)
+    else fields level rules says
 
 abbrev pub kind_of : Level → List ℕ
 kind_of Patient = codes "PATIENT"
@@ -64,19 +54,28 @@ kind_of Study = codes "STUDY"
 kind_of Series = codes "SERIES"
 kind_of Image = codes "IMAGE"
 
--- what the record of an image has besides: the file ID and what the file header says of the file
-abbrev pub file_fields : Level → Row → Elements → Elements
-file_fields Patient row behind = behind
-file_fields Study row behind = behind
-file_fields Series row behind = behind
-file_fields Image row behind =
-    field (tag 0x0004 0x1500) (codes "CS") (padded 32 row.file_id)
-    (field (tag 0x0004 0x1510) (codes "UI") (padded 0 row.class)
-    (field (tag 0x0004 0x1511) (codes "UI") (padded 0 row.instance)
-    (field (tag 0x0004 0x1512) (codes "UI") (padded 0 (syntax_uid row.syntax)) behind)))
+-- what the record of a row says of itself and of its file; in use it is FFFFH
+abbrev pub own_values : Level → Row → Values
+own_values level row =
+    (0x00041410, le 0xffff 2)
+    ∷ (0x00041430, kind_of level)
+    ∷ (0x00041500, row.file_id)
+    ∷ (0x00041510, row.class)
+    ∷ (0x00041511, row.instance)
+    ∷ (0x00041512, syntax_uid row.syntax)
+    ∷ []
 
+-- and with the bytes of its two offsets
+abbrev pub values_with_offsets : List ℕ → List ℕ → Level → Row → Values
+values_with_offsets next lower level row = (0x00041400, next) ∷ (0x00041420, lower) ∷ own_values level row
+
+-- under a tag of group 0004 it says these, under any above it a key without the padding that it came with
+abbrev pub says : Values → Values → ℕ → Option (List ℕ)
+says own keys t = if nat_lt t 0x00050000 then value_of own t else option_map key (value_of keys t)
+
+-- the elements of the record of a row at a level, but for the two offsets
 abbrev pub record_for : Level → Row → Elements
-record_for level row = record_elements (kind_of level) (file_fields level row (key_fields level key_table row.values))
+record_for level row = fields level record_table (says (own_values level row) row.values)
 
 -- ---- how this product lays a directory down (PS3.3 section F.3): sequence and items have defined lengths (PS3.5
 -- section 7.5.1), which is this product's own profile.
@@ -131,23 +130,3 @@ element_text t vr v = header_bytes (record { tag = t; vr = Some vr; length = len
 -- a record with its offsets
 unfoldable pub record_text : Level → Row → ℕ → ℕ → List ℕ
 record_text level row next lower = spelled_items (record_item next lower (record_for level row) no_items)
-
--- how many bytes the keys of a record take at most
-abbrev pub key_room : Level → KeyRule → ℕ
-key_room level rule = if has_level rule.levels level then rule.room + 9 else 0
-
-abbrev pub keys_room : Level → List KeyRule → ℕ
-keys_room level [] = 0
-keys_room level (rule ∷ rules) = key_room level rule + keys_room level rules
-
-abbrev pub has_short_vr : KeyRule → Bool
-has_short_vr rule = is_short_vr rule.vr
-
--- its tag is none of an item or a delimitation
-abbrev pub is_element : KeyRule → Bool
-is_element rule = not (is_marker rule.tag)
-
--- how many bytes the record of an image takes at most for what it says of its file
-abbrev pub file_room : Level → ℕ
-file_room Image = 400
-file_room level = 0

@@ -13,10 +13,10 @@ use Rattle.sequence.specs.Within.{Within}
 use Rattle.sequence.specs.Rules.{Limits}
 use Rattle.sequence.specs.Wanted.{Values, value_of, kept_of}
 use Rattle.sequence.specs.Ending.{Fails}
-use Rattle.dicomdir.specs.declared.key_table.KeyRule.{KeyRule}
+use Rattle.dicomdir.specs.declared.record_table.RecordRule.{RecordRule}
 use Rattle.dicomdir.specs.declared.skip.Skip.{Skip}
 use Rattle.dicomdir.specs.declared.skip.Skip.TheVariants as skip
-use Rattle.dicomdir.specs.KeyTable.{key_table, want_of}
+use Rattle.dicomdir.specs.RecordTable.{key_table, want_of}
 use Rattle.dicomdir.specs.Row.{Row}
 use Rattle.dicomdir.specs.Keys.{checked_row}
 
@@ -33,7 +33,7 @@ abbrev pub with_value : ℕ → Option (List ℕ) → Values → Values
 with_value n None others = others
 with_value n (Some v) others = (n, v) ∷ others
 
-abbrev pub values_for : List KeyRule → Values → Values
+abbrev pub values_for : List RecordRule → Values → Values
 values_for [] values = []
 values_for (rule ∷ rules) values = with_value (number rule.tag) (value_of values (number rule.tag)) (values_for rules values)
 

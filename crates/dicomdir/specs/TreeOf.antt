@@ -3,11 +3,11 @@ use Rattle.std.specs.Prelude.{ℕ, suc, ◌+◌, List, [], ◌∷◌, ◌++◌, 
 use Rattle.std.specs.List.{list_any, find}
 use Rattle.std.specs.Str.{bytes_eq}
 use Rattle.sequence.specs.Tree.{Elements}
-use Rattle.dicomdir.specs.declared.key_table.KeyRule.{KeyRule}
+use Rattle.dicomdir.specs.declared.record_table.RecordRule.{RecordRule}
 use Rattle.dicomdir.specs.declared.level.Level.{Level}
 use Rattle.dicomdir.specs.declared.level.Level.TheVariants.{Patient, Study, Series, Image}
 use Rattle.dicomdir.specs.Row.{Row, key, key_in, without_doubles}
-use Rattle.dicomdir.specs.KeyTable.{groups, key_table}
+use Rattle.dicomdir.specs.RecordTable.{groups, key_table}
 use Rattle.dicomdir.specs.Record.{record_for}
 use Rattle.std.specs.Borrow.{Bor}
 
@@ -47,7 +47,7 @@ abbrev pub grouped : (Row → List ℕ) → (Row → Elements) → (List Row →
 grouped key_of record_for below rows = group_nodes key_of record_for below rows (seen_after [] (map key_of rows))
 
 -- what a row has of a key, and its instance where there is no key
-abbrev pub key_or_instance : Row → Option KeyRule → List ℕ
+abbrev pub key_or_instance : Row → Option RecordRule → List ℕ
 key_or_instance row None = row.instance
 key_or_instance row (Some rule) = key_in row.values rule.tag
 

@@ -1,5 +1,6 @@
 pub mod Trail
 pub mod Texts
 pub mod RowReading
+pub mod RowRecords
 pub mod Building
 pub mod FirstSeen

@@ -2,19 +2,19 @@
 ghost use Rattle.std.specs.Prelude.{◌≡◌, ◌<◌, ◌++◌, ◌∷◌, [], IfOk, OnOk, if◌then◌else◌, length, get_or, set};
 ghost use Rattle.dicomdir.specs.TreeOf.{groups_of, row_groups, rows_at, key_for};
 ghost use Rattle.dicomdir.specs.machine.FirstSeen.{Puts, texts};
-ghost use Rattle.dicomdir.specs.KeyTable as table;
+ghost use Rattle.dicomdir.specs.RecordTable as table;
 ghost use Rattle.std.specs.List.{find};
 
 use crate::Row;
 use crate::first_seen::{SeenKeys, see};
-use crate::key_table::{KeyRule, key_table};
 use crate::level::Level;
+use crate::record_table::{RecordRule, key_table};
 use element::unpadded;
 use indexmap::IndexSet;
 use std::alloc::{AllocError, Allocator};
 
 /// Returns the first of these keys by which rows are grouped at a level.
-fn grouping_key(rules: &[KeyRule], level: Level) -> Option<KeyRule>
+fn grouping_key(rules: &[RecordRule], level: Level) -> Option<RecordRule>
     ensures { result ≡ find (table.groups level) rules.now }
 {
     rules.iter().copied().find(|rule| rule.groups(level))

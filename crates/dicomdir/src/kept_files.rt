@@ -11,11 +11,11 @@ use crate::tree::{Tree, TreeRecord};
 use std::alloc::Allocator;
 
 /// Returns the file ID of a record whose type is IMAGE.
-fn image_id(record: &TreeRecord) -> Option<FileId>
-    ensures { listed result ≡ file_id_of_image (node_of record.now).carries }
+fn image_id(node: &TreeRecord) -> Option<FileId>
+    ensures { listed result ≡ file_id_of_image (node_of node.now).carries }
 {
-    if is_text(record.kind(), Level::Image.kind()) {
-        record.file_id()
+    if is_text(node.kind(), Level::Image.kind()) {
+        node.file_id()
     } else {
         None
     }

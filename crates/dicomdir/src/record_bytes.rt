@@ -1,5 +1,5 @@
 //! Lays down directory records.
-ghost use Rattle.std.specs.Prelude.{◌≡◌, ◌+◌, ◌≤◌, ◌++◌, length, true, false, codes, IsTrue};
+ghost use Rattle.std.specs.Prelude.{◌≡◌, ◌+◌, ◌≤◌, ◌++◌, length, true, false, codes, Some, IsTrue};
 ghost use Rattle.std.specs.List.{list_all};
 ghost use Rattle.arrayvec.specs.ArrayVec.{array_vec_len};
 ghost use Rattle.element.specs.Numbers.{le};
@@ -8,19 +8,17 @@ ghost use Rattle.element.specs.Vr.{is_short_vr};
 ghost use Rattle.sequence.specs.Tree.{no_elements};
 ghost use Rattle.element.specs.declared.syntax.Syntax.TheVariants.{Explicit};
 ghost use Rattle.element.specs.Header.{number, is_marker, header_bytes, header_fits};
-ghost use Rattle.sequence.specs.Wanted.{value_of};
-ghost use Rattle.dicomdir.specs.declared.level.Level.TheVariants.{Image};
-ghost use Rattle.dicomdir.specs.Keys.{fits_room};
-ghost use Rattle.dicomdir.specs.Record.{spelled, with_offsets, key_field, key_field_of, written, key_fields, record_elements, file_fields, record_for, keys_room, has_short_vr, is_element};
+ghost use Rattle.dicomdir.specs.Record.{spelled, with_offsets, field_of, written, fields, record_for};
+ghost use Rattle.dicomdir.specs.machine.RowRecords.{says_of, rules_room, has_short_header, fits_rule};
 ghost use Rattle.dicomdir.specs.Record as text;
 
 use crate::Row;
-use crate::key_table::{KeyRule, KeyType, key_table};
 use crate::level::Level;
+use crate::record_table::{ElementType, RecordRule, record_table};
+use crate::row_record::RowRecord;
 use arrayvec::ArrayVec;
 use byteorder::{ByteOrder, LittleEndian};
-use dictionary::syntax_uid;
-use element::{Header, Syntax, Tag, Vr, unpadded, write_header};
+use element::{Header, Syntax, Tag, Vr, write_header};
 use std::alloc::Allocator;
 
 /// The room of a record: no record is longer.
@@ -68,6 +66,14 @@ pub(crate) fn put_element(out: &mut RecordBytes, tag: Tag, vr: Vr, value: &[u8],
     }
 }
 
+fn offset_bytes(offset: u32) -> [u8; 4]
+    ensures { result ≡ le offset 4 }
+{
+    let mut bytes = [0; 4];
+    LittleEndian::write_u32(&mut bytes, offset);
+    bytes
+}
+
 /// Appends an offset.
 #[tactic(auto, unfolding(element::specs::Vr::is_short))]
 pub(crate) fn put_offset(out: &mut RecordBytes, tag: Tag, offset: u32)
@@ -76,18 +82,15 @@ pub(crate) fn put_offset(out: &mut RecordBytes, tag: Tag, offset: u32)
     ensures items { out.new.items ≡ out.old.items ++ text.element_text tag (codes "UL") (le offset 4) }
     ensures bound { array_vec_len out.new ≤ array_vec_len out.old + 13 }
 {
-    let mut bytes = [0; 4];
-    LittleEndian::write_u32(&mut bytes, offset);
-    put_element(out, tag, Vr::UL, &bytes, 0);
+    put_element(out, tag, Vr::UL, &offset_bytes(offset), 0);
 }
 
-/// Appends a key, padded anew: an identifier by 00H, text by a space.
-#[tactic(auto, using(crate::proofs::RecordLemmas::key_length, crate::proofs::RecordLemmas::key_text, crate::proofs::RecordLemmas::short_named))]
-fn put_key(out: &mut RecordBytes, rule: &KeyRule, value: &[u8])
+/// Appends an element of a record: an identifier is padded by 00H, what else is odd by a space.
+#[tactic(auto, using(crate::proofs::RecordLemmas::field_text, crate::proofs::RecordLemmas::short_named))]
+fn put_field(out: &mut RecordBytes, rule: &RecordRule, value: &[u8])
     requires room { array_vec_len out.old + length value.now + 12 ≤ 1024 }
-    requires plain { is_marker rule.now.tag ≡ false }
-    requires short { is_short_vr rule.now.vr ≡ true }
-    ensures items { out.new.items ≡ out.old.items ++ spelled (key_field rule.now value.now no_elements) }
+    requires short { has_short_header rule.now ≡ true }
+    ensures items { out.new.items ≡ out.old.items ++ spelled (field_of rule.now (Some value.now) no_elements) }
     ensures bound { array_vec_len out.new ≤ array_vec_len out.old + length value.now + 9 }
 {
     let padding = if rule.vr.as_slice() == b"UI".as_slice() {
@@ -98,97 +101,58 @@ fn put_key(out: &mut RecordBytes, rule: &KeyRule, value: &[u8])
     let Some(vr) = Vr::read(rule.vr) else {
         unreachable!()
     };
-    put_element(out, rule.tag, vr, unpadded(value), padding);
+    put_element(out, rule.tag, vr, value, padding);
 }
 
-/// Appends a key of a row, if a record has it.
-fn put_row_key<A: Allocator>(out: &mut RecordBytes, rule: &KeyRule, row: &Row<A>)
+/// Appends an element, if the record has it.
+fn put_rule<A: Allocator>(out: &mut RecordBytes, rule: &RecordRule, entry: &RowRecord<A>)
     requires room { array_vec_len out.old + rule.now.room + 12 ≤ 1024 }
-    requires plain { is_marker rule.now.tag ≡ false }
-    requires short { is_short_vr rule.now.vr ≡ true }
-    requires fits { fits_room row.now.values rule.now ≡ true }
-    ensures items { out.new.items ≡ out.old.items ++ spelled (key_field_of rule.now (written rule.now.kind (value_of row.now.values (number rule.now.tag))) no_elements) }
+    requires short { has_short_header rule.now ≡ true }
+    requires fits { fits_rule (says_of entry.now) rule.now ≡ true }
+    ensures items { out.new.items ≡ out.old.items ++ spelled (field_of rule.now (written rule.now.kind (says_of entry.now (number rule.now.tag))) no_elements) }
     ensures bound { array_vec_len out.new ≤ array_vec_len out.old + rule.now.room + 9 }
 {
-    match (rule.kind, row.value(rule.tag)) {
-        (_, Some(value)) => put_key(out, rule, value),
-        (KeyType::Type1C | KeyType::Type3, None) => {}
-        (KeyType::Unique | KeyType::Type1 | KeyType::Type2, None) => put_key(out, rule, &[]),
+    match (rule.kind, entry.value(rule.tag)) {
+        (_, Some(value)) => put_field(out, rule, value),
+        (ElementType::Type1C | ElementType::Type3, None) => {}
+        (ElementType::Unique | ElementType::Type1 | ElementType::Type2, None) => put_field(
+            out,
+            rule,
+            &[],
+        ),
     }
 }
 
-/// Appends those of these keys that a record of the level has.
-fn put_keys<A: Allocator>(out: &mut RecordBytes, rules: &[KeyRule], level: Level, row: &Row<A>)
-    requires room { array_vec_len out.old + keys_room level rules.now + 3 ≤ 1024 }
-    requires plain { list_all is_element rules.now ≡ true }
-    requires short { list_all has_short_vr rules.now ≡ true }
-    requires fits { list_all (fits_room row.now.values) rules.now ≡ true }
-    ensures items { out.new.items ≡ out.old.items ++ spelled (key_fields level rules.now row.now.values) }
-    ensures bound { array_vec_len out.new ≤ array_vec_len out.old + keys_room level rules.now }
+/// Appends those of these elements that the record has.
+fn put_rules<A: Allocator>(out: &mut RecordBytes, rules: &[RecordRule], entry: &RowRecord<A>)
+    requires room { array_vec_len out.old + rules_room entry.now.level rules.now + 3 ≤ 1024 }
+    requires short { list_all has_short_header rules.now ≡ true }
+    requires fits { list_all (fits_rule (says_of entry.now)) rules.now ≡ true }
+    ensures items { out.new.items ≡ out.old.items ++ spelled (fields entry.now.level rules.now (says_of entry.now)) }
+    ensures bound { array_vec_len out.new ≤ array_vec_len out.old + rules_room entry.now.level rules.now }
 {
     for rule in rules {
-        if rule.levels.has(level) {
-            put_row_key(out, rule, row);
+        if rule.levels.has(entry.level) {
+            put_rule(out, rule, entry);
         }
     }
 }
 
-/// Appends the offsets, Record In-use Flag and Directory Record Type, which is given with its padding.
-#[tactic(auto, unfolding(element::specs::Vr::is_short))]
-fn put_start(out: &mut RecordBytes, next: u32, lower: u32, kind: &[u8])
-    requires room { array_vec_len out.old + length kind.now + 49 ≤ 1024 }
-    ensures items { out.new.items ≡ out.old.items ++ spelled (with_offsets next lower (record_elements kind.now no_elements)) }
-    ensures bound { array_vec_len out.new ≤ array_vec_len out.old + length kind.now + 46 }
-{
-    put_offset(out, Tag(0x0004, 0x1400), next);
-    put_element(out, Tag(0x0004, 0x1410), Vr::US, &[0xff, 0xff], 0);
-    put_offset(out, Tag(0x0004, 0x1420), lower);
-    put_element(out, Tag(0x0004, 0x1430), Vr::CS, kind, b' ');
-}
-
-/// Appends the file ID and what the file header says of the file.
-#[tactic(auto, using(crate::proofs::RecordLemmas::syntax_uid_short, crate::proofs::RecordLemmas::four_fields), unfolding(element::specs::Vr::is_short))]
-fn put_image_file<A: Allocator>(out: &mut RecordBytes, row: &Row<A>)
-    requires room { array_vec_len out.old ≤ 100 }
-    ensures items { out.new.items ≡ out.old.items ++ spelled (file_fields Image row.now no_elements) }
-    ensures bound { array_vec_len out.new ≤ array_vec_len out.old + 400 }
-{
-    let file_id = row.file_id();
-    put_element(out, Tag(0x0004, 0x1500), Vr::CS, file_id.text(), b' ');
-    put_element(out, Tag(0x0004, 0x1510), Vr::UI, row.class(), 0);
-    put_element(out, Tag(0x0004, 0x1511), Vr::UI, row.instance(), 0);
-    put_element(
-        out,
-        Tag(0x0004, 0x1512),
-        Vr::UI,
-        syntax_uid(row.syntax()),
-        0,
-    );
-}
-
-/// Appends what the record of an image has besides its keys.
-fn put_file<A: Allocator>(out: &mut RecordBytes, level: Level, row: &Row<A>)
-    requires room { array_vec_len out.old ≤ 100 }
-    ensures items { out.new.items ≡ out.old.items ++ spelled (file_fields level row.now no_elements) }
-    ensures bound { array_vec_len out.new ≤ array_vec_len out.old + text.file_room level }
-{
-    match level {
-        Level::Patient | Level::Study | Level::Series => {}
-        Level::Image => put_image_file(out, row),
-    }
-}
-
 /// Returns the elements of a record with its offsets.
-#[tactic(auto, using(crate::proofs::RecordLemmas::record_spelled, crate::proofs::RecordLemmas::kind_short, crate::proofs::RecordLemmas::record_fits, crate::proofs::RecordLemmas::short_table, crate::proofs::RecordLemmas::element_table))]
+#[tactic(auto, using(crate::proofs::RecordLemmas::record_fields, crate::proofs::RecordLemmas::record_fits, crate::proofs::RecordLemmas::short_table))]
 fn record_elements<A: Allocator>(level: Level, row: &Row<A>, next: u32, lower: u32) -> RecordBytes
     ensures items { result.items ≡ spelled (with_offsets next lower (record_for level row.now)) }
     ensures bound { array_vec_len result ≤ 960 }
 {
-    let mut out = RecordBytes::new();
-    put_start(&mut out, next, lower, level.kind());
-    put_file(&mut out, level, row);
     row.keeps();
-    put_keys(&mut out, key_table(), level, row);
+    let entry = RowRecord {
+        level,
+        row,
+        next: offset_bytes(next),
+        lower: offset_bytes(lower),
+    };
+    let mut out = RecordBytes::new();
+    put_rules(&mut out, record_table(), &entry);
     out
 }
 

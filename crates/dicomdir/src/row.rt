@@ -9,7 +9,7 @@ ghost use Rattle.dicomdir.specs.Keys as spelling;
 ghost use Rattle.dicomdir.specs.Row.{key_in};
 ghost use Rattle.dicomdir.specs.RowOf.{row_wants};
 
-use crate::key_table::{KeyRule, KeyType, key_table};
+use crate::record_table::{ElementType, RecordRule, key_table};
 use crate::{FileId, Keys, Skip};
 use element::{Syntax, Tag, Uid, unpadded};
 use std::alloc::Allocator;
@@ -44,7 +44,7 @@ fn is_empty_key(value: &[u8]) -> bool
 }
 
 /// Returns whether the value of a key is no longer than its room.
-fn fits_room<A: Allocator>(rule: &KeyRule, keys: &Keys<A>) -> bool
+fn fits_room<A: Allocator>(rule: &RecordRule, keys: &Keys<A>) -> bool
     ensures { result ≡ spelling.fits_room (key_values keys.now) rule.now }
 {
     match keys.value(rule.tag) {
@@ -53,25 +53,25 @@ fn fits_room<A: Allocator>(rule: &KeyRule, keys: &Keys<A>) -> bool
     }
 }
 
-fn fit_rooms<A: Allocator>(rules: &[KeyRule], keys: &Keys<A>) -> bool
+fn fit_rooms<A: Allocator>(rules: &[RecordRule], keys: &Keys<A>) -> bool
     ensures { result ≡ list_all (spelling.fits_room (key_values keys.now)) rules.now }
 {
     rules.iter().all(|rule| fits_room(rule, keys))
 }
 
 /// Returns whether a key that must have a value has none.
-fn is_missing<A: Allocator>(rule: &KeyRule, keys: &Keys<A>) -> bool
+fn is_missing<A: Allocator>(rule: &RecordRule, keys: &Keys<A>) -> bool
     ensures { result ≡ spelling.is_missing (key_values keys.now) rule.now }
 {
     match (rule.kind, keys.value(rule.tag)) {
-        (KeyType::Unique | KeyType::Type1, None) => true,
-        (KeyType::Unique | KeyType::Type1, Some(value)) => is_empty_key(value),
-        (KeyType::Type1C | KeyType::Type2 | KeyType::Type3, _) => false,
+        (ElementType::Unique | ElementType::Type1, None) => true,
+        (ElementType::Unique | ElementType::Type1, Some(value)) => is_empty_key(value),
+        (ElementType::Type1C | ElementType::Type2 | ElementType::Type3, _) => false,
     }
 }
 
 /// Returns the first of these keys that must have a value and has none.
-fn first_empty<A: Allocator>(rules: &[KeyRule], keys: &Keys<A>) -> Option<KeyRule>
+fn first_empty<A: Allocator>(rules: &[RecordRule], keys: &Keys<A>) -> Option<RecordRule>
     ensures { result ≡ find (spelling.is_missing (key_values keys.now)) rules.now }
 {
     rules.iter().copied().find(|rule| is_missing(rule, keys))
@@ -147,6 +147,13 @@ impl<A: Allocator> Row<A> {
         ensures { result ≡ self.now.file_id }
     {
         self.file_id
+    }
+
+    /// Returns the components of its file ID, with a backslash between them.
+    pub(crate) fn file_id_text(&self) -> &[u8]
+        ensures { result.now ≡ self.now.file_id }
+    {
+        self.file_id.text()
     }
 
     /// Returns the value of a key, if the data set has it; it is no longer than its room.

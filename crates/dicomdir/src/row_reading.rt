@@ -9,14 +9,14 @@ ghost use Rattle.sequence.specs.Taken.{StandsAt, told_by, limits_of};
 ghost use Rattle.sequence.specs.Stored.{wanted_tags};
 ghost use Rattle.dicomdir.specs.declared.skip.Skip.TheVariants as skip;
 ghost use Rattle.dicomdir.specs.RowOf.{row_wants, with_value, values_for, RowRead};
-ghost use Rattle.dicomdir.specs.KeyTable.{want_of};
+ghost use Rattle.dicomdir.specs.RecordTable.{want_of};
 ghost use Rattle.dicomdir.specs.Keys.{key_values};
 ghost use Rattle.dicomdir.specs.machine.RowReading.{IsSameSet, TookWhole, WalkFails};
 
 use crate::data_set::walk_piece;
 use crate::file_id::FileId;
-use crate::key_table::{KeyRule, key_table};
 use crate::keys::Keys;
+use crate::record_table::{RecordRule, key_table};
 use crate::row::Row;
 use crate::skip::Skip;
 use arrayvec::ArrayVec;
@@ -34,7 +34,7 @@ const PIECE: usize = 4096;
 type RowWalker = Walker<2048, 64>;
 
 /// Returns what a walk keeps for these keys.
-fn wants_of(rules: &[KeyRule]) -> ArrayVec<Want, 16>
+fn wants_of(rules: &[RecordRule]) -> ArrayVec<Want, 16>
     requires { length rules.now ≤ 16 }
     ensures { result.items ≡ map want_of rules.now }
 {
@@ -112,7 +112,7 @@ fn copy_key<A: Allocator + Copy>(
 fn keys_of<A: Allocator + Copy>(
     alloc: A,
     walker: &RowWalker,
-    rules: &[KeyRule],
+    rules: &[RecordRule],
 ) -> Result<Keys<A>, Skip>
     ensures values { IfOk result (λ keys. key_values keys ≡ values_for rules.now (told_by walker.now).kept) }
     ensures failed { IfErr result (λ reason. reason ≡ skip.OutOfMemory) }

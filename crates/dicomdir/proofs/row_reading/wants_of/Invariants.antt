@@ -1,5 +1,5 @@
 use Rattle.std.proofs.Common.{◌≡◌, map, take}
-use Rattle.dicomdir.specs.KeyTable.{want_of}
+use Rattle.dicomdir.specs.RecordTable.{want_of}
 use Rattle.dicomdir.proofs.row_reading.wants_of.Given as goal
 
 abbrev pub invariant-loop-rule : goal.invariant-loop-rule

@@ -1,0 +1,132 @@
+//! The elements of directory records.
+ghost use Rattle.std.specs.Prelude.{◌≡◌};
+ghost use Rattle.dicomdir.specs.RecordTable as table;
+
+use crate::level::Level;
+use element::Tag;
+
+/// When a record has an element, and whether it has a value (PS3.5 section 7.4).
+#[derive(Clone, Copy)]
+pub(crate) enum ElementType {
+    /// Always, with a value, by which the records of its level are told apart.
+    Unique,
+    /// Always, with a value.
+    Type1,
+    /// Where there is a value.
+    Type1C,
+    /// Always; the value may be empty.
+    Type2,
+    /// Where there is a value; no record needs it.
+    Type3,
+}
+
+/// The levels of the records that have an element.
+#[derive(Clone, Copy)]
+pub(crate) enum Levels {
+    /// All four.
+    Each,
+    /// This one.
+    Only(Level),
+}
+
+impl Levels {
+    /// Returns whether the level is one of them.
+    pub(crate) fn has(self, level: Level) -> bool
+        ensures { result ≡ table.has_level self level }
+    {
+        match (self, level) {
+            (Levels::Each, _)
+            | (Levels::Only(Level::Patient), Level::Patient)
+            | (Levels::Only(Level::Study), Level::Study)
+            | (Levels::Only(Level::Series), Level::Series)
+            | (Levels::Only(Level::Image), Level::Image) => true,
+            _ => false,
+        }
+    }
+}
+
+/// An element of records: its tag, its VR, the greatest size of its value, and which records have it.
+#[derive(Clone, Copy)]
+pub(crate) struct RecordRule {
+    pub(crate) tag: Tag,
+    pub(crate) vr: [u8; 2],
+    pub(crate) room: u32,
+    pub(crate) kind: ElementType,
+    pub(crate) levels: Levels,
+}
+
+impl RecordRule {
+    /// Returns whether rows are grouped by the key at a level.
+    pub(crate) fn groups(&self, level: Level) -> bool
+        ensures { result ≡ table.groups level self.now }
+    {
+        matches!(self.kind, ElementType::Unique) && self.levels.has(level)
+    }
+}
+
+macro_rules! levels {
+    (Each) => {
+        Levels::Each
+    };
+    ($level:ident) => {
+        Levels::Only(Level::$level)
+    };
+}
+
+/// A row of the table: the group and the element of a tag, its VR, the greatest size of its value, its type, and the
+/// level of the records that have it.
+macro_rules! rule {
+    ($group:literal, $element:literal, $vr:literal, $room:literal, $kind:ident, $levels:ident) => {
+        RecordRule {
+            tag: Tag($group, $element),
+            vr: *$vr,
+            room: $room,
+            kind: ElementType::$kind,
+            levels: levels!($levels),
+        }
+    };
+}
+
+/// The elements of all records, in the order of their tags: those that tell of the record and of its file (PS3.3 table
+/// F.3-3), and then the keys of its data set (PS3.3 section F.5).
+const RECORD_TABLE: &[RecordRule] = &[
+    rule!(0x0004, 0x1400, b"UL", 4, Type1C, Each),
+    rule!(0x0004, 0x1410, b"US", 2, Type1C, Each),
+    rule!(0x0004, 0x1420, b"UL", 4, Type1C, Each),
+    rule!(0x0004, 0x1430, b"CS", 7, Type1C, Each),
+    rule!(0x0004, 0x1500, b"CS", 71, Type1C, Image),
+    rule!(0x0004, 0x1510, b"UI", 64, Type1C, Image),
+    rule!(0x0004, 0x1511, b"UI", 64, Type1C, Image),
+    rule!(0x0004, 0x1512, b"UI", 64, Type1C, Image),
+    rule!(0x0008, 0x0005, b"CS", 64, Type1C, Each),
+    rule!(0x0008, 0x0020, b"DA", 32, Type1, Study),
+    rule!(0x0008, 0x0030, b"TM", 32, Type1, Study),
+    rule!(0x0008, 0x0050, b"SH", 64, Type2, Study),
+    rule!(0x0008, 0x0060, b"CS", 64, Type1, Series),
+    rule!(0x0008, 0x1030, b"LO", 256, Type2, Study),
+    rule!(0x0008, 0x103e, b"LO", 256, Type3, Series),
+    rule!(0x0010, 0x0010, b"PN", 512, Type2, Patient),
+    rule!(0x0010, 0x0020, b"LO", 256, Unique, Patient),
+    rule!(0x0020, 0x000d, b"UI", 64, Unique, Study),
+    rule!(0x0020, 0x000e, b"UI", 64, Unique, Series),
+    rule!(0x0020, 0x0010, b"SH", 64, Type1, Study),
+    rule!(0x0020, 0x0011, b"IS", 32, Type1, Series),
+    rule!(0x0020, 0x0013, b"IS", 32, Type1, Image),
+];
+
+/// Where the keys of the data set begin.
+const FIRST_KEY: usize = 8;
+
+/// Returns the elements of all records, in the order of their tags.
+pub(crate) fn record_table() -> &'static [RecordRule]
+    ensures { result.now ≡ table.record_table }
+{
+    RECORD_TABLE
+}
+
+/// Returns those that are keys of the data set.
+pub(crate) fn key_table() -> &'static [RecordRule]
+    ensures { result.now ≡ table.key_table }
+{
+    &record_table()[FIRST_KEY..]
+}
