@@ -75,6 +75,17 @@ impl DirFault {
         DirFault::at(DirFault::OUT_OF_MEMORY, 0)
     }
 
+    /// Returns it as a fault of the data set.
+    fn of_data_set(self) -> Fault
+        ensures { result ≡ record { number = self.number; place = self.place; tag = self.tag } }
+    {
+        Fault {
+            number: self.number,
+            place: self.place,
+            tag: self.tag,
+        }
+    }
+
     /// Returns the name of the rule, or `Unknown` if no rule has this number.
     pub fn name(self) -> &'static str
         ensures { result.now ≡ names.name_of_number self.number }
@@ -85,26 +96,19 @@ impl DirFault {
             53 => MetaFault::OtherSyntax.name(),
             number => match DirRule::of(number) {
                 Some(rule) => rule.name(),
-                None => Fault {
-                    number,
-                    place: self.place,
-                    tag: self.tag,
-                }
-                .name(),
+                None => self.of_data_set().name(),
             },
         }
     }
 }
 
-/// The number and the name of the rule, the place, and the tag of a fault of the data set, as
+/// The number and the name of the rule and the place; a fault of the data set has its tag, too, as
 /// `17 Overrun at 346 tag 0008,0060`.
 impl Display for DirFault {
     fn fmt<W: fmt::Write>(&self, f: &mut Formatter<W>) -> fmt::Result {
-        write!(f, "{} {} at {}", self.number, self.name(), self.place)?;
         if 10 <= self.number && self.number <= 21 {
-            let Tag(group, element) = self.tag;
-            write!(f, " tag {group:04x},{element:04x}")?;
+            return self.of_data_set().fmt(f);
         }
-        Ok(())
+        write!(f, "{} {} at {}", self.number, self.name(), self.place)
     }
 }
