@@ -220,3 +220,7 @@ all_more P (y ∷ xs) (suc at) x lt is one all = grind (arith, nat_tests, all_mo
 
 pub all_taken : {X : Type 0} (P : X → Type 0) (xs : List X) (at : ℕ) → length xs ≤ at → AllByRecursion P (take at xs) → AllByRecursion P xs
 all_taken P xs at le all = rw (← take_all at xs le) all
+
+pub double_left : (at : ℕ) (row : Row) (key : List ℕ) (keys new : List (List ℕ)) (number : ℕ) (is_new : Bool) (rows : List Row) (doubles more : List ℕ)
+    → key ≡ row.instance → Sees key keys new number is_new → is_new ≡ false → more ≡ doubles ++ at ∷ [] → TakesRow at row keys new rows rows doubles more
+double_left at row key keys new number is_new rows doubles more is sees old last = grind (arith, common_steps)

@@ -1,12 +1,13 @@
 -- A file has one row, and its keys fit.
-use Rattle.std.proofs.Common.{◌≡◌, ◌≤◌, ℕ, Bool, true, false, cond, List, [], ◌∷◌, map, Some, None, Ok, Err, refl, ap, subst, eqb-true, nat_eq, arith, rules, ◌&&◌, ◌++◌, length, take, drop, Option, unwrap_or, is_some, sym, ◌∙◌, append_assoc, codes}
+use Rattle.std.proofs.Common.{◌≡◌, ◌≤◌, ◌<◌, ◌+◌, get_or, ℕ, Bool, true, false, cond, List, [], ◌∷◌, map, Some, None, Ok, Err, refl, ap, subst, eqb-true, nat_eq, arith, rules, ◌&&◌, ◌++◌, length, take, drop, Option, unwrap_or, is_some, sym, ◌∙◌, append_assoc, codes}
 use Rattle.std.specs.List.{list_all, find}
 use Rattle.std.proofs.lemmas.Bool.{and_parts, leb-true, le-leb}
 use Rattle.element.specs.Header.{number}
 use Rattle.sequence.specs.Wanted.{Values, value_of, room_of, is_wanted, kept_of}
 use Rattle.dicomdir.specs.declared.record_table.RecordRule.{RecordRule}
 use Rattle.dicomdir.specs.RecordTable.{key_table, want_of}
-use Rattle.dicomdir.specs.Keys.{optional_size, fits_room, fits_rooms, is_missing, first_empty, row_unless, checked_row, IsRow}
+use Rattle.dicomdir.specs.declared.keys.Entry.{Entry}
+use Rattle.dicomdir.specs.Keys.{entry_value, optional_size, fits_room, fits_rooms, is_missing, first_empty, row_unless, checked_row, IsRow}
 use Rattle.dicomdir.specs.Row.{Row}
 use Rattle.dicomdir.specs.RowOf.{row_wants, row_limits, row_from, with_value, values_for, IsInstance, in_header, in_data_set, of_values}
 use Rattle.std.proofs.lemmas.Bool.Decides.{nat_tests}
@@ -57,6 +58,22 @@ kept_by values (rule ∷ rules) n room e r =
 
 pub room_kept : (row : Row) (n room : ℕ) → IsRow row → room_of row_wants n ≡ Some room → optional_size (value_of row.values n) ≤ room
 room_kept row n room is r = kept_by row.values key_table n room is.fits r
+
+-- one step of the loop that looks for a value
+
+pub value_here : {A : Type 0} (entries : List (Entry A)) (n i : ℕ) (d : Entry A) → i < length entries → number (get_or entries i d).tag ≡ n
+    → value_of (map entry_value (drop i entries)) n ≡ Some (get_or entries i d).value.items
+value_here entries n i d lt is = grind (arith, common_steps)
+
+pub value_later : {A : Type 0} (entries : List (Entry A)) (n i : ℕ) (d : Entry A) → i < length entries → ¬ (number (get_or entries i d).tag ≡ n)
+    → value_of (map entry_value (drop i entries)) n ≡ value_of (map entry_value (drop (i + 1) entries)) n
+value_later entries n i d lt other = grind (arith, common_steps)
+
+-- one step of the loop that copies the values of keys
+pub values_more : (rules : List RecordRule) (kept out new whole : Values) (i : ℕ) (d : RecordRule) → i < length rules
+    → new ≡ out ++ with_value (number (get_or rules i d).tag) (value_of kept (number (get_or rules i d).tag)) []
+    → out ++ values_for (drop i rules) kept ≡ whole → new ++ values_for (drop (i + 1) rules) kept ≡ whole
+values_more rules kept out new whole i d lt put h = grind (arith, common_steps)
 
 -- ---- a file has one row
 

@@ -1,7 +1,8 @@
 -- Walking the data set of a file for its row, piece by piece, and what that gives.
-use Rattle.std.proofs.Common.{◌≡◌, ℕ, ◌-◌, ◌≤◌, List, [], ◌++◌, length, take, drop, Option, Some, None, IfSome, refl, sym, ap, subst, ◌∙◌, arith, append_assoc, suc, ◌∷◌, Result, Err}
+use Rattle.std.proofs.Common.{◌≡◌, ℕ, true, ◌-◌, ◌≤◌, List, [], ◌++◌, length, take, drop, Option, Some, None, IfSome, refl, sym, ap, subst, ◌∙◌, arith, append_assoc, suc, ◌∷◌, Result, Err}
 use Rattle.std.proofs.lemmas.List.{take_rest, append-nil}
-use Rattle.std.specs.Io.KnownBytes.{Consumes}
+use Rattle.std.specs.Io.KnownBytes.{Consumes, IsAtEnd}
+use Rattle.std.specs.Bool.{◌==◌}
 use Rattle.std.proofs.KnownBytes.{Consumes-trans}
 use Rattle.element.specs.Numbers.{IsBytes}
 use Rattle.sequence.specs.declared.fault.Fault.{Fault}
@@ -71,6 +72,10 @@ pub walks_next : {V D : ℕ} (w0 w v : Walker V D) (piece rest : List ℕ) (n : 
     → walker_syntax v ≡ walker_syntax w → limits_of v ≡ limits_of w → ((x : Fault) → step ≡ Refused x → ⊥) → Walks w0 v piece (take (length rest - n) (drop n rest))
 walks_next w0 w v piece rest n step goes g within stands answers syntax limits other = grind (arith, common_steps, take_rest rest n, walks_on w0 w v piece rest n step goes g within stands answers syntax limits (not_refused step other))
 
+-- nothing is left of the piece
+pub walks_whole : {V D : ℕ} (w0 w : Walker V D) (piece rest : List ℕ) → Walks w0 w piece rest → true ≡ (length rest == 0) → (b : List ℕ) → StandsAt w0 b → StandsAt w (b ++ piece)
+walks_whole w0 w piece rest g none b stands = grind (arith, common_steps, g.along b stands)
+
 -- the text up to the end of the piece, and what follows
 regrouped : (b piece more front taken behind : List ℕ) → piece ≡ (front ++ taken) ++ behind → (b ++ piece) ++ more ≡ ((b ++ front) ++ taken) ++ (behind ++ more)
 regrouped b piece more front taken behind e = ap (λ z. (b ++ z) ++ more) e ∙ simp append_assoc refl
@@ -98,6 +103,29 @@ pub record Reads {V D : ℕ} (w0 w : Walker V D) (old new : Option (List ℕ)) :
 
 pub reads_first : {V D : ℕ} (w : Walker V D) (old : Option (List ℕ)) → StandsAt w [] → Reads w w old old
 reads_first w old stands = grind (arith, common_steps, tells_none stands.tells (nothing_unbroken (walker_syntax w) (limits_of w)), nothing_unbroken (walker_syntax w) (limits_of w))
+
+pub reads_on : {V D : ℕ} (w0 w v : Walker V D) (old mid new : Option (List ℕ)) (piece : List ℕ) → Reads w0 w old mid → Consumes mid new piece
+    → ((b : List ℕ) → StandsAt w b → StandsAt v (b ++ piece)) → fault_of v ≡ None → IsSameSet w v → Reads w0 v old new
+reads_on w0 w v old mid new piece r more along good same = record {
+  taken = r.taken ++ piece;
+  consumed = Consumes-trans old mid new r.taken piece r.consumed more;
+  stands = along r.taken r.stands;
+  good = good;
+  same = (same.0 ∙ r.same.0, same.1 ∙ r.same.1);
+}
+
+-- at the end of what the reader has
+pub reads_whole : {V D : ℕ} (w0 w : Walker V D) (old mid new : Option (List ℕ)) (room : List ℕ) (count : ℕ) → Reads w0 w old mid → Consumes mid new (take count room) → count ≡ 0
+    → IsAtEnd new → ((b : List ℕ) → StandsAt w b → IsWholeDataSet (walker_syntax w) (limits_of w) b) → TookWhole w old
+reads_whole w0 w old mid new room count r more none end whole = by old new (Consumes-trans old mid new r.taken (take count room) r.consumed more) end
+  where
+    same : (text left : List ℕ) → text ≡ (r.taken ++ take count room) ++ left → left ≡ [] → r.taken ≡ text
+    same text left c e = grind (arith, common_steps, append-nil r.taken)
+
+    by : (o n : Option (List ℕ)) → Consumes o n (r.taken ++ take count room) → IsAtEnd n → TookWhole w o
+    by None n c e = tt
+    by (Some text) None c e = absurd c
+    by (Some text) (Some left) c e = subst (λ z. StandsAt w z × IsWholeDataSet (walker_syntax w) (limits_of w) z) (same text left c e) (r.stands, whole r.taken r.stands)
 
 by_same : {V D : ℕ} (w0 w : Walker V D) (text : List ℕ) (reason : Skip) → IsSameSet w0 w → FailsBy (walker_syntax w) (limits_of w) text reason → FailsBy (walker_syntax w0) (limits_of w0) text reason
 by_same w0 w text reason same f = (f.0, failed_text (walker_syntax w0) (limits_of w0) text f.0 same.0 same.1 f.1, f.2)
