@@ -62,7 +62,6 @@ pub fn record_faults()
 {}
 
 /// The directory of no rows has 320 bytes and is linked.
-#[tactic(auto, using(crate::proofs::Examples::no_rows_are_linked))]
 pub fn no_rows_are_linked()
     ensures { NoRowsAreLinked }
 {}
