@@ -115,11 +115,9 @@ fn put_rule<A: Allocator>(out: &mut RecordBytes, rule: &RecordRule, entry: &RowR
     match (rule.kind, entry.value(rule.tag)) {
         (_, Some(value)) => put_field(out, rule, value),
         (ElementType::Type1C | ElementType::Type3, None) => {}
-        (ElementType::Unique | ElementType::Type1 | ElementType::Type2, None) => put_field(
-            out,
-            rule,
-            &[],
-        ),
+        (ElementType::Unique | ElementType::Type1 | ElementType::Type2, None) => {
+            put_field(out, rule, &[]);
+        }
     }
 }
 
