@@ -22,8 +22,8 @@ use Rattle.dicomdir.specs.Directory.{missing, found, carried_node, next_offset, 
 use Rattle.dicomdir.specs.FileId.{file_id_of}
 use Rattle.dicomdir.specs.RecordTable.{has_level, key_table, record_table}
 use Rattle.dicomdir.specs.Keys.{IsRow, optional_size}
-use Rattle.dicomdir.specs.machine.RowRecords.{fits_rule}
-use Rattle.dicomdir.specs.Record.{with_offsets, tag, field, padding_for, field_of, written, fields, kind_of, own_values, values_with_offsets, says, record_for}
+use Rattle.dicomdir.specs.machine.RowRecords.{values_with_offsets, fits_rule}
+use Rattle.dicomdir.specs.Record.{with_offsets, tag, field, padding_for, field_of, written, fields, kind_of, own_values, says, record_for}
 use Rattle.dicomdir.specs.TreeOf.{is_image}
 use Rattle.dicomdir.specs.Linked.{fits}
 use Rattle.dicomdir.specs.Row.{Row, key}

@@ -18,10 +18,10 @@ use Rattle.dicomdir.specs.declared.level.Level.{Level}
 use Rattle.dicomdir.specs.declared.level.Level.TheVariants.{Patient, Study, Series, Image}
 use Rattle.dicomdir.specs.RecordTable.{has_level, key_table, record_table}
 use Rattle.dicomdir.specs.Keys.{IsRow, fits_room}
-use Rattle.dicomdir.specs.machine.RowRecords.{rule_room, rules_room, has_short_header, fits_rule}
+use Rattle.dicomdir.specs.machine.RowRecords.{values_with_offsets, rule_room, rules_room, has_short_header, fits_rule}
 use Rattle.dicomdir.proofs.FileIds.{file_id_room}
 use Rattle.element.specs.Uid.{is_uid}
-use Rattle.dicomdir.specs.Record.{spelled, with_offsets, field, padding_for, field_of, written, fields, kind_of, values_with_offsets, says, record_for}
+use Rattle.dicomdir.specs.Record.{spelled, with_offsets, field, padding_for, field_of, written, fields, kind_of, says, record_for}
 use Rattle.dicomdir.specs.Row.{Row, key}
 use Rattle.dicomdir.specs.Record as text
 use Rattle.std.proofs.lemmas.Grind.{common_steps}

@@ -65,10 +65,6 @@ own_values level row =
     ∷ (0x00041512, syntax_uid row.syntax)
     ∷ []
 
--- and with the bytes of its two offsets
-abbrev pub values_with_offsets : List ℕ → List ℕ → Level → Row → Values
-values_with_offsets next lower level row = (0x00041400, next) ∷ (0x00041420, lower) ∷ own_values level row
-
 -- under a tag of group 0004 it says these, under any above it a key without the padding that it came with
 abbrev pub says : Values → Values → ℕ → Option (List ℕ)
 says own keys t = if nat_lt t 0x00050000 then value_of own t else option_map key (value_of keys t)

@@ -20,7 +20,8 @@ pub(crate) struct RowRecord<'r, A: Allocator> {
 }
 
 impl<'r, A: Allocator> RowRecord<'r, A> {
-    /// Returns what it says of itself and of its file under the number of a tag (PS3.3 table F.3-3).
+    /// Returns what it says of itself, that it is in use (FFFFH) among it, and of its file, under the number of a tag
+    /// (PS3.3 table F.3-3).
     fn own_value(&self, number: u32) -> Option<&[u8]>
         ensures { option_map (λ v. v.now) result ≡ value_of (own_values_of self.now) number }
     {

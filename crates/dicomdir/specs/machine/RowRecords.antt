@@ -8,9 +8,14 @@ use Rattle.dicomdir.specs.declared.level.Level.{Level}
 use Rattle.dicomdir.specs.declared.row_record.RowRecord.{RowRecord}
 use Rattle.dicomdir.specs.RecordTable.{has_level}
 use Rattle.dicomdir.specs.Keys.{optional_size}
-use Rattle.dicomdir.specs.Record.{values_with_offsets, says}
+use Rattle.dicomdir.specs.Record.{own_values, says}
+use Rattle.dicomdir.specs.Row.{Row}
 
--- what a record says of itself and of its file, and what stands under each of its tags
+-- what the record of a row says of itself and of its file, with the bytes of its two offsets
+abbrev pub values_with_offsets : List ℕ → List ℕ → Level → Row → Values
+values_with_offsets next lower level row = (0x00041400, next) ∷ (0x00041420, lower) ∷ own_values level row
+
+-- what a record says so, and what stands under each of its tags
 abbrev pub own_values_of : {A : Type 0} → RowRecord A → Values
 own_values_of r = values_with_offsets r.next r.lower r.level r.row.now
 
