@@ -1,28 +1,43 @@
-# `make run` proves and builds the program and shows what it does; `make test` is the whole gate.
+# `make run` shows what the program does, in a minute or two; `make dcmbox` proves and builds it; `make quick` runs the
+# tests without proof; `make test` is the whole gate.
 PROGRAM := crates/cli/out/cli
-RECORDING := crates/cli/data/recordings/echo.bin
 
 # Where `make install` puts the program, its manual page, its completion and its systemd units. Their options,
 # /etc/default/dcmbox, it leaves as they are where they are there; `make uninstall` leaves them too.
 PREFIX ?= /usr/local
 DESTDIR ?=
 
-.PHONY: run test interop bench probe docs check must-fail fmt gate-table clean install uninstall deb
+.PHONY: run quick test interop bench probe docs check must-fail fmt gate-table clean install uninstall deb
 
-run: dcmbox
-	./dcmbox replay $(RECORDING) --out .
+run:
+	@tools/run
 
 # Proves every crate that the program stands on, one after the other, compiles it, and puts it here. Where a crate below
 # is not built yet, `rt run` first reads the sources of all, which takes four minutes.
 LIBRARIES := $(shell sed '/^cli:/,$$d; /^\#/d; s/[: ].*//' crates.txt)
 
+# The program is as old as the start of its build, so that a source that changes meanwhile is newer (tools/is-proved).
 dcmbox: FORCE
+	@mkdir -p crates/cli/out && touch crates/cli/out/started
 	for crate in $(LIBRARIES); do (cd crates/$$crate && rt lib) || exit 1; done
 	cd crates/cli && rt run -- --version
 	cp $(PROGRAM) dcmbox
+	@touch -r crates/cli/out/started dcmbox
 
 .PHONY: FORCE
 FORCE:
+
+# Every test of the crates, compiled with checks and without proof, and the scripts that look at the tree: some minutes.
+quick:
+	tests/layers.sh
+	tests/definitions.py
+	tests/booklet.py
+	tests/tables.py
+	tests/names.py
+	tests/claims.py
+	tests/links.py
+	tests/scripts.py
+	tools/quick
 
 # Looks at what the crates cite of each other, whether the documents that scripts make are fresh and whether what claims
 # and links name is there, tries the scripts that look, proves every crate and its tests from nothing, tries the
@@ -88,18 +103,18 @@ fmt:
 gate-table:
 	tools/gate-table
 
-# Installs what `make run` built. A package sets DESTDIR to the folder that it packs.
+# Installs what `make dcmbox` proved and built. A package sets DESTDIR to the folder that it packs.
 install:
-	@test -x dcmbox || { echo "there is no ./dcmbox: run 'make run' first"; exit 1; }
+	@tools/is-proved
 	install -D -m 755 dcmbox $(DESTDIR)$(PREFIX)/bin/dcmbox
 	install -D -m 644 man/dcmbox.1 $(DESTDIR)$(PREFIX)/share/man/man1/dcmbox.1
 	install -D -m 644 packaging/dcmbox.bash $(DESTDIR)$(PREFIX)/share/bash-completion/completions/dcmbox
 	packaging/make-units $(PREFIX) $(DESTDIR)$(PREFIX)/lib/systemd/system
 	test -e $(DESTDIR)/etc/default/dcmbox || install -D -m 644 packaging/dcmbox.default $(DESTDIR)/etc/default/dcmbox
 
-# Builds a Debian package of what `make run` built, here.
+# Builds a Debian package of what `make dcmbox` proved and built, here.
 deb:
-	@test -x dcmbox || { echo "there is no ./dcmbox: run 'make run' first"; exit 1; }
+	@tools/is-proved
 	packaging/make-deb dcmbox .
 
 uninstall:

@@ -6,8 +6,9 @@ scripts.py    fails where a script takes a tree with a fault, refuses it with an
 The small tree has three crates: `low`, whose contract cites the definitions `Small`, `◌or_else◌` and `◌>>=◌`, and which
 keeps the word `Loop` in its machine; `high`, which cites `Small`; and `engine`, by which it is seen that no crate is let
 off for its name. The scripts that make documents are tried on a
-copy of this tree's documents, definitions and code.
+copy of this tree's documents, definitions and code, and those that run `rt` with one that prints what a case asks for.
 """
+import os
 import pathlib
 import shutil
 import subprocess
@@ -202,6 +203,49 @@ COPY_FAULTS = [
 ]
 
 
+PASSED = "echo 'test result: ok. 2 passed; 0 failed; 0 ignored; 0 filtered out'"
+
+# Each try of a tool that runs `rt`, over a tree whose crate `cli` has two tests: what it is, the tool, the age of ./dcmbox in
+# seconds (a source is 100 seconds old), what `rt` does, the tool's status, and a line of what it prints.
+TOOL_TRIES = [
+    ("no program is proved", "is-proved", None, "false", 1, "there is no ./dcmbox"),
+    ("a program that is older than a source", "is-proved", 200, "false", 1, "./dcmbox is older than crates"),
+    ("a program that is newer than the sources", "is-proved", 50, "false", 0, ""),
+    ("the proved program runs", "run", 50, "false", 0, "This was ./dcmbox, which is proved."),
+    ("the sources run without proof", "run", None, "echo Ended held 0 files 0", 0, "This ran without proof"),
+    ("the sources are newer than the program", "run", 200, "echo Ended held 0 files 0", 0, "This ran without proof"),
+    ("what the sources print", "run", None, "echo Ended held 0 files 0", 0, "Ended held 0 files 0"),
+    ("sources that do not compile", "run", None, "echo no type >&2; exit 2", 2, "no type"),
+    ("tests that pass", "quick", None, PASSED, 0, "cli: 2 passed"),
+    ("a test that did not run", "quick", None, PASSED.replace("2", "1"), 123, "cli: FAILED (it has 2 tests)"),
+    ("a test that is ignored", "quick", None, PASSED.replace("0 ignored", "1 ignored"), 123, "cli: FAILED"),
+    ("tests that fail", "quick", None, f"{PASSED}; exit 1", 123, "cli: FAILED"),
+]
+
+
+def try_tool(tool, age, does):
+    """The status and the output of a tool over a small tree, with a program of an age in seconds and an `rt` that does this."""
+    with tempfile.TemporaryDirectory() as folder:
+        tree = pathlib.Path(folder)
+        shutil.copytree(TESTS.parent / "tools", tree / "tools")
+        (tree / "crates/cli/src").mkdir(parents=True)
+        source, program, rt = tree / "crates/cli/src/main.rt", tree / "dcmbox", tree / "bin/rt"
+        rt.parent.mkdir()
+        for path, text in ((source, "#[test]\nfn one() {}\n    #[test]\nfn two() {}\n"), (rt, f"#!/bin/sh\n{does}\n"), (tree / "crates.txt", "cli:\n")):
+            path.write_text(text)
+        now = source.stat().st_mtime
+        for path in (source, tree / "crates.txt"):
+            os.utime(path, (now - 100, now - 100))
+        if age is not None:
+            program.write_text("#!/bin/sh\necho proved\n")
+            program.chmod(0o755)
+            os.utime(program, (now - age, now - age))
+        rt.chmod(0o755)
+        path = f"{rt.parent}:{os.environ['PATH']}"
+        done = subprocess.run([tree / "tools" / tool], env={**os.environ, "PATH": path}, capture_output=True, text=True, timeout=60)
+        return done.returncode, done.stdout + done.stderr
+
+
 def run(script, tree):
     """The script's exit status and what it printed, over a tree."""
     command = [TESTS / script, "--tree", tree] if script.endswith(".py") else [TESTS / script, tree]
@@ -253,6 +297,13 @@ def main():
         else:
             failed += 1
             print(f"FAILED: {what}: status {status}\n{text}")
+    for what, tool, age, does, expected, line in TOOL_TRIES:
+        status, text = try_tool(tool, age, does)
+        if status == expected and (line in text if line else not text):
+            passed += 1
+        else:
+            failed += 1
+            print(f"FAILED: tools/{tool}, {what}: status {status}\n{text}")
     print(f"{passed} passed, {failed} failed")
     return int(failed > 0)
 
