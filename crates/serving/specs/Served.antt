@@ -1,5 +1,5 @@
 -- What went over a connection of several so far, and what came of it.
-use Rattle.std.specs.Prelude.{◌≡◌, ℕ, ◌+◌, Bool, false, List, ◌++◌}
+use Rattle.std.specs.Prelude.{◌≡◌, ℕ, ◌+◌, Bool, false, List, ◌++◌, Option, Some, None}
 use Rattle.acceptor.specs.declared.state.State.{State}
 use Rattle.negotiate.specs.Settings.{Settings}
 use Rattle.part10.specs.Store.{Store, told_after}
@@ -12,7 +12,7 @@ use Rattle.engine.specs.Reached.{reached}
 use Rattle.engine.specs.Run.{wire_failures, filing_failures}
 use Rattle.engine.specs.Timeline.{Happened}
 use Rattle.connection.specs.Served.{served_rooms}
-use Rattle.serving.specs.declared.open_connection.ConnectionEnd.{ConnectionEnd}
+use Rattle.serving.specs.declared.exchange.Exchange.{Exchange}
 use Rattle.serving.specs.Wires.{pending_in, untaken_in}
 
 -- Inputs whose pieces, put together and followed by the bytes that were not taken any more, are the bytes that were read gave the bytes that the socket took followed by those that
@@ -35,5 +35,10 @@ pub record ExchangedSoFar (s : Settings) (report : Report) (read untaken sent un
   pub no_draft : new.has_draft ≡ false
 
 -- a connection leaves this
-abbrev pub Leaves : {S F : Type 0} → Settings → ConnectionEnd S F → Store → Store → Type 0
-Leaves s end old new = ExchangedSoFar s end.exchange.report end.exchange.read.trace.bytes (untaken_in end.untaken) end.exchange.sent.trace.bytes (pending_in end.unsent) old new
+abbrev pub Leaves : {S : Type 0} → Settings → Exchange S → Store → Store → Type 0
+Leaves s exchange old new = ExchangedSoFar s exchange.report exchange.read.trace.bytes (untaken_in exchange.untaken) exchange.sent.trace.bytes (pending_in exchange.unsent) old new
+
+-- an association was served, and left this; or there was none, and the filing is as it was
+abbrev pub CameOf : {S : Type 0} → Settings → Option (Exchange S) → Store → Store → Type 0
+CameOf s None old new = new ≡ old
+CameOf s (Some exchange) old new = ∥ Leaves s exchange old new ∥₁

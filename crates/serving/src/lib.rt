@@ -3,6 +3,7 @@
 //! connection, which takes its turns among others.
 #![tactic(auto)]
 
+mod exchange;
 mod inbox;
 mod link;
 mod notice;
@@ -15,6 +16,7 @@ mod queue;
 mod rows;
 mod waiting;
 
+pub use exchange::Exchange;
 pub use inbox::{INBOX, Inbox};
 pub use notice::Notice;
 pub use open_connection::{Connection, ConnectionEnd, Turn};

@@ -9,12 +9,11 @@ ghost use Rattle.serving.specs.Wires.{IsTakenOf};
 
 mod turns;
 
-use crate::inbox::Inbox;
+use crate::exchange::Exchange;
 use crate::link::Link;
-use crate::outbox::Outbox;
 use crate::waiting::{Wait, Waiting};
 use acceptor::State;
-use connection::{COMMAND, DEPTH, Exchange, REQUEST, Timeouts, VALUES};
+use connection::{COMMAND, DEPTH, REQUEST, Timeouts, VALUES};
 use engine::{Given, Running};
 use negotiate::Config;
 use part10::Filing;
@@ -59,10 +58,6 @@ pub struct Connection<S, F: Filing> {
 pub struct ConnectionEnd<S, F> {
     /// How its association stands, and what went over its socket.
     pub exchange: Exchange<S>,
-    /// What was read and the association did not take.
-    pub untaken: Inbox,
-    /// What the association sent and the socket did not take.
-    pub unsent: Outbox,
     /// Its filing, without a draft.
     pub filing: F,
 }
@@ -142,7 +137,7 @@ impl<S: Drop, F: Filing> Connection<S, F> {
     /// definitions give the bytes that the socket took with those that it did not take any more, the files,
     /// and how the association stands.
     pub fn end(self) -> ConnectionEnd<S, F>
-        ensures left { ∥ Leaves (settings_at self) result (F.store (opening_of self)) (F.store result.filing) ∥₁ }
+        ensures left { ∥ Leaves (settings_at self) result.exchange (F.store (opening_of self)) (F.store result.filing) ∥₁ }
     {
         let mut filing = self.filing;
         filing.discard();
@@ -154,9 +149,9 @@ impl<S: Drop, F: Filing> Connection<S, F> {
                 received: self.received,
                 read: traces.read,
                 sent: traces.sent,
+                untaken,
+                unsent,
             },
-            untaken,
-            unsent,
             filing,
         }
     }
