@@ -8,5 +8,7 @@ mod socket;
 mod stopping;
 mod terms;
 
+pub use seat::Seat;
 pub use server::serve_many;
+pub use socket::Socket;
 pub use terms::{MOST_AT_ONCE, ServerTerms};

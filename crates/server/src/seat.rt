@@ -1,7 +1,9 @@
-//! One connection of a server: its association, and the journal that is shown what goes over it.
+//! One connection: its association, and the journal that is shown what goes over it.
 ghost use Rattle.std.specs.Prelude.{◌≡◌, ◌≤◌, ◌<◌, ◌-◌, ◌↔◌, IsSome, IsTrue, true, false};
 ghost use Rattle.std.specs.Duration.{as_nanos};
 ghost use Rattle.std.specs.Time.{instant_nanos};
+ghost use Rattle.negotiate.specs.Settings.{settings_of};
+ghost use Rattle.serving.specs.Connections.{settings_at};
 
 use crate::socket::Socket;
 use crate::terms::ServerTerms;
@@ -10,7 +12,7 @@ use connection::ReadEnd;
 use journal::{Journal, Served};
 use log::Log;
 use part10::{Filing, FolderFiling};
-use serving::{Connection, Turn, Wait};
+use serving::{Connection, ConnectionEnd, Turn, Wait};
 use std::alloc::Global;
 use std::fs::File;
 use std::rt::Files;
@@ -20,14 +22,16 @@ use std::time::{Clock, Duration, Instant};
 /// once the server ends, in seconds.
 const CLOSING_SECONDS: u64 = 2;
 
-/// One connection of a server.
+/// One connection that is served: each that the program accepts becomes one, if the system lets it, and
+/// goes through `Seat::end`.
 #[derive(Drop)]
-pub(crate) struct Seat<'a, R: Log + Clock, S: Files<File = File> + Alloc<A = Global> + Clone + Drop>
+pub struct Seat<'a, R: Log + Clock, S: Files<File = File> + Alloc<A = Global> + Clone + Drop>
 where
     FolderFiling<S>: Filing,
 {
     connection: Connection<Socket, FolderFiling<S>>,
     journal: Journal<'a, R, Global>,
+    terms: ServerTerms<'a>,
     begun: Instant,
     /// How many files its filing had committed before.
     committed: u32,
@@ -36,10 +40,13 @@ where
     /// Whether its socket may have something to read, or take something.
     is_ready: bool,
     is_over: bool,
+    /// Its association is held to these terms.
+    ghost held: { settings_at connection ≡ settings_of terms.config.now },
 }
 
 impl<'a, R: Log + Clock, S: Files<File = File> + Alloc<A = Global> + Clone + Drop> Seat<'a, R, S> {
-    ghost use Rattle.serving.specs.Connections.{drafting_at};
+    ghost use Rattle.serving.specs.Connections.{drafting_at, opening_of};
+    ghost use Rattle.serving.specs.Served.{Leaves};
 
     /// Opens an association over a connection that was accepted at this instant, which the journal is
     /// shown.
@@ -47,13 +54,17 @@ impl<'a, R: Log + Clock, S: Files<File = File> + Alloc<A = Global> + Clone + Dro
         socket: Socket,
         filing: FolderFiling<S>,
         journal: Journal<'a, R, Global>,
-        terms: ServerTerms<'_>,
+        terms: ServerTerms<'a>,
         now: Instant,
-    ) -> Seat<'a, R, S> {
+    ) -> Seat<'a, R, S>
+        ensures terms { result.terms ≡ terms.entry }
+        ensures opening { opening_of result.connection ≡ filing }
+    {
         let committed = filing.committed();
         Seat {
             connection: Connection::open(terms.config, socket, filing, terms.timeouts, now),
             journal,
+            terms,
             begun: now,
             committed,
             aborted: None,
@@ -63,7 +74,10 @@ impl<'a, R: Log + Clock, S: Files<File = File> + Alloc<A = Global> + Clone + Dro
     }
 
     /// Its socket may have something to read, or take something.
-    pub(crate) fn wake(&mut self) {
+    pub(crate) fn wake(&mut self)
+        ensures terms { self.new.terms ≡ self.old.terms }
+        ensures opening { opening_of self.new.connection ≡ opening_of self.old.connection }
+    {
         self.is_ready = true;
     }
 
@@ -74,7 +88,10 @@ impl<'a, R: Log + Clock, S: Files<File = File> + Alloc<A = Global> + Clone + Dro
 
     /// Gives the association its turn, if its socket may have anything, and ends what has taken too
     /// long.
-    pub(crate) fn turn(&mut self, room: &mut [u8], terms: ServerTerms<'_>, now: Instant) {
+    pub(crate) fn turn(&mut self, room: &mut [u8], now: Instant)
+        ensures terms { self.new.terms ≡ self.old.terms }
+        ensures opening { opening_of self.new.connection ≡ opening_of self.old.connection }
+    {
         if self.is_ready {
             match self.connection.turn(now, room, &self.journal) {
                 Turn::Next => {}
@@ -83,7 +100,7 @@ impl<'a, R: Log + Clock, S: Files<File = File> + Alloc<A = Global> + Clone + Dro
             }
         }
         self.end_silence(now);
-        if let Some(longest) = terms.longest {
+        if let Some(longest) = self.terms.longest {
             if now.duration_since(self.begun) >= longest {
                 self.abort(ReadEnd::Longest, now);
             }
@@ -91,7 +108,10 @@ impl<'a, R: Log + Clock, S: Files<File = File> + Alloc<A = Global> + Clone + Dro
     }
 
     /// Ends an association whose peer was waited for too long.
-    fn end_silence(&mut self, now: Instant) {
+    fn end_silence(&mut self, now: Instant)
+        ensures terms { self.new.terms ≡ self.old.terms }
+        ensures opening { opening_of self.new.connection ≡ opening_of self.old.connection }
+    {
         if !self.is_over && !matches!(self.connection.wait(now), Wait::Left(_)) {
             self.connection.expire(now, &self.journal);
             self.is_ready = true;
@@ -103,6 +123,8 @@ impl<'a, R: Log + Clock, S: Files<File = File> + Alloc<A = Global> + Clone + Dro
     fn abort(&mut self, why: ReadEnd, now: Instant)
         ensures once { IsSome self.old.aborted → self.new ≡ self.old }
         ensures aborted { self.old.is_over ≡ false → IsSome self.new.aborted }
+        ensures terms { self.new.terms ≡ self.old.terms }
+        ensures opening { opening_of self.new.connection ≡ opening_of self.old.connection }
     {
         if self.is_over || self.aborted.is_some() {
             return;
@@ -113,21 +135,24 @@ impl<'a, R: Log + Clock, S: Files<File = File> + Alloc<A = Global> + Clone + Dro
     }
 
     /// Returns whether a store has begun, which may go on for the grace after the server was asked to end.
-    fn may_go_on(&self, asked: Instant, grace: Duration, now: Instant) -> bool
-        ensures { IsTrue result ↔ ((drafting_at self.now.connection ≡ true) × (instant_nanos now - instant_nanos asked < as_nanos grace)) }
+    fn may_go_on(&self, asked: Instant, now: Instant) -> bool
+        ensures { IsTrue result ↔ ((drafting_at self.now.connection ≡ true) × (instant_nanos now - instant_nanos asked < as_nanos self.now.terms.grace)) }
     {
-        self.connection.drafting() && now.duration_since(asked).as_nanos() < grace.as_nanos()
+        let grace = self.terms.grace.as_nanos();
+        self.connection.drafting() && now.duration_since(asked).as_nanos() < grace
     }
 
     /// Ends the association of a server that was asked to end at an instant: a store that has begun
     /// may go on for the grace, any other association is aborted. It is left where there is none
     /// yet, or where the peer does not close the connection after the abort.
-    pub(crate) fn stop(&mut self, asked: Instant, grace: Duration, now: Instant)
-        ensures goes_on { drafting_at self.old.connection ≡ true → instant_nanos now - instant_nanos asked < as_nanos grace → self.new ≡ self.old }
-        ensures aborted { as_nanos grace ≤ instant_nanos now - instant_nanos asked → self.old.is_over ≡ false → IsSome self.new.aborted }
+    pub(crate) fn stop(&mut self, asked: Instant, now: Instant)
+        ensures goes_on { drafting_at self.old.connection ≡ true → instant_nanos now - instant_nanos asked < as_nanos self.old.terms.grace → self.new ≡ self.old }
+        ensures aborted { as_nanos self.old.terms.grace ≤ instant_nanos now - instant_nanos asked → self.old.is_over ≡ false → IsSome self.new.aborted }
         ensures without_store { drafting_at self.old.connection ≡ false → self.old.is_over ≡ false → IsSome self.new.aborted }
+        ensures terms { self.new.terms ≡ self.old.terms }
+        ensures opening { opening_of self.new.connection ≡ opening_of self.old.connection }
     {
-        if self.may_go_on(asked, grace, now) {
+        if self.may_go_on(asked, now) {
             return;
         }
         self.abort(ReadEnd::Stopped, now);
@@ -141,7 +166,7 @@ impl<'a, R: Log + Clock, S: Files<File = File> + Alloc<A = Global> + Clone + Dro
     }
 
     /// Returns how long the connection may be left alone, at most so long.
-    pub(crate) fn patience(&self, terms: ServerTerms<'_>, now: Instant, most: Duration) -> Duration
+    pub(crate) fn patience(&self, now: Instant, most: Duration) -> Duration
         ensures { as_nanos result ≤ as_nanos most }
     {
         if self.is_ready || self.is_over {
@@ -151,7 +176,7 @@ impl<'a, R: Log + Clock, S: Files<File = File> + Alloc<A = Global> + Clone + Dro
             Wait::Left(left) => most.min(left),
             _ => Duration::ZERO,
         };
-        match terms.longest {
+        match self.terms.longest {
             Some(longest) if self.aborted.is_none() => {
                 left.min(longest.saturating_sub(now.duration_since(self.begun)))
             }
@@ -159,8 +184,17 @@ impl<'a, R: Log + Clock, S: Files<File = File> + Alloc<A = Global> + Clone + Dro
         }
     }
 
-    /// Lets the connection go, and writes the line of its association. Returns its filing.
-    pub(crate) fn end(self, now: Instant) -> FolderFiling<S> {
+    /// Lets the connection go, wherever its association stands, and writes the line of its association.
+    /// Returns what went over it, and its filing.
+    ///
+    /// `left`: of the bytes that were read, without those that the association did not take any more, the
+    /// definitions give the bytes that the socket took with those that it did not take any more, the files
+    /// since the connection was opened, each failure of the filing, how the association stands and what it
+    /// holds. No draft is left.
+    pub fn end(self, now: Instant) -> ConnectionEnd<Socket, FolderFiling<S>>
+        ensures left { ∥ Leaves (settings_of self.entry.terms.config.now) result.exchange
+            (⟦<FolderFiling<S> as Filing>⟧.store (opening_of self.entry.connection)) (⟦<FolderFiling<S> as Filing>⟧.store result.filing) ∥₁ }
+    {
         let Seat {
             connection,
             journal,
@@ -175,6 +209,6 @@ impl<'a, R: Log + Clock, S: Files<File = File> + Alloc<A = Global> + Clone + Dro
             received: ended.exchange.received,
             seconds: now.duration_since(begun).as_secs(),
         });
-        ended.filing
+        ended
     }
 }

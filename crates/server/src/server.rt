@@ -221,9 +221,9 @@ impl<'a, R: Log + Clock, S: Files<File = File> + Alloc<A = Global> + Clone + Dro
         for place in 0..self.seats.len() {
             let mut is_over = false;
             if let Some(Some(seat)) = self.seats.get_mut(place) {
-                seat.turn(self.room.as_mut_slice(), self.terms, now);
+                seat.turn(self.room.as_mut_slice(), now);
                 if let Some(asked) = self.asked {
-                    seat.stop(asked, self.terms.grace, now);
+                    seat.stop(asked, now);
                 }
                 is_over = seat.is_over();
             }
@@ -237,9 +237,9 @@ impl<'a, R: Log + Clock, S: Files<File = File> + Alloc<A = Global> + Clone + Dro
     fn end(&mut self, place: usize, now: Instant) {
         if let Some(seat) = self.seats.get_mut(place) {
             if let Some(seat) = seat.take() {
-                let filing = Box::into_inner(seat).end(now);
+                let end = Box::into_inner(seat).end(now);
                 if let Some(empty) = self.filings.get_mut(place) {
-                    *empty = Some(filing);
+                    *empty = Some(end.filing);
                 }
             }
         }
@@ -260,7 +260,7 @@ impl<'a, R: Log + Clock, S: Files<File = File> + Alloc<A = Global> + Clone + Dro
         }
         for seat in &self.seats {
             if let Some(seat) = seat {
-                most = seat.patience(self.terms, now, most);
+                most = seat.patience(now, most);
             }
         }
         most
@@ -339,7 +339,7 @@ impl<'a, R: Log + Clock, S: Files<File = File> + Alloc<A = Global> + Clone + Dro
         let count = seats.len();
         for done in 0..count {
             if let Some(Some(seat)) = seats.pop() {
-                let _filing = Box::into_inner(seat).end(now);
+                let _end = Box::into_inner(seat).end(now);
             }
         }
         seats.destroy_empty();
