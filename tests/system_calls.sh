@@ -67,11 +67,6 @@ goes_on() {
 }
 
 goes_on ''
-serves -e trace=setsockopt
-echoes
-ended
-grep -q 'SO_SNDTIMEO[A-Z_]*, \("\\4\\0\|{tv_sec=4,\)' calls.txt
-report 'a send waits for the idle time'
 
 # The second option is the first of the connection's.
 serves -e trace=setsockopt -e inject=setsockopt:error=ENOBUFS:when=2

@@ -32,7 +32,3 @@ mod replay_rows;
 mod serve_rows;
 #[cfg(test)]
 mod settings_rows;
-#[cfg(test)]
-mod socket_rows;
-#[cfg(test)]
-mod timer_rows;

@@ -1,10 +1,10 @@
 //! Each command of the program.
 use crate::error::ProgramError;
-use crate::folder::{open_folder, open_writer, try_draft};
+use crate::folder::{open_writer, try_draft};
 use crate::index::index;
 use crate::inspect::{Inspection, inspect};
 use crate::replay::replay;
-use crate::serve::{serve, serve_several};
+use crate::serve::serve;
 use crate::several::{Files, inspect_files};
 use arguments::{
     CheckArguments, IndexArguments, Job, ReplayArguments, Serve, ServeArguments, ShowArguments,
@@ -16,31 +16,14 @@ use journal::Output;
 use log::Logged;
 use std::alloc::Global;
 
-/// Serves one association after the other into the folder.
-fn serve_one_by_one(rt: &HostRuntime, settings: &Serve) -> Result<Outcome, ProgramError> {
-    let mut filing = open_folder(*rt, settings.out, settings.layout, settings.sync)?;
-    try_draft(&mut filing)?;
-    let logged = Logged::new(rt, settings.level, Output::new(rt, settings.form));
-    serve(&logged, settings, &mut filing)?;
-    Ok(Outcome::Good)
-}
-
-/// Serves associations at once into the folder.
-fn serve_at_once(rt: &HostRuntime, settings: &Serve) -> Result<Outcome, ProgramError> {
-    let mut writer = open_writer(*rt, settings.out, settings.layout, settings.sync)?;
-    try_draft(&mut writer.filing().map_err(ProgramError::of_folder)?)?;
-    let logged = Logged::new(rt, settings.level, Output::new(rt, settings.form));
-    serve_several(&logged, settings, rt, writer)?;
-    Ok(Outcome::Good)
-}
-
 /// Serves into the folder until the program is ended, or only one association.
 fn serve_into(rt: &HostRuntime, settings: &Serve) -> Result<Outcome, ProgramError> {
-    if settings.at_once.is_serial() {
-        serve_one_by_one(rt, settings)
-    } else {
-        serve_at_once(rt, settings)
-    }
+    let mut writer = open_writer(*rt, settings.out, settings.layout, settings.sync)?;
+    let mut filing = writer.filing().map_err(ProgramError::of_folder)?;
+    try_draft(&mut filing)?;
+    let logged = Logged::new(rt, settings.level, Output::new(rt, settings.form));
+    serve(&logged, settings, rt, (writer, filing))?;
+    Ok(Outcome::Good)
 }
 
 fn perform_serve(rt: &HostRuntime, arguments: &ServeArguments) -> Result<Outcome, ProgramError> {

@@ -1,20 +1,12 @@
-//! One connection of a served association: its socket as a source of inputs and as a wire, and the
-//! association that runs over both.
+//! What each connection of the program is held to, and who is shown what goes over it.
 #![tactic(auto)]
 
 mod acknowledge;
-mod exchange;
-pub mod laws;
 mod limits;
 mod observer;
-mod socket;
-mod source;
-mod timer;
-mod wire;
+mod timeouts;
 
 pub use acknowledge::acknowledge_at_once;
-pub use exchange::{Exchange, Terms, exchange_over};
 pub use limits::{COMMAND, DEPTH, PIECE, REQUEST, VALUES};
 pub use observer::{Observer, ReadEnd};
-pub use socket::{Connected, SocketOptions, SocketTrace, SocketTraces};
-pub use timer::{Timeouts, Timer};
+pub use timeouts::Timeouts;

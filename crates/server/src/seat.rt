@@ -22,9 +22,8 @@ use std::time::{Clock, Duration, Instant};
 /// once the server ends, in seconds.
 const CLOSING_SECONDS: u64 = 2;
 
-/// One connection that is served: each that the program accepts becomes one, if the system lets it, and
-/// goes through `Seat::end`.
-#[derive(Drop)]
+/// One connection that is served: each that the program accepts becomes one, if the system lets it. It is
+/// given up by `end` alone, since it is not `Drop`.
 pub struct Seat<'a, R: Log + Clock, S: Files<File = File> + Alloc<A = Global> + Clone + Drop>
 where
     FolderFiling<S>: Filing,
@@ -198,9 +197,12 @@ impl<'a, R: Log + Clock, S: Files<File = File> + Alloc<A = Global> + Clone + Dro
         let Seat {
             connection,
             journal,
+            terms: _terms,
             begun,
             committed,
-            ..
+            aborted: _aborted,
+            is_ready: _is_ready,
+            is_over: _is_over,
         } = self;
         let ended = connection.end();
         journal.end(Served {
@@ -210,5 +212,25 @@ impl<'a, R: Log + Clock, S: Files<File = File> + Alloc<A = Global> + Clone + Dro
             seconds: now.duration_since(begun).as_secs(),
         });
         ended
+    }
+}
+
+/// Lets a connection go, if there is one.
+pub(crate) fn end<R: Log + Clock, S: Files<File = File> + Alloc<A = Global> + Clone + Drop>(
+    seat: Option<Seat<'_, R, S>>,
+    now: Instant,
+) {
+    if let Some(seat) = seat {
+        let _end = seat.end(now);
+    }
+}
+
+/// Gives up the memory of a place, if it has any, and lets its connection go.
+pub(crate) fn let_go<R: Log + Clock, S: Files<File = File> + Alloc<A = Global> + Clone + Drop>(
+    seat: Option<Box<Option<Seat<'_, R, S>>>>,
+    now: Instant,
+) {
+    if let Some(seat) = seat {
+        end(Box::into_inner(seat), now);
     }
 }

@@ -2,10 +2,11 @@
 
 mod opening;
 
-use crate::seat::Seat;
+use crate::seat::{Seat, end, let_go};
 use crate::socket::{AcceptedStream, Socket};
 use crate::stopping::is_asked;
 use crate::terms::{MOST_AT_ONCE, ServerTerms};
+use admitting::{Admission, Notice, Places, Queue, Waiter, peer_number};
 use journal::{
     ConnectionFailed, Journal, NotAccepted, PeerFull, PlacesFull, Stopping, Teller, TurnedAway,
 };
@@ -14,8 +15,7 @@ use mio::net::TcpListener;
 use mio::{Events, Interest, Poll, Token};
 pub use opening::serve_many;
 use part10::{Filing, FolderFiling, FolderWriter};
-use serving::{Admission, Notice, Places, Queue, Waiter, peer_number};
-use std::alloc::{AllocError, Global};
+use std::alloc::{AllocError, AllocFailed, Global};
 use std::fs::File;
 use std::io;
 use std::io::ErrorKind;
@@ -45,10 +45,12 @@ where
     listener: TcpListener,
     terms: ServerTerms<'a>,
     folder: FolderWriter<S>,
-    /// The filings of places that have had a connection and are free.
+    /// The filings of places that are free: of those that have had a connection, and of the first.
     filings: Vec<Option<FolderFiling<S>>>,
     places: Places<Global>,
-    seats: Vec<Option<Box<Seat<'a, R, S>>>>,
+    /// The memory of places that have had a connection, and of the first, with the connection that each
+    /// has. So the first place takes no memory once the server has begun.
+    seats: Vec<Option<Box<Option<Seat<'a, R, S>>>>>,
     /// Those whose peers have as many places as one may have.
     queue: Queue<AcceptedStream, Global>,
     room: Vec<u8>,
@@ -76,11 +78,37 @@ impl<'a, R: Log + Clock, S: Files<File = File> + Alloc<A = Global> + Clone + Dro
     /// Adds a seat for each place, without a connection.
     fn add_seats(&mut self) -> Result<(), AllocError> {
         for _ in 0..self.terms.at_once {
-            if self.seats.push(None).is_err() {
+            if let Err(AllocFailed { value }) = self.seats.push(None) {
+                let_go(value, self.now);
                 return Err(AllocError);
             }
         }
+        self.make_seat(0)
+    }
+
+    /// Takes the memory of a place, unless it has it.
+    fn make_seat(&mut self, place: usize) -> Result<(), AllocError> {
+        let alloc = *self.seats.allocator();
+        if let Some(seat) = self.seats.get_mut(place) {
+            if seat.is_none() {
+                match Box::new(alloc, None) {
+                    Ok(empty) => let_go(seat.replace(empty), self.now),
+                    Err(AllocFailed { value }) => {
+                        end(value, self.now);
+                        return Err(AllocError);
+                    }
+                }
+            }
+        }
         Ok(())
+    }
+
+    /// Returns whether a place has a connection.
+    fn is_taken(&self, place: usize) -> bool {
+        match self.seats.get(place) {
+            Some(Some(seat)) => seat.is_some(),
+            _ => false,
+        }
     }
 
     /// Returns what writes lines about no connection.
@@ -95,7 +123,9 @@ impl<'a, R: Log + Clock, S: Files<File = File> + Alloc<A = Global> + Clone + Dro
             if place == LISTENER {
                 self.may_accept = true;
             } else if let Some(Some(seat)) = self.seats.get_mut(place) {
-                seat.wake();
+                if let Some(seat) = &mut **seat {
+                    seat.wake();
+                }
             }
         }
     }
@@ -119,13 +149,13 @@ impl<'a, R: Log + Clock, S: Files<File = File> + Alloc<A = Global> + Clone + Dro
         self.poll
             .registry()
             .register(&mut socket.0, Token(place), both)?;
+        self.make_seat(place)?;
         let filing = self.filing(place)?;
         let alloc = *self.seats.allocator();
         let journal = Journal::new(alloc, self.teller().about(peer), filing.notes()?);
-        let seat = Seat::open(socket, filing, journal, self.terms, now);
-        let seat = Box::new(alloc, seat)?;
-        if let Some(empty) = self.seats.get_mut(place) {
-            *empty = Some(seat);
+        if let Some(Some(empty)) = self.seats.get_mut(place) {
+            let seat = Seat::open(socket, filing, journal, self.terms, now);
+            end(empty.replace(seat), now);
         }
         Ok(())
     }
@@ -148,7 +178,22 @@ impl<'a, R: Log + Clock, S: Files<File = File> + Alloc<A = Global> + Clone + Dro
 
     /// Returns whether a place is free.
     fn has_vacancy(&self) -> bool {
-        self.seats.iter().any(|seat| seat.is_none())
+        for place in 0..self.seats.len() {
+            if !self.is_taken(place) {
+                return true;
+            }
+        }
+        false
+    }
+
+    /// Returns whether each place is free.
+    fn is_vacant(&self) -> bool {
+        for place in 0..self.seats.len() {
+            if self.is_taken(place) {
+                return false;
+            }
+        }
+        true
     }
 
     /// Gives a connection that was accepted its place, or lets it wait.
@@ -185,7 +230,7 @@ impl<'a, R: Log + Clock, S: Files<File = File> + Alloc<A = Global> + Clone + Dro
                 return;
             }
             if !self.has_vacancy() {
-                if self.places_told.is_due(now) {
+                if self.terms.tells_full && self.places_told.is_due(now) {
                     self.teller().tell(&PlacesFull(self.terms.at_once as u64));
                 }
                 return;
@@ -221,11 +266,13 @@ impl<'a, R: Log + Clock, S: Files<File = File> + Alloc<A = Global> + Clone + Dro
         for place in 0..self.seats.len() {
             let mut is_over = false;
             if let Some(Some(seat)) = self.seats.get_mut(place) {
-                seat.turn(self.room.as_mut_slice(), now);
-                if let Some(asked) = self.asked {
-                    seat.stop(asked, now);
+                if let Some(seat) = &mut **seat {
+                    seat.turn(self.room.as_mut_slice(), now);
+                    if let Some(asked) = self.asked {
+                        seat.stop(asked, now);
+                    }
+                    is_over = seat.is_over();
                 }
-                is_over = seat.is_over();
             }
             if is_over {
                 self.end(place, now);
@@ -235,9 +282,9 @@ impl<'a, R: Log + Clock, S: Files<File = File> + Alloc<A = Global> + Clone + Dro
 
     /// Lets the connection of a place go.
     fn end(&mut self, place: usize, now: Instant) {
-        if let Some(seat) = self.seats.get_mut(place) {
+        if let Some(Some(seat)) = self.seats.get_mut(place) {
             if let Some(seat) = seat.take() {
-                let end = Box::into_inner(seat).end(now);
+                let end = seat.end(now);
                 if let Some(empty) = self.filings.get_mut(place) {
                     *empty = Some(end.filing);
                 }
@@ -260,7 +307,9 @@ impl<'a, R: Log + Clock, S: Files<File = File> + Alloc<A = Global> + Clone + Dro
         }
         for seat in &self.seats {
             if let Some(seat) = seat {
-                most = seat.patience(now, most);
+                if let Some(seat) = &**seat {
+                    most = seat.patience(now, most);
+                }
             }
         }
         most
@@ -288,7 +337,7 @@ impl<'a, R: Log + Clock, S: Files<File = File> + Alloc<A = Global> + Clone + Dro
 
     /// Returns whether nothing is accepted and no association is left.
     fn is_done(&self) -> bool {
-        !self.is_open && self.queue.is_empty() && self.seats.iter().all(|seat| seat.is_none())
+        !self.is_open && self.queue.is_empty() && self.is_vacant()
     }
 
     /// Serves associations until the server is to end.
@@ -338,8 +387,8 @@ impl<'a, R: Log + Clock, S: Files<File = File> + Alloc<A = Global> + Clone + Dro
         let mut seats = seats;
         let count = seats.len();
         for done in 0..count {
-            if let Some(Some(seat)) = seats.pop() {
-                let _end = Box::into_inner(seat).end(now);
+            if let Some(seat) = seats.pop() {
+                let_go(seat, now);
             }
         }
         seats.destroy_empty();

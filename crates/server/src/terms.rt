@@ -24,6 +24,8 @@ pub struct ServerTerms<'a> {
     pub stop_file: Option<&'a str>,
     /// How long stores that have begun may go on once it has appeared.
     pub grace: Duration,
+    /// Whether it is told when connections wait since no place is free.
+    pub tells_full: bool,
     /// Whether the server ends after one association.
     pub once: bool,
     /// The form of the log.

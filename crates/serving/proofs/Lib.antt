@@ -1,5 +1,4 @@
-pub mod SeatLemmas
-pub mod QueueLemmas
 pub mod WireLemmas
+pub mod GivenLemmas
 pub mod TakenLemmas
 pub mod InboxLemmas

@@ -1,4 +1,4 @@
--- What a connection of several has taken: at its open, with one input more, and at its end.
+-- What a connection has taken: at its open, with one input more, and at its end.
 use Rattle.std.proofs.Common.{◌≡◌, ◌≢◌, ℕ, zero, suc, ◌+◌, ◌<◌, ◌≤◌, Bool, true, false, List, [], ◌∷◌, ◌++◌, length, Some, refl, sym, ap, subst, ◌∙◌, append_assoc, length-append, arith, inl, inr}
 use Rattle.std.proofs.Math.Logic.{∥∥₁_elim, ∥∥₁_map}
 use Rattle.std.specs.Coded.{le_prop}
@@ -25,9 +25,9 @@ use Rattle.engine.specs.Stands.{Stands}
 use Rattle.engine.specs.Timeline.{Happened, entries, entries_of}
 use Rattle.engine.specs.Turns.{TookInput, Reports}
 use Rattle.engine.proofs.Public.{turns_begin, one_turn_more, turns_are_a_run, entries_of_more, silent_sends_nothing, aborts_shortly}
-use Rattle.connection.specs.Served.{served_rooms}
-use Rattle.connection.proofs.Public.{one_more_is_given, others_have_no_bytes, pieces_grow}
+use Rattle.serving.proofs.GivenLemmas.{gives_one, still_whole, whole_more}
 use Rattle.serving.specs.declared.outbox.Outbox.{Outbox}
+use Rattle.serving.specs.Rooms.{served_rooms}
 use Rattle.serving.specs.Taken.{supply_of, unfailed_line, HasTaken}
 use Rattle.serving.specs.Served.{ExchangedSoFar}
 
@@ -111,7 +111,7 @@ module _ (s : Settings) (named : List (Input × List ℕ)) (kind : Input) (bytes
   pub one_more : is_ended seen.kept.state ≡ false → n ≡ 0 → HasTaken s named seen (socket ++ pending) opened old → HasTaken s (named ++ (kind, bytes) ∷ []) seen_new (socket ++ pending_new) opened new
   one_more open_still none h =
       let t : TookInput served_rooms s (supply_of named) (supply_of (named ++ (kind, bytes) ∷ [])) seen seen_new (devices (unfailed_line (socket ++ pending)) old) (devices (unfailed_line (socket ++ pending_new)) new) =
-      record { bytes = bytes; kind = kind; gives = one_more_is_given named (named ++ (kind, bytes) ∷ []) kind bytes refl; moved = λ inputs story failed at. over inputs story failed none (moved inputs story failed at) } in
+      record { bytes = bytes; kind = kind; gives = gives_one named (named ++ (kind, bytes) ∷ []) kind bytes refl; moved = λ inputs story failed at. over inputs story failed none (moved inputs story failed at) } in
       record {
         turns = h.turns + 1;
         took = one_turn_more served_rooms s h.turns (supply_of []) (supply_of named) (supply_of (named ++ (kind, bytes) ∷ [])) seen seen_new (devices (unfailed_line []) opened) (devices (unfailed_line (socket ++ pending)) old)
@@ -205,7 +205,7 @@ module _ (s set : Settings) (named named_new : List (Input × List ℕ)) (kind :
   pub keeps_other : kind ≢ Piece → (kind ≡ LocalAbort → length pending + 30 < 16583) → Keeps set named_new seen_new read socket pending_new n opened new
   keeps_other no_piece room =
       keeps_on (∥∥₁_elim was.taken le_prop (λ h. other_fits s named kind bytes seen seen_new socket pending pending_new m n opened old new was.never moved no_piece room was.fits h)) read
-      (others_have_no_bytes named kind bytes read no_piece was.whole)
+      (still_whole named kind bytes read no_piece was.whole)
 
   -- with a portion of a piece
   pub keeps_piece : (most : ℕ) (read_new : List ℕ) → kind ≡ Piece → pending ≡ [] → length bytes ≤ most → read_new ≡ read ++ bytes → IsBytes read_new → ((inputs : List Received) (story : List Happened) (failed : Bool) → Stands served_rooms s inputs story failed seen old → SendsFew served_rooms s inputs story most)
@@ -213,7 +213,7 @@ module _ (s set : Settings) (named named_new : List (Input × List ℕ)) (kind :
   keeps_piece most read_new is none few grown are portion =
       let all : IsBytes (stream_of (inputs_of named) ++ bytes) = subst (λ (xs : List ℕ). IsBytes (xs ++ bytes)) (sym was.whole) (subst IsBytes grown are) in
       keeps_on (∥∥₁_elim was.taken le_prop (λ h. piece_fits s named kind bytes seen seen_new socket pending pending_new m n opened old new was.never moved most is none few all portion h)) read_new
-      (subst (λ (k : Input). stream_of (inputs_of (named ++ (k, bytes) ∷ [])) ≡ read_new) (sym is) (pieces_grow named bytes read was.whole ∙ sym grown))
+      (subst (λ (k : Input). stream_of (inputs_of (named ++ (k, bytes) ∷ [])) ≡ read_new) (sym is) (whole_more named bytes read was.whole ∙ sym grown))
 
 -- ---- the end
 

@@ -1,8 +1,6 @@
-pub mod Seats
-pub mod Queues
-pub mod Notices
 pub mod Waits
 pub mod Wires
+pub mod Rooms
 pub mod Taken
 pub mod Connections
 pub mod Served

@@ -1,4 +1,4 @@
--- What went over a connection of several so far, and what came of it.
+-- What went over a connection so far, and what came of it.
 use Rattle.std.specs.Prelude.{◌≡◌, ℕ, ◌+◌, Bool, false, List, ◌++◌, Option, Some, None}
 use Rattle.acceptor.specs.declared.state.State.{State}
 use Rattle.negotiate.specs.Settings.{Settings}
@@ -11,7 +11,7 @@ use Rattle.engine.specs.Ran.{Run, EndsLast, standing_of}
 use Rattle.engine.specs.Reached.{reached}
 use Rattle.engine.specs.Run.{wire_failures, filing_failures}
 use Rattle.engine.specs.Timeline.{Happened}
-use Rattle.connection.specs.Served.{served_rooms}
+use Rattle.serving.specs.Rooms.{served_rooms}
 use Rattle.serving.specs.declared.exchange.Exchange.{Exchange}
 use Rattle.serving.specs.Wires.{pending_in, untaken_in}
 

@@ -1,4 +1,4 @@
--- What a connection of several has taken so far, and what came of it.
+-- What a connection has taken so far, and what came of it.
 use Rattle.std.specs.Prelude.{ℕ, List, [], Some, None}
 use Rattle.negotiate.specs.Settings.{Settings}
 use Rattle.part10.specs.Store.{Store}
@@ -8,7 +8,7 @@ use Rattle.engine.specs.Devices.{devices}
 use Rattle.engine.specs.FrameFields.{Fields}
 use Rattle.engine.specs.Inputs.{Supply, inputs_of}
 use Rattle.engine.specs.Turns.{TookTurns}
-use Rattle.connection.specs.Served.{served_rooms}
+use Rattle.serving.specs.Rooms.{served_rooms}
 
 -- inputs that were given, as a source that shows them
 abbrev pub supply_of : List (Input × List ℕ) → Supply

@@ -1,7 +1,7 @@
 //! What went over one connection.
 use crate::inbox::Inbox;
 use crate::outbox::Outbox;
-use connection::SocketTrace;
+use crate::traces::SocketTrace;
 use engine::Report;
 
 /// What went over a connection whose socket is of type `S`.

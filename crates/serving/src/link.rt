@@ -1,9 +1,10 @@
-//! The socket of one of several connections. It does not block: it is read and written as far as it goes.
+//! The socket of a connection. It does not block: it is read and written as far as it goes.
 ghost use Rattle.std.specs.Prelude.{◌≡◌, ◌≢◌, ◌≤◌, ◌<◌, [], ◌++◌, take, length, IfOk, OnErr, true, false};
 
 use crate::inbox::{INBOX, Inbox};
 use crate::outbox::Outbox;
-use connection::{Observer, ReadEnd, SocketTraces};
+use crate::traces::SocketTraces;
+use connection::{Observer, ReadEnd};
 use element::traced_stream::TracedStream;
 use std::io::{Error, ErrorKind, Read, Write};
 

@@ -1,4 +1,4 @@
-//! One of several connections: its association, which takes its turns.
+//! One connection: its association, which takes its turns.
 ghost use Rattle.std.specs.Prelude.{◌≡◌, ◌≢◌, ◌<◌, ◌+◌, ◌++◌, [], length, true, false};
 ghost use Rattle.element.specs.Numbers.{IsBytes};
 ghost use Rattle.engine.specs.Drafts.{IsThere};
@@ -21,7 +21,7 @@ use std::snapshot::Snapshot;
 use std::time::Instant;
 pub use turns::Turn;
 
-/// A connection of several: a socket that does not block, and its association with what belongs to it
+/// A connection: a socket that does not block, and its association with what belongs to it
 /// alone, its filing and its times.
 ///
 /// It never waits: a turn reads and writes as far as the socket goes, and one piece at most. What was read

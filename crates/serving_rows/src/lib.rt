@@ -17,6 +17,8 @@ mod shown;
 mod store_lines;
 mod streams;
 #[cfg(test)]
+mod timer_rows;
+#[cfg(test)]
 mod turn_rows;
 
 pub use chance::Chance;

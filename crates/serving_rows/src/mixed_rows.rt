@@ -93,7 +93,7 @@ fn is_as_alone(alloc: Global, one: Mixed<'_>, side: &Side) -> bool {
     };
     taken.as_slice() == alone.wire.sent()
         && shown.as_slice() == alone.wire.sent()
-        && end.unsent.pending().is_empty()
+        && end.exchange.unsent.pending().is_empty()
         && end.filing.files() == alone.filing.files()
         && end.exchange.report.standing == Standing::Ended
         && end.exchange.report.held == alone.shown.held

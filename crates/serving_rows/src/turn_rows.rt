@@ -109,7 +109,7 @@ fn small_messages_are_read_together(rt: HostRuntime) -> Result<(), Fail> {
     }
     assert!(rt; one.turn(now, &mut room, &shown) == Turn::Socket);
     assert!(rt; script.reads.get() == 2 && one.received() == 170 + 20 * 80);
-    assert!(rt; one.end().untaken.pending().is_empty());
+    assert!(rt; one.end().exchange.untaken.pending().is_empty());
     Ok(())
 }
 
@@ -124,7 +124,7 @@ fn what_comes_after_the_end_is_not_taken(rt: HostRuntime) -> Result<(), Fail> {
     script.send(echo::ECHO)?;
     assert!(rt; one.turn(now, &mut room, &shown) == Turn::Over);
     assert!(rt; one.is_over() && one.received() == 180);
-    assert!(rt; one.end().untaken.pending() == echo::ECHO);
+    assert!(rt; one.end().exchange.untaken.pending() == echo::ECHO);
     Ok(())
 }
 
@@ -184,7 +184,7 @@ fn a_peer_that_takes_nothing_is_closed(rt: HostRuntime) -> Result<(), Fail> {
     assert!(rt; one.is_over() && shown.failures.get() == 1);
     let end = one.end();
     assert!(rt; script.took(front(echo::ACCEPT, 100)));
-    assert!(rt; end.unsent.pending().len() == 69);
+    assert!(rt; end.exchange.unsent.pending().len() == 69);
     Ok(())
 }
 
@@ -201,7 +201,7 @@ fn a_write_that_fails_closes(rt: HostRuntime) -> Result<(), Fail> {
     one.expire(after(now, 900), &shown);
     one.abort(after(now, 900), ReadEnd::Idle, &shown);
     assert!(rt; shown.failures.get() == 1 && shown.end.get().is_none());
-    assert!(rt; one.end().unsent.pending() == echo::ACCEPT);
+    assert!(rt; one.end().exchange.unsent.pending() == echo::ACCEPT);
     Ok(())
 }
 

@@ -2,13 +2,13 @@
 use super::{LISTENER, Server};
 use crate::stopping::clear;
 use crate::terms::ServerTerms;
+use admitting::{Notice, Places, Queue};
 use connection::PIECE;
 use journal::{Listening, Stopped, Teller};
 use log::Log;
 use mio::net::TcpListener;
 use mio::{Events, Interest, Poll, Token};
 use part10::{Filing, FolderFiling, FolderWriter};
-use serving::{Notice, Places, Queue};
 use std::alloc::{AllocError, Global};
 use std::fs::File;
 use std::net::Net;
@@ -16,13 +16,15 @@ use std::rt::Files;
 use std::time::{Clock, Instant};
 use std::{io, net};
 
-/// Returns no filing for so many places.
-fn no_filings<S: Files<File = File> + Alloc<A = Global> + Clone + Drop>(
+/// Returns the filings of so many places, of which the first has this one.
+fn filings_of<S: Files<File = File> + Alloc<A = Global> + Clone + Drop>(
     alloc: Global,
     count: usize,
+    first: FolderFiling<S>,
 ) -> Result<Vec<Option<FolderFiling<S>>>, AllocError> {
     let mut filings = Vec::with_capacity(alloc, count)?;
-    for _ in 0..count {
+    filings.push(Some(first))?;
+    for _ in 1..count {
         filings.push(None)?;
     }
     Ok(filings)
@@ -37,11 +39,12 @@ fn server_of<
     rt: &'a R,
     listener: net::TcpListener,
     terms: ServerTerms<'a>,
-    folder: FolderWriter<S>,
+    filings: (FolderWriter<S>, FolderFiling<S>),
 ) -> io::Result<Server<'a, R, S>>
 where
     FolderFiling<S>: Filing,
 {
+    let (folder, first) = filings;
     let now = Instant::now(rt)?;
     listener.set_nonblocking(true)?;
     let mut listener = TcpListener::from_std(listener);
@@ -50,7 +53,7 @@ where
         .register(&mut listener, Token(LISTENER), Interest::READABLE)?;
     let alloc = rt.alloc();
     let places = Places::new(alloc, terms.at_once, terms.per_peer)?;
-    let filings = no_filings(alloc, terms.at_once)?;
+    let filings = filings_of(alloc, terms.at_once, first)?;
     let queue = Queue::new(alloc, terms.at_once)?;
     let room = Vec::from_elem(alloc, 0, PIECE)?;
     Ok(Server {
@@ -75,8 +78,9 @@ where
     })
 }
 
-/// Serves the associations of the connections that this listener accepts, many at once, until the
-/// file appears that ends the server, or only one where that was asked for. Logs what happens.
+/// Serves the associations of the connections that this listener accepts, as many at once as there are
+/// places, until the file appears that ends the server, or only one where that was asked for. Logs what
+/// happens. The first place files by the filing that is handed in, each other one by one of the folder.
 ///
 /// Fails if the clock or the poll does, or if memory runs out at the start.
 pub fn serve_many<
@@ -87,7 +91,7 @@ pub fn serve_many<
     listener: net::TcpListener,
     terms: ServerTerms<'_>,
     files: &S,
-    folder: FolderWriter<S>,
+    folder: (FolderWriter<S>, FolderFiling<S>),
 ) -> io::Result<()> {
     clear(files, terms.stop_file)?;
     let teller = Teller::new(rt, terms.form);

@@ -1,0 +1,91 @@
+//! Who waits until its peer gets a place.
+ghost use Rattle.std.specs.Prelude.{◌≡◌, ◌≤◌, ◌<◌, ◌==◌, ◌↔◌, [], ◌∷◌, ◌++◌, IfOk, IsTrue, length, true, false};
+ghost use Rattle.std.specs.Vec.{vec_capacity};
+
+use crate::places::{Admission, Places};
+use std::alloc::{AllocError, Allocator};
+
+/// Who waits for a place.
+#[derive(Drop)]
+pub struct Waiter<T> {
+    /// The number of its peer's address.
+    pub peer: u128,
+    /// What is served once the peer gets a place.
+    pub waiting: T,
+}
+
+/// Those that wait for a place, in the order in which they came, and how many may.
+#[derive(Drop)]
+pub struct Queue<T, A: Allocator> {
+    waiters: Vec<Waiter<T>, A>,
+    most: usize,
+    /// There is room for all that may wait, so a push takes no memory.
+    ghost room: { most ≤ vec_capacity waiters },
+}
+
+impl<T: Drop, A: Allocator> Queue<T, A> {
+    ghost use Rattle.admitting.specs.Queues.{AdmitsFirst, FindsFirst, most_in, waiting_in};
+
+    /// Returns a queue in which at most so many wait, and nobody yet.
+    ///
+    /// Fails if memory runs out.
+    pub fn new(alloc: A, most: usize) -> Result<Queue<T, A>, AllocError>
+        ensures empty { IfOk result (λ q. waiting_in q ≡ []) }
+        ensures most { IfOk result (λ q. most_in q ≡ most) }
+    {
+        Ok(Queue {
+            waiters: Vec::with_capacity(alloc, most)?,
+            most,
+        })
+    }
+
+    /// Lets one more wait, after the others. Returns whether there is room for it; if not, it is dropped.
+    pub fn push(&mut self, waiter: Waiter<T>) -> bool
+        ensures room { IsTrue result ↔ (length (waiting_in self.old) < most_in self.old) }
+        ensures last { result ≡ true → waiting_in self.new ≡ waiting_in self.old ++ waiter ∷ [] }
+        ensures same { result ≡ false → waiting_in self.new ≡ waiting_in self.old }
+        ensures same_most { most_in self.new ≡ most_in self.old }
+    {
+        self.waiters.len() < self.most && self.waiters.push(waiter).is_ok()
+    }
+
+    /// Gives the first place that is free to the first whose peer gets it. Returns where it waits, and the
+    /// place.
+    fn find(&self, places: &mut Places<A>) -> Option<(usize, usize)>
+        ensures finds { FindsFirst (waiting_in self.now) places.old places.new result }
+    {
+        for at in 0..self.waiters.len() {
+            match places.admit(self.waiters[at].peer) {
+                Admission::Place(place) => return Some((at, place)),
+                Admission::Full => return None,
+                Admission::PeerFull => {}
+            }
+        }
+        None
+    }
+
+    /// Returns the first whose peer gets a place, which no longer waits, and the place; or `None` if nobody's
+    /// does.
+    pub fn admit(&mut self, places: &mut Places<A>) -> Option<(Waiter<T>, usize)>
+        ensures admits { AdmitsFirst (waiting_in self.old) (waiting_in self.new) places.old places.new result }
+        ensures same_most { most_in self.new ≡ most_in self.old }
+    {
+        let (at, place) = self.find(places)?;
+        Some((self.waiters.remove(at), place))
+    }
+
+    /// Drops all that wait.
+    pub fn clear(&mut self)
+        ensures empty { waiting_in self.new ≡ [] }
+        ensures same_most { most_in self.new ≡ most_in self.old }
+    {
+        self.waiters.clear();
+    }
+
+    /// Returns whether nobody waits.
+    pub fn is_empty(&self) -> bool
+        ensures { result ≡ (length (waiting_in self.now) == 0) }
+    {
+        self.waiters.is_empty()
+    }
+}

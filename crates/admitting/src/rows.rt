@@ -1,0 +1,106 @@
+//! Peers that come, wait and go.
+
+use crate::{Admission, Notice, Places, Queue, Waiter, peer_number};
+use std::net::{IpAddr, Ipv4Addr, Ipv6Addr};
+use std::test::Fail;
+use std::time::{Duration, Instant};
+
+/// Whether these peers, one after the other, get this.
+fn get(places: &mut Places<std::alloc::Global>, rows: &[(u128, Admission)]) -> bool {
+    for (peer, admission) in rows {
+        if places.admit(*peer) != *admission {
+            return false;
+        }
+    }
+    true
+}
+
+#[test]
+fn peers_come_and_go(rt: HostRuntime) -> Result<(), Fail> {
+    let mut places = Places::new(rt.alloc(), 4, 2)?;
+    assert!(rt; places.len() == 4);
+    let rows = [
+        (7, Admission::Place(0)),
+        (7, Admission::Place(1)),
+        (7, Admission::PeerFull),
+        (8, Admission::Place(2)),
+        (9, Admission::Place(3)),
+        (8, Admission::Full),
+        (7, Admission::PeerFull),
+    ];
+    assert!(rt; get(&mut places, &rows));
+    if places.len() == 4 {
+        places.leave(1);
+        assert!(rt; places.peer(1).is_none() && places.peer(0) == Some(7));
+    }
+    let rows = [
+        (7, Admission::Place(1)),
+        (7, Admission::PeerFull),
+        (9, Admission::Full),
+    ];
+    assert!(rt; get(&mut places, &rows));
+    Ok(())
+}
+
+/// The next that leaves the queue: what waited, and its place.
+fn next(
+    queue: &mut Queue<char, std::alloc::Global>,
+    places: &mut Places<std::alloc::Global>,
+) -> Option<(char, usize)> {
+    let (waiter, place) = queue.admit(places)?;
+    Some((waiter.waiting, place))
+}
+
+#[test]
+fn peers_wait_in_their_order(rt: HostRuntime) -> Result<(), Fail> {
+    let mut places = Places::new(rt.alloc(), 3, 1)?;
+    let mut queue = Queue::new(rt.alloc(), 4)?;
+    assert!(rt; places.len() == 3 && places.admit(7) == Admission::Place(0));
+    let rows = [(7, 'a'), (8, 'b'), (7, 'c'), (9, 'd')];
+    for (peer, waiting) in rows {
+        assert!(rt; queue.push(Waiter { peer, waiting }));
+    }
+    assert!(rt;
+        !queue.push(Waiter {
+            peer: 10,
+            waiting: 'e'
+        })
+    );
+    assert!(rt; next(&mut queue, &mut places) == Some(('b', 1)));
+    assert!(rt; next(&mut queue, &mut places) == Some(('d', 2)));
+    assert!(rt; next(&mut queue, &mut places) == None);
+    if places.len() == 3 {
+        places.leave(0);
+    }
+    assert!(rt; next(&mut queue, &mut places) == Some(('a', 0)));
+    assert!(rt; next(&mut queue, &mut places) == None && !queue.is_empty());
+    queue.clear();
+    assert!(rt; queue.is_empty());
+    Ok(())
+}
+
+#[test]
+fn told_once_a_minute(rt: HostRuntime) -> Result<(), Fail> {
+    let begin = Instant::now(&rt)?;
+    let mut notice = Notice::new();
+    assert!(rt; notice.is_due(begin) && !notice.is_due(after(begin, 59)));
+    assert!(rt; notice.is_due(after(begin, 60)) && !notice.is_due(after(begin, 119)));
+    assert!(rt; notice.is_due(after(begin, 500)) && !notice.is_due(after(begin, 500)));
+    Ok(())
+}
+
+#[test]
+fn addresses_of_one_peer(rt: HostRuntime) {
+    let four = peer_number(IpAddr::V4(Ipv4Addr::new(10, 0, 0, 7)));
+    let mapped = peer_number(IpAddr::V6(Ipv6Addr::new(0, 0, 0, 0, 0, 0xffff, 0x0a00, 7)));
+    let six = peer_number(IpAddr::V6(Ipv6Addr::new(0, 0, 0, 0, 0, 0, 0x0a00, 7)));
+    assert!(rt; four == mapped && four != six);
+}
+
+/// Returns the time so many seconds after another one.
+fn after(time: Instant, seconds: u64) -> Instant {
+    match time.checked_add(Duration::from_secs(seconds)) {
+        Some(time) => time,
+        None => time,
+    }
+}

@@ -1,3 +1,0 @@
-pub mod Served
-pub mod Measured
-pub mod GivenLaws
