@@ -20,7 +20,7 @@ pub enum ReadEnd {
 
 /// Is shown what goes over a connection, and can change none of it.
 pub trait Observer {
-    /// These bytes were received; the association takes them next.
+    /// These bytes were received; the association takes them next, or one portion after the other.
     fn received(&self, bytes: &[u8]);
 
     /// These bytes were sent.

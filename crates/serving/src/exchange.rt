@@ -9,7 +9,7 @@ use engine::Report;
 pub struct Exchange<S> {
     /// How its association stands.
     pub report: Report,
-    /// How many bytes its association has taken.
+    /// How many bytes were read.
     pub received: u64,
     /// What contracts see of the bytes that were read.
     pub read: SocketTrace<S>,

@@ -64,8 +64,8 @@ impl<S> Link<S> {
 impl<S: Read> Link<S> {
     ghost use Rattle.serving.specs.Wires.{Arrives, ReadsMore, untaken_in};
 
-    /// Reads what has come, at most as many bytes as there is room for.
-    fn read(&mut self, room: &mut [u8]) -> Arrival
+    /// Reads what has come, at most as many bytes as there is room for, which the observer is shown.
+    fn read<B: Observer>(&mut self, room: &mut [u8], observer: &B) -> Arrival
         ensures reads { ReadsMore result self.old.stream.read.bytes self.new.stream.read.bytes room.new }
         ensures same_room { length room.new ≡ length room.old }
         ensures same_written { self.new.stream.written ≡ self.old.stream.written }
@@ -74,15 +74,24 @@ impl<S: Read> Link<S> {
     {
         match self.stream.read(room) {
             Ok(0) => Arrival::End(ReadEnd::Closed),
-            Ok(len) => Arrival::Bytes(len),
+            Ok(len) => {
+                observer.received(&room[..len]);
+                Arrival::Bytes(len)
+            }
             Err(error) if error.kind() == ErrorKind::WouldBlock => Arrival::Nothing,
             Err(_) => Arrival::End(ReadEnd::Failed),
         }
     }
 
     /// Lends the next bytes that the association is to take, at most a portion, at the front of the room:
-    /// of those that wait, else of what has come. What was read beyond the portion waits.
-    pub(crate) fn receive(&mut self, room: &mut [u8], portion: usize) -> Arrival
+    /// of those that wait, else of what has come. What was read beyond the portion waits. The observer is
+    /// shown all that is read.
+    pub(crate) fn receive<B: Observer>(
+        &mut self,
+        room: &mut [u8],
+        portion: usize,
+        observer: &B,
+    ) -> Arrival
         requires some_room { 0 < length room.old }
         requires some { 0 < portion }
         ensures arrives { Arrives portion result self.old self.new room.new }
@@ -94,7 +103,7 @@ impl<S: Read> Link<S> {
             return Arrival::Bytes(self.inbox.take_front(&mut room[..most]));
         }
         let most = room.len().min(portion.saturating_add(beyond(portion)));
-        match self.read(&mut room[..most]) {
+        match self.read(&mut room[..most], observer) {
             Arrival::Bytes(len) if len > portion => {
                 self.inbox.keep(&room[portion..len]);
                 Arrival::Bytes(portion)

@@ -143,10 +143,11 @@ impl<S: Drop, F: Filing> Connection<S, F> {
         filing.discard();
         let report = self.running.report();
         let (traces, untaken, unsent) = self.link.end();
+        let received = self.received.saturating_add(untaken.pending().len() as u64);
         ConnectionEnd {
             exchange: Exchange {
                 report,
-                received: self.received,
+                received,
                 read: traces.read,
                 sent: traces.sent,
                 untaken,

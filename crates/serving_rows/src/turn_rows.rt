@@ -58,7 +58,7 @@ fn a_large_fragment_is_one_piece(rt: HostRuntime) -> Result<(), Fail> {
     let mut room = [0u8; 65536];
     script.send(request(rt.alloc(), EXPLICIT)?.as_slice())?;
     assert!(rt; one.turn(now, &mut room, &shown) == Turn::Socket);
-    assert!(rt; shown.pieces.get() == 2 && script.reads.get() == 2);
+    assert!(rt; shown.pieces.get() == 1 && script.reads.get() == 2);
     // A data set of 60 bytes and of pixels, three fragments of 16,378 bytes.
     let head = b"\xe0\x7f\x10\0OW\0\0\xb2\xbf\0\0";
     let pixels = [0u8; 16378];
@@ -69,8 +69,8 @@ fn a_large_fragment_is_one_piece(rt: HostRuntime) -> Result<(), Fail> {
     script.send(data(rt.alloc(), 0, &pixels)?.as_slice())?;
     script.send(data(rt.alloc(), 2, &pixels)?.as_slice())?;
     assert!(rt; one.turn(now, &mut room, &shown) == Turn::Socket);
-    // Of the first fragment, what came with the command is a piece of its own.
-    assert!(rt; shown.pieces.get() == 2 + 3 + 4 + 3 + 3 && script.reads.get() == 7);
+    // What came of the first fragment with the command is read with it; then each fragment is one read.
+    assert!(rt; shown.pieces.get() == 1 + 4 && script.reads.get() == 2 + 5);
     assert!(rt; one.end().filing.files().len() == 1);
     Ok(())
 }

@@ -166,13 +166,12 @@ impl<S: Read + Write, F: Filing> Connection<S, F> {
         ensures opening { opening_of self.new ≡ opening_of self.old }
         ensures nothing { result ≡ Arrival.Nothing → untaken_at self.new ≡ [] }
     {
-        let arrival = self.link.receive(room, self.running.portion());
+        let arrival = self.link.receive(room, self.running.portion(), observer);
         match arrival {
             Arrival::Nothing => {}
             Arrival::Bytes(len) => {
                 let piece = &room[..len];
                 is_of_bytes(piece);
-                observer.received(piece);
                 self.received = self.received.saturating_add(len as u64);
                 self.given.push(&Input::Piece, piece);
                 self.running.take(Input::Piece, piece, &mut self.link.outbox, &mut self.filing);
