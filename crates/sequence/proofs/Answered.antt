@@ -1,6 +1,6 @@
 -- A step answers what is to be told.
 use Rattle.std.proofs.Common.{◌≡◌, ℕ, ◌<◌, ◌≤◌, Bool, true, false, not, List, [], ◌++◌, length, refl, sym, ap, subst, ◌∙◌, if◌then◌else◌}
-use Rattle.element.specs.declared.syntax.Syntax.{Syntax}
+use Rattle.sequence.specs.declared.coding.Coding.{Coding}
 use Rattle.element.specs.declared.tag.Tag.{Tag}
 use Rattle.element.specs.declared.header.Header.{Header}
 use Rattle.element.specs.Header.{is_marker, item_tag}
@@ -22,7 +22,7 @@ use Rattle.sequence.proofs.Holding.{Walks}
 use Rattle.sequence.proofs.Tales.{stands, goes_unbroken, stop_first, heading_front}
 
 -- the fault is the first one of the text c
-pub record HasFault (s : Syntax) (lim : Limits) (c : List ℕ) (fault : Fault) : Type 0 where
+pub record HasFault (s : Coding) (lim : Limits) (c : List ℕ) (fault : Fault) : Type 0 where
   pub before : List ℕ
   pub bytes : List ℕ
   pub first : FirstFault s lim c before bytes fault.number fault.tag
@@ -65,7 +65,7 @@ module _ {V D : ℕ} (w : Walker V D) (c : List ℕ) (h : Walks w c) where
       let x = heading_front s lim (keeps lim (start s) [] c) f fs _ w.header.items c k.1 in
       record { elements = x.elements; path = x.path; last = x.last; begun = w.header.items; front = x.front; some = some; own = own }
 
-pub told_by_tag : (s : Syntax) (lim : Limits) (b piece taken : List ℕ) (hd : Header) (m i : Bool) → is_marker hd.tag ≡ m → same_tag hd.tag item_tag ≡ i → IsUnbroken s lim (b ++ taken) → EndsHeader s (b ++ taken) taken hd → Answers s lim b piece taken (if not m then Element hd else (if i then Opened hd else Closed hd))
+pub told_by_tag : (s : Coding) (lim : Limits) (b piece taken : List ℕ) (hd : Header) (m i : Bool) → is_marker hd.tag ≡ m → same_tag hd.tag item_tag ≡ i → IsUnbroken s lim (b ++ taken) → EndsHeader s (b ++ taken) taken hd → Answers s lim b piece taken (if not m then Element hd else (if i then Opened hd else Closed hd))
 told_by_tag s lim b piece taken hd false i m-is i-is ok ends = element ok ends m-is
 told_by_tag s lim b piece taken hd true true m-is i-is ok ends = opened ok ends m-is i-is
 told_by_tag s lim b piece taken hd true false m-is i-is ok ends = closed ok ends m-is i-is

@@ -1,6 +1,6 @@
 -- A header is due.
 use Rattle.std.proofs.Common.{◌≡◌, ℕ, ◌+◌, Bool, true, false, List, [], ◌∷◌, ◌++◌, length, Option, Some, None, is_some, refl, sym, ap, subst, ◌∙◌, inl, append-nil, eqb-true, if◌then◌else◌, lit<}
-use Rattle.element.specs.declared.syntax.Syntax.{Syntax}
+use Rattle.sequence.specs.declared.coding.Coding.{Coding}
 use Rattle.element.specs.declared.header.Header.{Header}
 use Rattle.element.specs.Header.{need, is_whole}
 use Rattle.sequence.specs.declared.level.Scope.{Scope}
@@ -28,11 +28,11 @@ pub none_none : (x : Broken) → (x or_else None or_else None or_else None) ≡ 
 none_none None = refl
 none_none (Some x) = refl
 
-pub no_header : (s : Syntax) → IsUnfinishedHeader s []
+pub no_header : (s : Coding) → IsUnfinishedHeader s []
 unfolding is_whole need
 no_header s = record { part = refl; good = λ e. absurd cc }
 
-due_stands : (s : Syntax) (lim : Limits) (values : Values) (f : Scope) (fs : List Scope) (b : List ℕ) (x : Broken) → broken_due (spot_of f fs (length b)) ≡ x → IsDue s lim values f fs b → Stands s lim (due_by x f fs (length b)) values b
+due_stands : (s : Coding) (lim : Limits) (values : Values) (f : Scope) (fs : List Scope) (b : List ℕ) (x : Broken) → broken_due (spot_of f fs (length b)) ≡ x → IsDue s lim values f fs b → Stands s lim (due_by x f fs (length b)) values b
 unfolding broken is_whole need
 due_stands s lim values f fs b None e d = (
   refl,
@@ -60,7 +60,7 @@ due_stands s lim values f fs b (Some x) e d = record {
 }
 
 -- a place where a header is due: the levels, and the machine's state there
-pub record Lands (s : Syntax) (lim : Limits) (values : Values) (st : State) (p : List ℕ) : Type 0 where
+pub record Lands (s : Coding) (lim : Limits) (values : Values) (st : State) (p : List ℕ) : Type 0 where
   pub top : Scope
   pub below : List Scope
   pub due-is : IsDue s lim values top below p
@@ -70,24 +70,24 @@ ends_here : (o : Option ℕ) (p : ℕ) → stops_at o p ≡ true → o ≡ Some 
 ends_here None p h = absurd cc
 ends_here (Some e) p h = ap Some (eqb-true e p h)
 
-root_stays : {s : Syntax} {ws : List Want} {values : Values} {f : Scope} {b : List ℕ} (n : ℕ) → Reaches s ws values f [] b → stops_at f.stop n ≡ false
+root_stays : {s : Coding} {ws : List Want} {values : Values} {f : Scope} {b : List ℕ} (n : ℕ) → Reaches s ws values f [] b → stops_at f.stop n ≡ false
 root_stays n (at_root d e k fits) = refl
 
-arrives_by : (s : Syntax) (lim : Limits) (values : Values) (f g : Scope) (gs : List Scope) (p : List ℕ) (b : Bool) → stops_at f.stop (length p) ≡ b → Reaches s lim.wanted values f (g ∷ gs) p → AreLevels lim f (g ∷ gs) (length p) → (Reaches s lim.wanted values g gs p → AreLevels lim g gs (length p) → Lands s lim values (arrive (length p) g gs) p)
+arrives_by : (s : Coding) (lim : Limits) (values : Values) (f g : Scope) (gs : List Scope) (p : List ℕ) (b : Bool) → stops_at f.stop (length p) ≡ b → Reaches s lim.wanted values f (g ∷ gs) p → AreLevels lim f (g ∷ gs) (length p) → (Reaches s lim.wanted values g gs p → AreLevels lim g gs (length p) → Lands s lim values (arrive (length p) g gs) p)
     → Lands s lim values (if b then arrive (length p) g gs else due f (g ∷ gs) (length p)) p
 arrives_by s lim values f g gs p true e r l go = go (subst (λ z. Reaches s lim.wanted values g gs z) (append-nil p) (level_ends [] r (inl (ends_here f.stop (length p) e, refl)))) (levels_end lim f g gs (length p) l)
 arrives_by s lim values f g gs p false e r l go = record { top = f; below = g ∷ gs; due-is = record { reaches = r; levels = l; stays = e }; lands = refl }
 
-arrives : (s : Syntax) (lim : Limits) (values : Values) (f : Scope) (fs : List Scope) (p : List ℕ) → Reaches s lim.wanted values f fs p → AreLevels lim f fs (length p) → Lands s lim values (arrive (length p) f fs) p
+arrives : (s : Coding) (lim : Limits) (values : Values) (f : Scope) (fs : List Scope) (p : List ℕ) → Reaches s lim.wanted values f fs p → AreLevels lim f fs (length p) → Lands s lim values (arrive (length p) f fs) p
 unfolding arrive
 arrives s lim values f [] p r l = record { top = f; below = []; due-is = record { reaches = r; levels = l; stays = root_stays (length p) r }; lands = refl }
 arrives s lim values f (g ∷ gs) p r l = arrives_by s lim values f g gs p (stops_at f.stop (length p)) refl r l (λ r2 l2. arrives s lim values g gs p r2 l2)
 
-lands_stand : (s : Syntax) (lim : Limits) (values : Values) (st : State) (b : List ℕ) → Lands s lim values st b → Stands s lim st values b
+lands_stand : (s : Coding) (lim : Limits) (values : Values) (st : State) (b : List ℕ) → Lands s lim values st b → Stands s lim st values b
 unfolding due
 lands_stand s lim values st b l = rw l.lands (due_stands s lim values l.top l.below b (broken_due (spot_of l.top l.below (length b))) refl l.due-is)
 
-pub arrive_stands : {s : Syntax} {values : Values} {f : Scope} {fs : List Scope} {b : List ℕ} (lim : Limits) (p : ℕ) → p ≡ length b → Reaches s lim.wanted values f fs b → AreLevels lim f fs p → Stands s lim (arrive p f fs) values b
+pub arrive_stands : {s : Coding} {values : Values} {f : Scope} {fs : List Scope} {b : List ℕ} (lim : Limits) (p : ℕ) → p ≡ length b → Reaches s lim.wanted values f fs b → AreLevels lim f fs p → Stands s lim (arrive p f fs) values b
 arrive_stands {s = s} {values = values} {f = f} {fs = fs} {b = b} lim p e r l = rw e (lands_stand s lim values (arrive (length b) f fs) b (arrives s lim values f fs b r (subst (AreLevels lim f fs) e l)))
 
 same_levels : {lim : Limits} {f : Scope} {fs : List Scope} {n : ℕ} (g : Scope) → f.stop ≡ g.stop → AreLevels lim f fs n → AreLevels lim g fs n

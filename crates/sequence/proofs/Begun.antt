@@ -1,6 +1,6 @@
 -- A header of which some bytes are kept.
 use Rattle.std.proofs.Common.{◌≡◌, ℕ, ◌-◌, ◌<◌, Bool, true, false, not, ◌&&◌, List, [], ◌∷◌, ◌++◌, length, None, Some, is_none, refl, sym, ap, subst, ◌∙◌, arith, append-nil}
-use Rattle.element.specs.declared.syntax.Syntax.{Syntax}
+use Rattle.sequence.specs.declared.coding.Coding.{Coding}
 use Rattle.element.specs.Header.{need, is_whole}
 use Rattle.sequence.specs.declared.level.Scope.{Scope}
 use Rattle.sequence.specs.declared.stage.Stage.{Stage}
@@ -36,7 +36,7 @@ pub begun_quiet : (lim : Limits) (f : Scope) (fs : List Scope) (p : ℕ) (t : Li
 begun_quiet lim f fs p [] e some = absurd (omega (arith, some))
 begun_quiet lim f fs p (x ∷ t) e some = let k = both _ _ e in record { fine = none_is _ k.0; part = not_true _ k.1 }
 
-nothing_unfinished : (s : Syntax) → IsUnfinishedHeader s []
+nothing_unfinished : (s : Coding) → IsUnfinishedHeader s []
 unfolding is_whole need
 nothing_unfinished s = record { part = refl; good = λ e. absurd cc }
 

@@ -1,7 +1,7 @@
 -- What a walk holds has a bound: the rooms of the wanted values, an unfinished header, and 16 for each level of the limit.
 use Rattle.std.proofs.Common.{◌≡◌, ℕ, ◌+◌, ◌*◌, ◌<◌, ◌≤◌, Bool, true, false, ◌&&◌, List, [], ◌∷◌, ◌++◌, length, Option, Some, None, is_some, nat_eq, nat_lt, refl, ap, arith, inl, inr, eqb-true, if◌then◌else◌}
 use Rattle.std.proofs.lemmas.Bool.{cases_lt, lt-ltb, le-ltb}
-use Rattle.element.specs.declared.syntax.Syntax.{Syntax}
+use Rattle.sequence.specs.declared.coding.Coding.{Coding}
 use Rattle.element.specs.Header.{number}
 use Rattle.sequence.specs.declared.level.Scope.{Scope}
 use Rattle.sequence.specs.declared.wanted.Want.{Want}
@@ -66,7 +66,7 @@ kept_value ws last t left v more None e lt fit le = omega (arith, le, fewer_abov
 kept_value ws last t left v more (Some room) e lt fit le = omega (arith, fit room e, le, room_above last t room ws lt e)
 
 -- those of a data set leave the rooms of the tags after it
-kept_small : {s : Syntax} {last : ℕ} {es : Elements} {b : List ℕ} (ws : List Want) → DataSet s last es b → FitRooms ws es → size_of_values (kept_of ws es) + above (last_of last es) ws ≤ above last ws
+kept_small : {s : Coding} {last : ℕ} {es : Elements} {b : List ℕ} (ws : List Want) → DataSet s last es b → FitRooms ws es → size_of_values (kept_of ws es) + above (last_of last es) ws ≤ above last ws
 kept_small ws nothing fit = omega arith
 kept_small ws (value_then {last = last} {h = h} {v = v} {es = es} el sh val rest) fit =
     kept_value ws last (number h.tag) (above (last_of (number h.tag) es) ws) v (kept_of ws es) (room_of ws (number h.tag)) refl el.rising fit.0 (kept_small ws rest fit.1)
@@ -80,7 +80,7 @@ abbrev still : ℕ → List Scope → List Want → ℕ
 still last [] ws = above last ws
 still last (f ∷ fs) ws = 0
 
-reached_small : {s : Syntax} {ws : List Want} {values : Values} {f : Scope} {fs : List Scope} {b : List ℕ} → Reaches s ws values f fs b → size_of_values values + still f.last fs ws ≤ rooms ws
+reached_small : {s : Coding} {ws : List Want} {values : Values} {f : Scope} {fs : List Scope} {b : List ℕ} → Reaches s ws values f fs b → size_of_values values + still f.last fs ws ≤ rooms ws
 reached_small {ws = ws} (at_root {es = es} {last = last} set last_is kept fits) =
     omega (arith, kept_small ws set fits, ap (λ (n : ℕ). above n ws) last_is, ap size_of_values kept, all_above 0 ws)
 reached_small (into_sequence r el sh len some items stop_is k_is text) = let le = reached_small r in omega (arith, le)
@@ -99,11 +99,11 @@ begun_small lim [] last t n v whole le lt fit few = by (room_of lim.wanted t) re
     by None e = omega (arith, le)
     by (Some room) e = omega (arith, le, few, fit room e, room_above last t room lim.wanted lt e, size_with whole (t, v))
 
-reading_small : (s : Syntax) (lim : Limits) (values : Values) (f : Scope) (fs : List Scope) (n : ℕ) (b : List ℕ) {t : _} → IsReading s lim values f fs t n b → size_of_values values ≤ rooms lim.wanted
+reading_small : (s : Coding) (lim : Limits) (values : Values) (f : Scope) (fs : List Scope) (n : ℕ) (b : List ℕ) {t : _} → IsReading s lim values f fs t n b → size_of_values values ≤ rooms lim.wanted
 reading_small s lim values f fs n b r =
     omega (arith, ap size_of_values r.kept, begun_small lim fs r.last (number r.h.tag) r.h.length r.v r.whole (reached_small r.reaches) r.element.rising r.fits (let size = r.size in omega (arith, size)))
 
-mode_small : (s : Syntax) (lim : Limits) (values : Values) (f : Scope) (fs : List Scope) (p : ℕ) (m : Mode) (b : List ℕ) → StandsIn s lim values f fs p m b → header_in m + size_of_values values + 16 * length fs ≤ 12 + rooms lim.wanted + 16 * lim.depth
+mode_small : (s : Coding) (lim : Limits) (values : Values) (f : Scope) (fs : List Scope) (p : ℕ) (m : Mode) (b : List ℕ) → StandsIn s lim values f fs p m b → header_in m + size_of_values values + 16 * length fs ≤ 12 + rooms lim.wanted + 16 * lim.depth
 mode_small s lim values f fs p (Heading begin t) b h = omega (arith, part_short f.syntax t h.1.tail, reached_small h.1.due.reaches, h.1.due.levels.deep)
 mode_small s lim values f fs p (Reading t n) b h = omega (arith, reading_small s lim values f fs n b h.1, h.1.levels.deep)
 mode_small s lim values f fs p (Stopped rule place t) b h = omega (arith, reached_small h.due.reaches, h.due.levels.deep)

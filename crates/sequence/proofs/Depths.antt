@@ -1,6 +1,6 @@
 -- No front of a text that the walk went over has more open levels than the limit.
 use Rattle.std.proofs.Common.{◌≡◌, ℕ, ◌+◌, ◌-◌, ◌≤◌, ◌≢◌, ◌⊎◌, Bool, true, false, List, [], ◌∷◌, ◌++◌, length, Some, None, refl, sym, ap, subst, ◌∙◌, inl, inr, arith, append_assoc, append-nil, length-append}
-use Rattle.element.specs.declared.syntax.Syntax.{Syntax}
+use Rattle.sequence.specs.declared.coding.Coding.{Coding}
 use Rattle.sequence.specs.declared.level.Scope.{Scope}
 use Rattle.sequence.specs.Shape.{is_undefined}
 use Rattle.sequence.specs.Tree.{Elements}
@@ -17,7 +17,7 @@ use Rattle.sequence.proofs.Refusals.{depth_over, arrive_over}
 use Rattle.sequence.proofs.Tales.{stands, stays_stopped, front_bytes}
 
 -- the same front without its tail
-record Cut (s : Syntax) (b : List ℕ) (path : List PathEntry) : Type 0 where
+record Cut (s : Coding) (b : List ℕ) (path : List PathEntry) : Type 0 where
   text : List ℕ
   rest : List ℕ
   parts : b ≡ text ++ rest
@@ -51,7 +51,7 @@ last_innermost [] (d ∷ path2) e e2 more more2 same h h2 f = absurd (omega arit
 last_innermost (d ∷ path) [] e e2 more more2 same h h2 f = absurd (omega arith)
 last_innermost (d ∷ path) (d2 ∷ path2) e e2 more more2 same h h2 f = h2
 
-cut : {s : Syntax} {b : List ℕ} {es : Elements} {path : List PathEntry} {last : ℕ} {tail : Tail} → Nested s b es path last tail → IsInnermost path → Cut s b path
+cut : {s : Coding} {b : List ℕ} {es : Elements} {path : List PathEntry} {last : ℕ} {tail : Tail} → Nested s b es path last tail → IsInnermost path → Cut s b path
 cut (at_elements {s = s} {es = es} {b = b} {t = t} set tail) h = record { text = b ++ []; rest = t; parts = ap (λ z. z ++ t) (sym (append-nil b)); elements = es; path2 = []; last = _; nested = at_elements set (header_tail (no_header s)); same = refl; innermost = tt }
 cut (in_sequence_of q {t = t} level tail) i =
     let le : length (q.item_bytes ++ []) ≤ length (q.item_bytes ++ t) = omega (arith, length-append q.item_bytes t, length-append q.item_bytes []) in
@@ -83,7 +83,7 @@ cut (in_item_of q {k = k} {kb = kb} {b2 = b2} {path = path} {last = last} level 
       innermost = last_innermost path c.path2 _ _ _ _ c.same i c.innermost (less_left k.length (length b2) (length c.text) le2);
     }
 
-deep_in : (s : Syntax) (lim : Limits) (values : Values) (f : Scope) (fs : List Scope) (p : ℕ) (m : Mode) (b : List ℕ) → StandsIn s lim values f fs p m b → length fs ≤ lim.depth
+deep_in : (s : Coding) (lim : Limits) (values : Values) (f : Scope) (fs : List Scope) (p : ℕ) (m : Mode) (b : List ℕ) → StandsIn s lim values f fs p m b → length fs ≤ lim.depth
 deep_in s lim values f fs p (Heading begin t) b h = h.1.due.levels.deep
 deep_in s lim values f fs p (Reading t n) b h = h.1.levels.deep
 deep_in s lim values f fs p (Stopped rule place t) b h = h.due.levels.deep
@@ -92,7 +92,7 @@ due_below : (x : Broken) (f : Scope) (fs : List Scope) (p : ℕ) → (due_by x f
 due_below None f fs p = refl
 due_below (Some x) f fs p = refl
 
-start_is : (s : Syntax) → start s ≡ arrive 0 (set_scope s None 0) []
+start_is : (s : Coding) → start s ≡ arrive 0 (set_scope s None 0) []
 unfolding arrive due
 start_is s = refl
 
@@ -101,7 +101,7 @@ unfolding due
 due_levels f fs p = due_below (broken_due (spot_of f fs p)) f fs p
 
 -- no front of what did not stop the walk is deeper than the limit
-pub never_deeper : (s : Syntax) (lim : Limits) (b : List ℕ) → IsBytes b → (HasStopped (run lim (start s) b).mode → ⊥) → (p rest : List ℕ) (es : Elements) (path : List PathEntry) (last : ℕ) (tail : Tail) → b ≡ p ++ rest → Open s p es path last tail → length path ≤ lim.depth
+pub never_deeper : (s : Coding) (lim : Limits) (b : List ℕ) → IsBytes b → (HasStopped (run lim (start s) b).mode → ⊥) → (p rest : List ℕ) (es : Elements) (path : List PathEntry) (last : ℕ) (tail : Tail) → b ≡ p ++ rest → Open s p es path last tail → length path ≤ lim.depth
 never_deeper s lim b bytes going-on p rest es path last tail e o = by (rw (start_is s) (nested_run lim c.nested refl None [] 0 (length c.text) tt (omega arith)))
   where
     c : Cut s p path

@@ -1,6 +1,7 @@
 -- Levels end in each other, and keep their limits.
 use Rattle.std.proofs.Common.{◌≡◌, ℕ, suc, ◌+◌, ◌-◌, ◌≤◌, ◌≢◌, Bool, true, false, not, List, [], ◌∷◌, length, Option, Some, None, is_some, refl, sym, ap, subst, ◌∙◌, arith, ltb-false, ne_eqb, eq-eqb, if◌then◌else◌}
-use Rattle.element.specs.declared.syntax.Syntax.{Syntax}
+use Rattle.sequence.specs.Coding.{layout}
+use Rattle.sequence.specs.declared.coding.Coding.{Coding}
 use Rattle.element.specs.declared.header.Header.{Header}
 use Rattle.element.specs.declared.size.Need.{Need}
 use Rattle.element.specs.declared.size.Need.TheVariants.{Size}
@@ -72,13 +73,13 @@ pub record IsTaken (lim : Limits) (f : Scope) (fs : List Scope) (p : ℕ) (h : H
   pub ends : h.length ≢ undefined_length → LastsTo (nearest (f ∷ fs)) (p + h.length)
   pub far : p + counted_length h.length ≤ lim.bytes
 
-size_passes : {s : Syntax} {h : Header} {t : List ℕ} (lim : Limits) (spot : Spot) → SpellsHeader s h t → s ≡ spot.syntax → BreaksNone lim spot t → passes spot.near (length t) ≡ false
-size_passes {s = s} {t = t} lim spot sp s-is ok = by (is_plain spot.syntax (tag_at t)) refl
+size_passes : {s : Coding} {h : Header} {t : List ℕ} (lim : Limits) (spot : Spot) → SpellsHeader (layout s) h t → s ≡ spot.syntax → BreaksNone lim spot t → passes spot.near (length t) ≡ false
+size_passes {s = s} {t = t} lim spot sp s-is ok = by (is_plain (layout spot.syntax) (tag_at t)) refl
   where
-    need-is : need spot.syntax t ≡ Size (length t)
-    need-is = ap (λ z. need z t) (sym s-is) ∙ need_spelled sp
+    need-is : need (layout spot.syntax) t ≡ Size (length t)
+    need-is = ap (λ z. need (layout z) t) (sym s-is) ∙ need_spelled sp
 
-    plain : {n : Need} → NeedIs spot.syntax t n → n ≡ Size (length t) → is_plain spot.syntax (tag_at t) ≡ true → length t ≡ 8
+    plain : {n : Need} → NeedIs (layout spot.syntax) t n → n ≡ Size (length t) → is_plain (layout spot.syntax) (tag_at t) ≡ true → length t ≡ 8
     plain (few lt) e p = absurd cc
     plain (plain_eight ge q) e p = let k : 8 ≡ length t = cc in sym k
     plain (no_vr ge q lt) e p = absurd (let k : true ≡ false = sym p ∙ q in cc)
@@ -86,14 +87,14 @@ size_passes {s = s} {t = t} lim spot sp s-is ok = by (is_plain spot.syntax (tag_
     plain (short_eight ge q c h) e p = absurd (let k : true ≡ false = sym p ∙ q in cc)
     plain (long_twelve ge q c h) e p = absurd (let k : true ≡ false = sym p ∙ q in cc)
 
-    by : (p : Bool) → is_plain spot.syntax (tag_at t) ≡ p → passes spot.near (length t) ≡ false
-    by true p = ap (passes spot.near) (plain (need_is spot.syntax t) need-is p) ∙ (if_some (passes spot.near 8) _ ok.due_ok).0
+    by : (p : Bool) → is_plain (layout spot.syntax) (tag_at t) ≡ p → passes spot.near (length t) ≡ false
+    by true p = ap (passes spot.near) (plain (need_is (layout spot.syntax) t) need-is p) ∙ (if_some (passes spot.near 8) _ ok.due_ok).0
     by false p =
         let long = spelled_long sp in
         let n : broken_need spot (Size (length t)) (tag_at t) ≡ None = ap (λ z. broken_need spot z (tag_at t)) (sym need-is) ∙ ok.vr_ok (omega (arith, long)) p in
         (if_some (passes spot.near (length t)) _ n).0
 
-pub taken : (lim : Limits) (f : Scope) (fs : List Scope) (begin p : ℕ) (h : Header) (t : List ℕ) → AreLevels lim f fs begin → SpellsHeader f.syntax h t → BreaksNone lim (spot_of f fs begin) t → broken_header lim (spot_of f fs begin) (length t) h ≡ None → p ≡ begin + length t → IsTaken lim f fs p h
+pub taken : (lim : Limits) (f : Scope) (fs : List Scope) (begin p : ℕ) (h : Header) (t : List ℕ) → AreLevels lim f fs begin → SpellsHeader (layout f.syntax) h t → BreaksNone lim (spot_of f fs begin) t → broken_header lim (spot_of f fs begin) (length t) h ≡ None → p ≡ begin + length t → IsTaken lim f fs p h
 taken lim f fs begin p h t l sp ok header-ok p-is =
     let sound = is_sound lim (spot_of f fs begin) (length t) h header-ok in
     let near = nearest_lasts begin (f ∷ fs) l.hold in

@@ -1,7 +1,7 @@
 -- The texts on which the definitions of data sets are tried.
 use Rattle.std.proofs.Common.{◌≡◌, ℕ, zero, suc, ◌&&◌, Bool, true, false, List, [], ◌∷◌, nat_lt, take, refl, lit<, ltb-true}
 use Rattle.std.specs.List.{list_all}
-use Rattle.element.specs.declared.syntax.Syntax.TheVariants.{Implicit, Explicit}
+use Rattle.sequence.specs.declared.coding.Coding.TheVariants.{Implicit, Explicit}
 use Rattle.element.specs.Header.{need, is_whole, header_at}
 use Rattle.element.specs.Vr.{is_short}
 use Rattle.dictionary.specs.Tags.{row_of}

@@ -1,7 +1,7 @@
 -- How a text ends.
 use Rattle.std.proofs.Common.{◌≡◌, ℕ, ◌-◌, ◌≤◌, ◌⊎◌, Bool, true, false, List, [], ◌∷◌, length, None, refl, sym, ap, subst, ◌∙◌, inl, inr, arith, append-nil, nat_eq, ◌&&◌, eqb-true}
 use Rattle.std.proofs.lemmas.List.{nil_from_length}
-use Rattle.element.specs.declared.syntax.Syntax.{Syntax}
+use Rattle.sequence.specs.declared.coding.Coding.{Coding}
 use Rattle.element.specs.declared.tag.Tag.{Tag}
 use Rattle.sequence.specs.declared.level.Scope.{Scope}
 use Rattle.sequence.specs.declared.level.Level.{Level}
@@ -27,11 +27,11 @@ use Rattle.sequence.proofs.Holding.{Walks}
 use Rattle.sequence.proofs.Tales.{stands, goes_unbroken, stop_first, heading_front, reading_front}
 
 -- the machine stands at the beginning of an element of the data set itself
-root_due : (s : Syntax) (q last : ℕ) → arrive q (set_scope s None last) [] ≡ at (set_scope s None last) [] q (Heading q [])
+root_due : (s : Coding) (q last : ℕ) → arrive q (set_scope s None last) [] ≡ at (set_scope s None last) [] q (Heading q [])
 unfolding arrive due
 root_due s q last = refl
 
-start_is : (s : Syntax) → start s ≡ arrive 0 (set_scope s None 0) []
+start_is : (s : Coding) → start s ≡ arrive 0 (set_scope s None 0) []
 unfolding arrive due
 start_is s = refl
 
@@ -41,14 +41,14 @@ pub record IsRoot (st : State) : Type 0 where
   pub place : ℕ
   pub mode : st.mode ≡ Heading place []
 
-whole_root : (s : Syntax) (lim : Limits) (es : Elements) (b : List ℕ) → DataSet s 0 es b → IsRoot (run lim (start s) b) ⊎ HasStopped (run lim (start s) b).mode
+whole_root : (s : Coding) (lim : Limits) (es : Elements) (b : List ℕ) → DataSet s 0 es b → IsRoot (run lim (start s) b) ⊎ HasStopped (run lim (start s) b).mode
 whole_root s lim es b set = by (rw (start_is s) (elements_run lim set None [] 0 (length b) tt (omega arith)))
   where
     by : (run lim (start s) b ≡ arrive (length b) (set_scope s None (last_of 0 es)) []) ⊎ HasStopped (run lim (start s) b).mode → IsRoot (run lim (start s) b) ⊎ HasStopped (run lim (start s) b).mode
     by (inl e) = let k = e ∙ root_due s (length b) (last_of 0 es) in inl (record { below = ap (λ (z : State). z.below) k; place = length b; mode = ap (λ (z : State). z.mode) k })
     by (inr h) = inr h
 
-heading_ends : (s : Syntax) (lim : Limits) (f : Scope) (fs : List Scope) (p begin : ℕ) (t b : List ℕ) → IsBytes b → run lim (start s) b ≡ at f fs p (Heading begin t) → IsHeading s lim (keeps lim (start s) [] b) f fs begin t b → ((fs ≡ []) × (t ≡ []) → ⊥) → EndFault s lim b (tag_of_tail (in_header t))
+heading_ends : (s : Coding) (lim : Limits) (f : Scope) (fs : List Scope) (p begin : ℕ) (t b : List ℕ) → IsBytes b → run lim (start s) b ≡ at f fs p (Heading begin t) → IsHeading s lim (keeps lim (start s) [] b) f fs begin t b → ((fs ≡ []) × (t ≡ []) → ⊥) → EndFault s lim b (tag_of_tail (in_header t))
 heading_ends s lim f fs p begin t b bytes state h open_still =
     let x = heading_front s lim (keeps lim (start s) [] b) f fs begin t b h in
     record {
@@ -66,7 +66,7 @@ heading_ends s lim f fs p begin t b bytes state h open_still =
     by es (inl r) = open_still (ap (λ (z : State). z.below) (sym state) ∙ r.below, let k : Heading begin t ≡ Heading r.place [] = ap (λ (z : State). z.mode) (sym state) ∙ r.mode in cc)
     by es (inr k) = subst (λ (z : State). HasStopped z.mode) state k
 
-reading_ends : (s : Syntax) (lim : Limits) (f : Scope) (fs : List Scope) (p : ℕ) (t : Tag) (n : ℕ) (b : List ℕ) → IsBytes b → run lim (start s) b ≡ at f fs p (Reading t n) → IsReading s lim (keeps lim (start s) [] b) f fs t n b → EndFault s lim b t
+reading_ends : (s : Coding) (lim : Limits) (f : Scope) (fs : List Scope) (p : ℕ) (t : Tag) (n : ℕ) (b : List ℕ) → IsBytes b → run lim (start s) b ≡ at f fs p (Reading t n) → IsReading s lim (keeps lim (start s) [] b) f fs t n b → EndFault s lim b t
 reading_ends s lim f fs p t n b bytes state r =
     let x = reading_front s lim (keeps lim (start s) [] b) f fs t n b r in
     record {
@@ -84,11 +84,11 @@ reading_ends s lim f fs p t n b bytes state r =
     by es (inl root) = let k : Reading t n ≡ Heading root.place [] = ap (λ (z : State). z.mode) (sym state) ∙ root.mode in absurd cc
     by es (inr k) = subst (λ (z : State). HasStopped z.mode) state k
 
-root_whole : {s : Syntax} {values : Values} {f : Scope} {b : List ℕ} (lim : Limits) → Reaches s lim.wanted values f [] b → length b ≤ lim.bytes → IsBytes b → (HasStopped (run lim (start s) b).mode → ⊥) → IsWholeDataSet s lim b
+root_whole : {s : Coding} {values : Values} {f : Scope} {b : List ℕ} (lim : Limits) → Reaches s lim.wanted values f [] b → length b ≤ lim.bytes → IsBytes b → (HasStopped (run lim (start s) b).mode → ⊥) → IsWholeDataSet s lim b
 root_whole {s = s} {b = b} lim (at_root {es = es} set e k fits) short bytes going-on = record { elements = es; text = set; within = record { bytes = short; depth = λ p rest some path last tail same o. never_deeper s lim b bytes going-on p rest some path last tail same o; rooms = fits } }
 
 -- where no header, value or level is begun
-heading_whole : (s : Syntax) (lim : Limits) (values : Values) (f : Scope) (begin : ℕ) (b : List ℕ) → IsBytes b → (HasStopped (run lim (start s) b).mode → ⊥) → IsHeading s lim values f [] begin [] b → IsWholeDataSet s lim b
+heading_whole : (s : Coding) (lim : Limits) (values : Values) (f : Scope) (begin : ℕ) (b : List ℕ) → IsBytes b → (HasStopped (run lim (start s) b).mode → ⊥) → IsHeading s lim values f [] begin [] b → IsWholeDataSet s lim b
 heading_whole s lim values f begin b bytes going-on h =
     let same : b ≡ h.before = h.text ∙ append-nil h.before in
     subst (IsWholeDataSet s lim) (sym same) (root_whole lim h.due.reaches h.due.levels.short (subst IsBytes same bytes) (λ k. going-on (subst (λ z. HasStopped (run lim (start s) z).mode) (sym same) k)))

@@ -4,6 +4,7 @@ use Rattle.std.proofs.lemmas.Bool.Decides.{nat_tests}
 use Rattle.element.specs.declared.header.Header.{Header}
 use Rattle.element.specs.declared.size.Need.TheVariants.{Size}
 use Rattle.element.specs.Header.{is_marker, is_plain}
+use Rattle.sequence.specs.Coding.{layout}
 use Rattle.sequence.specs.declared.spot.Spot.{Spot}
 use Rattle.sequence.specs.Shape.{is_undefined, shape}
 use Rattle.sequence.specs.Rules.{Limits, Broken, passes, broken_due, broken_tag, broken_need, broken_header, is_long_mark, is_not_allowed, is_too_long, opens, counted_length, ◌or_else◌, when}
@@ -41,5 +42,5 @@ is_fitting lim spot size h eight tag near limit mark allowed odd long deep =
     let due : passes spot.near 8 ≡ false = near_less spot.near 8 (size + counted_length h.length) (omega (arith, eight)) near in
     let cut = near_less spot.near size (size + counted_length h.length) (omega arith) near in
     let over = counted_is spot.near size h.length (is_undefined h.length) refl near in
-    all_of (broken_due spot) (broken_tag spot h.tag) (when (not (is_plain spot.syntax h.tag)) (broken_need spot (Size size) h.tag)) (broken_header lim spot size h)
-    (rw due refl) tag (none_size spot size h (not (is_plain spot.syntax h.tag)) cut) (header_of lim spot size h mark allowed odd over (not_less lim.bytes spot.place size (counted_length h.length) limit) long deep)
+    all_of (broken_due spot) (broken_tag spot h.tag) (when (not (is_plain (layout spot.syntax) h.tag)) (broken_need spot (Size size) h.tag)) (broken_header lim spot size h)
+    (rw due refl) tag (none_size spot size h (not (is_plain (layout spot.syntax) h.tag)) cut) (header_of lim spot size h mark allowed odd over (not_less lim.bytes spot.place size (counted_length h.length) limit) long deep)

@@ -1,6 +1,6 @@
 -- The machine goes over a front of a data set, or stops: so a front has one path and one last tag.
 use Rattle.std.proofs.Common.{◌≡◌, ℕ, ◌+◌, ◌-◌, ◌≤◌, ◌≢◌, Bool, true, false, List, [], ◌∷◌, ◌++◌, length, Option, Some, nat_eq, refl, sym, ap, subst, ◌∙◌, arith, append-nil, length-append, ne_eqb, eq-eqb}
-use Rattle.element.specs.declared.syntax.Syntax.{Syntax}
+use Rattle.sequence.specs.declared.coding.Coding.{Coding}
 use Rattle.element.specs.declared.header.Header.{Header}
 use Rattle.sequence.specs.declared.level.Scope.{Scope}
 use Rattle.sequence.specs.Rules.{Limits}
@@ -55,16 +55,16 @@ unfolding begin_level
 opened p g f fs n some = let z : nat_eq n 0 ≡ false = ne_eqb n 0 some in rw z refl
 
 -- a path, over the scope that it stands in
-abbrev pub Leads : Limits → Syntax → List ℕ → List PathEntry → ℕ → Type 0
+abbrev pub Leads : Limits → Coding → List ℕ → List PathEntry → ℕ → Type 0
 Leads lim s b path last = (stop : Option ℕ) (fs : List Scope) (p q : ℕ) → LastsTo stop q → q ≡ p + length b
     → Goes (run lim (arrive p (set_scope s stop 0) fs) b) (arrive q (top_over q path (set_scope s stop last)) (below_over q path (set_scope s stop last) fs))
 
-elements_lead : (lim : Limits) (s : Syntax) (es : Elements) (b : List ℕ) → DataSet s 0 es b → Leads lim s (b ++ []) [] (last_of 0 es)
+elements_lead : (lim : Limits) (s : Coding) (es : Elements) (b : List ℕ) → DataSet s 0 es b → Leads lim s (b ++ []) [] (last_of 0 es)
 elements_lead lim s es b set stop fs p q room q-is =
     rw (append-nil b) (elements_run lim set stop fs p q room (q-is ∙ ap (λ z. p + length z) (append-nil b)))
 
 -- whole elements and the header of a sequence
-sequence_leads : (lim : Limits) (s : Syntax) (es : Elements) (b : List ℕ) (h : Header) (hb : List ℕ) (inner : Syntax) (rest : List ℕ) → DataSet s 0 es b → IsElement s (last_of 0 es) h hb → shape s h ≡ Sequence inner → h.length ≢ 0
+sequence_leads : (lim : Limits) (s : Coding) (es : Elements) (b : List ℕ) (h : Header) (hb : List ℕ) (inner : Coding) (rest : List ℕ) → DataSet s 0 es b → IsElement s (last_of 0 es) h hb → shape s h ≡ Sequence inner → h.length ≢ 0
     → (stop : Option ℕ) (fs : List Scope) (p q : ℕ) (want : State) → LastsTo stop q → q ≡ p + length (b ++ (hb ++ rest))
     → Goes (run lim (arrive (p + length b + length hb) (sequence_scope inner (stop_of (p + length b + length hb) h.length)) (set_scope s stop (number h.tag) ∷ fs)) rest) want
     → Goes (run lim (arrive p (set_scope s stop 0) fs) (b ++ (hb ++ rest))) want
@@ -78,7 +78,7 @@ sequence_leads lim s es b h hb inner rest set el sh some stop fs p q want room q
     (header_run lim (set_scope s stop (last_of 0 es)) fs (p + length b) (p + length b + length hb) h hb el.spelled (open_from_lasts stop (p + length b) (length hb) (lasts_less stop (p + length b + length hb) q room (omega arith)) (omega arith)) refl) in
     goes_then lim _ _ _ b (hb ++ rest) first (goes_then lim _ _ _ hb rest second goes)
 
-item_step : (lim : Limits) (s : Syntax) (k : Header) (kb b2 : List ℕ) (path : List PathEntry) (last : ℕ) → IsItem s k kb → IsOpenLevel k.length (length b2) → Leads lim s b2 path last
+item_step : (lim : Limits) (s : Coding) (k : Header) (kb b2 : List ℕ) (path : List PathEntry) (last : ℕ) → IsItem s k kb → IsOpenLevel k.length (length b2) → Leads lim s b2 path last
     → (stop : Option ℕ) (fs : List Scope) (p q : ℕ) → LastsTo stop q → q ≡ p + length (kb ++ b2)
     → Goes (run lim (arrive p (sequence_scope s stop) fs) (kb ++ b2)) (arrive q (top_over q path (scope_at q (item_entry s k.length (length b2) last))) (below_over q path (scope_at q (item_entry s k.length (length b2) last)) (sequence_scope s stop ∷ fs)))
 item_step lim s k kb b2 path last it level goes stop fs p q room q-is =
@@ -92,7 +92,7 @@ item_step lim s k kb b2 path last it level goes stop fs p q room q-is =
     let same : set_scope s (stop_of (p + length kb) k.length) last ≡ scope_at q (item_entry s k.length (length b2) last) = ap (λ z. set_scope s z last) (sym (stop_is (p + length kb) q k.length (length b2) size level.within)) in
     goes_then lim _ _ _ kb b2 first (subst (λ z. Goes (run lim (arrive (p + length kb) (set_scope s (stop_of (p + length kb) k.length) 0) (sequence_scope s stop ∷ fs)) b2) (arrive q (top_over q path z) (below_over q path z (sequence_scope s stop ∷ fs)))) same second)
 
-in_sequence_leads : (lim : Limits) (s : Syntax) (es : Elements) (b : List ℕ) (h : Header) (hb : List ℕ) (inner : Syntax) (is : Items) (ib : List ℕ) → DataSet s 0 es b → IsElement s (last_of 0 es) h hb → shape s h ≡ Sequence inner → IsOpenLevel h.length (length ib) → ItemList inner is ib
+in_sequence_leads : (lim : Limits) (s : Coding) (es : Elements) (b : List ℕ) (h : Header) (hb : List ℕ) (inner : Coding) (is : Items) (ib : List ℕ) → DataSet s 0 es b → IsElement s (last_of 0 es) h hb → shape s h ≡ Sequence inner → IsOpenLevel h.length (length ib) → ItemList inner is ib
     → Leads lim s (b ++ (hb ++ ib)) (sequence_entry inner h.length (length ib) ∷ []) (number h.tag)
 in_sequence_leads lim s es b h hb inner is ib set el sh level items stop fs p q room q-is =
     let p2 : ℕ = p + length b + length hb in
@@ -103,7 +103,7 @@ in_sequence_leads lim s es b h hb inner is ib set el sh level items stop fs p q 
     sequence_leads lim s es b h hb inner ib set el sh level.some stop fs p q _ room q-is
     (subst (λ z. Goes (run lim (arrive (p + length b + length hb) (sequence_scope inner (stop_of (p + length b + length hb) h.length)) (set_scope s stop (number h.tag) ∷ fs)) ib) (arrive q z (set_scope s stop (number h.tag) ∷ fs))) same inside)
 
-in_item_leads : (lim : Limits) (s : Syntax) (es : Elements) (b : List ℕ) (h : Header) (hb : List ℕ) (inner : Syntax) (is : Items) (ib : List ℕ) (k : Header) (kb b2 : List ℕ) (path : List PathEntry) (last : ℕ) → DataSet s 0 es b → IsElement s (last_of 0 es) h hb → shape s h ≡ Sequence inner → IsOpenLevel h.length (length (ib ++ (kb ++ b2))) → ItemList inner is ib
+in_item_leads : (lim : Limits) (s : Coding) (es : Elements) (b : List ℕ) (h : Header) (hb : List ℕ) (inner : Coding) (is : Items) (ib : List ℕ) (k : Header) (kb b2 : List ℕ) (path : List PathEntry) (last : ℕ) → DataSet s 0 es b → IsElement s (last_of 0 es) h hb → shape s h ≡ Sequence inner → IsOpenLevel h.length (length (ib ++ (kb ++ b2))) → ItemList inner is ib
     → IsItem inner k kb → IsOpenLevel k.length (length b2) → Leads lim inner b2 path last
     → Leads lim s (b ++ (hb ++ (ib ++ (kb ++ b2)))) (path ++ (item_entry inner k.length (length b2) last ∷ sequence_entry inner h.length (length (ib ++ (kb ++ b2))) ∷ [])) (number h.tag)
 in_item_leads lim s es b h hb inner is ib k kb b2 path last set el sh level items it level2 goes stop fs p q room q-is =
@@ -121,12 +121,12 @@ in_item_leads lim s es b h hb inner is ib k kb b2 path last set el sh level item
     ∙ ap (λ z. arrive q (top_over q (path ++ (item_entry inner k.length (length b2) last ∷ sequence_entry inner h.length (length (ib ++ (kb ++ b2))) ∷ [])) (set_scope s stop (number h.tag))) z) (sym (below_append q path (item_entry inner k.length (length b2) last) (sequence_entry inner h.length (length (ib ++ (kb ++ b2))) ∷ []) (set_scope s stop (number h.tag)) fs)))
     wanted
 
-nothing_left : {s : Syntax} {last : ℕ} {tail : Tail} {t : List ℕ} → IsTail s last tail t → tail ≡ in_header [] → t ≡ []
+nothing_left : {s : Coding} {last : ℕ} {tail : Tail} {t : List ℕ} → IsTail s last tail t → tail ≡ in_header [] → t ≡ []
 nothing_left (header_tail part) e = cc
 nothing_left (value_tail v el sh lt) e = absurd cc
 
 -- where a header is due, the machine has the levels of the path, or has stopped
-pub nested_run : (lim : Limits) {s : Syntax} {b : List ℕ} {es : Elements} {path : List PathEntry} {last : ℕ} {tail : Tail} → Nested s b es path last tail → tail ≡ in_header [] → Leads lim s b path last
+pub nested_run : (lim : Limits) {s : Coding} {b : List ℕ} {es : Elements} {path : List PathEntry} {last : ℕ} {tail : Tail} → Nested s b es path last tail → tail ≡ in_header [] → Leads lim s b path last
 nested_run lim (at_elements {s = s} {es = es} {b = b} {t = t} set tail) e = subst (λ z. Leads lim s (b ++ z) [] (last_of 0 es)) (sym (nothing_left tail e)) (elements_lead lim s es b set)
 nested_run lim (in_sequence_of {s = s} q {t = t} level tail) e =
     let nil : t ≡ [] = cc in

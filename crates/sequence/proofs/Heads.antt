@@ -4,6 +4,7 @@ use Rattle.std.proofs.lemmas.List.{take_more, take_all, take-take, length-take-l
 use Rattle.element.specs.declared.tag.Tag.{Tag}
 use Rattle.element.specs.declared.header.Header.{Header}
 use Rattle.element.specs.Header.{is_whole, header_at}
+use Rattle.sequence.specs.Coding.{layout}
 use Rattle.sequence.specs.declared.level.Scope.{Scope}
 use Rattle.sequence.specs.declared.shape.Shape.{Shape}
 use Rattle.sequence.specs.declared.stage.Stage.{Stage}
@@ -29,21 +30,21 @@ headed_refused : (lim : Limits) (f : Scope) (fs : List Scope) (p b : ℕ) (t : L
 unfolding headed
 headed_refused lim f fs p b t number tag e = rw e refl
 
-headed_whole : (lim : Limits) (f : Scope) (fs : List Scope) (p b : ℕ) (t : List ℕ) (h : Header) → broken lim (spot_of f fs b) t ≡ None → is_whole f.syntax t ≡ true → h ≡ header_at f.syntax t → headed lim f fs p b t ≡ take_header p f fs h
+headed_whole : (lim : Limits) (f : Scope) (fs : List Scope) (p b : ℕ) (t : List ℕ) (h : Header) → broken lim (spot_of f fs b) t ≡ None → is_whole (layout f.syntax) t ≡ true → h ≡ header_at (layout f.syntax) t → headed lim f fs p b t ≡ take_header p f fs h
 unfolding headed
 headed_whole lim f fs p b t h e w r = rw (e, w) (ap (take_header p f fs) (sym r))
 
 headed_quiet : (lim : Limits) (f : Scope) (fs : List Scope) (p b : ℕ) (t : List ℕ) → IsQuiet lim (spot_of f fs b) t → headed lim f fs p b t ≡ at f fs p (Heading b t)
 unfolding headed
-headed_quiet lim f fs p b t q = let e = q.fine in let w : is_whole f.syntax t ≡ false = q.part in rw (e, w) refl
+headed_quiet lim f fs p b t q = let e = q.fine in let w : is_whole (layout f.syntax) t ≡ false = q.part in rw (e, w) refl
 
 kept_quiet : (lim : Limits) (f : Scope) (fs : List Scope) (b : ℕ) (t : List ℕ) (values : Values) → IsQuiet lim (spot_of f fs b) t → keep_headed lim (broken lim (spot_of f fs b) t) f fs t values ≡ values
-kept_quiet lim f fs b t values q = let e = q.fine in let w : is_whole f.syntax t ≡ false = q.part in rw (e, w) refl
+kept_quiet lim f fs b t values q = let e = q.fine in let w : is_whole (layout f.syntax) t ≡ false = q.part in rw (e, w) refl
 
 kept_refused : (lim : Limits) (f : Scope) (fs : List Scope) (b : ℕ) (t : List ℕ) (values : Values) (number : ℕ) (tag : Tag) → broken lim (spot_of f fs b) t ≡ Some (number, tag) → keep_headed lim (broken lim (spot_of f fs b) t) f fs t values ≡ values
 kept_refused lim f fs b t values number tag e = rw e refl
 
-kept_whole : (lim : Limits) (f : Scope) (fs : List Scope) (b : ℕ) (t : List ℕ) (values : Values) (h : Header) → broken lim (spot_of f fs b) t ≡ None → is_whole f.syntax t ≡ true → h ≡ header_at f.syntax t → keep_headed lim (broken lim (spot_of f fs b) t) f fs t values ≡ keep_header lim f fs h values
+kept_whole : (lim : Limits) (f : Scope) (fs : List Scope) (b : ℕ) (t : List ℕ) (values : Values) (h : Header) → broken lim (spot_of f fs b) t ≡ None → is_whole (layout f.syntax) t ≡ true → h ≡ header_at (layout f.syntax) t → keep_headed lim (broken lim (spot_of f fs b) t) f fs t values ≡ keep_header lim f fs h values
 kept_whole lim f fs b t values h e w r = rw (e, w) (ap (λ z. keep_header lim f fs z values) (sym r))
 
 abbrev AreQuiet : Limits → Scope → List Scope → ℕ → List ℕ → List ℕ → Type 0
@@ -140,8 +141,8 @@ module _ (lim : Limits) (f : Scope) (fs : List Scope) (p : ℕ) (t piece : List 
           byte = get_or xs (length xs - 1) 0;
           text = last_one xs (omega (arith, size, k.0.more));
           part = before (nat_eq (length xs - 1) 0) refl;
-          whole = ap (is_whole f.syntax) text ∙ k.1.whole;
-          read = ap (header_at f.syntax) text ∙ sym k.1.read;
+          whole = ap (is_whole (layout f.syntax)) text ∙ k.1.whole;
+          read = ap (header_at (layout f.syntax)) text ∙ sym k.1.read;
         }
       where
         before : (q : Bool) → nat_eq (length (take (n - length t) piece) - 1) 0 ≡ q → IsUnfinishedHeader f.syntax (t ++ take (length (take (n - length t) piece) - 1) (take (n - length t) piece))

@@ -1,6 +1,6 @@
 -- What a walker reports and holds determines the machine's state, and the other way round.
 use Rattle.std.proofs.Common.{◌≡◌, ℕ, ◌+◌, ◌-◌, ◌<◌, ◌≤◌, List, [], ◌∷◌, ◌++◌, length, Option, Some, None, refl, sym, ap, subst, ◌∙◌, arith, length-append}
-use Rattle.element.specs.declared.syntax.Syntax.{Syntax}
+use Rattle.sequence.specs.declared.coding.Coding.{Coding}
 use Rattle.element.specs.declared.tag.Tag.{Tag}
 use Rattle.element.specs.declared.header.Header.{Header}
 use Rattle.element.specs.Numbers.{IsBytes}
@@ -37,11 +37,11 @@ use Rattle.sequence.proofs.Tellings.{one_fault, one_holding}
 
 -- the levels of a path
 
-levels_over : (n : ℕ) (path : List PathEntry) (s : Syntax) (last : ℕ) → all_over n path (set_scope s None last) ≡ levels_at n path s last
+levels_over : (n : ℕ) (path : List PathEntry) (s : Coding) (last : ℕ) → all_over n path (set_scope s None last) ≡ levels_at n path s last
 levels_over n [] s last = refl
 levels_over n (e ∷ path) s last = ap (λ z. scope_at n e ∷ z) (levels_over n path s last)
 
-front_levels : {s : Syntax} {ws : List Want} {values : Values} {n : ℕ} {b : List ℕ} {tail : Tail} {f : Scope} {fs : List Scope} (x : IsFront s ws values n b tail f fs) → f ∷ fs ≡ levels_at n x.path s x.last
+front_levels : {s : Coding} {ws : List Want} {values : Values} {n : ℕ} {b : List ℕ} {tail : Tail} {f : Scope} {fs : List Scope} (x : IsFront s ws values n b tail f fs) → f ∷ fs ≡ levels_at n x.path s x.last
 front_levels {s = s} {n = n} {f = f} {fs = fs} x = sym (all_is n x.path (set_scope s None x.last) f fs x.top x.below) ∙ levels_over n x.path s x.last
 
 value_at : (lim : Limits) (fs : List Scope) (path : List PathEntry) (h : Header) (v : List ℕ) (es : Elements) → length path ≡ length fs → with_value lim fs (number h.tag) v (kept_of lim.wanted es) ≡ values_at lim.wanted es path (in_value h v)
@@ -52,18 +52,18 @@ value_at lim (f ∷ fs) (e ∷ path) h v es same = refl
 
 -- a text at which the machine stopped breaks a rule, and no other does
 
-fault_breaks : {s : Syntax} {lim : Limits} {b p u : List ℕ} {rule : ℕ} {tag : Tag} → FirstFault s lim b p u rule tag → IsUnbroken s lim b → ⊥
+fault_breaks : {s : Coding} {lim : Limits} {b p u : List ℕ} {rule : ℕ} {tag : Tag} → FirstFault s lim b p u rule tag → IsUnbroken s lim b → ⊥
 fault_breaks {p = p} {u = u} {rule = rule} {tag = tag} f ok = ok p u f.rest rule tag f.text f.breaks
 
 pub record IsTold (told : Told) (fault-is : Option Fault) (place-is : ℕ) : Type 0 where
   pub fault : told.fault ≡ fault-is
   pub place : told.place ≡ place-is
 
-pub tells_going : (s : Syntax) (lim : Limits) (b : List ℕ) (told : Told) → IsUnbroken s lim b → Tells s lim b told → IsTold told None (length b)
+pub tells_going : (s : Coding) (lim : Limits) (b : List ℕ) (told : Told) → IsUnbroken s lim b → Tells s lim b told → IsTold told None (length b)
 tells_going s lim b told ok (going fine o) = record { fault = refl; place = refl }
 tells_going s lim b told ok (refused f o) = absurd (fault_breaks f ok)
 
-pub tells_refused : (s : Syntax) (lim : Limits) (b p u : List ℕ) (rule : ℕ) (tag : Tag) (told : Told) → FirstFault s lim b p u rule tag → Tells s lim b told → IsTold told (Some (record { number = rule; place = length p; tag = tag })) (length (p ++ u))
+pub tells_refused : (s : Coding) (lim : Limits) (b p u : List ℕ) (rule : ℕ) (tag : Tag) (told : Told) → FirstFault s lim b p u rule tag → Tells s lim b told → IsTold told (Some (record { number = rule; place = length p; tag = tag })) (length (p ++ u))
 tells_refused s lim b p u rule tag told f (going ok o) = absurd (fault_breaks f ok)
 tells_refused s lim b p u rule tag told f (refused {p = p2} {u = u2} {rule = rule2} {tag = tag2} g o) =
     let k = one_fault s lim b p2 p u2 u rule2 rule tag2 tag g f in
@@ -142,11 +142,11 @@ abbrev begun_short : Tail → Type 0
 begun_short (in_header t) = Unit {0}
 begun_short (in_value h v) = length v < h.length
 
-tail_short : {s : Syntax} {last : ℕ} {tail : Tail} {t : List ℕ} → IsTail s last tail t → begun_short tail
+tail_short : {s : Coding} {last : ℕ} {tail : Tail} {t : List ℕ} → IsTail s last tail t → begun_short tail
 tail_short (header_tail part) = tt
 tail_short (value_tail v el sh lt) = lt
 
-nested_short : {s : Syntax} {b : List ℕ} {es : Elements} {path : List PathEntry} {last : ℕ} {tail : Tail} → Nested s b es path last tail → begun_short tail
+nested_short : {s : Coding} {b : List ℕ} {es : Elements} {path : List PathEntry} {last : ℕ} {tail : Tail} → Nested s b es path last tail → begun_short tail
 nested_short (at_elements set tail) = tail_short tail
 nested_short (in_sequence_of q level part) = tt
 nested_short (in_item_of q level it level2 deeper) = nested_short deeper
@@ -164,7 +164,7 @@ in_tail (stages.Stopped fault) header tail none e short = absurd cc
 front_by : {V D : ℕ} (w : Walker V D) (n : ℕ) (es : Elements) (path : List PathEntry) (last : ℕ) (tail : Tail) → holding_by w ≡ holding_of (walker_syntax w) (wants_of w.kept) n es path last tail → HoldsFront w n es path last tail
 front_by w n es path last tail e = record { levels = sym (scopes_are w.root [] w.levels.items) ∙ ap (λ (z : Holding). z.levels) e; values = ap (λ (z : Holding). z.values) e }
 
-tells_unbroken : (s : Syntax) (lim : Limits) (b : List ℕ) (told : Told) → told.fault ≡ None → Tells s lim b told → IsUnbroken s lim b
+tells_unbroken : (s : Coding) (lim : Limits) (b : List ℕ) (told : Told) → told.fault ≡ None → Tells s lim b told → IsUnbroken s lim b
 tells_unbroken s lim b told e (going ok o) = ok
 tells_unbroken s lim b told e (refused f o) = absurd cc
 

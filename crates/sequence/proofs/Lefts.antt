@@ -1,6 +1,6 @@
 -- What the entries of a path lack.
 use Rattle.std.proofs.Common.{◌≡◌, ℕ, ◌≤◌, ◌≢◌, List, [], ◌∷◌, ◌++◌, Option, Some, None, is_some, refl, ap, subst, ◌∙◌, arith, if◌then◌else◌}
-use Rattle.element.specs.declared.syntax.Syntax.{Syntax}
+use Rattle.sequence.specs.declared.coding.Coding.{Coding}
 use Rattle.sequence.specs.Tree.{Elements}
 use Rattle.sequence.specs.Open.{PathEntry, Tail, IsLeft, AreLeft, IsInnermost, Open}
 use Rattle.sequence.specs.Laws.{HasOpenEnded, this_one}
@@ -17,7 +17,7 @@ inside_left : (near : Option ℕ) (inside between around : List PathEntry) (inne
 inside_left near [] between around inner outer n k h e f = round_left n n k between around outer (omega arith) (subst (λ z. AreLeft (if is_some z then z else near) (between ++ outer ∷ around)) e h.1) f
 inside_left near (d ∷ inside) between around inner outer n k h e f = inside_left (if is_some d.left then d.left else near) inside between around inner outer n k h.1 e f
 
-pub ends_nested : (s : Syntax) (b : List ℕ) (es : Elements) (path inside between around : List PathEntry) (inner outer : PathEntry) (last n k : ℕ) (tail : Tail)
+pub ends_nested : (s : Coding) (b : List ℕ) (es : Elements) (path inside between around : List PathEntry) (inner outer : PathEntry) (last n k : ℕ) (tail : Tail)
     → Open s b es path last tail → path ≡ inside ++ inner ∷ (between ++ outer ∷ around) → inner.left ≡ Some n → outer.left ≡ Some k → n ≤ k
 ends_nested s b es path inside between around inner outer last n k tail o same e f = inside_left None inside between around inner outer n k (subst (AreLeft None) same o.left) e f
 
@@ -29,5 +29,5 @@ whole_by : (inside around : List PathEntry) (e : PathEntry) → AreLeft None (in
 whole_by [] around e h innermost zero = absurd (innermost zero)
 whole_by (d ∷ inside) around e h innermost zero = open_by d inside around e d.left refl innermost (λ n same. inside_left None [] inside around d e n 0 h same zero)
 
-pub whole_open : (s : Syntax) (b : List ℕ) (es : Elements) (path inside around : List PathEntry) (e : PathEntry) (last : ℕ) (tail : Tail) → Open s b es path last tail → path ≡ inside ++ e ∷ around → e.left ≡ Some 0 → HasOpenEnded inside
+pub whole_open : (s : Coding) (b : List ℕ) (es : Elements) (path inside around : List PathEntry) (e : PathEntry) (last : ℕ) (tail : Tail) → Open s b es path last tail → path ≡ inside ++ e ∷ around → e.left ≡ Some 0 → HasOpenEnded inside
 whole_open s b es path inside around e last tail o same zero = whole_by inside around e (subst (AreLeft None) same o.left) (subst IsInnermost same o.innermost) zero

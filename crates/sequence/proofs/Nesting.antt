@@ -1,6 +1,6 @@
 -- The levels that a text leads to, and what more text does to them.
 use Rattle.std.proofs.Common.{◌≡◌, ℕ, ◌+◌, ◌≢◌, ◌⊎◌, Bool, true, false, List, [], ◌∷◌, ◌++◌, length, Option, Some, None, refl, sym, ap, subst, ◌∙◌, inl, inr, arith, append_assoc, append-nil, length-append, eqb-true, eq-eqb, if◌then◌else◌}
-use Rattle.element.specs.declared.syntax.Syntax.{Syntax}
+use Rattle.sequence.specs.declared.coding.Coding.{Coding}
 use Rattle.element.specs.declared.tag.Tag.{Tag}
 use Rattle.element.specs.declared.header.Header.{Header}
 use Rattle.sequence.specs.declared.level.Scope.{Scope}
@@ -37,13 +37,13 @@ last_append last (sequence h is es) more = last_append (number h.tag) es more
 regroup : (a b c d : List ℕ) → (a ++ (b ++ c)) ++ d ≡ a ++ (b ++ (c ++ d))
 regroup a b c d = simp append_assoc
 
-pub set_append : {s : Syntax} {last : ℕ} {es more : Elements} {b c : List ℕ} → DataSet s last es b → DataSet s (last_of last es) more c → DataSet s last (elements_append es more) (b ++ c)
+pub set_append : {s : Coding} {last : ℕ} {es more : Elements} {b c : List ℕ} → DataSet s last es b → DataSet s (last_of last es) more c → DataSet s last (elements_append es more) (b ++ c)
 unfolding elements_append
 set_append nothing d = d
 set_append {c = c} (value_then {hb = hb} {v = v} {b = b} el sh val rest) d = rw (regroup hb v b c) (value_then el sh val (set_append rest d))
 set_append {c = c} (sequence_then {hb = hb} {cb = cb} {b = b} el sh items closed rest) d = rw (regroup hb cb b c) (sequence_then el sh items closed (set_append rest d))
 
-pub list_append : {s : Syntax} {is more : Items} {b c : List ℕ} → ItemList s is b → ItemList s more c → ItemList s (items_append is more) (b ++ c)
+pub list_append : {s : Coding} {is more : Items} {b c : List ℕ} → ItemList s is b → ItemList s more c → ItemList s (items_append is more) (b ++ c)
 unfolding items_append
 list_append no_more d = d
 list_append {c = c} (item_then {hb = hb} {cb = cb} {b = b} it set closed rest) d = rw (regroup hb cb b c) (item_then it set closed (list_append rest d))
@@ -75,7 +75,7 @@ fit_append ws (value h v es) more f g = (f.0, fit_append ws es more f.1 g)
 fit_append ws (sequence h is es) more f g = fit_append ws es more f g
 
 -- elements more, in the innermost data set
-pub more_elements : {s s1 : Syntax} {ws : List Want} {values : Values} {stop : Option ℕ} {last : ℕ} {fs : List Scope} {q c : List ℕ} {more : Elements} → Reaches s ws values (set_scope s1 stop last) fs q → DataSet s1 last more c → FitIn ws fs more
+pub more_elements : {s s1 : Coding} {ws : List Want} {values : Values} {stop : Option ℕ} {last : ℕ} {fs : List Scope} {q c : List ℕ} {more : Elements} → Reaches s ws values (set_scope s1 stop last) fs q → DataSet s1 last more c → FitIn ws fs more
     → Reaches s ws (values ++ kept_in ws fs more) (set_scope s1 stop (last_of last more)) fs (q ++ c)
 more_elements {s = s} {ws = ws} {c = c} {more = more} (at_root {es = es} {b = b} {last = last} set e k fits) d fit =
     at_root (set_append set (subst (λ z. DataSet s z more c) e d)) (ap (λ z. last_of z more) e ∙ sym (last_append 0 es more)) (ap (λ z. z ++ kept_of ws more) k ∙ sym (kept_append ws es more)) (fit_append ws es more fits fit)
@@ -92,7 +92,7 @@ none_fit ws [] h is = tt
 none_fit ws (f ∷ fs) h is = tt
 
 -- a sequence more
-pub more_sequence : {s s1 : Syntax} {ws : List Want} {values : Values} {stop : Option ℕ} {last : ℕ} {fs : List Scope} {q c : List ℕ} (h : Header) (is : Items) → Reaches s ws values (set_scope s1 stop last) fs q → DataSet s1 last (sequence h is no_elements) c
+pub more_sequence : {s s1 : Coding} {ws : List Want} {values : Values} {stop : Option ℕ} {last : ℕ} {fs : List Scope} {q c : List ℕ} (h : Header) (is : Items) → Reaches s ws values (set_scope s1 stop last) fs q → DataSet s1 last (sequence h is no_elements) c
     → Reaches s ws values (set_scope s1 stop (number h.tag)) fs (q ++ c)
 more_sequence {s = s} {s1 = s1} {ws = ws} {values = values} {stop = stop} {fs = fs} {q = q} {c = c} h is r d =
     subst (λ z. Reaches s ws z (set_scope s1 stop (number h.tag)) fs (q ++ c)) (ap (λ z. values ++ z) (none_kept ws fs h is) ∙ append-nil values) (more_elements r d (none_fit ws fs h is))
@@ -110,12 +110,12 @@ value_fit ws [] h v size fit = (λ room e. let k = fit room e in omega (arith, k
 value_fit ws (f ∷ fs) h v size fit = tt
 
 -- a value more
-pub more_value : {s s1 : Syntax} {values : Values} {stop : Option ℕ} {last : ℕ} {fs : List Scope} {q c : List ℕ} (lim : Limits) (h : Header) (v : List ℕ) → Reaches s lim.wanted values (set_scope s1 stop last) fs q → DataSet s1 last (value h v no_elements) c → length v ≡ h.length → IsFit lim.wanted fs (number h.tag) h.length
+pub more_value : {s s1 : Coding} {values : Values} {stop : Option ℕ} {last : ℕ} {fs : List Scope} {q c : List ℕ} (lim : Limits) (h : Header) (v : List ℕ) → Reaches s lim.wanted values (set_scope s1 stop last) fs q → DataSet s1 last (value h v no_elements) c → length v ≡ h.length → IsFit lim.wanted fs (number h.tag) h.length
     → Reaches s lim.wanted (with_value lim fs (number h.tag) v values) (set_scope s1 stop (number h.tag)) fs (q ++ c)
 more_value {s = s} {s1 = s1} {values = values} {stop = stop} {fs = fs} {q = q} {c = c} lim h v r d size fit =
     subst (λ z. Reaches s lim.wanted z (set_scope s1 stop (number h.tag)) fs (q ++ c)) (value_kept lim fs h v values) (more_elements r d (value_fit lim.wanted fs h v size fit))
 
-pub more_items : {s s1 : Syntax} {ws : List Want} {values : Values} {stop : Option ℕ} {fs : List Scope} {q c : List ℕ} {more : Items} → Reaches s ws values (sequence_scope s1 stop) fs q → ItemList s1 more c
+pub more_items : {s s1 : Coding} {ws : List Want} {values : Values} {stop : Option ℕ} {fs : List Scope} {q c : List ℕ} {more : Items} → Reaches s ws values (sequence_scope s1 stop) fs q → ItemList s1 more c
     → Reaches s ws values (sequence_scope s1 stop) fs (q ++ c)
 more_items {c = c} (into_sequence {q = q} {hb = hb} {ib = ib} r el sh len some items stop-is k-is b-is) d =
     into_sequence r el sh len some (list_append items d) stop-is k-is (ap (λ z. z ++ c) b-is ∙ regroup q hb ib c)
@@ -155,7 +155,7 @@ one_element : (h : Header) (is : Items) → Elements
 one_element h is = sequence h is no_elements
 
 -- the innermost level ends, and stands in the one round it
-pub level_ends : {s : Syntax} {ws : List Want} {values : Values} {f g : Scope} {gs : List Scope} {p : List ℕ} (e : List ℕ) → Reaches s ws values f (g ∷ gs) p → IsEnd (if f.in_sequence then sequence_end_tag else item_end_tag) f.stop (length p) e → Reaches s ws values g gs (p ++ e)
+pub level_ends : {s : Coding} {ws : List Want} {values : Values} {f g : Scope} {gs : List Scope} {p : List ℕ} (e : List ℕ) → Reaches s ws values f (g ∷ gs) p → IsEnd (if f.in_sequence then sequence_end_tag else item_end_tag) f.stop (length p) e → Reaches s ws values g gs (p ++ e)
 level_ends {s = s} {ws = ws} {values = values} e (into_sequence {s1 = s1} {stop = stop} {out = out} {last = last} {fs = fs} {q = q} {h = h} {hb = hb} {inner = inner} {is = is} {ib = ib} {b = b} {k = k} r el sh len some items stop-is k-is b-is) end =
     let closed = closed_by sequence_end_tag stop q hb ib b e h.length len stop-is b-is end in
     let text : DataSet s1 last (sequence h is no_elements) (hb ++ ((ib ++ e) ++ [])) = sequence_then el sh items closed nothing in

@@ -1,6 +1,6 @@
 -- Places in a whole data set, and the levels that are open there.
 use Rattle.std.proofs.Common.{◌≡◌, ℕ, ◌+◌, ◌≤◌, ◌≢◌, Bool, true, false, List, [], ◌∷◌, ◌++◌, length, None, is_some, refl, sym, ap, subst, ◌∙◌, arith, append_assoc, append-nil, length-append, ne_eqb, if◌then◌else◌}
-use Rattle.element.specs.declared.syntax.Syntax.{Syntax}
+use Rattle.sequence.specs.declared.coding.Coding.{Coding}
 use Rattle.element.specs.declared.tag.Tag.{Tag}
 use Rattle.sequence.specs.declared.level.Scope.{Scope}
 use Rattle.sequence.specs.Shape.{is_undefined, undefined_length}
@@ -54,11 +54,11 @@ opened_stays p n some = by (is_undefined n) refl
     by false e = rw e (ne_eqb (p + n) p (λ same. some (omega (arith, same))))
 
 -- no front of the text has more open levels than the limit
-abbrev pub IsShallow : Syntax → Limits → List ℕ → Type 0
+abbrev pub IsShallow : Coding → Limits → List ℕ → Type 0
 IsShallow s lim whole = (p rest : List ℕ) (some : Elements) (path : List PathEntry) (last : ℕ) (tail : Tail) → whole ≡ p ++ rest → Open s p some path last tail → length path ≤ lim.depth
 
 -- in the text `whole`, b stands between p and q, where these levels are open
-pub record IsBefore (s : Syntax) (lim : Limits) (whole : List ℕ) (f : Scope) (fs : List Scope) (before b : List ℕ) (p q : ℕ) : Type 0 where
+pub record IsBefore (s : Coding) (lim : Limits) (whole : List ℕ) (f : Scope) (fs : List Scope) (before b : List ℕ) (p q : ℕ) : Type 0 where
   pub values : Values
   pub after : List ℕ
   pub reaches : Reaches s lim.wanted values f fs before
@@ -69,7 +69,7 @@ pub record IsBefore (s : Syntax) (lim : Limits) (whole : List ℕ) (f : Scope) (
   pub size : q ≡ p + length b
 
 -- so they are not more than the limit
-pub deep_at : {s : Syntax} {lim : Limits} {whole : List ℕ} {f : Scope} {fs : List Scope} {before b : List ℕ} {p q : ℕ} → IsShallow s lim whole → IsBefore s lim whole f fs before b p q → stops_at f.stop p ≡ false → length fs ≤ lim.depth
+pub deep_at : {s : Coding} {lim : Limits} {whole : List ℕ} {f : Scope} {fs : List Scope} {before b : List ℕ} {p q : ℕ} → IsShallow s lim whole → IsBefore s lim whole f fs before b p q → stops_at f.stop p ≡ false → length fs ≤ lim.depth
 deep_at {s = s} {lim = lim} {f = f} {fs = fs} {before = before} {b = b} {p = p} {q = q} shallow here stays =
     let n : length before ≡ length (before ++ []) = ap length (sym (append-nil before)) in
     let hold = less_all (f ∷ fs) (length before) q here.hold (omega (arith, here.place, here.size)) in
@@ -80,11 +80,11 @@ deep_at {s = s} {lim = lim} {f = f} {fs = fs} {before = before} {b = b} {p = p} 
     let levels : length x.path ≡ length fs = sym (depth_over (length before) x.path (set_scope s None x.last)) ∙ ap length x.below in
     omega (arith, le, levels)
 
-pub ends_within : {s : Syntax} {lim : Limits} {whole : List ℕ} {f : Scope} {fs : List Scope} {before b : List ℕ} {p q : ℕ} → IsBefore s lim whole f fs before b p q → q ≤ length whole
+pub ends_within : {s : Coding} {lim : Limits} {whole : List ℕ} {f : Scope} {fs : List Scope} {before b : List ℕ} {p q : ℕ} → IsBefore s lim whole f fs before b p q → q ≤ length whole
 ends_within {before = before} {b = b} here = omega (arith, here.place, here.size, ap length here.text, length-append before (b ++ here.after), length-append b here.after)
 
 -- inside a level that opens after the header hb
-pub inside : {s : Syntax} {lim : Limits} {whole : List ℕ} {f : Scope} {fs : List Scope} {before : List ℕ} {p q n : ℕ} (hb ib cb b : List ℕ) (g f2 : Scope) (here : IsBefore s lim whole f fs before (hb ++ (cb ++ b)) p q) → ClosedIs n ib cb → AreNested None (f2 ∷ fs) → AllLastTo (f2 ∷ fs) q
+pub inside : {s : Coding} {lim : Limits} {whole : List ℕ} {f : Scope} {fs : List Scope} {before : List ℕ} {p q n : ℕ} (hb ib cb b : List ℕ) (g f2 : Scope) (here : IsBefore s lim whole f fs before (hb ++ (cb ++ b)) p q) → ClosedIs n ib cb → AreNested None (f2 ∷ fs) → AllLastTo (f2 ∷ fs) q
     → g.stop ≡ stop_of (p + length hb) n → Reaches s lim.wanted here.values g (f2 ∷ fs) (before ++ hb) → IsBefore s lim whole g (f2 ∷ fs) (before ++ hb) ib (p + length hb) (p + length hb + length ib)
 inside {fs = fs} {before = before} {p = p} {q = q} {n = n} hb ib cb b g f2 here closed nested hold stop-is reaches =
     let size : q ≡ p + length hb + length cb + length b = omega (arith, here.size, length-append hb (cb ++ b), length-append cb b) in
@@ -103,7 +103,7 @@ inside {fs = fs} {before = before} {p = p} {q = q} {n = n} hb ib cb b g f2 here 
     }
 
 -- what stands after the bytes a
-pub behind : {s : Syntax} {lim : Limits} {whole : List ℕ} {f g : Scope} {fs : List Scope} {before : List ℕ} {p q : ℕ} (a b : List ℕ) (values : Values) (here : IsBefore s lim whole f fs before (a ++ b) p q) → AreNested None (g ∷ fs) → AllLastTo (g ∷ fs) q → Reaches s lim.wanted values g fs (before ++ a)
+pub behind : {s : Coding} {lim : Limits} {whole : List ℕ} {f g : Scope} {fs : List Scope} {before : List ℕ} {p q : ℕ} (a b : List ℕ) (values : Values) (here : IsBefore s lim whole f fs before (a ++ b) p q) → AreNested None (g ∷ fs) → AllLastTo (g ∷ fs) q → Reaches s lim.wanted values g fs (before ++ a)
     → IsBefore s lim whole g fs (before ++ a) b (p + length a) q
 behind {before = before} a b values here nested hold reaches = record {
   values = values;

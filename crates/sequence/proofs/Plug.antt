@@ -1,6 +1,6 @@
 -- The levels that a text leads to are the path of a front.
 use Rattle.std.proofs.Common.{◌≡◌, ℕ, ◌+◌, ◌≤◌, ◌≢◌, Bool, true, false, List, [], ◌∷◌, ◌++◌, length, Option, Some, None, refl, sym, ap, subst, ◌∙◌, arith, append_assoc, length-append, ne_eqb}
-use Rattle.element.specs.declared.syntax.Syntax.{Syntax}
+use Rattle.sequence.specs.declared.coding.Coding.{Coding}
 use Rattle.sequence.specs.declared.level.Scope.{Scope}
 use Rattle.element.specs.Header.{number}
 use Rattle.sequence.specs.Shape.{is_undefined, undefined_length}
@@ -14,7 +14,7 @@ use Rattle.sequence.specs.machine.Standing.{Reaches, at_root, into_sequence, int
 use Rattle.sequence.proofs.Fronts.{stop_at, scope_at, top_over, below_over, top_append, below_append, stop_is}
 
 -- the text b is a front whose path, at the place n, is these levels
-pub record IsFront (s : Syntax) (ws : List Want) (values : Values) (n : ℕ) (b : List ℕ) (tail : Tail) (f : Scope) (fs : List Scope) : Type 0 where
+pub record IsFront (s : Coding) (ws : List Want) (values : Values) (n : ℕ) (b : List ℕ) (tail : Tail) (f : Scope) (fs : List Scope) : Type 0 where
   pub elements : Elements
   pub path : List PathEntry
   pub last : ℕ
@@ -37,10 +37,10 @@ plug_text q0 hb0 ib0 b0 hb eb b rest e0 e = sym (ap (λ z. z ++ rest) (e ∙ ap 
 pub level_is : (stop : Option ℕ) (before came : List ℕ) (n k : ℕ) → n ≡ length before + length came → k ≢ 0 → stop ≡ stop_of (length before) k → LastsTo stop n → IsOpenLevel k (length came)
 level_is stop before came n k n-is some stop-is holds = record { some = some; within = λ d. let le = came_by stop (length before) n k stop-is holds d in omega (arith, le, n-is) }
 
-pub entry_scope : (in-sequence : Bool) (s : Syntax) (stop : Option ℕ) (last p n k came : ℕ) → n ≡ p + came → IsOpenLevel k came → stop ≡ stop_of p k → ◌≡◌ {A = Scope} (record { in_sequence = in-sequence; syntax = s; stop = stop_at n (left_of k came); last = last }) (record { in_sequence = in-sequence; syntax = s; stop = stop; last = last })
+pub entry_scope : (in-sequence : Bool) (s : Coding) (stop : Option ℕ) (last p n k came : ℕ) → n ≡ p + came → IsOpenLevel k came → stop ≡ stop_of p k → ◌≡◌ {A = Scope} (record { in_sequence = in-sequence; syntax = s; stop = stop_at n (left_of k came); last = last }) (record { in_sequence = in-sequence; syntax = s; stop = stop; last = last })
 entry_scope in-sequence s stop last p n k came n-is level stop-is = let same = stop_is p n k came n-is level.within ∙ sym stop-is in λ i. record { in_sequence = in-sequence; syntax = s; stop = same i; last = last }
 
-pub plug : {s : Syntax} {ws : List Want} {values : Values} {s1 : Syntax} {stop : Option ℕ} {last0 : ℕ} {fs : List Scope} {q : List ℕ} (rest : List ℕ) (tail : Tail) (path2 : List PathEntry) (last2 n : ℕ) → Reaches s ws values (set_scope s1 stop last0) fs q → n ≡ length (q ++ rest) → LastsTo stop n → AllLastTo fs n
+pub plug : {s : Coding} {ws : List Want} {values : Values} {s1 : Coding} {stop : Option ℕ} {last0 : ℕ} {fs : List Scope} {q : List ℕ} (rest : List ℕ) (tail : Tail) (path2 : List PathEntry) (last2 n : ℕ) → Reaches s ws values (set_scope s1 stop last0) fs q → n ≡ length (q ++ rest) → LastsTo stop n → AllLastTo fs n
     → ((es : Elements) (eb : List ℕ) → DataSet s1 0 es eb → last0 ≡ last_of 0 es → Nested s1 (eb ++ rest) es path2 last2 tail)
     → IsFront s ws values n (q ++ rest) tail (top_over n path2 (set_scope s1 stop last2)) (below_over n path2 (set_scope s1 stop last2) fs)
 plug rest tail path2 last2 n (at_root {es = es} {b = b} set e k fits) n-is holds all inner = record { elements = es; path = path2; last = last2; nested = inner es b set e; top = refl; below = refl; kept = k; fits = fits }

@@ -2,6 +2,8 @@
 use Rattle.std.proofs.Common.{◌≡◌, ℕ, zero, suc, ◌+◌, ◌-◌, ◌<◌, ◌≤◌, ◌⊎◌, Bool, true, false, not, ◌&&◌, List, [], ◌∷◌, ◌++◌, length, take, drop, None, length-append, nat_le, inl, inr, refl, sym, ap, subst, ◌∙◌, arith, le-leb, leb-true, leb-false}
 use Rattle.std.proofs.lemmas.Bool.Decides.{nat_tests}
 use Rattle.std.proofs.lemmas.List.{take-append-drop, take-take, length-take, length-take-le, take_all}
+use Rattle.sequence.specs.Coding.{layout}
+use Rattle.sequence.specs.declared.coding.Coding.{Coding}
 use Rattle.element.specs.declared.syntax.Syntax.{Syntax}
 use Rattle.element.specs.declared.header.Header.{Header}
 use Rattle.element.specs.declared.size.Need.{Need}
@@ -32,24 +34,24 @@ both_true true false e = (refl, refl)
 both_true false b e = absurd cc
 
 -- the other way round from `unbroken_is`
-quiet_is : (lim : Limits) (spot : Spot) (t : List ℕ) → broken_due spot ≡ None → (4 ≤ length t → broken_tag spot (tag_at t) ≡ None) → (6 ≤ length t → is_plain spot.syntax (tag_at t) ≡ false → broken_need spot (need spot.syntax t) (tag_at t) ≡ None) → is_whole spot.syntax t ≡ false → broken lim spot t ≡ None
+quiet_is : (lim : Limits) (spot : Spot) (t : List ℕ) → broken_due spot ≡ None → (4 ≤ length t → broken_tag spot (tag_at t) ≡ None) → (6 ≤ length t → is_plain (layout spot.syntax) (tag_at t) ≡ false → broken_need spot (need (layout spot.syntax) t) (tag_at t) ≡ None) → is_whole (layout spot.syntax) t ≡ false → broken lim spot t ≡ None
 unfolding broken
 quiet_is lim spot t due tag vr part =
-    all_none (broken_due spot) (when (nat_le 4 (length t)) (broken_tag spot (tag_at t))) (when (nat_le 6 (length t) && not (is_plain spot.syntax (tag_at t))) (broken_need spot (need spot.syntax t) (tag_at t))) (when (is_whole spot.syntax t) (broken_header lim spot (length t) (header_at spot.syntax t)))
+    all_none (broken_due spot) (when (nat_le 4 (length t)) (broken_tag spot (tag_at t))) (when (nat_le 6 (length t) && not (is_plain (layout spot.syntax) (tag_at t))) (broken_need spot (need (layout spot.syntax) t) (tag_at t))) (when (is_whole (layout spot.syntax) t) (broken_header lim spot (length t) (header_at (layout spot.syntax) t)))
     due (none_when (nat_le 4 (length t)) _ (λ e. tag (leb-true 4 (length t) e)))
-    (none_when (nat_le 6 (length t) && not (is_plain spot.syntax (tag_at t))) _ (λ e. let k = both_true (nat_le 6 (length t)) (is_plain spot.syntax (tag_at t)) e in vr (leb-true 6 (length t) k.0) k.1))
-    (none_when (is_whole spot.syntax t) _ (λ e. absurd (let k : true ≡ false = sym e ∙ part in cc)))
+    (none_when (nat_le 6 (length t) && not (is_plain (layout spot.syntax) (tag_at t))) _ (λ e. let k = both_true (nat_le 6 (length t)) (is_plain (layout spot.syntax) (tag_at t)) e in vr (leb-true 6 (length t) k.0) k.1))
+    (none_when (is_whole (layout spot.syntax) t) _ (λ e. absurd (let k : true ≡ false = sym e ∙ part in cc)))
 
 -- no bytes come between the fourth or the sixth and what came
 abbrev pub IsSide : ℕ → ℕ → ℕ → Type 0
 IsSide k a b = (k ≤ a) ⊎ (b < k)
 
-need_stays : (s : Syntax) (u v : List ℕ) (n : Need) → need s u ≡ n → 6 ≤ length u → (n ≡ BadVr → ⊥) → need s (u ++ v) ≡ n
-need_stays s u v More e le good = absurd (let lt = more_short (subst (λ z. NeedIs s u z) e (need_is s u)) in omega (arith, lt, le))
+need_stays : (s : Coding) (u v : List ℕ) (n : Need) → need (layout s) u ≡ n → 6 ≤ length u → (n ≡ BadVr → ⊥) → need (layout s) (u ++ v) ≡ n
+need_stays s u v More e le good = absurd (let lt = more_short (subst (λ z. NeedIs (layout s) u z) e (need_is (layout s) u)) in omega (arith, lt, le))
 need_stays s u v BadVr e le good = absurd (good refl)
-need_stays s u v (Size k) e le good = need_on s u v k e
+need_stays s u v (Size k) e le good = need_on (layout s) u v k e
 
-pub steady : (lim : Limits) (spot : Spot) (u v : List ℕ) → broken lim spot u ≡ None → is_whole spot.syntax u ≡ false → is_whole spot.syntax (u ++ v) ≡ false → IsSide 4 (length u) (length (u ++ v)) → IsSide 6 (length u) (length (u ++ v)) → broken lim spot (u ++ v) ≡ None
+pub steady : (lim : Limits) (spot : Spot) (u v : List ℕ) → broken lim spot u ≡ None → is_whole (layout spot.syntax) u ≡ false → is_whole (layout spot.syntax) (u ++ v) ≡ false → IsSide 4 (length u) (length (u ++ v)) → IsSide 6 (length u) (length (u ++ v)) → broken lim spot (u ++ v) ≡ None
 steady lim spot u v ok part more four six =
     let k = unbroken_is lim spot u ok in
     let tail = on_tail lim spot u ok part in
@@ -59,10 +61,10 @@ steady lim spot u v ok part more four six =
     tag le (inl ge) = ap (broken_tag spot) (tag_on u v ge) ∙ (unbroken_is lim spot u ok).tag_ok ge
     tag le (inr lt) = absurd (omega (arith, le, lt))
 
-    vr : 6 ≤ length (u ++ v) → is_plain spot.syntax (tag_at (u ++ v)) ≡ false → IsSide 6 (length u) (length (u ++ v)) → BreaksNone lim spot u → IsUnfinishedHeader spot.syntax u → broken_need spot (need spot.syntax (u ++ v)) (tag_at (u ++ v)) ≡ None
+    vr : 6 ≤ length (u ++ v) → is_plain (layout spot.syntax) (tag_at (u ++ v)) ≡ false → IsSide 6 (length u) (length (u ++ v)) → BreaksNone lim spot u → IsUnfinishedHeader spot.syntax u → broken_need spot (need (layout spot.syntax) (u ++ v)) (tag_at (u ++ v)) ≡ None
     vr le p (inl ge) k tail =
-        let same = need_stays spot.syntax u v (need spot.syntax u) refl ge tail.good in
-        ap (λ z. broken_need spot z (tag_at (u ++ v))) same ∙ ap (broken_need spot (need spot.syntax u)) (tag_on u v (omega (arith, ge))) ∙ k.vr_ok ge (ap (is_plain spot.syntax) (sym (tag_on u v (omega (arith, ge)))) ∙ p)
+        let same = need_stays spot.syntax u v (need (layout spot.syntax) u) refl ge tail.good in
+        ap (λ z. broken_need spot z (tag_at (u ++ v))) same ∙ ap (broken_need spot (need (layout spot.syntax) u)) (tag_on u v (omega (arith, ge))) ∙ k.vr_ok ge (ap (is_plain (layout spot.syntax)) (sym (tag_on u v (omega (arith, ge)))) ∙ p)
     vr le p (inr lt) k tail = absurd (omega (arith, le, lt))
 
 -- beginnings of some bytes
@@ -70,17 +72,17 @@ steady lim spot u v ok part more four six =
 more_of : (a m : ℕ) (bytes : List ℕ) → a ≤ m → m ≤ length bytes → take m bytes ≡ take a bytes ++ drop a (take m bytes)
 more_of a m bytes le most = sym (take-append-drop a (take m bytes)) ∙ ap (λ z. z ++ drop a (take m bytes)) (take-take a m bytes le)
 
-pub quiet_on : (lim : Limits) (spot : Spot) (bytes : List ℕ) (a m : ℕ) → IsQuiet lim spot (take a bytes) → a ≤ m → m ≤ length bytes → is_whole spot.syntax (take m bytes) ≡ false → IsSide 4 a m → IsSide 6 a m → IsQuiet lim spot (take m bytes)
+pub quiet_on : (lim : Limits) (spot : Spot) (bytes : List ℕ) (a m : ℕ) → IsQuiet lim spot (take a bytes) → a ≤ m → m ≤ length bytes → is_whole (layout spot.syntax) (take m bytes) ≡ false → IsSide 4 a m → IsSide 6 a m → IsQuiet lim spot (take m bytes)
 quiet_on lim spot bytes a m q le most part four six =
     let text = more_of a m bytes le most in
     let size-a = length-take-le a bytes (omega (arith, le, most)) in
     let size-m = length-take-le m bytes most in
     let side : (k : ℕ) → IsSide k a m → IsSide k (length (take a bytes)) (length (take a bytes ++ drop a (take m bytes))) = λ k s. subst (λ z. IsSide k z (length (take a bytes ++ drop a (take m bytes)))) (sym size-a) (subst (λ z. IsSide k a z) (sym (sym (ap length text) ∙ size-m)) s) in
-    let ok = steady lim spot (take a bytes) (drop a (take m bytes)) q.fine q.part (ap (is_whole spot.syntax) (sym text) ∙ part) (side 4 four) (side 6 six) in
+    let ok = steady lim spot (take a bytes) (drop a (take m bytes)) q.fine q.part (ap (is_whole (layout spot.syntax)) (sym text) ∙ part) (side 4 four) (side 6 six) in
     record { fine = ap (broken lim spot) text ∙ ok; part = part }
 
 -- where the beginnings that matter are quiet, each is
-pub quiet_all : (lim : Limits) (spot : Spot) (bytes : List ℕ) (a m : ℕ) → IsQuiet lim spot (take a bytes) → (a < 4 → 4 ≤ m → IsQuiet lim spot (take 4 bytes)) → (a < 6 → 6 ≤ m → IsQuiet lim spot (take 6 bytes)) → a ≤ m → m ≤ length bytes → is_whole spot.syntax (take m bytes) ≡ false → IsQuiet lim spot (take m bytes)
+pub quiet_all : (lim : Limits) (spot : Spot) (bytes : List ℕ) (a m : ℕ) → IsQuiet lim spot (take a bytes) → (a < 4 → 4 ≤ m → IsQuiet lim spot (take 4 bytes)) → (a < 6 → 6 ≤ m → IsQuiet lim spot (take 6 bytes)) → a ≤ m → m ≤ length bytes → is_whole (layout spot.syntax) (take m bytes) ≡ false → IsQuiet lim spot (take m bytes)
 quiet_all lim spot bytes a m q q4 q6 le most part = by (side 4 a) (side 6 a) (side 4 m) (side 6 m)
   where
     side : (k n : ℕ) → (k ≤ n) ⊎ (n < k)
@@ -105,26 +107,26 @@ quiet_all lim spot bytes a m q q4 q6 le most part = by (side 4 a) (side 6 a) (si
 
 -- when a header is whole
 
-pub not_whole_short : (s : Syntax) (t : List ℕ) → length t < 8 → is_whole s t ≡ false
-not_whole_short s t lt = by (is_whole s t) refl
+pub not_whole_short : (s : Coding) (t : List ℕ) → length t < 8 → is_whole (layout s) t ≡ false
+not_whole_short s t lt = by (is_whole (layout s) t) refl
   where
-    by : (q : Bool) → is_whole s t ≡ q → is_whole s t ≡ false
+    by : (q : Bool) → is_whole (layout s) t ≡ q → is_whole (layout s) t ≡ false
     by false e = e
-    by true e = absurd (let ge = whole_eight s t e in omega (arith, ge, lt))
+    by true e = absurd (let ge = whole_eight (layout s) t e in omega (arith, ge, lt))
 
 -- a beginning is whole only where the bytes ask for no more than it
-pub not_whole_before : (s : Syntax) (bytes : List ℕ) (m : ℕ) (n : Need) → need s bytes ≡ n → has_size n m ≡ false → m ≤ length bytes → is_whole s (take m bytes) ≡ false
+pub not_whole_before : (s : Coding) (bytes : List ℕ) (m : ℕ) (n : Need) → need (layout s) bytes ≡ n → has_size n m ≡ false → m ≤ length bytes → is_whole (layout s) (take m bytes) ≡ false
 unfolding is_whole
-not_whole_before s bytes m n e part le = by (need s (take m bytes)) refl
+not_whole_before s bytes m n e part le = by (need (layout s) (take m bytes)) refl
   where
     size : length (take m bytes) ≡ m
     size = length-take-le m bytes le
 
-    by : (k : Need) → need s (take m bytes) ≡ k → has_size (need s (take m bytes)) (length (take m bytes)) ≡ false
+    by : (k : Need) → need (layout s) (take m bytes) ≡ k → has_size (need (layout s) (take m bytes)) (length (take m bytes)) ≡ false
     by More f = ap (λ z. has_size z (length (take m bytes))) f
     by BadVr f = ap (λ z. has_size z (length (take m bytes))) f
     by (Size k) f =
-        let more : need s bytes ≡ Size k = ap (need s) (sym (take-append-drop m bytes)) ∙ need_on s (take m bytes) (drop m bytes) k f in
+        let more : need (layout s) bytes ≡ Size k = ap (need (layout s)) (sym (take-append-drop m bytes)) ∙ need_on (layout s) (take m bytes) (drop m bytes) k f in
         ap (λ z. has_size z (length (take m bytes))) f ∙ ap (has_size (Size k)) size ∙ ap (λ z. has_size z m) (sym more ∙ e) ∙ part
 
 pub take_both : (a b : List ℕ) (n : ℕ) → length a ≤ n → take n (a ++ b) ≡ a ++ take (n - length a) b
@@ -140,8 +142,8 @@ size_short k (plain_eight ge p) e = let same : 8 ≡ k = cc in omega (arith, sam
 size_short k (short_eight ge p c h) e = let same : 8 ≡ k = cc in omega (arith, same)
 size_short k (long_twelve ge p c h) e = let same : 12 ≡ k = cc in omega (arith, same)
 
-pub need_short : (s : Syntax) (b : List ℕ) (k : ℕ) → need s b ≡ Size k → k ≤ 12
-need_short s b k e = size_short k (need_is s b) e
+pub need_short : (s : Coding) (b : List ℕ) (k : ℕ) → need (layout s) b ≡ Size k → k ≤ 12
+need_short s b k e = size_short k (need_is (layout s) b) e
 
 size_least : {s : Syntax} {b : List ℕ} (k : ℕ) {n : Need} → NeedIs s b n → n ≡ Size k → 8 ≤ k
 size_least k (few lt) e = absurd cc
@@ -151,42 +153,42 @@ size_least k (plain_eight ge p) e = let same : 8 ≡ k = cc in omega (arith, sam
 size_least k (short_eight ge p c h) e = let same : 8 ≡ k = cc in omega (arith, same)
 size_least k (long_twelve ge p c h) e = let same : 12 ≡ k = cc in omega (arith, same)
 
-pub need_least : (s : Syntax) (b : List ℕ) (k : ℕ) → need s b ≡ Size k → 8 ≤ k
-need_least s b k e = size_least k (need_is s b) e
+pub need_least : (s : Coding) (b : List ℕ) (k : ℕ) → need (layout s) b ≡ Size k → 8 ≤ k
+need_least s b k e = size_least k (need_is (layout s) b) e
 
-pub whole_at : (s : Syntax) (bytes : List ℕ) (a k : ℕ) → need s bytes ≡ Size k → k ≤ a → a ≤ length bytes → is_whole s (take a bytes) ≡ true
+pub whole_at : (s : Coding) (bytes : List ℕ) (a k : ℕ) → need (layout s) bytes ≡ Size k → k ≤ a → a ≤ length bytes → is_whole (layout s) (take a bytes) ≡ true
 unfolding is_whole
 whole_at s bytes a k e le most =
     let size = length-take-le a bytes most in
-    let all : NeedIs s (take a bytes ++ drop a bytes) (Size k) = subst (λ z. NeedIs s z (Size k)) (sym (take-append-drop a bytes)) (subst (NeedIs s bytes) e (need_is s bytes)) in
-    let n : need s (take a bytes) ≡ Size k = is_need s (take a bytes) (Size k) (size_off (take a bytes) (drop a bytes) k (omega (arith, size, le)) all) in
+    let all : NeedIs (layout s) (take a bytes ++ drop a bytes) (Size k) = subst (λ z. NeedIs (layout s) z (Size k)) (sym (take-append-drop a bytes)) (subst (NeedIs (layout s) bytes) e (need_is (layout s) bytes)) in
+    let n : need (layout s) (take a bytes) ≡ Size k = is_need (layout s) (take a bytes) (Size k) (size_off (take a bytes) (drop a bytes) k (omega (arith, size, le)) all) in
     ap (λ z. has_size z (length (take a bytes))) n ∙ le-leb k (length (take a bytes)) (omega (arith, size, le))
 
 less_no : (k m : ℕ) → m < k → nat_le k m ≡ false
 less_no k m lt = grind (arith, nat_tests)
 
-front_need : (s : Syntax) (bytes : List ℕ) (k : ℕ) → need s bytes ≡ Size k → k ≤ length bytes → need s (take k bytes) ≡ Size k
-front_need s bytes k n le = is_need s (take k bytes) (Size k) (size_off (take k bytes) (drop k bytes) k (omega (arith, length-take-le k bytes le)) (subst (λ z. NeedIs s z (Size k)) (sym (take-append-drop k bytes)) (subst (NeedIs s bytes) n (need_is s bytes))))
+front_need : (s : Coding) (bytes : List ℕ) (k : ℕ) → need (layout s) bytes ≡ Size k → k ≤ length bytes → need (layout s) (take k bytes) ≡ Size k
+front_need s bytes k n le = is_need (layout s) (take k bytes) (Size k) (size_off (take k bytes) (drop k bytes) k (omega (arith, length-take-le k bytes le)) (subst (λ z. NeedIs (layout s) z (Size k)) (sym (take-append-drop k bytes)) (subst (NeedIs (layout s) bytes) n (need_is (layout s) bytes))))
 
-front_read : (s : Syntax) (bytes : List ℕ) (k : ℕ) → need s bytes ≡ Size k → k ≤ length bytes → header_at s bytes ≡ header_at s (take k bytes)
+front_read : (s : Coding) (bytes : List ℕ) (k : ℕ) → need (layout s) bytes ≡ Size k → k ≤ length bytes → header_at (layout s) bytes ≡ header_at (layout s) (take k bytes)
 front_read s bytes k n le =
-    let front : NeedIs s (take k bytes) (Size k) = subst (NeedIs s (take k bytes)) (front_need s bytes k n le) (need_is s (take k bytes)) in
-    ap (header_at s) (sym (take-append-drop k bytes)) ∙ header_on (take k bytes) (drop k bytes) k (omega (arith, length-take-le k bytes le)) front
+    let front : NeedIs (layout s) (take k bytes) (Size k) = subst (NeedIs (layout s) (take k bytes)) (front_need s bytes k n le) (need_is (layout s) (take k bytes)) in
+    ap (header_at (layout s)) (sym (take-append-drop k bytes)) ∙ header_on (take k bytes) (drop k bytes) k (omega (arith, length-take-le k bytes le)) front
 
 -- what a whole header breaks is what its bytes break
-pub whole_unbroken : (lim : Limits) (spot : Spot) (t : List ℕ) (k : ℕ) (h : Header) → need spot.syntax t ≡ Size k → length t ≡ k → h ≡ header_at spot.syntax t → broken_whole lim spot k h ≡ None → broken lim spot t ≡ None
+pub whole_unbroken : (lim : Limits) (spot : Spot) (t : List ℕ) (k : ℕ) (h : Header) → need (layout spot.syntax) t ≡ Size k → length t ≡ k → h ≡ header_at (layout spot.syntax) t → broken_whole lim spot k h ≡ None → broken lim spot t ≡ None
 unfolding broken broken_whole
 whole_unbroken lim spot t k h n size read ok =
-    let tag-is : h.tag ≡ tag_at t = ap (λ (z : Header). z.tag) read ∙ tag_read spot.syntax t in
+    let tag-is : h.tag ≡ tag_at t = ap (λ (z : Header). z.tag) read ∙ tag_read (layout spot.syntax) t in
     let a = none_first (broken_due spot) _ ok in
     let b = none_first (broken_tag spot h.tag) _ a.1 in
-    let c = none_first (when (not (is_plain spot.syntax h.tag)) (broken_need spot (Size k) h.tag)) _ b.1 in
-    all_none (broken_due spot) (when (nat_le 4 (length t)) (broken_tag spot (tag_at t))) (when (nat_le 6 (length t) && not (is_plain spot.syntax (tag_at t))) (broken_need spot (need spot.syntax t) (tag_at t))) (when (is_whole spot.syntax t) (broken_header lim spot (length t) (header_at spot.syntax t)))
+    let c = none_first (when (not (is_plain (layout spot.syntax) h.tag)) (broken_need spot (Size k) h.tag)) _ b.1 in
+    all_none (broken_due spot) (when (nat_le 4 (length t)) (broken_tag spot (tag_at t))) (when (nat_le 6 (length t) && not (is_plain (layout spot.syntax) (tag_at t))) (broken_need spot (need (layout spot.syntax) t) (tag_at t))) (when (is_whole (layout spot.syntax) t) (broken_header lim spot (length t) (header_at (layout spot.syntax) t)))
     a.0 (none_when (nat_le 4 (length t)) _ (λ e. ap (broken_tag spot) (sym tag-is) ∙ b.0))
-    (none_when (nat_le 6 (length t) && not (is_plain spot.syntax (tag_at t))) _ (λ e. let p = both_true (nat_le 6 (length t)) (is_plain spot.syntax (tag_at t)) e in
-    let q : is_plain spot.syntax h.tag ≡ false = ap (is_plain spot.syntax) tag-is ∙ p.1 in
-    (λ i. broken_need spot (n i) (sym tag-is i)) ∙ when_none (not (is_plain spot.syntax h.tag)) (broken_need spot (Size k) h.tag) c.0 (ap not q)))
-    (none_when (is_whole spot.syntax t) _ (λ e. (λ i. broken_header lim spot (size i) (sym read i)) ∙ c.1))
+    (none_when (nat_le 6 (length t) && not (is_plain (layout spot.syntax) (tag_at t))) _ (λ e. let p = both_true (nat_le 6 (length t)) (is_plain (layout spot.syntax) (tag_at t)) e in
+    let q : is_plain (layout spot.syntax) h.tag ≡ false = ap (is_plain (layout spot.syntax)) tag-is ∙ p.1 in
+    (λ i. broken_need spot (n i) (sym tag-is i)) ∙ when_none (not (is_plain (layout spot.syntax) h.tag)) (broken_need spot (Size k) h.tag) c.0 (ap not q)))
+    (none_when (is_whole (layout spot.syntax) t) _ (λ e. (λ i. broken_header lim spot (size i) (sym read i)) ∙ c.1))
 
 -- what is examined
 
@@ -200,7 +202,7 @@ later_end lim spot bytes a count (ends.Refused n rule tag) p j quiet = (j.0, j.2
 later_end lim spot bytes a count (ends.Whole n h sh) p j quiet = (j.0, j.2, λ m lt lt2. quiet m lt (omega (arith, lt2, j.1)) (omega (arith, lt2, j.0.some)))
 later_end lim spot bytes a count ends.Part p j quiet = absurd cc
 
-short_whole : (s : Syntax) (bytes : List ℕ) (m : ℕ) → m < 8 → m ≤ length bytes → is_whole s (take m bytes) ≡ false
+short_whole : (s : Coding) (bytes : List ℕ) (m : ℕ) → m < 8 → m ≤ length bytes → is_whole (layout s) (take m bytes) ≡ false
 short_whole s bytes m lt most = not_whole_short s (take m bytes) (omega (arith, lt, length-take-le m bytes most))
 
 -- after the first a bytes, which are quiet
@@ -216,30 +218,30 @@ module _ (lim : Limits) (spot : Spot) (bytes : List ℕ) (a : ℕ) (more : a ≤
         (λ m gt lt most. quiet_all lim spot bytes a m base (λ lt4 m4. part_examined lim spot bytes a 4 tagged tagged-part tagged-is lt4 (omega (arith, m4, most))) (λ lt6 m6. absurd (omega (arith, lt, m6))) (omega (arith, gt)) most (short_whole spot.syntax bytes m (omega (arith, lt)) most))
 
     module _ (named : End) (named-part : is_part named ≡ true) (named-is : IsExamined lim spot bytes a 6 named) where
-      quiet_by : (m : ℕ) → a ≤ m → m ≤ length bytes → is_whole spot.syntax (take m bytes) ≡ false → IsQuiet lim spot (take m bytes)
+      quiet_by : (m : ℕ) → a ≤ m → m ≤ length bytes → is_whole (layout spot.syntax) (take m bytes) ≡ false → IsQuiet lim spot (take m bytes)
       quiet_by m le most part =
           quiet_all lim spot bytes a m base (λ lt4 m4. part_examined lim spot bytes a 4 tagged tagged-part tagged-is lt4 (omega (arith, m4, most)))
           (λ lt6 m6. part_examined lim spot bytes a 6 named named-part named-is lt6 (omega (arith, m6, most))) le most part
 
-      pub part_end : (n : Need) → need spot.syntax bytes ≡ n → ((m : ℕ) → has_size n m ≡ false) → IsEnd lim spot bytes a ends.Part
+      pub part_end : (n : Need) → need (layout spot.syntax) bytes ≡ n → ((m : ℕ) → has_size n m ≡ false) → IsEnd lim spot bytes a ends.Part
       part_end n e none m lt most = quiet_by m (omega (arith, lt)) most (not_whole_before spot.syntax bytes m n e (none m) most)
 
-      before_size : (k m : ℕ) → need spot.syntax bytes ≡ Size k → m < k → m ≤ length bytes → is_whole spot.syntax (take m bytes) ≡ false
+      before_size : (k m : ℕ) → need (layout spot.syntax) bytes ≡ Size k → m < k → m ≤ length bytes → is_whole (layout spot.syntax) (take m bytes) ≡ false
       before_size k m n lt most = not_whole_before spot.syntax bytes m (Size k) n (less_no k m lt) most
 
       -- a header that goes on is longer than the bytes
-      size_far : (k : ℕ) → need spot.syntax bytes ≡ Size k → (a < k → k ≤ length bytes → IsQuiet lim spot (take k bytes)) → k ≤ length bytes → ⊥
+      size_far : (k : ℕ) → need (layout spot.syntax) bytes ≡ Size k → (a < k → k ≤ length bytes → IsQuiet lim spot (take k bytes)) → k ≤ length bytes → ⊥
       size_far k n j le = by (nat_le k a) refl
         where
           by : (q : Bool) → nat_le k a ≡ q → ⊥
           by true e = let w : true ≡ false = sym (whole_at spot.syntax bytes a k n (leb-true k a e) more) ∙ base.part in cc
           by false e = let w : true ≡ false = sym (whole_at spot.syntax bytes k k n (omega arith) le) ∙ (j (leb-false k a e) le).part in cc
 
-      size_part : (k m : ℕ) → need spot.syntax bytes ≡ Size k → (a < k → k ≤ length bytes → IsQuiet lim spot (take k bytes)) → a < m → m ≤ length bytes → (q : Bool) → nat_le k m ≡ q → IsQuiet lim spot (take m bytes)
+      size_part : (k m : ℕ) → need (layout spot.syntax) bytes ≡ Size k → (a < k → k ≤ length bytes → IsQuiet lim spot (take k bytes)) → a < m → m ≤ length bytes → (q : Bool) → nat_le k m ≡ q → IsQuiet lim spot (take m bytes)
       size_part k m n j lt most true e = absurd (size_far k n j (omega (arith, leb-true k m e, most)))
       size_part k m n j lt most false e = quiet_by m (omega (arith, lt)) most (before_size k m n (leb-false k m e) most)
 
-      pub size_end : (k : ℕ) (e : End) → need spot.syntax bytes ≡ Size k → IsExamined lim spot bytes a k e → IsEnd lim spot bytes a e
+      pub size_end : (k : ℕ) (e : End) → need (layout spot.syntax) bytes ≡ Size k → IsExamined lim spot bytes a k e → IsEnd lim spot bytes a e
       size_end k (ends.Refused c rule tag) n j = later_end lim spot bytes a k (ends.Refused c rule tag) refl j (λ m gt lt most. quiet_by m (omega (arith, gt)) most (before_size k m n lt most))
       size_end k (ends.Whole c h sh) n j = later_end lim spot bytes a k (ends.Whole c h sh) refl j (λ m gt lt most. quiet_by m (omega (arith, gt)) most (before_size k m n lt most))
       size_end k ends.Part n j = λ m lt most. size_part k m n j lt most (nat_le k m) refl
@@ -266,29 +268,29 @@ one_more lim spot bytes begun e none q k = subst (λ z. IsEnd lim spot bytes z e
 
 -- what is unbroken at its whole size was so at every front
 
-quiet_front : (lim : Limits) (spot : Spot) (bytes : List ℕ) (k m : ℕ) → need spot.syntax bytes ≡ Size k → k ≤ length bytes → broken lim spot (take k bytes) ≡ None → m < k → IsQuiet lim spot (take m bytes)
+quiet_front : (lim : Limits) (spot : Spot) (bytes : List ℕ) (k m : ℕ) → need (layout spot.syntax) bytes ≡ Size k → k ≤ length bytes → broken lim spot (take k bytes) ≡ None → m < k → IsQuiet lim spot (take m bytes)
 quiet_front lim spot bytes k m n le ok lt =
     let u = take m bytes in
     let v = drop m (take k bytes) in
     let text : take k bytes ≡ u ++ v = more_of m k bytes (omega (arith, lt)) le in
     let all : BreaksNone lim spot (u ++ v) = unbroken_is lim spot (u ++ v) (ap (broken lim spot) (sym text) ∙ ok) in
-    let whole-need : need spot.syntax (u ++ v) ≡ Size k = ap (need spot.syntax) (sym text) ∙ is_need spot.syntax (take k bytes) (Size k) (size_off (take k bytes) (drop k bytes) k (omega (arith, length-take-le k bytes le)) (subst (λ z. NeedIs spot.syntax z (Size k)) (sym (take-append-drop k bytes)) (subst (NeedIs spot.syntax bytes) n (need_is spot.syntax bytes)))) in
-    let part : is_whole spot.syntax u ≡ false = not_whole_before spot.syntax bytes m (Size k) n (less_no k m lt) (omega (arith, lt, le)) in
+    let whole-need : need (layout spot.syntax) (u ++ v) ≡ Size k = ap (need (layout spot.syntax)) (sym text) ∙ is_need (layout spot.syntax) (take k bytes) (Size k) (size_off (take k bytes) (drop k bytes) k (omega (arith, length-take-le k bytes le)) (subst (λ z. NeedIs (layout spot.syntax) z (Size k)) (sym (take-append-drop k bytes)) (subst (NeedIs (layout spot.syntax) bytes) n (need_is (layout spot.syntax) bytes)))) in
+    let part : is_whole (layout spot.syntax) u ≡ false = not_whole_before spot.syntax bytes m (Size k) n (less_no k m lt) (omega (arith, lt, le)) in
     let tag : 4 ≤ length u → broken_tag spot (tag_at u) ≡ None = λ ge. ap (broken_tag spot) (sym (tag_on u v ge)) ∙ all.tag_ok (omega (arith, ge, length-append u v)) in
-    let vr : 6 ≤ length u → is_plain spot.syntax (tag_at u) ≡ false → broken_need spot (need spot.syntax u) (tag_at u) ≡ None = λ ge p. vr_before lim spot u v k ge p all whole-need (need spot.syntax u) refl in
+    let vr : 6 ≤ length u → is_plain (layout spot.syntax) (tag_at u) ≡ false → broken_need spot (need (layout spot.syntax) u) (tag_at u) ≡ None = λ ge p. vr_before lim spot u v k ge p all whole-need (need (layout spot.syntax) u) refl in
     record { fine = quiet_is lim spot u all.due_ok tag vr part; part = part }
   where
-    vr_before : (lim : Limits) (spot : Spot) (u v : List ℕ) (k : ℕ) → 6 ≤ length u → is_plain spot.syntax (tag_at u) ≡ false → BreaksNone lim spot (u ++ v) → need spot.syntax (u ++ v) ≡ Size k → (n : Need) → need spot.syntax u ≡ n → broken_need spot (need spot.syntax u) (tag_at u) ≡ None
-    vr_before lim spot u v k ge p all whole More e = absurd (let lt = more_short (subst (λ z. NeedIs spot.syntax u z) e (need_is spot.syntax u)) in omega (arith, lt, ge))
+    vr_before : (lim : Limits) (spot : Spot) (u v : List ℕ) (k : ℕ) → 6 ≤ length u → is_plain (layout spot.syntax) (tag_at u) ≡ false → BreaksNone lim spot (u ++ v) → need (layout spot.syntax) (u ++ v) ≡ Size k → (n : Need) → need (layout spot.syntax) u ≡ n → broken_need spot (need (layout spot.syntax) u) (tag_at u) ≡ None
+    vr_before lim spot u v k ge p all whole More e = absurd (let lt = more_short (subst (λ z. NeedIs (layout spot.syntax) u z) e (need_is (layout spot.syntax) u)) in omega (arith, lt, ge))
     vr_before lim spot u v k ge p all whole (Size j) e =
-        let same : need spot.syntax (u ++ v) ≡ need spot.syntax u = need_on spot.syntax u v j e ∙ sym e in
-        let plain : is_plain spot.syntax (tag_at (u ++ v)) ≡ false = ap (is_plain spot.syntax) (tag_on u v (omega (arith, ge))) ∙ p in
-        ap (λ z. broken_need spot z (tag_at u)) (sym same) ∙ ap (broken_need spot (need spot.syntax (u ++ v))) (sym (tag_on u v (omega (arith, ge)))) ∙ all.vr_ok (omega (arith, ge, length-append u v)) plain
-    vr_before lim spot u v k ge p all whole BadVr e = absurd (let bad = bad_on spot.syntax u v e in let same : ◌≡◌ {A = Need} BadVr (Size k) = sym bad ∙ whole in cc)
+        let same : need (layout spot.syntax) (u ++ v) ≡ need (layout spot.syntax) u = need_on (layout spot.syntax) u v j e ∙ sym e in
+        let plain : is_plain (layout spot.syntax) (tag_at (u ++ v)) ≡ false = ap (is_plain (layout spot.syntax)) (tag_on u v (omega (arith, ge))) ∙ p in
+        ap (λ z. broken_need spot z (tag_at u)) (sym same) ∙ ap (broken_need spot (need (layout spot.syntax) (u ++ v))) (sym (tag_on u v (omega (arith, ge)))) ∙ all.vr_ok (omega (arith, ge, length-append u v)) plain
+    vr_before lim spot u v k ge p all whole BadVr e = absurd (let bad = bad_on (layout spot.syntax) u v e in let same : ◌≡◌ {A = Need} BadVr (Size k) = sym bad ∙ whole in cc)
 
 -- a whole header that is unbroken ends its bytes
 
-pub examined_end : (lim : Limits) (spot : Spot) (bytes : List ℕ) (begun k : ℕ) (e : End) → need spot.syntax bytes ≡ Size k → is_end e ≡ true → IsExamined lim spot bytes begun k e → IsEnd lim spot bytes begun e
+pub examined_end : (lim : Limits) (spot : Spot) (bytes : List ℕ) (begun k : ℕ) (e : End) → need (layout spot.syntax) bytes ≡ Size k → is_end e ≡ true → IsExamined lim spot bytes begun k e → IsEnd lim spot bytes begun e
 examined_end lim spot bytes begun k (ends.Refused n rule tag) size e j = absurd cc
 examined_end lim spot bytes begun k ends.Part size e j = absurd cc
 examined_end lim spot bytes begun k (ends.Whole n h sh) size e j =
@@ -300,9 +302,9 @@ whole_end lim spot bytes front is ok =
     let k = front.size in
     let h = front.header in
     let whole = whole_at spot.syntax bytes k k is.size-is (omega arith) is.within in
-    let read : front.header ≡ header_at spot.syntax (take front.size bytes) = is.read ∙ front_read spot.syntax bytes k is.size-is is.within in
+    let read : front.header ≡ header_at (layout spot.syntax) (take front.size bytes) = is.read ∙ front_read spot.syntax bytes k is.size-is is.within in
     let fine = whole_unbroken lim spot (take k bytes) k h (front_need spot.syntax bytes k is.size-is is.within) (length-take-le k bytes is.within) read ok in
-    let eight = whole_eight spot.syntax (take k bytes) whole in
+    let eight = whole_eight (layout spot.syntax) (take k bytes) whole in
     let size = length-take-le k bytes is.within in (
       record { more = omega (arith, eight, size); some = is.within; short = need_short spot.syntax bytes k is.size-is },
       record { fine = fine; whole = whole; read = read; shaped = is.shaped },

@@ -1,6 +1,8 @@
 -- A text is read in one way at most: header by header, a text gives one list of elements, one path and one tail.
 use Rattle.std.proofs.Common.{◌≡◌, ℕ, ◌-◌, ◌<◌, ◌≤◌, ◌≢◌, true, false, List, [], ◌∷◌, ◌++◌, length, Some, None, refl, sym, ap, subst, ◌∙◌, arith, append-nil, length-append, ne_eqb, le-leb, lit<}
 use Rattle.std.proofs.lemmas.List.{nil_from_length, append_cancel_left}
+use Rattle.sequence.specs.Coding.{layout}
+use Rattle.sequence.specs.declared.coding.Coding.{Coding}
 use Rattle.element.specs.declared.syntax.Syntax.{Syntax}
 use Rattle.element.specs.declared.tag.Tag.{Tag}
 use Rattle.element.specs.declared.header.Header.{Header}
@@ -21,40 +23,40 @@ pub data End : Type 0 where
 
 mutual
   -- x is elements above the tag `last`, and what is open after them
-  pub data Reads : Syntax → ℕ → List ℕ → Elements → List PathEntry → ℕ → End → Type 0 where
-    ends : {s : Syntax} {last : ℕ} {t : List ℕ} → IsUnfinishedHeader s t → Reads s last t no_elements [] last (in_tail (in_header t))
-    marked : {s : Syntax} {last : ℕ} {b : List ℕ} → Reads s last (delimitation item_end_tag ++ b) no_elements [] last (at_mark b)
-    element : {s : Syntax} {last : ℕ} {h : Header} {hb x : List ℕ} {es : Elements} {path : List PathEntry} {l : ℕ} {e : End}
+  pub data Reads : Coding → ℕ → List ℕ → Elements → List PathEntry → ℕ → End → Type 0 where
+    ends : {s : Coding} {last : ℕ} {t : List ℕ} → IsUnfinishedHeader s t → Reads s last t no_elements [] last (in_tail (in_header t))
+    marked : {s : Coding} {last : ℕ} {b : List ℕ} → Reads s last (delimitation item_end_tag ++ b) no_elements [] last (at_mark b)
+    element : {s : Coding} {last : ℕ} {h : Header} {hb x : List ℕ} {es : Elements} {path : List PathEntry} {l : ℕ} {e : End}
         → IsElement s last h hb → Behind (shape s h) s last h x es path l e → Reads s last (hb ++ x) es path l e
 
   -- the same of what stands after a header of this shape
-  pub data Behind : Shape → Syntax → ℕ → Header → List ℕ → Elements → List PathEntry → ℕ → End → Type 0 where
-    value_ends : {s : Syntax} {last : ℕ} {h : Header} {v : List ℕ} → length v < h.length → Behind Value s last h v no_elements [] last (in_tail (in_value h v))
-    value_on : {s : Syntax} {last : ℕ} {h : Header} {v b : List ℕ} {es : Elements} {path : List PathEntry} {l : ℕ} {e : End}
+  pub data Behind : Shape → Coding → ℕ → Header → List ℕ → Elements → List PathEntry → ℕ → End → Type 0 where
+    value_ends : {s : Coding} {last : ℕ} {h : Header} {v : List ℕ} → length v < h.length → Behind Value s last h v no_elements [] last (in_tail (in_value h v))
+    value_on : {s : Coding} {last : ℕ} {h : Header} {v b : List ℕ} {es : Elements} {path : List PathEntry} {l : ℕ} {e : End}
         → length v ≡ h.length → Reads s (number h.tag) b es path l e → Behind Value s last h (v ++ b) (value h v es) path l e
-    open_sequence : {s inner : Syntax} {last : ℕ} {h : Header} {x : List ℕ} {is : Items} {path : List PathEntry} {tail : Tail}
+    open_sequence : {s inner : Coding} {last : ℕ} {h : Header} {x : List ℕ} {is : Items} {path : List PathEntry} {tail : Tail}
         → IsOpenLevel h.length (length x) → ReadsItems inner x is path (in_tail tail)
         → Behind (Sequence inner) s last h x no_elements (path ++ sequence_entry inner h.length (length x) ∷ []) (number h.tag) (in_tail tail)
-    counted_sequence : {s inner : Syntax} {last : ℕ} {h : Header} {x b : List ℕ} {is : Items} {es : Elements} {path : List PathEntry} {l : ℕ} {e : End}
+    counted_sequence : {s inner : Coding} {last : ℕ} {h : Header} {x b : List ℕ} {is : Items} {es : Elements} {path : List PathEntry} {l : ℕ} {e : End}
         → h.length ≢ undefined_length → length x ≡ h.length → ReadsItems inner x is [] (in_tail (in_header [])) → Reads s (number h.tag) b es path l e
         → Behind (Sequence inner) s last h (x ++ b) (sequence h is es) path l e
-    delimited_sequence : {s inner : Syntax} {last : ℕ} {h : Header} {x b : List ℕ} {is : Items} {es : Elements} {path : List PathEntry} {l : ℕ} {e : End}
+    delimited_sequence : {s inner : Coding} {last : ℕ} {h : Header} {x b : List ℕ} {is : Items} {es : Elements} {path : List PathEntry} {l : ℕ} {e : End}
         → h.length ≡ undefined_length → ReadsItems inner x is [] (at_mark b) → Reads s (number h.tag) b es path l e
         → Behind (Sequence inner) s last h x (sequence h is es) path l e
 
   -- the same of items
-  pub data ReadsItems : Syntax → List ℕ → Items → List PathEntry → End → Type 0 where
-    items_end : {s : Syntax} {t : List ℕ} → IsUnfinishedHeader s t → ReadsItems s t no_items [] (in_tail (in_header t))
-    items_marked : {s : Syntax} {b : List ℕ} → ReadsItems s (delimitation sequence_end_tag ++ b) no_items [] (at_mark b)
-    one_item : {s : Syntax} {h : Header} {hb x : List ℕ} {is : Items} {path : List PathEntry} {e : End}
+  pub data ReadsItems : Coding → List ℕ → Items → List PathEntry → End → Type 0 where
+    items_end : {s : Coding} {t : List ℕ} → IsUnfinishedHeader s t → ReadsItems s t no_items [] (in_tail (in_header t))
+    items_marked : {s : Coding} {b : List ℕ} → ReadsItems s (delimitation sequence_end_tag ++ b) no_items [] (at_mark b)
+    one_item : {s : Coding} {h : Header} {hb x : List ℕ} {is : Items} {path : List PathEntry} {e : End}
         → IsItem s h hb → InItem s h x is path e → ReadsItems s (hb ++ x) is path e
 
-  pub data InItem : Syntax → Header → List ℕ → Items → List PathEntry → End → Type 0 where
-    open_item : {s : Syntax} {h : Header} {x : List ℕ} {es : Elements} {path : List PathEntry} {l : ℕ} {tail : Tail}
+  pub data InItem : Coding → Header → List ℕ → Items → List PathEntry → End → Type 0 where
+    open_item : {s : Coding} {h : Header} {x : List ℕ} {es : Elements} {path : List PathEntry} {l : ℕ} {tail : Tail}
         → IsOpenLevel h.length (length x) → Reads s 0 x es path l (in_tail tail) → InItem s h x no_items (path ++ item_entry s h.length (length x) l ∷ []) (in_tail tail)
-    counted_item : {s : Syntax} {h : Header} {x b : List ℕ} {es : Elements} {is : Items} {path : List PathEntry} {l : ℕ} {e : End}
+    counted_item : {s : Coding} {h : Header} {x b : List ℕ} {es : Elements} {is : Items} {path : List PathEntry} {l : ℕ} {e : End}
         → h.length ≢ undefined_length → length x ≡ h.length → Reads s 0 x es [] l (in_tail (in_header [])) → ReadsItems s b is path e → InItem s h (x ++ b) (item h es is) path e
-    delimited_item : {s : Syntax} {h : Header} {x b : List ℕ} {es : Elements} {is : Items} {path : List PathEntry} {l : ℕ} {e : End}
+    delimited_item : {s : Coding} {h : Header} {x b : List ℕ} {es : Elements} {is : Items} {path : List PathEntry} {l : ℕ} {e : End}
         → h.length ≡ undefined_length → Reads s 0 x es [] l (at_mark b) → ReadsItems s b is path e → InItem s h x (item h es is) path e
 
 -- the parts of a text
@@ -69,29 +71,29 @@ same_front (z ∷ a) (w ∷ b) x y e n =
     let k = same_front a b x y on (omega arith) in
     (λ i. same i ∷ k.0 i, k.1)
 
-mark_spells : (s : Syntax) (t : Tag) → IsMark t → SpellsHeader s (record { tag = t; vr = None; length = 0 }) (delimitation t)
+mark_spells : (s : Coding) (t : Tag) → IsMark t → SpellsHeader (layout s) (record { tag = t; vr = None; length = 0 }) (delimitation t)
 mark_spells s t mark = plain t 0 mark.0 (mark.1 s) (lit< tt)
 
 -- no header stands at the front of an unfinished one
-whole_front : (s : Syntax) (h : Header) (hb x t : List ℕ) → SpellsHeader s h hb → t ≡ hb ++ x → is_whole s t ≡ true
+whole_front : (s : Coding) (h : Header) (hb x t : List ℕ) → SpellsHeader (layout s) h hb → t ≡ hb ++ x → is_whole (layout s) t ≡ true
 unfolding is_whole
-whole_front s h hb x t e same = rw (spelled_need s h hb x t e same) (long (omega (arith, ap length same, length-append hb x)))
+whole_front s h hb x t e same = rw (spelled_need (layout s) h hb x t e same) (long (omega (arith, ap length same, length-append hb x)))
   where
     long : length hb ≤ length t → has_size (Size (length hb)) (length t) ≡ true
     long le = le-leb (length hb) (length t) le
 
-unfinished_not : {s : Syntax} {h : Header} {hb t : List ℕ} {A : Type 0} (x : List ℕ) → IsUnfinishedHeader s t → SpellsHeader s h hb → t ≡ hb ++ x → A
+unfinished_not : {s : Coding} {h : Header} {hb t : List ℕ} {A : Type 0} (x : List ℕ) → IsUnfinishedHeader s t → SpellsHeader (layout s) h hb → t ≡ hb ++ x → A
 unfinished_not {s} {h} {hb} {t} x u e same = absurd (let k : true ≡ false = sym (whole_front s h hb x t e same) ∙ u.part in cc)
 
 -- the header of an element is that of no delimitation, and the header of an item neither
-element_not : {s : Syntax} {last : ℕ} {h : Header} {hb : List ℕ} {A : Type 0} (x b : List ℕ) → IsElement s last h hb → delimitation item_end_tag ++ b ≡ hb ++ x → A
+element_not : {s : Coding} {last : ℕ} {h : Header} {hb : List ℕ} {A : Type 0} (x b : List ℕ) → IsElement s last h hb → delimitation item_end_tag ++ b ≡ hb ++ x → A
 element_not {s} {last} {h} {hb} x b el same =
-    let k = one_spelling s (record { tag = item_end_tag; vr = None; length = 0 }) h (delimitation item_end_tag) hb b x (mark_spells s item_end_tag item_end_mark) el.spelled same in
+    let k = one_spelling (layout s) (record { tag = item_end_tag; vr = None; length = 0 }) h (delimitation item_end_tag) hb b x (mark_spells s item_end_tag item_end_mark) el.spelled same in
     absurd (let m : true ≡ false = ap (λ (z : Header). is_marker z.tag) k.0 ∙ el.no_marker in cc)
 
-item_not : {s : Syntax} {h : Header} {hb : List ℕ} {A : Type 0} (x b : List ℕ) → IsItem s h hb → delimitation sequence_end_tag ++ b ≡ hb ++ x → A
+item_not : {s : Coding} {h : Header} {hb : List ℕ} {A : Type 0} (x b : List ℕ) → IsItem s h hb → delimitation sequence_end_tag ++ b ≡ hb ++ x → A
 item_not {s} {h} {hb} x b it same =
-    let k = one_spelling s (record { tag = sequence_end_tag; vr = None; length = 0 }) h (delimitation sequence_end_tag) hb b x (mark_spells s sequence_end_tag sequence_end_mark) it.spelled same in
+    let k = one_spelling (layout s) (record { tag = sequence_end_tag; vr = None; length = 0 }) h (delimitation sequence_end_tag) hb b x (mark_spells s sequence_end_tag sequence_end_mark) it.spelled same in
     absurd (let m : 0xe0dd ≡ 0xe000 = ap (λ (z : Header). z.tag.1) k.0 ∙ ap (λ (z : Tag). z.1) it.tagged in omega (arith, m))
 
 record SameHeader (h h2 : Header) (hb hb2 x x2 : List ℕ) : Type 0 where
@@ -137,7 +139,7 @@ counted_all n x y b defined level size same =
     same ∙ ap (λ z. y ++ z) (nil_from_length b none) ∙ append-nil y
 
 mutual
-  pub reads_once : {s : Syntax} {last : ℕ} {x x2 : List ℕ} {es es2 : Elements} {path path2 : List PathEntry} {l l2 : ℕ} {e e2 : End} → Reads s last x es path l e → Reads s last x2 es2 path2 l2 e2 → x ≡ x2 → IsInnermost path → IsInnermost path2 → SameReads es es2 path path2 l l2 e e2
+  pub reads_once : {s : Coding} {last : ℕ} {x x2 : List ℕ} {es es2 : Elements} {path path2 : List PathEntry} {l l2 : ℕ} {e e2 : End} → Reads s last x es path l e → Reads s last x2 es2 path2 l2 e2 → x ≡ x2 → IsInnermost path → IsInnermost path2 → SameReads es es2 path path2 l l2 e e2
   reads_once (ends u) (ends u2) same i j = record { elements = refl; path-is = refl; last = refl; end = ap (λ z. in_tail (in_header z)) same }
   reads_once (ends {s = s} u) (marked) same i j = unfinished_not _ u (mark_spells s item_end_tag item_end_mark) same
   reads_once (ends u) (element el b) same i j = unfinished_not _ u el.spelled same
@@ -150,7 +152,7 @@ mutual
       let k = header_once el.spelled el2.spelled same in
       behind_once b (subst (λ (z : Header). Behind (shape s z) s last z x2 es2 path2 l2 e2) (sym k.header) b2) k.rest i j
 
-  behind_once : {sh : Shape} {s : Syntax} {last : ℕ} {h : Header} {x x2 : List ℕ} {es es2 : Elements} {path path2 : List PathEntry} {l l2 : ℕ} {e e2 : End} → Behind sh s last h x es path l e → Behind sh s last h x2 es2 path2 l2 e2 → x ≡ x2 → IsInnermost path → IsInnermost path2 → SameReads es es2 path path2 l l2 e e2
+  behind_once : {sh : Shape} {s : Coding} {last : ℕ} {h : Header} {x x2 : List ℕ} {es es2 : Elements} {path path2 : List PathEntry} {l l2 : ℕ} {e e2 : End} → Behind sh s last h x es path l e → Behind sh s last h x2 es2 path2 l2 e2 → x ≡ x2 → IsInnermost path → IsInnermost path2 → SameReads es es2 path path2 l l2 e e2
   behind_once (value_ends {h = h} lt) (value_ends lt2) same i j = record { elements = refl; path-is = refl; last = refl; end = ap (λ z. in_tail (in_value h z)) same }
   behind_once (value_ends lt) (value_on {v = v} {b = b} size r) same i j = absurd (omega (arith, lt, size, ap length same, length-append v b))
   behind_once (value_on {v = v} {b = b} size r) (value_ends lt) same i j = absurd (omega (arith, lt, size, ap length same, length-append v b))
@@ -188,7 +190,7 @@ mutual
       let m = reads_once on on2 rest i j in
       record { elements = λ n. sequence h (k.items n) (m.elements n); path-is = m.path-is; last = m.last; end = m.end }
 
-  items_once : {s : Syntax} {x x2 : List ℕ} {is is2 : Items} {path path2 : List PathEntry} {e e2 : End} → ReadsItems s x is path e → ReadsItems s x2 is2 path2 e2 → x ≡ x2 → IsInnermost path → IsInnermost path2 → SameItems is is2 path path2 e e2
+  items_once : {s : Coding} {x x2 : List ℕ} {is is2 : Items} {path path2 : List PathEntry} {e e2 : End} → ReadsItems s x is path e → ReadsItems s x2 is2 path2 e2 → x ≡ x2 → IsInnermost path → IsInnermost path2 → SameItems is is2 path path2 e e2
   items_once (items_end u) (items_end u2) same i j = record { items = refl; path-is = refl; end = ap (λ z. in_tail (in_header z)) same }
   items_once (items_end {s = s} u) items_marked same i j = unfinished_not _ u (mark_spells s sequence_end_tag sequence_end_mark) same
   items_once (items_end u) (one_item it b) same i j = unfinished_not _ u it.spelled same
@@ -201,7 +203,7 @@ mutual
       let k = header_once it.spelled it2.spelled same in
       item_once b (subst (λ (z : Header). InItem s z x2 is2 path2 e2) (sym k.header) b2) k.rest i j
 
-  item_once : {s : Syntax} {h : Header} {x x2 : List ℕ} {is is2 : Items} {path path2 : List PathEntry} {e e2 : End} → InItem s h x is path e → InItem s h x2 is2 path2 e2 → x ≡ x2 → IsInnermost path → IsInnermost path2 → SameItems is is2 path path2 e e2
+  item_once : {s : Coding} {h : Header} {x x2 : List ℕ} {is is2 : Items} {path path2 : List PathEntry} {e e2 : End} → InItem s h x is path e → InItem s h x2 is2 path2 e2 → x ≡ x2 → IsInnermost path → IsInnermost path2 → SameItems is is2 path path2 e e2
   item_once (open_item {s = s} {h = h} {x = x} {path = path} level r) (open_item {x = x2} {path = path2} level2 r2) same i j =
       let k = reads_once r r2 same (front_innermost path _ i) (front_innermost path2 _ j) in
       record { items = refl; path-is = λ n. k.path-is n ++ item_entry s h.length (length (same n)) (k.last n) ∷ []; end = k.end }

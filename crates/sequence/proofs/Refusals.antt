@@ -1,6 +1,7 @@
 -- A front that breaks a rule stops the machine.
 use Rattle.std.proofs.Common.{◌≡◌, ℕ, suc, ◌+◌, ◌-◌, ◌<◌, ◌≢◌, ◌⊎◌, Bool, true, false, ◌&&◌, List, [], ◌∷◌, ◌++◌, length, Option, Some, None, is_some, is_none, refl, sym, ap, subst, ◌∙◌, inl, inr, arith, append_assoc, append-nil, ne_eqb, if◌then◌else◌}
-use Rattle.element.specs.declared.syntax.Syntax.{Syntax}
+use Rattle.sequence.specs.Coding.{layout}
+use Rattle.sequence.specs.declared.coding.Coding.{Coding}
 use Rattle.element.specs.declared.tag.Tag.{Tag}
 use Rattle.sequence.specs.declared.level.Scope.{Scope}
 use Rattle.sequence.specs.Rules.{Limits}
@@ -31,7 +32,7 @@ nearer_is : (a b : Option ℕ) → nearer a b ≡ (if is_some a then a else b)
 nearer_is None b = refl
 nearer_is (Some n) b = refl
 
-near_over : (q : ℕ) (path : List PathEntry) (s : Syntax) (last : ℕ) → less (nearer (top_over q path (set_scope s None last)).stop (nearest (below_over q path (set_scope s None last) []))) q ≡ near_of path
+near_over : (q : ℕ) (path : List PathEntry) (s : Coding) (last : ℕ) → less (nearer (top_over q path (set_scope s None last)).stop (nearest (below_over q path (set_scope s None last) []))) q ≡ near_of path
 near_over q [] s last = refl
 near_over q (e ∷ path) s last =
     less_nearer (stop_at q e.left) (nearer (top_over q path (set_scope s None last)).stop (nearest (below_over q path (set_scope s None last) []))) q
@@ -51,7 +52,7 @@ and_true : (b : Bool) → (b && true) ≡ b
 and_true true = refl
 and_true false = refl
 
-pub spot_over : (q : ℕ) (path : List PathEntry) (s : Syntax) (last : ℕ) → spot_of (top_over q path (set_scope s None last)) (below_over q path (set_scope s None last) []) q ≡ spot_behind s path last q
+pub spot_over : (q : ℕ) (path : List PathEntry) (s : Coding) (last : ℕ) → spot_of (top_over q path (set_scope s None last)) (below_over q path (set_scope s None last) []) q ≡ spot_behind s path last q
 spot_over q [] s last = refl
 spot_over q (e ∷ path) s last =
     let near = near_over q (e ∷ path) s last in
@@ -64,7 +65,7 @@ stays : (o : Option ℕ) (q : ℕ) → o ≢ Some 0 → stops_at (stop_at q o) q
 stays None q h = refl
 stays (Some n) q h = ne_eqb (q + n) q (λ same. h (ap Some (let z : n ≡ 0 = omega arith in z)))
 
-pub arrive_over : (q : ℕ) (path : List PathEntry) (s : Syntax) (last : ℕ) → IsInnermost path → arrive q (top_over q path (set_scope s None last)) (below_over q path (set_scope s None last) []) ≡ due (top_over q path (set_scope s None last)) (below_over q path (set_scope s None last) []) q
+pub arrive_over : (q : ℕ) (path : List PathEntry) (s : Coding) (last : ℕ) → IsInnermost path → arrive q (top_over q path (set_scope s None last)) (below_over q path (set_scope s None last) []) ≡ due (top_over q path (set_scope s None last)) (below_over q path (set_scope s None last) []) q
 unfolding arrive
 arrive_over q [] s last h = refl
 arrive_over q (e ∷ path) s last h = rw (stays e.left q h) refl
@@ -73,7 +74,7 @@ broken_nothing : (lim : Limits) (spot : Spot) → broken lim spot [] ≡ broken_
 unfolding broken is_whole need
 broken_nothing lim spot = none_none (broken_due spot)
 
-front_part : (s : Syntax) (t u : List ℕ) → ((w : List ℕ) (y : ℕ) (z : List ℕ) → t ++ u ≡ w ++ y ∷ z → is_whole s w ≡ false) → 0 < length u → is_whole s t ≡ false
+front_part : (s : Coding) (t u : List ℕ) → ((w : List ℕ) (y : ℕ) (z : List ℕ) → t ++ u ≡ w ++ y ∷ z → is_whole (layout s) w ≡ false) → 0 < length u → is_whole (layout s) t ≡ false
 front_part s t [] one some = absurd (omega arith)
 front_part s t (y ∷ u) one some = one t y u refl
 
@@ -84,10 +85,10 @@ StopsAt n (Heading begin t) = ⊥
 StopsAt n (Reading t k) = ⊥
 
 -- of a header whose bytes break a rule, the machine takes no more
-abbrev OneHeader : Syntax → List ℕ → Type 0
-OneHeader s u = (w : List ℕ) (y : ℕ) (z : List ℕ) → u ≡ w ++ y ∷ z → is_whole s w ≡ false
+abbrev OneHeader : Coding → List ℕ → Type 0
+OneHeader s u = (w : List ℕ) (y : ℕ) (z : List ℕ) → u ≡ w ++ y ∷ z → is_whole (layout s) w ≡ false
 
-byte_stops : (lim : Limits) (f : Scope) (fs : List Scope) (begin p : ℕ) (t u : List ℕ) (x : ℕ × Tag) (b : Broken) → broken lim (spot_of f fs begin) t ≡ b → broken lim (spot_of f fs begin) (t ++ u) ≡ Some x → (0 < length u → is_whole f.syntax t ≡ false)
+byte_stops : (lim : Limits) (f : Scope) (fs : List Scope) (begin p : ℕ) (t u : List ℕ) (x : ℕ × Tag) (b : Broken) → broken lim (spot_of f fs begin) t ≡ b → broken lim (spot_of f fs begin) (t ++ u) ≡ Some x → (0 < length u → is_whole (layout f.syntax) t ≡ false)
     → (0 < length u → StopsAt begin (run lim (at f fs p (Heading begin t)) u).mode) → StopsAt begin (run lim (headed_by b f fs p begin t) u).mode
 unfolding run
 byte_stops lim f fs begin p t u x (Some y) e breaks one go = rw (run_stopped lim f fs p (Stopped y.0 begin y.1) u tt) refl
@@ -108,7 +109,7 @@ due_stops lim f fs p u x (Some y) e breaks one = rw (run_stopped lim f fs p (Sto
 due_stops lim f fs p [] x None e breaks one = absurd (let k : Some x ≡ None = sym breaks ∙ broken_nothing lim (spot_of f fs p) ∙ e in cc)
 due_stops lim f fs p (y ∷ u) x None e breaks one = heading_stops lim f fs p p [] (y ∷ u) x (omega arith) breaks one
 
-start_is : (s : Syntax) → start s ≡ arrive 0 (set_scope s None 0) []
+start_is : (s : Coding) → start s ≡ arrive 0 (set_scope s None 0) []
 unfolding arrive due
 start_is s = refl
 
@@ -117,7 +118,7 @@ goes_stops lim st mid u n (inl e) h = inr (rw e h)
 goes_stops lim st mid u n (inr g) h = inl g
 
 -- a front that breaks a rule stops the machine, at the header that is due there or before
-pub breaks_stop : (s : Syntax) (lim : Limits) (p u : List ℕ) (number : ℕ) (tag : Tag) → Breaks s lim p u number tag → HasStopped (run lim (start s) p).mode ⊎ StopsAt (length p) (run lim (start s) (p ++ u)).mode
+pub breaks_stop : (s : Coding) (lim : Limits) (p u : List ℕ) (number : ℕ) (tag : Tag) → Breaks s lim p u number tag → HasStopped (run lim (start s) p).mode ⊎ StopsAt (length p) (run lim (start s) (p ++ u)).mode
 unfolding due
 breaks_stop s lim p u number tag b =
     let f : Scope = top_over (length p) b.path (set_scope s None b.last) in

@@ -1,7 +1,7 @@
 -- A walker that refused has taken any bytes that come after.
 use Rattle.std.proofs.Common.{◌≡◌, List, ◌++◌, ℕ, Some}
 use Rattle.element.specs.Numbers.{IsBytes}
-use Rattle.element.specs.declared.syntax.Syntax.{Syntax}
+use Rattle.sequence.specs.declared.coding.Coding.{Coding}
 use Rattle.sequence.specs.declared.fault.Fault.{Fault}
 use Rattle.sequence.specs.Rules.{Limits}
 use Rattle.sequence.specs.Laws.{RefusedStands}
@@ -12,7 +12,7 @@ use Rattle.sequence.proofs.Staying.{fault_stays, refusal_stays}
 use Rattle.sequence.proofs.Stepping.{both_bytes}
 
 -- what is held after a refusal is held for good
-holds_stay : (s : Syntax) (lim : Limits) (b more : List ℕ) (told : Told) (fault : Fault) (held : Holding) → IsBytes (b ++ more) → told.fault ≡ Some fault → Tells s lim b told → Holds s lim b held → Holds s lim (b ++ more) held
+holds_stay : (s : Coding) (lim : Limits) (b more : List ℕ) (told : Told) (fault : Fault) (held : Holding) → IsBytes (b ++ more) → told.fault ≡ Some fault → Tells s lim b told → Holds s lim b held → Holds s lim (b ++ more) held
 holds_stay s lim b more told fault held bytes e (going ok o) holds = absurd cc
 holds_stay s lim b more told fault held bytes e (refused {p = p} {u = u} {rule = rule} {tag = tag} f o) (of_all ok front) = absurd (ok p u f.rest rule tag f.text f.breaks)
 holds_stay s lim b more told fault held bytes e (refused f o) (before_fault {p = p} {u = u} {rule = rule} {tag = tag} g front) = before_fault (fault_stays s lim b more p u rule tag bytes g) front

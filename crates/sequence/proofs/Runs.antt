@@ -1,8 +1,9 @@
 -- The machine goes over what is spelled, or stops.
 use Rattle.std.proofs.Common.{◌≡◌, ℕ, suc, ◌+◌, ◌-◌, ◌<◌, ◌≤◌, ◌⊎◌, Bool, true, false, List, [], ◌∷◌, ◌++◌, length, Option, Some, None, nat_eq, nat_le, refl, sym, ap, subst, ◌∙◌, inl, inr, arith, append_assoc, length-append, eqb-true, false-eqb, eq-eqb, le-leb, ne_eqb, ◌≢◌, lit<}
 use Rattle.std.proofs.lemmas.Bool.Decides.{nat_tests}
-use Rattle.element.specs.declared.syntax.Syntax.{Syntax}
-use Rattle.element.specs.declared.syntax.Syntax.TheVariants.{Implicit, Explicit}
+use Rattle.sequence.specs.Coding.{layout}
+use Rattle.sequence.specs.declared.coding.Coding.{Coding}
+use Rattle.sequence.specs.declared.coding.Coding.TheVariants.{Implicit, Explicit, Encapsulated, Fragments}
 use Rattle.element.specs.declared.tag.Tag.{Tag}
 use Rattle.element.specs.declared.header.Header.{Header}
 use Rattle.sequence.specs.declared.level.Scope.{Scope}
@@ -75,15 +76,15 @@ goes_then lim st mid want a b g h = rw (run_append lim st a b) (goes_from lim (r
 
 -- a header, byte by byte
 
-headed_last : (x : Broken) (f : Scope) (fs : List Scope) (p start : ℕ) (t : List ℕ) (h : Header) → is_whole f.syntax t ≡ true → header_at f.syntax t ≡ h → Goes (headed_by x f fs p start t) (take_header p f fs h)
+headed_last : (x : Broken) (f : Scope) (fs : List Scope) (p start : ℕ) (t : List ℕ) (h : Header) → is_whole (layout f.syntax) t ≡ true → header_at (layout f.syntax) t ≡ h → Goes (headed_by x f fs p start t) (take_header p f fs h)
 headed_last (Some x) f fs p start t h w e = inr tt
 headed_last None f fs p start t h w e = inl (rw (w, e) refl)
 
-headed_on : (x : Broken) (f : Scope) (fs : List Scope) (p start : ℕ) (t : List ℕ) → is_whole f.syntax t ≡ false → Goes (headed_by x f fs p start t) (at f fs p (Heading start t))
+headed_on : (x : Broken) (f : Scope) (fs : List Scope) (p start : ℕ) (t : List ℕ) → is_whole (layout f.syntax) t ≡ false → Goes (headed_by x f fs p start t) (at f fs p (Heading start t))
 headed_on (Some x) f fs p start t w = inr tt
 headed_on None f fs p start t w = inl (rw w refl)
 
-pub heading_run : (lim : Limits) (f : Scope) (fs : List Scope) (p q start : ℕ) (t : List ℕ) (h : Header) (x : ℕ) (b : List ℕ) → SpellsHeader f.syntax h (t ++ x ∷ b) → q ≡ p + suc (length b)
+pub heading_run : (lim : Limits) (f : Scope) (fs : List Scope) (p q start : ℕ) (t : List ℕ) (h : Header) (x : ℕ) (b : List ℕ) → SpellsHeader (layout f.syntax) h (t ++ x ∷ b) → q ≡ p + suc (length b)
     → Goes (run lim (at f fs p (Heading start t)) (x ∷ b)) (take_header q f fs h)
 unfolding run headed
 heading_run lim f fs p q start t h x [] e q-is =
@@ -91,7 +92,7 @@ heading_run lim f fs p q start t h x [] e q-is =
     subst (λ z. Goes (headed lim f fs (p + 1) start (t ++ x ∷ [])) (take_header z f fs h)) q-one
     (headed_last (broken lim (spot_of f fs start) (t ++ x ∷ [])) f fs (p + 1) start (t ++ x ∷ []) h (whole_spelled e) (read_spelled e))
 heading_run lim f fs p q start t h x (y ∷ b) e q-is =
-    let more : SpellsHeader f.syntax h ((t ++ x ∷ []) ++ y ∷ b) = rw append_assoc e in
+    let more : SpellsHeader (layout f.syntax) h ((t ++ x ∷ []) ++ y ∷ b) = rw append_assoc e in
     goes_from lim (headed lim f fs (p + 1) start (t ++ x ∷ [])) (at f fs (p + 1) (Heading start (t ++ x ∷ []))) (take_header q f fs h) (y ∷ b)
     (headed_on (broken lim (spot_of f fs start) (t ++ x ∷ [])) f fs (p + 1) start (t ++ x ∷ []) (front_spelled (t ++ x ∷ []) y b more))
     (heading_run lim f fs (p + 1) q start (t ++ x ∷ []) h y b more (omega arith))
@@ -100,12 +101,12 @@ due_on : (x : Broken) (f : Scope) (fs : List Scope) (p : ℕ) → Goes (due_by x
 due_on None f fs p = inl refl
 due_on (Some x) f fs p = inr tt
 
-header_on : (lim : Limits) (f : Scope) (fs : List Scope) (p q : ℕ) (h : Header) (hb : List ℕ) → SpellsHeader f.syntax h hb → 8 ≤ length hb → q ≡ p + length hb
+header_on : (lim : Limits) (f : Scope) (fs : List Scope) (p q : ℕ) (h : Header) (hb : List ℕ) → SpellsHeader (layout f.syntax) h hb → 8 ≤ length hb → q ≡ p + length hb
     → Goes (run lim (at f fs p (Heading p [])) hb) (take_header q f fs h)
 header_on lim f fs p q h [] e le q-is = absurd (omega arith)
 header_on lim f fs p q h (x ∷ hb) e le q-is = heading_run lim f fs p q p [] h x hb e q-is
 
-pub header_run : (lim : Limits) (f : Scope) (fs : List Scope) (p q : ℕ) (h : Header) (hb : List ℕ) → SpellsHeader f.syntax h hb → IsOpen f.stop p → q ≡ p + length hb
+pub header_run : (lim : Limits) (f : Scope) (fs : List Scope) (p q : ℕ) (h : Header) (hb : List ℕ) → SpellsHeader (layout f.syntax) h hb → IsOpen f.stop p → q ≡ p + length hb
     → Goes (run lim (arrive p f fs) hb) (take_header q f fs h)
 unfolding due
 header_run lim f fs p q h hb e room q-is =
@@ -136,15 +137,15 @@ mark_header t = record { tag = t; vr = None; length = 0 }
 
 -- the tag of a delimitation
 abbrev pub IsMark : Tag → Type 0
-IsMark t = IsTag t × ((s : Syntax) → is_plain s t ≡ true) × ((p : ℕ) (f g : Scope) (gs : List Scope) → take_header p f (g ∷ gs) (record { tag = t; vr = None; length = 0 }) ≡ arrive p g gs)
+IsMark t = IsTag t × ((s : Coding) → is_plain (layout s) t ≡ true) × ((p : ℕ) (f g : Scope) (gs : List Scope) → take_header p f (g ∷ gs) (record { tag = t; vr = None; length = 0 }) ≡ arrive p g gs)
 
 pub sequence_end_mark : IsMark sequence_end_tag
 unfolding take_header leave
-sequence_end_mark = ((lit< tt, lit< tt), elim [ Implicit ↦ refl | Explicit ↦ refl ], λ p f g gs. refl)
+sequence_end_mark = ((lit< tt, lit< tt), elim [ Implicit ↦ refl | Explicit ↦ refl | Encapsulated ↦ refl | Fragments ↦ refl ], λ p f g gs. refl)
 
 pub item_end_mark : IsMark item_end_tag
 unfolding take_header leave
-item_end_mark = ((lit< tt, lit< tt), elim [ Implicit ↦ refl | Explicit ↦ refl ], λ p f g gs. refl)
+item_end_mark = ((lit< tt, lit< tt), elim [ Implicit ↦ refl | Explicit ↦ refl | Encapsulated ↦ refl | Fragments ↦ refl ], λ p f g gs. refl)
 
 pub mark_run : (lim : Limits) (t : Tag) (mark : IsMark t) (f g : Scope) (gs : List Scope) (p q : ℕ) → IsOpen f.stop p → q ≡ p + 8
     → Goes (run lim (arrive p f (g ∷ gs)) (delimitation t)) (arrive q g gs)
@@ -182,18 +183,18 @@ level_run {t} lim g0 g1 f fs p q (delimited {b = b}) mark stops in-it q-is =
 
 -- the header and the value of an element, after which the rest of the data set stands
 
-abbrev pub RunsSet : Limits → Syntax → ℕ → ℕ → List ℕ → Type 0
+abbrev pub RunsSet : Limits → Coding → ℕ → ℕ → List ℕ → Type 0
 RunsSet lim s last end b = (stop : Option ℕ) (fs : List Scope) (p q : ℕ) → LastsTo stop q → q ≡ p + length b → Goes (run lim (arrive p (set_scope s stop last) fs) b) (arrive q (set_scope s stop end) fs)
 
-abbrev pub RunsItems : Limits → Syntax → List ℕ → Type 0
+abbrev pub RunsItems : Limits → Coding → List ℕ → Type 0
 RunsItems lim s b = (stop : Option ℕ) (fs : List Scope) (p q : ℕ) → LastsTo stop q → q ≡ p + length b → Goes (run lim (arrive p (sequence_scope s stop) fs) b) (arrive q (sequence_scope s stop) fs)
 
-pub taken_value : (p : ℕ) (s : Syntax) (stop : Option ℕ) (last : ℕ) (fs : List Scope) (h : Header) → is_marker h.tag ≡ false → shape s h ≡ Value
+pub taken_value : (p : ℕ) (s : Coding) (stop : Option ℕ) (last : ℕ) (fs : List Scope) (h : Header) → is_marker h.tag ≡ false → shape s h ≡ Value
     → take_header p (set_scope s stop last) fs h ≡ begin_value p (set_scope s stop (number h.tag)) fs h.tag h.length
 unfolding take_header
 taken_value p s stop last fs h m e = rw (m, e) refl
 
-pub taken_sequence : (p : ℕ) (s : Syntax) (stop : Option ℕ) (last : ℕ) (fs : List Scope) (h : Header) (inner : Syntax) → is_marker h.tag ≡ false → shape s h ≡ Sequence inner
+pub taken_sequence : (p : ℕ) (s : Coding) (stop : Option ℕ) (last : ℕ) (fs : List Scope) (h : Header) (inner : Coding) → is_marker h.tag ≡ false → shape s h ≡ Sequence inner
     → take_header p (set_scope s stop last) fs h ≡ begin_level p (sequence_scope inner (stop_of p h.length)) (set_scope s stop (number h.tag)) fs h.length
 unfolding take_header
 taken_sequence p s stop last fs h inner m e = rw (m, e) refl
@@ -202,7 +203,7 @@ pub taken_item : (p : ℕ) (f : Scope) (fs : List Scope) (h : Header) → h.tag 
 unfolding take_header
 taken_item p f fs h e = rw e refl
 
-value_step : (lim : Limits) (s : Syntax) (last : ℕ) (h : Header) (hb v b : List ℕ) (end : ℕ) → IsElement s last h hb → shape s h ≡ Value → IsValue h.length v → RunsSet lim s (number h.tag) end b → RunsSet lim s last end (hb ++ (v ++ b))
+value_step : (lim : Limits) (s : Coding) (last : ℕ) (h : Header) (hb v b : List ℕ) (end : ℕ) → IsElement s last h hb → shape s h ≡ Value → IsValue h.length v → RunsSet lim s (number h.tag) end b → RunsSet lim s last end (hb ++ (v ++ b))
 value_step lim s last h hb v b end el sh val rest stop fs p q room q-is =
     let size : q ≡ p + length hb + length v + length b = omega (arith, length-append hb (v ++ b), length-append v b) in
     let long = spelled_long el.spelled in
@@ -213,7 +214,7 @@ value_step lim s last h hb v b end el sh val rest stop fs p q room q-is =
     inl (value_on lim (set_scope s stop (number h.tag)) fs h.tag (p + length hb) (p + length hb + length v) h.length v (nat_eq h.length 0) refl val.size (omega (arith, val.size))) in
     goes_then lim _ _ _ hb (v ++ b) first (goes_then lim _ _ _ v b second (rest stop fs (p + length hb + length v) q room size))
 
-sequence_step : (lim : Limits) (s : Syntax) (last : ℕ) (h : Header) (hb ib cb b : List ℕ) (inner : Syntax) (end : ℕ) → IsElement s last h hb → shape s h ≡ Sequence inner → Ended sequence_end_tag h.length ib cb
+sequence_step : (lim : Limits) (s : Coding) (last : ℕ) (h : Header) (hb ib cb b : List ℕ) (inner : Coding) (end : ℕ) → IsElement s last h hb → shape s h ≡ Sequence inner → Ended sequence_end_tag h.length ib cb
     → RunsItems lim inner ib → RunsSet lim s (number h.tag) end b → RunsSet lim s last end (hb ++ (cb ++ b))
 sequence_step lim s last h hb ib cb b inner end el sh closed items rest stop fs p q room q-is =
     let size : q ≡ p + length hb + length cb + length b = omega (arith, length-append hb (cb ++ b), length-append cb b) in
@@ -226,7 +227,7 @@ sequence_step lim s last h hb ib cb b inner end el sh closed items rest stop fs 
     level_run lim (sequence_scope inner) (sequence_scope inner) f fs (p + length hb) (p + length hb + length cb) closed sequence_end_mark (λ o. refl) (λ o holds. items o (f ∷ fs) (p + length hb) (p + length hb + length ib) holds refl) refl in
     goes_then lim _ _ _ hb (cb ++ b) first (goes_then lim _ _ _ cb b second (rest stop fs (p + length hb + length cb) q room size))
 
-item_step : (lim : Limits) (s : Syntax) (h : Header) (hb eb cb b : List ℕ) (end : ℕ) → IsItem s h hb → Ended item_end_tag h.length eb cb
+item_step : (lim : Limits) (s : Coding) (h : Header) (hb eb cb b : List ℕ) (end : ℕ) → IsItem s h hb → Ended item_end_tag h.length eb cb
     → RunsSet lim s 0 end eb → RunsItems lim s b → RunsItems lim s (hb ++ (cb ++ b))
 item_step lim s h hb eb cb b end it closed elements rest stop fs p q room q-is =
     let size : q ≡ p + length hb + length cb + length b = omega (arith, length-append hb (cb ++ b), length-append cb b) in
@@ -239,21 +240,21 @@ item_step lim s h hb eb cb b end it closed elements rest stop fs p q room q-is =
     level_run lim (λ o. set_scope s o 0) (λ o. set_scope s o end) f fs (p + length hb) (p + length hb + length cb) closed item_end_mark (λ o. refl) (λ o holds. elements o (f ∷ fs) (p + length hb) (p + length hb + length eb) holds refl) refl in
     goes_then lim _ _ _ hb (cb ++ b) first (goes_then lim _ _ _ cb b second (rest stop fs (p + length hb + length cb) q room size))
 
-nothing_run : (lim : Limits) (s : Syntax) (last : ℕ) → RunsSet lim s last last []
+nothing_run : (lim : Limits) (s : Coding) (last : ℕ) → RunsSet lim s last last []
 unfolding run
 nothing_run lim s last stop fs p q room q-is = let same : p ≡ q = omega arith in inl (rw same refl)
 
-no_items_run : (lim : Limits) (s : Syntax) → RunsItems lim s []
+no_items_run : (lim : Limits) (s : Coding) → RunsItems lim s []
 unfolding run
 no_items_run lim s stop fs p q room q-is = let same : p ≡ q = omega arith in inl (rw same refl)
 
 -- the machine goes over what is spelled, or stops
 mutual
-  pub elements_run : (lim : Limits) {s : Syntax} {last : ℕ} {es : Elements} {b : List ℕ} → DataSet s last es b → RunsSet lim s last (last_of last es) b
+  pub elements_run : (lim : Limits) {s : Coding} {last : ℕ} {es : Elements} {b : List ℕ} → DataSet s last es b → RunsSet lim s last (last_of last es) b
   elements_run lim nothing = nothing_run lim _ _
   elements_run lim (value_then {s = s} {last = last} {h = h} {hb = hb} {v = v} {es = es} {b = b} el sh val rest) = value_step lim s last h hb v b (last_of (number h.tag) es) el sh val (elements_run lim rest)
   elements_run lim (sequence_then {s = s} {last = last} {h = h} {hb = hb} {inner = inner} {ib = ib} {cb = cb} {es = es} {b = b} el sh items closed rest) = sequence_step lim s last h hb ib cb b inner (last_of (number h.tag) es) el sh closed (items_run lim items) (elements_run lim rest)
 
-  pub items_run : (lim : Limits) {s : Syntax} {is : Items} {b : List ℕ} → ItemList s is b → RunsItems lim s b
+  pub items_run : (lim : Limits) {s : Coding} {is : Items} {b : List ℕ} → ItemList s is b → RunsItems lim s b
   items_run lim no_more = no_items_run lim _
   items_run lim (item_then {s = s} {h = h} {hb = hb} {es = es} {eb = eb} {cb = cb} {b = b} it elements closed rest) = item_step lim s h hb eb cb b (last_of 0 es) it closed (elements_run lim elements) (items_run lim rest)

@@ -1,6 +1,6 @@
 -- A walker stands at the bytes that it took.
 use Rattle.std.proofs.Common.{◌≡◌, ℕ, ◌+◌, ◌-◌, ◌*◌, ◌≤◌, List, [], ◌∷◌, ◌++◌, length, Some, None, refl, sym, ap, subst, ◌∙◌, arith, lit<, append-nil, if◌then◌else◌}
-use Rattle.element.specs.declared.syntax.Syntax.{Syntax}
+use Rattle.sequence.specs.declared.coding.Coding.{Coding}
 use Rattle.element.specs.Header.{number}
 use Rattle.sequence.specs.declared.level.Scope.{Scope}
 use Rattle.sequence.specs.declared.level.Level.{Level}
@@ -75,5 +75,5 @@ pub new_stands : {V D : ℕ} (w : Walker V D) → state_of w ≡ start (walker_s
 unfolding run keeps
 new_stands w state values = walker_stands w [] no_bytes state values
 
-pub new_state : (s : Syntax) (levels : List Level) (header : List ℕ) → header ≡ [] → levels ≡ [] → at (top_of (set_scope s None 0) levels) (below_of (set_scope s None 0) [] levels) 0 (Heading (0 - length header) header) ≡ start s
+pub new_state : (s : Coding) (levels : List Level) (header : List ℕ) → header ≡ [] → levels ≡ [] → at (top_of (set_scope s None 0) levels) (below_of (set_scope s None 0) [] levels) 0 (Heading (0 - length header) header) ≡ start s
 new_state s levels header h l = rw (h, l) refl

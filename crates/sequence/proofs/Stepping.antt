@@ -1,7 +1,8 @@
 -- A step takes several bytes of a piece.
 use Rattle.std.proofs.Common.{◌≡◌, ℕ, zero, suc, ◌+◌, ◌-◌, ◌<◌, ◌≤◌, Bool, true, false, not, List, [], ◌∷◌, ◌++◌, length, min, take, drop, if◌then◌else◌, Option, Some, None, nat_le, nat_eq, eqb-true, false-eqb, ◌⊎◌, inl, inr, leb-true, leb-false, refl, sym, ap, subst, ◌∙◌, arith, append_assoc, append-nil, length-append}
 use Rattle.std.proofs.lemmas.List.{take-append-drop, take_all, length-take, length-take-le}
-use Rattle.element.specs.declared.syntax.Syntax.{Syntax}
+use Rattle.sequence.specs.Coding.{layout}
+use Rattle.sequence.specs.declared.coding.Coding.{Coding}
 use Rattle.element.specs.declared.tag.Tag.{Tag}
 use Rattle.element.specs.declared.header.Header.{Header}
 use Rattle.element.specs.Header.{is_marker, is_whole, header_at, SpellsHeader, item_tag}
@@ -87,8 +88,8 @@ module _ {V D : ℕ} (w : Walker V D) (b : List ℕ) (h : Walks w b) where
       let t = w.header.items in
       let k = in_heading e in
       let text : t ++ taken ≡ (t ++ m.front) ++ m.byte ∷ [] = ap (λ z. t ++ z) m.text ∙ sym (append_assoc t m.front (m.byte ∷ [])) in
-      let sp = whole_spells (top w).syntax (t ++ m.front) m.byte m.part (subst IsBytes text (both_bytes t taken k.bytes bytes)) (ap (is_whole (top w).syntax) (sym text) ∙ m.whole) in
-      let spelled : SpellsHeader (top w).syntax hd (t ++ taken) = subst (λ z. SpellsHeader (top w).syntax z (t ++ taken)) m.read (subst (λ z. SpellsHeader (top w).syntax (header_at (top w).syntax z) z) (sym text) sp) in
+      let sp = whole_spells (top w).syntax (t ++ m.front) m.byte m.part (subst IsBytes text (both_bytes t taken k.bytes bytes)) (ap (is_whole (layout (top w).syntax)) (sym text) ∙ m.whole) in
+      let spelled : SpellsHeader (layout (top w).syntax) hd (t ++ taken) = subst (λ z. SpellsHeader (layout (top w).syntax) z (t ++ taken)) m.read (subst (λ z. SpellsHeader (layout (top w).syntax) (header_at (layout (top w).syntax) z) z) (sym text) sp) in
       let front = open_due s lim values (top w) (below w) k.before k.due in
       let syntax-is : (top w).syntax ≡ (spot_behind s front.path front.last (length k.before)).syntax = ap (λ (z : Spot). z.syntax) (spot_is front) in
       record {
@@ -99,7 +100,7 @@ module _ {V D : ℕ} (w : Walker V D) (b : List ℕ) (h : Walks w b) where
         path = front.path;
         last = front.last;
         due = due_open s lim values (top w) (below w) k.before k.due;
-        spelled = subst (λ z. SpellsHeader z hd (t ++ taken)) syntax-is spelled;
+        spelled = subst (λ z. SpellsHeader (layout z) hd (t ++ taken)) syntax-is spelled;
         some = omega (arith, ap length m.text, length-append m.front (m.byte ∷ []));
         own = omega (arith, length-append t taken);
       }
@@ -112,7 +113,7 @@ module _ {V D : ℕ} (w : Walker V D) (b : List ℕ) (h : Walks w b) where
 
 -- what a step answers
 
-none_place : (s : Syntax) (lim : Limits) (b : List ℕ) (told : Told) → Tells s lim b told → told.fault ≡ None → told.place ≡ length b
+none_place : (s : Coding) (lim : Limits) (b : List ℕ) (told : Told) → Tells s lim b told → told.fault ≡ None → told.place ≡ length b
 none_place s lim b told (going ok o) e = refl
 none_place s lim b told (refused f o) e = absurd cc
 
@@ -125,7 +126,7 @@ exact w c p u rule tag h place f =
     let told = tells_refused (walker_syntax w) (limits_of w) c p u rule tag (told_by w) f h.tells in
     no_more c (p ++ u) f.rest f.text (sym place ∙ told.place)
 
-moved_header : (s : Syntax) (c p taken : List ℕ) (h : Header) → c ≡ p → EndsHeader s c taken h → EndsHeader s p taken h
+moved_header : (s : Coding) (c p taken : List ℕ) (h : Header) → c ≡ p → EndsHeader s c taken h → EndsHeader s p taken h
 moved_header s c p taken h e k = subst (λ z. EndsHeader s z taken h) e k
 
 piece_answers : {V D : ℕ} (new : Walker V D) (b t piece : List ℕ) (n : ℕ) → Walks new (b ++ take n piece) → new.stage ≡ stages.Heading → n ≡ length piece → new.header.items ≡ t ++ piece → IsUnbroken (walker_syntax new) (limits_of new) b → IsUnbroken (walker_syntax new) (limits_of new) (b ++ take n piece)
@@ -212,7 +213,7 @@ module _ {V D : ℕ} (old new : Walker V D) (b piece : List ℕ) (n : ℕ) (h : 
 
 -- how much a step takes
 
-syntax_at : (n m : ℕ) (path : List PathEntry) (s : Syntax) (last : ℕ) (f : Scope) (fs : List Scope) → f ∷ fs ≡ levels_at n path s last → f.syntax ≡ (spot_behind s path last m).syntax
+syntax_at : (n m : ℕ) (path : List PathEntry) (s : Coding) (last : ℕ) (f : Scope) (fs : List Scope) → f ∷ fs ≡ levels_at n path s last → f.syntax ≡ (spot_behind s path last m).syntax
 syntax_at n m [] s last f fs e = let k : f ≡ record { in_sequence = false; syntax = s; stop = None; last = last } = cc in ap (λ (z : Scope). z.syntax) k
 syntax_at n m (x ∷ path) s last f fs e = let k = same_head e in ap (λ (z : Scope). z.syntax) k
   where
@@ -235,7 +236,7 @@ front_part (x ∷ a) (y ∷ c) u v e le =
     (rest.0, let head : y ≡ x = cc in let tail : c ≡ a ++ rest.0 = rest.1 in cc)
 
 -- a header that is whole in the piece is taken to its end
-module _ (s : Syntax) (t piece bytes more : List ℕ) (h : Header) (text : piece ≡ bytes ++ more) (sp : SpellsHeader s h (t ++ bytes)) where
+module _ (s : Coding) (t piece bytes more : List ℕ) (h : Header) (text : piece ≡ bytes ++ more) (sp : SpellsHeader (layout s) h (t ++ bytes)) where
   -- a beginning that is unfinished is no longer than what comes before the header's end
   unfinished_short : (front rest : List ℕ) → IsUnfinishedHeader s (t ++ front) → piece ≡ front ++ rest → length front < length bytes
   unfinished_short front rest tail same = by (cases_le (length bytes) (length front))
@@ -249,13 +250,13 @@ module _ (s : Syntax) (t piece bytes more : List ℕ) (h : Header) (text : piece
       by (inr lt) = lt
 
   -- what is whole is no shorter than the header
-  whole_long : (front rest : List ℕ) → is_whole s (t ++ front) ≡ true → piece ≡ front ++ rest → length bytes ≤ length front
+  whole_long : (front rest : List ℕ) → is_whole (layout s) (t ++ front) ≡ true → piece ≡ front ++ rest → length bytes ≤ length front
   whole_long front rest w same = by (cases_le (length bytes) (length front))
     where
       shorter : (v : List ℕ) → bytes ≡ front ++ v → length front < length bytes → length bytes ≤ length front
       shorter [] e lt = absurd (omega (arith, ap length e, length-append front [], lt))
       shorter (x ∷ v) e lt =
-          let spelled : SpellsHeader s h ((t ++ front) ++ x ∷ v) = subst (SpellsHeader s h) (ap (λ z. t ++ z) e ∙ sym (append_assoc t front (x ∷ v))) sp in
+          let spelled : SpellsHeader (layout s) h ((t ++ front) ++ x ∷ v) = subst (SpellsHeader (layout s) h) (ap (λ z. t ++ z) e ∙ sym (append_assoc t front (x ∷ v))) sp in
           let k : true ≡ false = sym w ∙ front_spelled (t ++ front) x v spelled in
           absurd cc
 
@@ -292,7 +293,7 @@ module _ {V D : ℕ} (old new : Walker V D) (b piece : List ℕ) (n : ℕ) (stan
   -- of a header
 
   size_by : (stage : Stage) (made : Option Header) (bytes more : List ℕ) (h : Header) → fault_by stage ≡ None → IsTaken (top old).syntax old.header.items piece old.place n stage new.header.items made
-      → piece ≡ bytes ++ more → SpellsHeader (top old).syntax h (old.header.items ++ bytes) → n ≡ length bytes
+      → piece ≡ bytes ++ more → SpellsHeader (layout (top old).syntax) h (old.header.items ++ bytes) → n ≡ length bytes
   size_by (stages.Stopped fault) made bytes more h fine t text sp = absurd cc
   size_by stages.Heading (Some h2) bytes more h fine t text sp = made_size (top old).syntax old.header.items piece bytes more h text sp n h2 le t.0
   size_by (stages.Value tag left kept) (Some h2) bytes more h fine t text sp = made_size (top old).syntax old.header.items piece bytes more h text sp n h2 le t
@@ -318,7 +319,7 @@ module _ {V D : ℕ} (old new : Walker V D) (b piece : List ℕ) (n : ℕ) (stan
         let here : IsIn stages.Heading old.header.items (in_header begun) = subst (λ z. IsIn z old.header.items (in_header begun)) o g.1 in
         let same : begun ≡ old.header.items = cc in
         let syntax-is = syntax_at (length b) (length b) path (walker_syntax old) last (top old) (below old) g.0.levels in
-        size_by new.stage made bytes more h (not_refused new.stage refl ok) t text (subst (λ z. SpellsHeader z h (old.header.items ++ bytes)) (sym syntax-is) (subst (λ z. SpellsHeader (spot_behind (walker_syntax old) path last (length b)).syntax h (z ++ bytes)) same sp));
+        size_by new.stage made bytes more h (not_refused new.stage refl ok) t text (subst (λ z. SpellsHeader (layout z) h (old.header.items ++ bytes)) (sym syntax-is) (subst (λ z. SpellsHeader (layout (spot_behind (walker_syntax old) path last (length b)).syntax) h (z ++ bytes)) same sp));
     value = λ es path last h v whole-front.
         let g = stands_going old b stands-old es path last (in_value h v) none whole-front in
         let here : IsIn stages.Heading old.header.items (in_value h v) = subst (λ z. IsIn z old.header.items (in_value h v)) o g.1 in

@@ -1,6 +1,7 @@
 -- One more byte.
 use Rattle.std.proofs.Common.{◌≡◌, ℕ, suc, ◌+◌, ◌-◌, ◌<◌, ◌≤◌, Bool, true, false, List, [], ◌∷◌, ◌++◌, length, zero, Some, None, nat_le, refl, sym, ap, subst, ◌∙◌, arith, append_assoc, append-nil, length-append, if◌then◌else◌, lit<, leb-true, leb-false}
-use Rattle.element.specs.declared.syntax.Syntax.{Syntax}
+use Rattle.sequence.specs.Coding.{layout}
+use Rattle.sequence.specs.declared.coding.Coding.{Coding}
 use Rattle.element.specs.declared.tag.Tag.{Tag}
 use Rattle.element.specs.Header.{number, header_at, is_whole}
 use Rattle.element.proofs.Public.{tag_read, spelled_long}
@@ -32,7 +33,7 @@ more_unbroken : (lim : Limits) (spot : Spot) (t : List ℕ) (x : ℕ) → Unbrok
 more_unbroken lim spot t x ok last u [] e = rw (sym (append-nil u) ∙ sym e) last
 more_unbroken lim spot t x ok last u (y ∷ z) e = let f = front_of t u x y z e in ok u f.0 f.1
 
-front_unfinished : (s : Syntax) (t w v : List ℕ) → t ≡ w ++ v → IsUnfinishedHeader s t → IsUnfinishedHeader s w
+front_unfinished : (s : Coding) (t w v : List ℕ) → t ≡ w ++ v → IsUnfinishedHeader s t → IsUnfinishedHeader s w
 front_unfinished s t w v e tail = unfinished_front s w v (subst (IsUnfinishedHeader s) e tail)
 
 pub more_bytes : (t : List ℕ) (x : ℕ) → IsBytes t → x < 256 → IsBytes (t ++ x ∷ [])
@@ -41,7 +42,7 @@ more_bytes [] x h lt (suc i) = lit< tt
 more_bytes (y ∷ t) x h lt zero = h zero
 more_bytes (y ∷ t) x h lt (suc i) = more_bytes t x (λ k. h (suc k)) lt i
 
-headed_stands : (s : Syntax) (lim : Limits) (values : Values) (f : Scope) (fs : List Scope) (p begin : ℕ) (t : List ℕ) (x : ℕ) (b : List ℕ) → p + 1 ≡ length (b ++ x ∷ []) → IsHeading s lim values f fs begin t b → x < 256 → (y : Broken) → broken lim (spot_of f fs begin) (t ++ x ∷ []) ≡ y
+headed_stands : (s : Coding) (lim : Limits) (values : Values) (f : Scope) (fs : List Scope) (p begin : ℕ) (t : List ℕ) (x : ℕ) (b : List ℕ) → p + 1 ≡ length (b ++ x ∷ []) → IsHeading s lim values f fs begin t b → x < 256 → (y : Broken) → broken lim (spot_of f fs begin) (t ++ x ∷ []) ≡ y
     → Stands s lim (headed_by y f fs (p + 1) begin (t ++ x ∷ [])) (keep_headed lim y f fs (t ++ x ∷ []) values) (b ++ x ∷ [])
 headed_stands s lim values f fs p begin t x b p-is h lt (Some y) e =
     let regrouped : b ++ x ∷ [] ≡ h.before ++ (t ++ x ∷ []) = ap (λ z. z ++ x ∷ []) h.text ∙ append_assoc h.before t (x ∷ []) in
@@ -57,25 +58,25 @@ headed_stands s lim values f fs p begin t x b p-is h lt (Some y) e =
       unbroken = λ w y z same. let g = front_of t w x y z same in h.unbroken w g.0 g.1;
       one_header = λ w y z same. let g = front_of t w x y z same in front_unfinished f.syntax t w g.0 g.1 h.tail;
     }
-headed_stands s lim values f fs p begin t x b p-is h lt None e = by (is_whole f.syntax (t ++ x ∷ [])) refl
+headed_stands s lim values f fs p begin t x b p-is h lt None e = by (is_whole (layout f.syntax) (t ++ x ∷ [])) refl
   where
     regrouped : b ++ x ∷ [] ≡ h.before ++ (t ++ x ∷ [])
     regrouped = ap (λ z. z ++ x ∷ []) h.text ∙ append_assoc h.before t (x ∷ [])
 
-    by : (w : Bool) → is_whole f.syntax (t ++ x ∷ []) ≡ w → Stands s lim (if w then take_header (p + 1) f fs (header_at f.syntax (t ++ x ∷ [])) else at f fs (p + 1) (Heading begin (t ++ x ∷ []))) (if w then keep_header lim f fs (header_at f.syntax (t ++ x ∷ [])) values else values) (b ++ x ∷ [])
+    by : (w : Bool) → is_whole (layout f.syntax) (t ++ x ∷ []) ≡ w → Stands s lim (if w then take_header (p + 1) f fs (header_at (layout f.syntax) (t ++ x ∷ [])) else at f fs (p + 1) (Heading begin (t ++ x ∷ []))) (if w then keep_header lim f fs (header_at (layout f.syntax) (t ++ x ∷ [])) values else values) (b ++ x ∷ [])
     by true w =
         let sp = whole_spells f.syntax t x h.tail (more_bytes t x h.bytes lt) w in
         let fine = unbroken_is lim (spot_of f fs begin) (t ++ x ∷ []) e in
         let long = spelled_long sp in
-        let tag-ok : broken_tag (spot_of f fs begin) (header_at f.syntax (t ++ x ∷ [])).tag ≡ None = ap (λ z. broken_tag (spot_of f fs begin) z) (tag_read f.syntax (t ++ x ∷ [])) ∙ fine.tag_ok (omega (arith, long)) in
+        let tag-ok : broken_tag (spot_of f fs begin) (header_at (layout f.syntax) (t ++ x ∷ [])).tag ≡ None = ap (λ z. broken_tag (spot_of f fs begin) z) (tag_read (layout f.syntax) (t ++ x ∷ [])) ∙ fine.tag_ok (omega (arith, long)) in
         let header-ok = fine.whole_ok w in
-        let sound = is_sound lim (spot_of f fs begin) (length (t ++ x ∷ [])) (header_at f.syntax (t ++ x ∷ [])) header-ok in
+        let sound = is_sound lim (spot_of f fs begin) (length (t ++ x ∷ [])) (header_at (layout f.syntax) (t ++ x ∷ [])) header-ok in
         let size : p + 1 ≡ begin + length (t ++ x ∷ []) = omega (arith, p-is, ap length regrouped, length-append h.before (t ++ x ∷ []), h.place) in
-        let got = taken lim f fs begin (p + 1) (header_at f.syntax (t ++ x ∷ [])) (t ++ x ∷ []) (subst (AreLevels lim f fs) (sym h.place) h.due.levels) sp fine header-ok size in
-        subst (λ z. Stands s lim (take_header (p + 1) f fs (header_at f.syntax (t ++ x ∷ []))) (keep_header lim f fs (header_at f.syntax (t ++ x ∷ [])) values) z) (sym regrouped)
-        (header_stands f fs (t ++ x ∷ []) (header_at f.syntax (t ++ x ∷ [])) lim (p + 1) (p-is ∙ ap length regrouped) h.due.reaches sp
-        (subst (λ z. broken_tag (spot_of f fs z) (header_at f.syntax (t ++ x ∷ [])).tag ≡ None) h.place tag-ok)
-        (subst (λ z. IsSound lim (spot_of f fs z) (length (t ++ x ∷ [])) (header_at f.syntax (t ++ x ∷ []))) h.place sound) got)
+        let got = taken lim f fs begin (p + 1) (header_at (layout f.syntax) (t ++ x ∷ [])) (t ++ x ∷ []) (subst (AreLevels lim f fs) (sym h.place) h.due.levels) sp fine header-ok size in
+        subst (λ z. Stands s lim (take_header (p + 1) f fs (header_at (layout f.syntax) (t ++ x ∷ []))) (keep_header lim f fs (header_at (layout f.syntax) (t ++ x ∷ [])) values) z) (sym regrouped)
+        (header_stands f fs (t ++ x ∷ []) (header_at (layout f.syntax) (t ++ x ∷ [])) lim (p + 1) (p-is ∙ ap length regrouped) h.due.reaches sp
+        (subst (λ z. broken_tag (spot_of f fs z) (header_at (layout f.syntax) (t ++ x ∷ [])).tag ≡ None) h.place tag-ok)
+        (subst (λ z. IsSound lim (spot_of f fs z) (length (t ++ x ∷ [])) (header_at (layout f.syntax) (t ++ x ∷ []))) h.place sound) got)
     by false w = (
       p-is,
       record {
@@ -98,7 +99,7 @@ byte_kept true values t v x = last_byte values (t, v) x
     last_byte (a ∷ c ∷ values) one x = ap (λ z. a ∷ z) (last_byte (c ∷ values) one x)
 byte_kept false values t v x = refl
 
-read_stands : (s : Syntax) (lim : Limits) (values : Values) (f : Scope) (fs : List Scope) (p : ℕ) (t : Tag) (n x : ℕ) (b : List ℕ) → p + 1 ≡ length (b ++ x ∷ []) → IsReading s lim values f fs t n b → Stands s lim (read f fs (p + 1) t n) (keep_read lim fs (number t) values x) (b ++ x ∷ [])
+read_stands : (s : Coding) (lim : Limits) (values : Values) (f : Scope) (fs : List Scope) (p : ℕ) (t : Tag) (n x : ℕ) (b : List ℕ) → p + 1 ≡ length (b ++ x ∷ []) → IsReading s lim values f fs t n b → Stands s lim (read f fs (p + 1) t n) (keep_read lim fs (number t) values x) (b ++ x ∷ [])
 unfolding read
 read_stands s lim values f fs p t n x b p-is r = by (nat_le n 1) refl
   where
@@ -148,7 +149,7 @@ read_stands s lim values f fs p t n x b p-is r = by (nat_le n 1) refl
           },
         )
 
-mode_stands : (s : Syntax) (lim : Limits) (values : Values) (f : Scope) (fs : List Scope) (p : ℕ) (m : Mode) (b : List ℕ) (x : ℕ) → StandsIn s lim values f fs p m b → x < 256 → Stands s lim (next_by lim f fs p m x) (keep_by lim f fs m values x) (b ++ x ∷ [])
+mode_stands : (s : Coding) (lim : Limits) (values : Values) (f : Scope) (fs : List Scope) (p : ℕ) (m : Mode) (b : List ℕ) (x : ℕ) → StandsIn s lim values f fs p m b → x < 256 → Stands s lim (next_by lim f fs p m x) (keep_by lim f fs m values x) (b ++ x ∷ [])
 unfolding headed
 mode_stands s lim values f fs p (Heading begin t) b x h lt = headed_stands s lim values f fs p begin t x b (omega (arith, h.0, length-append b (x ∷ []))) h.1 lt (broken lim (spot_of f fs begin) (t ++ x ∷ [])) refl
 mode_stands s lim values f fs p (Reading t n) b x h lt = read_stands s lim values f fs p t n x b (omega (arith, h.0, length-append b (x ∷ []))) h.1
@@ -165,5 +166,5 @@ mode_stands s lim values f fs p (Stopped n place t) b x h lt = record {
   one_header = h.one_header;
 }
 
-pub next_stands : (s : Syntax) (lim : Limits) (st : State) (values : Values) (b : List ℕ) (x : ℕ) → Stands s lim st values b → x < 256 → Stands s lim (next lim st x) (keep lim st values x) (b ++ x ∷ [])
+pub next_stands : (s : Coding) (lim : Limits) (st : State) (values : Values) (b : List ℕ) (x : ℕ) → Stands s lim st values b → x < 256 → Stands s lim (next lim st x) (keep lim st values x) (b ++ x ∷ [])
 next_stands s lim st values b x h lt = mode_stands s lim values st.top st.below st.place st.mode b x h lt

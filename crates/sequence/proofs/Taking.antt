@@ -1,7 +1,8 @@
 -- A header was made whole.
 use Rattle.std.proofs.Common.{◌≡◌, ℕ, suc, ◌+◌, ◌≤◌, ◌≢◌, ◌⊎◌, Bool, true, false, not, ◌&&◌, ◌||◌, List, [], ◌∷◌, ◌++◌, length, Option, Some, None, nat_eq, nat_le, refl, sym, ap, subst, ◌∙◌, inl, inr, arith, append-nil, eqb-true, false-eqb, eq-eqb, ne_eqb, if◌then◌else◌, codes, leb-false, ltb-false}
-use Rattle.element.specs.declared.syntax.Syntax.{Syntax}
-use Rattle.element.specs.declared.syntax.Syntax.TheVariants.{Implicit, Explicit}
+use Rattle.sequence.specs.Coding.{layout}
+use Rattle.sequence.specs.declared.coding.Coding.{Coding}
+use Rattle.sequence.specs.declared.coding.Coding.TheVariants.{Implicit, Explicit, Encapsulated, Fragments}
 use Rattle.element.specs.declared.tag.Tag.{Tag}
 use Rattle.element.specs.declared.header.Header.{Header}
 use Rattle.element.specs.Header.{number, is_marker, SpellsHeader, item_tag, item_end_tag, sequence_end_tag}
@@ -10,7 +11,7 @@ use Rattle.sequence.specs.declared.level.Scope.{Scope}
 use Rattle.sequence.specs.declared.wanted.Want.{Want}
 use Rattle.sequence.specs.declared.shape.Shape.{Shape}
 use Rattle.sequence.specs.declared.shape.Shape.TheVariants.{Value, Sequence, NotAllowed}
-use Rattle.sequence.specs.Shape.{is_undefined, undefined_length, shape, shape_by, implicit_shape, is_vr}
+use Rattle.sequence.specs.Shape.{is_undefined, undefined_length, shape, shape_by, implicit_shape, is_vr, is_pixel_data}
 use Rattle.sequence.specs.Tree.{delimitation, no_elements, value, sequence, no_items, item, IsEven, IsElement, IsItem, IsValue, counted, DataSet, nothing, value_then, sequence_then, ItemList, no_more, item_then}
 use Rattle.sequence.specs.Wanted.{Values, room_of}
 use Rattle.sequence.specs.Rules.{Limits, broken_tag, same_tag, is_not_allowed, is_value, is_sequence, passes}
@@ -45,16 +46,26 @@ implicit_by : (k : Option (List ℕ)) (u : Bool) → implicit_shape k u ≡ Valu
 implicit_by None u e h = unknown_by u e h
 implicit_by (Some v) u e h = known_by (is_vr (codes "SQ") v) u e h
 
-value_by : (s : Syntax) (v k : Option (List ℕ)) (u : Bool) → shape_by s v k u ≡ Value → u ≡ true → ⊥
-value_by Explicit (Some v) k u e h = explicit_by (is_vr (codes "SQ") v) (is_vr (codes "UN") v) u e h
-value_by Explicit None k u e h = cc
-value_by Implicit v k u e h = implicit_by k u e h
+encapsulated_by : (a b p u : Bool) → (if a then Sequence Encapsulated else (if u then (if b then Sequence Implicit else (if p then Sequence Fragments else NotAllowed)) else Value)) ≡ Value → u ≡ true → ⊥
+encapsulated_by true b p u e h = cc
+encapsulated_by false true p true e h = cc
+encapsulated_by false false true true e h = cc
+encapsulated_by false false false true e h = cc
+encapsulated_by false b p false e h = cc
+
+value_by : (s : Coding) (t : Tag) (v k : Option (List ℕ)) (u : Bool) → shape_by s t v k u ≡ Value → u ≡ true → ⊥
+value_by Explicit t (Some v) k u e h = explicit_by (is_vr (codes "SQ") v) (is_vr (codes "UN") v) u e h
+value_by Explicit t None k u e h = cc
+value_by Encapsulated t (Some v) k u e h = encapsulated_by (is_vr (codes "SQ") v) (is_vr (codes "UN") v) (is_pixel_data t && (is_vr (codes "OB") v || is_vr (codes "OW") v)) u e h
+value_by Encapsulated t None k u e h = cc
+value_by Fragments t v k u e h = cc
+value_by Implicit t v k u e h = implicit_by k u e h
 
 -- a value has a defined length
-value_defined : (s : Syntax) (h : Header) → shape s h ≡ Value → h.length ≢ undefined_length
-value_defined s h e same = value_by s h.vr (vr_of h.tag) (is_undefined h.length) e (eq-eqb h.length undefined_length same)
+value_defined : (s : Coding) (h : Header) → shape s h ≡ Value → h.length ≢ undefined_length
+value_defined s h e same = value_by s h.tag h.vr (vr_of h.tag) (is_undefined h.length) e (eq-eqb h.length undefined_length same)
 
-value_stands : {s s1 : Syntax} {values : Values} {stop : Option ℕ} {last : ℕ} {fs : List Scope} {b hb : List ℕ} {h : Header} (lim : Limits) (p : ℕ) → p ≡ length (b ++ hb) → Reaches s lim.wanted values (set_scope s1 stop last) fs b → IsElement s1 last h hb → shape s1 h ≡ Value → IsEven h.length
+value_stands : {s s1 : Coding} {values : Values} {stop : Option ℕ} {last : ℕ} {fs : List Scope} {b hb : List ℕ} {h : Header} (lim : Limits) (p : ℕ) → p ≡ length (b ++ hb) → Reaches s lim.wanted values (set_scope s1 stop last) fs b → IsElement s1 last h hb → shape s1 h ≡ Value → IsEven h.length
     → IsFit lim.wanted fs (number h.tag) h.length → IsTaken lim (set_scope s1 stop (number h.tag)) fs p h
     → Stands s lim (begin_value p (set_scope s1 stop (number h.tag)) fs h.tag h.length) (with_value lim fs (number h.tag) [] values) (b ++ hb)
 unfolding begin_value
@@ -94,7 +105,7 @@ value_stands {s = s} {s1 = s1} {values = values} {stop = stop} {last = last} {fs
 abbrev IsDeep : Limits → List Scope → Header → Type 0
 IsDeep lim fs h = h.length ≢ 0 → suc (length fs) ≤ lim.depth
 
-sequence_stands : {s s1 : Syntax} {values : Values} {stop : Option ℕ} {last : ℕ} {fs : List Scope} {b hb : List ℕ} {h : Header} {inner : Syntax} (lim : Limits) (p : ℕ) → p ≡ length (b ++ hb) → Reaches s lim.wanted values (set_scope s1 stop last) fs b → IsElement s1 last h hb → shape s1 h ≡ Sequence inner → IsLength h.length
+sequence_stands : {s s1 : Coding} {values : Values} {stop : Option ℕ} {last : ℕ} {fs : List Scope} {b hb : List ℕ} {h : Header} {inner : Coding} (lim : Limits) (p : ℕ) → p ≡ length (b ++ hb) → Reaches s lim.wanted values (set_scope s1 stop last) fs b → IsElement s1 last h hb → shape s1 h ≡ Sequence inner → IsLength h.length
     → IsDeep lim fs h → IsTaken lim (set_scope s1 stop (number h.tag)) fs p h
     → Stands s lim (begin_level p (sequence_scope inner (stop_of p h.length)) (set_scope s1 stop (number h.tag)) fs h.length) values (b ++ hb)
 unfolding begin_level
@@ -111,7 +122,7 @@ sequence_stands {s = s} {s1 = s1} {values = values} {stop = stop} {last = last} 
         arrive_stands lim p p-is (into_sequence r el sh len some no_more (ap (λ z. stop_of z h.length) p-is) refl (ap (λ z. b ++ z) (sym (append-nil hb))))
         (levels_open lim (set_scope s1 stop (number h.tag)) (sequence_scope inner (stop_of p h.length)) fs p h t refl (deep some))
 
-item_stands : {s s1 : Syntax} {values : Values} {stop : Option ℕ} {fs : List Scope} {b hb : List ℕ} {h : Header} (lim : Limits) (p : ℕ) → p ≡ length (b ++ hb) → Reaches s lim.wanted values (sequence_scope s1 stop) fs b → IsItem s1 h hb → IsLength h.length
+item_stands : {s s1 : Coding} {values : Values} {stop : Option ℕ} {fs : List Scope} {b hb : List ℕ} {h : Header} (lim : Limits) (p : ℕ) → p ≡ length (b ++ hb) → Reaches s lim.wanted values (sequence_scope s1 stop) fs b → IsItem s1 h hb → IsLength h.length
     → IsDeep lim fs h → IsTaken lim (sequence_scope s1 stop) fs p h
     → Stands s lim (begin_level p (set_scope s1 (stop_of p h.length) 0) (sequence_scope s1 stop) fs h.length) values (b ++ hb)
 unfolding begin_level
@@ -128,7 +139,7 @@ item_stands {s = s} {s1 = s1} {values = values} {stop = stop} {fs = fs} {b = b} 
         arrive_stands lim p p-is (into_item r it len some nothing (ap (λ z. stop_of z h.length) p-is) refl (ap (λ z. b ++ z) (sym (append-nil hb))))
         (levels_open lim (sequence_scope s1 stop) (set_scope s1 (stop_of p h.length) 0) fs p h t refl (deep some))
 
-end_stands : {s : Syntax} {values : Values} {f g : Scope} {gs : List Scope} {b hb : List ℕ} {h : Header} (lim : Limits) (p : ℕ) (t : Tag) → p ≡ length (b ++ hb) → Reaches s lim.wanted values f (g ∷ gs) b → SpellsHeader f.syntax h hb → h.tag ≡ t → is_marker t ≡ true → h.length ≡ 0
+end_stands : {s : Coding} {values : Values} {f g : Scope} {gs : List Scope} {b hb : List ℕ} {h : Header} (lim : Limits) (p : ℕ) (t : Tag) → p ≡ length (b ++ hb) → Reaches s lim.wanted values f (g ∷ gs) b → SpellsHeader (layout f.syntax) h hb → h.tag ≡ t → is_marker t ≡ true → h.length ≡ 0
     → t ≡ (if f.in_sequence then sequence_end_tag else item_end_tag) → f.stop ≡ None → AreLevels lim f (g ∷ gs) p → Stands s lim (arrive p g gs) values (b ++ hb)
 end_stands {s = s} {f = f} {g = g} {gs = gs} {b = b} {hb = hb} lim p t p-is r e same m none which open-ended l =
     arrive_stands lim p p-is (level_ends hb r (inr (open-ended, mark_spelled t e same m none ∙ ap (λ z. delimitation z) which))) (levels_end lim f g gs p l)
@@ -144,7 +155,7 @@ taken_item_end p f g gs h e = rw e refl
 pub set_of : (f : Scope) → f.in_sequence ≡ false → f ≡ set_scope f.syntax f.stop f.last
 set_of f e = λ i. record { in_sequence = e i; syntax = f.syntax; stop = f.stop; last = f.last }
 
-pub sequence_of : {s : Syntax} {ws : List Want} {values : Values} {f : Scope} {fs : List Scope} {b : List ℕ} → Reaches s ws values f fs b → f.in_sequence ≡ true → f ≡ sequence_scope f.syntax f.stop
+pub sequence_of : {s : Coding} {ws : List Want} {values : Values} {f : Scope} {fs : List Scope} {b : List ℕ} → Reaches s ws values f fs b → f.in_sequence ≡ true → f ≡ sequence_scope f.syntax f.stop
 sequence_of (at_root d e k fits) h = absurd cc
 sequence_of (into_sequence r el sh len some items stop-is k-is b-is) h = refl
 sequence_of (into_item r it len some set stop-is last-is b-is) h = absurd cc
@@ -158,7 +169,7 @@ no_end : (o : Option ℕ) → (is_none o && not (is_empty [])) ≡ true → ⊥
 no_end None e = cc
 no_end (Some x) e = cc
 
-end_case : {s : Syntax} {values : Values} (f : Scope) (fs : List Scope) {b hb : List ℕ} {h : Header} (lim : Limits) (p : ℕ) (t : Tag) → p ≡ length (b ++ hb) → Reaches s lim.wanted values f fs b → SpellsHeader f.syntax h hb → h.tag ≡ t → is_marker t ≡ true → h.length ≡ 0
+end_case : {s : Coding} {values : Values} (f : Scope) (fs : List Scope) {b hb : List ℕ} {h : Header} (lim : Limits) (p : ℕ) (t : Tag) → p ≡ length (b ++ hb) → Reaches s lim.wanted values f fs b → SpellsHeader (layout f.syntax) h hb → h.tag ≡ t → is_marker t ≡ true → h.length ≡ 0
     → t ≡ (if f.in_sequence then sequence_end_tag else item_end_tag) → (is_none f.stop && not (is_empty fs)) ≡ true → ((g : Scope) (gs : List Scope) → take_header p f (g ∷ gs) h ≡ arrive p g gs) → AreLevels lim f fs p → Stands s lim (take_header p f fs h) values (b ++ hb)
 end_case f [] lim p t p-is r e same m none which open-ended taken l = absurd (no_end f.stop open-ended)
 end_case f (g ∷ gs) lim p t p-is r e same m none which open-ended taken l =
@@ -168,7 +179,7 @@ kept_value : (lim : Limits) (f : Scope) (fs : List Scope) (h : Header) (values :
 unfolding keep_header
 kept_value lim f fs h values m sh = rw (m, sh) refl
 
-kept_sequence : (lim : Limits) (f : Scope) (fs : List Scope) (h : Header) (inner : Syntax) (values : Values) → is_marker h.tag ≡ false → shape f.syntax h ≡ Sequence inner → keep_header lim f fs h values ≡ values
+kept_sequence : (lim : Limits) (f : Scope) (fs : List Scope) (h : Header) (inner : Coding) (values : Values) → is_marker h.tag ≡ false → shape f.syntax h ≡ Sequence inner → keep_header lim f fs h values ≡ values
 unfolding keep_header
 kept_sequence lim f fs h inner values m sh = rw (m, sh) refl
 
@@ -189,7 +200,7 @@ deep_by lim fs h true is e some =
     let lt = leb-false lim.depth (length fs) k in
     omega (arith, lt)
 
-element_case : {s : Syntax} {values : Values} (f : Scope) (fs : List Scope) {b hb : List ℕ} (h : Header) (lim : Limits) (p : ℕ) → p ≡ length (b ++ hb) → Reaches s lim.wanted values (set_scope f.syntax f.stop f.last) fs b → IsElement f.syntax f.last h hb → IsLength h.length
+element_case : {s : Coding} {values : Values} (f : Scope) (fs : List Scope) {b hb : List ℕ} (h : Header) (lim : Limits) (p : ℕ) → p ≡ length (b ++ hb) → Reaches s lim.wanted values (set_scope f.syntax f.stop f.last) fs b → IsElement f.syntax f.last h hb → IsLength h.length
     → IsSound lim (spot_of f fs (length b)) (length hb) h → IsTaken lim f fs p h → (sh : Shape) → shape f.syntax h ≡ sh → Stands s lim (take_header p (set_scope f.syntax f.stop f.last) fs h) (keep_header lim (set_scope f.syntax f.stop f.last) fs h values) (b ++ hb)
 element_case {values = values} f fs {b = b} {hb = hb} h lim p p-is r el len sound t Value sh =
     rw (taken_value p f.syntax f.stop f.last fs h el.no_marker sh, kept_value lim (set_scope f.syntax f.stop f.last) fs h values el.no_marker sh)
@@ -200,7 +211,7 @@ element_case {values = values} f fs h lim p p-is r el len sound t (Sequence inne
 element_case f fs h lim p p-is r el len sound t NotAllowed sh =
     absurd (let k : is_not_allowed (shape f.syntax h) ≡ false = and_false (not (is_marker h.tag)) (is_not_allowed (shape f.syntax h)) sound.allowed (ap not el.no_marker) in let g : true ≡ false = sym (ap is_not_allowed sh) ∙ k in cc)
 
-pub header_stands : {s : Syntax} {values : Values} (f : Scope) (fs : List Scope) {b : List ℕ} (hb : List ℕ) (h : Header) (lim : Limits) (p : ℕ) → p ≡ length (b ++ hb) → Reaches s lim.wanted values f fs b → SpellsHeader f.syntax h hb
+pub header_stands : {s : Coding} {values : Values} (f : Scope) (fs : List Scope) {b : List ℕ} (hb : List ℕ) (h : Header) (lim : Limits) (p : ℕ) → p ≡ length (b ++ hb) → Reaches s lim.wanted values f fs b → SpellsHeader (layout f.syntax) h hb
     → broken_tag (spot_of f fs (length b)) h.tag ≡ None → IsSound lim (spot_of f fs (length b)) (length hb) h → IsTaken lim f fs p h → Stands s lim (take_header p f fs h) (keep_header lim f fs h values) (b ++ hb)
 header_stands {s = s} {values = values} f fs {b = b} hb h lim p p-is r sp tag-ok sound t = by f.in_sequence refl (is_marker h.tag) refl
   where

@@ -1,7 +1,8 @@
 -- What is told of the text at which the machine stands.
 use Rattle.std.proofs.Common.{◌≡◌, ℕ, ◌+◌, ◌-◌, ◌<◌, ◌≤◌, ◌≢◌, Bool, true, false, List, [], ◌∷◌, ◌++◌, length, Option, Some, None, is_some, nat_lt, refl, sym, ap, subst, ◌∙◌, arith, append_assoc, append-nil, length-append, ltb-false, leb-false, ne_eqb, eq-eqb, if◌then◌else◌}
 use Rattle.std.proofs.lemmas.Bool.Decides.{nat_tests}
-use Rattle.element.specs.declared.syntax.Syntax.{Syntax}
+use Rattle.sequence.specs.Coding.{layout}
+use Rattle.sequence.specs.declared.coding.Coding.{Coding}
 use Rattle.element.specs.declared.header.Header.{Header}
 use Rattle.element.specs.declared.size.Need.{Need}
 use Rattle.element.specs.declared.size.Need.TheVariants.{Size, BadVr}
@@ -57,7 +58,7 @@ pub all_is : (n : ℕ) (path : List PathEntry) (r f : Scope) (fs : List Scope) �
 all_is n path r f fs t d = λ i. t i ∷ d i
 
 -- a front is open, where its levels are nested and none ends there
-pub open_of : {s : Syntax} {ws : List Want} {values : Values} {n : ℕ} {b : List ℕ} {tail : Tail} {f : Scope} {fs : List Scope} (x : IsFront s ws values n b tail f fs) → AreNested None (f ∷ fs) → stops_at f.stop n ≡ false → Open s b x.elements x.path x.last tail
+pub open_of : {s : Coding} {ws : List Want} {values : Values} {n : ℕ} {b : List ℕ} {tail : Tail} {f : Scope} {fs : List Scope} (x : IsFront s ws values n b tail f fs) → AreNested None (f ∷ fs) → stops_at f.stop n ≡ false → Open s b x.elements x.path x.last tail
 open_of {s = s} {n = n} {f = f} {fs = fs} x nested stays = record {
   nested = x.nested;
   left = paths_left n None x.path (set_scope s None x.last) (subst (λ z. AreNested None z) (sym (all_is n x.path (set_scope s None x.last) f fs x.top x.below)) nested);
@@ -66,7 +67,7 @@ open_of {s = s} {n = n} {f = f} {fs = fs} x nested stays = record {
 
 -- where a header is due or begun
 
-front_sequence : {s : Syntax} {ws : List Want} {values : Values} {f : Scope} {fs : List Scope} {before : List ℕ} (t : List ℕ) (n : ℕ) → Reaches s ws values f fs before → f.in_sequence ≡ true → IsUnfinishedHeader f.syntax t → AllLastTo (f ∷ fs) n → n ≡ length (before ++ t) → IsFront s ws values n (before ++ t) (in_header t) f fs
+front_sequence : {s : Coding} {ws : List Want} {values : Values} {f : Scope} {fs : List Scope} {before : List ℕ} (t : List ℕ) (n : ℕ) → Reaches s ws values f fs before → f.in_sequence ≡ true → IsUnfinishedHeader f.syntax t → AllLastTo (f ∷ fs) n → n ≡ length (before ++ t) → IsFront s ws values n (before ++ t) (in_header t) f fs
 front_sequence t n (at_root d e k fits) here tail hold n-is = absurd cc
 front_sequence t n (into_item r it len some set stop-is last-is b-is) here tail hold n-is = absurd cc
 front_sequence {s = s} {ws = ws} {values = values} t n (into_sequence {s1 = s1} {stop = stop} {out = out} {last = last} {fs = fs} {q = q} {h = h} {hb = hb} {inner = inner} {is = is} {ib = ib} {b = b} {k = k} r el sh len some items stop-is k-is b-is) here tail hold n-is =
@@ -88,11 +89,11 @@ front_sequence {s = s} {ws = ws} {values = values} t n (into_sequence {s1 = s1} 
       fits = front.fits;
     }
 
-front_elements : {s : Syntax} {ws : List Want} {values : Values} {s1 : Syntax} {stop : Option ℕ} {last : ℕ} {fs : List Scope} {before : List ℕ} (t : List ℕ) (n : ℕ) → Reaches s ws values (set_scope s1 stop last) fs before → IsUnfinishedHeader s1 t → LastsTo stop n → AllLastTo fs n → n ≡ length (before ++ t) → IsFront s ws values n (before ++ t) (in_header t) (set_scope s1 stop last) fs
+front_elements : {s : Coding} {ws : List Want} {values : Values} {s1 : Coding} {stop : Option ℕ} {last : ℕ} {fs : List Scope} {before : List ℕ} (t : List ℕ) (n : ℕ) → Reaches s ws values (set_scope s1 stop last) fs before → IsUnfinishedHeader s1 t → LastsTo stop n → AllLastTo fs n → n ≡ length (before ++ t) → IsFront s ws values n (before ++ t) (in_header t) (set_scope s1 stop last) fs
 front_elements {s1 = s1} {last = last} t n r tail hold all n-is =
     plug t (in_header t) [] last n r n-is hold all (λ es eb set e. subst (λ z. Nested s1 (eb ++ t) es [] z (in_header t)) (sym e) (at_elements set (header_tail tail)))
 
-pub front_heading : (s : Syntax) (ws : List Want) (values : Values) (f : Scope) (fs : List Scope) (before t : List ℕ) (n : ℕ) → Reaches s ws values f fs before → IsUnfinishedHeader f.syntax t → AllLastTo (f ∷ fs) n → n ≡ length (before ++ t) → IsFront s ws values n (before ++ t) (in_header t) f fs
+pub front_heading : (s : Coding) (ws : List Want) (values : Values) (f : Scope) (fs : List Scope) (before t : List ℕ) (n : ℕ) → Reaches s ws values f fs before → IsUnfinishedHeader f.syntax t → AllLastTo (f ∷ fs) n → n ≡ length (before ++ t) → IsFront s ws values n (before ++ t) (in_header t) f fs
 front_heading s ws values f fs before t n r tail hold n-is = by f.in_sequence refl
   where
     by : (q : Bool) → f.in_sequence ≡ q → IsFront s ws values n (before ++ t) (in_header t) f fs
@@ -101,7 +102,7 @@ front_heading s ws values f fs before t n r tail hold n-is = by f.in_sequence re
         let is = set_of f here in
         subst (λ z. IsFront s ws values n (before ++ t) (in_header t) z fs) (sym is) (front_elements t n (subst (λ z. Reaches s ws values z fs before) is r) tail hold.0 hold.1 n-is)
 
-pub front_reading : {s : Syntax} {ws : List Want} {values : Values} {s1 : Syntax} {stop : Option ℕ} {last : ℕ} {fs : List Scope} {before : List ℕ} (h : Header) (hb v : List ℕ) (n : ℕ) → Reaches s ws values (set_scope s1 stop last) fs before → IsElement s1 last h hb → shape s1 h ≡ Value → length v < h.length → LastsTo stop n → AllLastTo fs n → n ≡ length (before ++ (hb ++ v))
+pub front_reading : {s : Coding} {ws : List Want} {values : Values} {s1 : Coding} {stop : Option ℕ} {last : ℕ} {fs : List Scope} {before : List ℕ} (h : Header) (hb v : List ℕ) (n : ℕ) → Reaches s ws values (set_scope s1 stop last) fs before → IsElement s1 last h hb → shape s1 h ≡ Value → length v < h.length → LastsTo stop n → AllLastTo fs n → n ≡ length (before ++ (hb ++ v))
     → IsFront s ws values n (before ++ (hb ++ v)) (in_value h v) (set_scope s1 stop last) fs
 front_reading {s1 = s1} {last = last} h hb v n r el sh lt hold all n-is =
     plug (hb ++ v) (in_value h v) [] last n r n-is hold all (λ es eb set e. subst (λ z. Nested s1 (eb ++ (hb ++ v)) es [] z (in_value h v)) (sym e) (at_elements set (value_tail v (subst (λ z. IsElement s1 z h hb) e el) sh lt)))
@@ -115,7 +116,7 @@ passes_less (Some a) j k e le = let f = ltb-false a k e in ltb_no a j (omega (ar
     ltb_no : (a j : ℕ) → j ≤ a → nat_lt a j ≡ false
     ltb_no a j le = grind (arith, nat_tests)
 
-inside_by : (lim : Limits) (spot : Spot) (t : List ℕ) {n : Need} → NeedIs spot.syntax t n → need spot.syntax t ≡ n → has_size n (length t) ≡ false → n ≢ BadVr → BreaksNone lim spot t → passes spot.near (length t + 1) ≡ false
+inside_by : (lim : Limits) (spot : Spot) (t : List ℕ) {n : Need} → NeedIs (layout spot.syntax) t n → need (layout spot.syntax) t ≡ n → has_size n (length t) ≡ false → n ≢ BadVr → BreaksNone lim spot t → passes spot.near (length t + 1) ≡ false
 inside_by lim spot t (few lt) e part good ok = passes_less spot.near (length t + 1) 8 (if_some (passes spot.near 8) _ ok.due_ok).0 (omega (arith, lt))
 inside_by lim spot t (plain_eight ge p) e part good ok = let lt = leb-false 8 (length t) part in passes_less spot.near (length t + 1) 8 (if_some (passes spot.near 8) _ ok.due_ok).0 (omega (arith, lt))
 inside_by lim spot t (no_vr ge p lt) e part good ok = passes_less spot.near (length t + 1) 8 (if_some (passes spot.near 8) _ ok.due_ok).0 (omega (arith, lt))
@@ -128,7 +129,7 @@ inside_by lim spot t (long_twelve ge p c h) e part good ok =
 
 pub inside : (lim : Limits) (spot : Spot) (t : List ℕ) → IsUnfinishedHeader spot.syntax t → broken lim spot t ≡ None → passes spot.near (length t + 1) ≡ false
 unfolding is_whole
-inside lim spot t tail ok = inside_by lim spot t (need_is spot.syntax t) refl tail.part tail.good (unbroken_is lim spot t ok)
+inside lim spot t tail ok = inside_by lim spot t (need_is (layout spot.syntax) t) refl tail.part tail.good (unbroken_is lim spot t ok)
 
 pub lasts_after : (o : Option ℕ) (p n : ℕ) → LastsTo o p → passes (less o p) n ≡ false → LastsTo o (p + n)
 lasts_after None p n h e = tt
@@ -147,10 +148,10 @@ past_stays None n h = refl
 past_stays (Some e) n h = ne_eqb e n (λ same. absurd (omega (arith, h, same)))
 
 -- after a text a header is due
-pub open_due : (s : Syntax) (lim : Limits) (values : Values) (f : Scope) (fs : List Scope) (b : List ℕ) → IsDue s lim values f fs b → IsFront s lim.wanted values (length b) b (in_header []) f fs
+pub open_due : (s : Coding) (lim : Limits) (values : Values) (f : Scope) (fs : List Scope) (b : List ℕ) → IsDue s lim values f fs b → IsFront s lim.wanted values (length b) b (in_header []) f fs
 open_due s lim values f fs b d =
     let n : length b ≡ length (b ++ []) = ap length (sym (append-nil b)) in
     subst (λ z. IsFront s lim.wanted values (length b) z (in_header []) f fs) (append-nil b) (front_heading s lim.wanted values f fs b [] (length b) d.reaches (no_header f.syntax) d.levels.hold n)
 
-pub due_open : (s : Syntax) (lim : Limits) (values : Values) (f : Scope) (fs : List Scope) (b : List ℕ) (d : IsDue s lim values f fs b) → Open s b (open_due s lim values f fs b d).elements (open_due s lim values f fs b d).path (open_due s lim values f fs b d).last (in_header [])
+pub due_open : (s : Coding) (lim : Limits) (values : Values) (f : Scope) (fs : List Scope) (b : List ℕ) (d : IsDue s lim values f fs b) → Open s b (open_due s lim values f fs b d).elements (open_due s lim values f fs b d).path (open_due s lim values f fs b d).last (in_header [])
 due_open s lim values f fs b d = open_of (open_due s lim values f fs b d) d.levels.nested d.stays

@@ -1,6 +1,6 @@
 -- A text has one first fault, one thing to tell, and one thing to hold.
 use Rattle.std.proofs.Common.{◌≡◌, ℕ, List, [], ◌++◌, length, Some, None, sym, ap, subst, ◌∙◌, arith}
-use Rattle.element.specs.declared.syntax.Syntax.{Syntax}
+use Rattle.sequence.specs.declared.coding.Coding.{Coding}
 use Rattle.element.specs.declared.tag.Tag.{Tag}
 use Rattle.element.specs.Numbers.{IsBytes}
 use Rattle.sequence.specs.Open.{in_header, Open}
@@ -17,7 +17,7 @@ use Rattle.sequence.proofs.Tales.{tells}
 use Rattle.sequence.proofs.Once.{one_path}
 
 -- the rule that a header breaks is one
-breaks_once : (s : Syntax) (lim : Limits) (p u : List ℕ) (rule rule2 : ℕ) (tag tag2 : Tag) → Breaks s lim p u rule tag → Breaks s lim p u rule2 tag2 → (rule ≡ rule2) × (tag ≡ tag2)
+breaks_once : (s : Coding) (lim : Limits) (p u : List ℕ) (rule rule2 : ℕ) (tag tag2 : Tag) → Breaks s lim p u rule tag → Breaks s lim p u rule2 tag2 → (rule ≡ rule2) × (tag ≡ tag2)
 breaks_once s lim p u rule rule2 tag tag2 b c =
     let k = one_path s p b.elements c.elements b.path c.path b.last c.last (in_header []) (in_header []) b.due c.due in
     let spot : spot_behind s b.path b.last (length p) ≡ spot_behind s c.path c.last (length p) = λ i. spot_behind s (k.1 i) (k.2 i) (length p) in
@@ -25,7 +25,7 @@ breaks_once s lim p u rule rule2 tag tag2 b c =
     let pair : ◌≡◌ {A = ℕ × Tag} (rule, tag) (rule2, tag2) = cc in
     (ap (λ z. z.0) pair, ap (λ z. z.1) pair)
 
-pub one_fault : (s : Syntax) (lim : Limits) (b p p2 u u2 : List ℕ) (rule rule2 : ℕ) (tag tag2 : Tag) → FirstFault s lim b p u rule tag → FirstFault s lim b p2 u2 rule2 tag2 → (p ≡ p2) × (u ≡ u2) × (rule ≡ rule2) × (tag ≡ tag2)
+pub one_fault : (s : Coding) (lim : Limits) (b p p2 u u2 : List ℕ) (rule rule2 : ℕ) (tag tag2 : Tag) → FirstFault s lim b p u rule tag → FirstFault s lim b p2 u2 rule2 tag2 → (p ≡ p2) × (u ≡ u2) × (rule ≡ rule2) × (tag ≡ tag2)
 one_fault s lim b p p2 u u2 rule rule2 tag tag2 f g =
     let near = f.first p2 u2 g.rest rule2 tag2 g.text g.breaks in
     let far = g.first p u f.rest rule tag f.text f.breaks in
@@ -35,7 +35,7 @@ one_fault s lim b p p2 u u2 rule rule2 tag tag2 f g =
     let rules = breaks_once s lim p u rule rule2 tag tag2 f.breaks there in
     (parts.0, parts.1, rules.0, rules.1)
 
-pub one_telling : (s : Syntax) (lim : Limits) (b : List ℕ) (told told2 : Told) → Tells s lim b told → Tells s lim b told2 → told ≡ told2
+pub one_telling : (s : Coding) (lim : Limits) (b : List ℕ) (told told2 : Told) → Tells s lim b told → Tells s lim b told2 → told ≡ told2
 one_telling s lim b told told2 (going {es = es} {path = path} {last = last} {tail = tail} ok front) (going {es = es2} {path = path2} {last = last2} {tail = tail2} ok2 front2) =
     let k = one_path s b es es2 path path2 last last2 tail tail2 front front2 in
     λ i. record { fault = None; levels = length (k.1 i); place = length b; held = held_of lim.wanted (k.0 i) (k.1 i) (k.3 i); kept = kept_of lim.wanted (k.0 i) }
@@ -46,7 +46,7 @@ one_telling s lim b told told2 (refused {p = p} {u = u} {rule = rule} {tag = tag
     let m = one_path s p es es2 path path2 last last2 (in_header []) (in_header []) front (subst (λ z. Open s z es2 path2 last2 (in_header [])) (sym k.0) front2) in
     λ i. record { fault = Some (record { number = k.2 i; place = length (k.0 i); tag = k.3 i }); levels = length (m.1 i); place = length (k.0 i ++ k.1 i); held = held_of lim.wanted (m.0 i) (m.1 i) (in_header []); kept = kept_of lim.wanted (m.0 i) }
 
-pub one_holding : (s : Syntax) (lim : Limits) (b : List ℕ) (held held2 : Holding) → Holds s lim b held → Holds s lim b held2 → held ≡ held2
+pub one_holding : (s : Coding) (lim : Limits) (b : List ℕ) (held held2 : Holding) → Holds s lim b held → Holds s lim b held2 → held ≡ held2
 one_holding s lim b held held2 (of_all {es = es} {path = path} {last = last} {tail = tail} ok front) (of_all {es = es2} {path = path2} {last = last2} {tail = tail2} ok2 front2) =
     let k = one_path s b es es2 path path2 last last2 tail tail2 front front2 in
     λ i. holding_of s lim.wanted (length b) (k.0 i) (k.1 i) (k.2 i) (k.3 i)
@@ -57,5 +57,5 @@ one_holding s lim b held held2 (before_fault {p = p} {u = u} {rule = rule} {tag 
     let m = one_path s p es es2 path path2 last last2 (in_header []) (in_header []) front (subst (λ z. Open s z es2 path2 last2 (in_header [])) (sym k.0) front2) in
     λ i. holding_of s lim.wanted (length (k.0 i)) (m.0 i) (m.1 i) (m.2 i) (in_header [])
 
-pub some_telling : (s : Syntax) (lim : Limits) (b : List ℕ) → IsBytes b → (told : Told) × Tells s lim b told
+pub some_telling : (s : Coding) (lim : Limits) (b : List ℕ) → IsBytes b → (told : Told) × Tells s lim b told
 some_telling s lim b bytes = (told_in lim (run lim (start s) b) (keeps lim (start s) [] b), tells s lim b bytes)

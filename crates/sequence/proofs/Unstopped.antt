@@ -6,6 +6,7 @@ use Rattle.element.specs.declared.size.Need.{Need}
 use Rattle.element.specs.declared.size.Need.TheVariants.{More, Size, BadVr}
 use Rattle.element.specs.Header.{is_marker, is_plain, tag_at, need, is_whole, header_at, SpellsHeader}
 use Rattle.element.proofs.Public.{need_on, bad_on, need_spelled, tag_on, tag_read, read_spelled, whole_spelled, front_spelled, spelled_long}
+use Rattle.sequence.specs.Coding.{layout}
 use Rattle.sequence.specs.declared.level.Scope.{Scope}
 use Rattle.sequence.specs.declared.spot.Spot.{Spot}
 use Rattle.sequence.specs.Shape.{is_undefined, undefined_length, shape}
@@ -43,7 +44,7 @@ pub record KeepsRules (lim : Limits) (spot : Spot) (size : ℕ) (h : Header) : T
   pub sound : IsSound lim spot size h
 
 -- so does each beginning of it
-pub keeps_rules : (lim : Limits) (spot : Spot) (h : Header) (hb : List ℕ) → SpellsHeader spot.syntax h hb → KeepsRules lim spot (length hb) h → Unbroken lim spot hb
+pub keeps_rules : (lim : Limits) (spot : Spot) (h : Header) (hb : List ℕ) → SpellsHeader (layout spot.syntax) h hb → KeepsRules lim spot (length hb) h → Unbroken lim spot hb
 unfolding broken
 keeps_rules lim spot h hb sp ok u v same =
     all_none _ _ due_ok (all_none _ _ (when_is _ _ tag_ok) (all_none _ _ (when_is _ _ vr_ok) (when_is _ _ (λ w. whole_ok v same w))))
@@ -52,27 +53,27 @@ keeps_rules lim spot h hb sp ok u v same =
     due_ok = else_none (passes spot.near 8) _ None (passes_less spot.near 8 (length hb) ok.room (spelled_long sp)) refl
 
     tag_ok : nat_le 4 (length u) ≡ true → broken_tag spot (tag_at u) ≡ None
-    tag_ok le = ap (broken_tag spot) (sym (tag_on u v (leb-true 4 (length u) le)) ∙ ap (λ z. tag_at z) (sym same) ∙ sym (tag_read spot.syntax hb) ∙ ap (λ (z : Header). z.tag) (read_spelled sp)) ∙ ok.tagged
+    tag_ok le = ap (broken_tag spot) (sym (tag_on u v (leb-true 4 (length u) le)) ∙ ap (λ z. tag_at z) (sym same) ∙ sym (tag_read (layout spot.syntax) hb) ∙ ap (λ (z : Header). z.tag) (read_spelled sp)) ∙ ok.tagged
 
-    need_is_whole : need spot.syntax (u ++ v) ≡ Size (length hb)
-    need_is_whole = ap (need spot.syntax) (sym same) ∙ need_spelled sp
+    need_is_whole : need (layout spot.syntax) (u ++ v) ≡ Size (length hb)
+    need_is_whole = ap (need (layout spot.syntax)) (sym same) ∙ need_spelled sp
 
-    vr_by : (n : Need) → need spot.syntax u ≡ n → broken_need spot n (tag_at u) ≡ None
+    vr_by : (n : Need) → need (layout spot.syntax) u ≡ n → broken_need spot n (tag_at u) ≡ None
     vr_by More e = refl
-    vr_by BadVr e = absurd (let k : BadVr ≡ Size (length hb) = sym (bad_on spot.syntax u v e) ∙ need_is_whole in cc)
+    vr_by BadVr e = absurd (let k : BadVr ≡ Size (length hb) = sym (bad_on (layout spot.syntax) u v e) ∙ need_is_whole in cc)
     vr_by (Size k) e =
-        let q : Size k ≡ Size (length hb) = sym (need_on spot.syntax u v k e) ∙ need_is_whole in
+        let q : Size k ≡ Size (length hb) = sym (need_on (layout spot.syntax) u v k e) ∙ need_is_whole in
         let k-is : k ≡ length hb = cc in
         else_none (passes spot.near k) _ None (ap (passes spot.near) k-is ∙ ok.room) refl
 
-    vr_ok : (nat_le 6 (length u) && not (is_plain spot.syntax (tag_at u))) ≡ true → broken_need spot (need spot.syntax u) (tag_at u) ≡ None
-    vr_ok e = vr_by (need spot.syntax u) refl
+    vr_ok : (nat_le 6 (length u) && not (is_plain (layout spot.syntax) (tag_at u))) ≡ true → broken_need spot (need (layout spot.syntax) u) (tag_at u) ≡ None
+    vr_ok e = vr_by (need (layout spot.syntax) u) refl
 
-    whole_ok : (v : List ℕ) → hb ≡ u ++ v → is_whole spot.syntax u ≡ true → broken_header lim spot (length u) (header_at spot.syntax u) ≡ None
+    whole_ok : (v : List ℕ) → hb ≡ u ++ v → is_whole (layout spot.syntax) u ≡ true → broken_header lim spot (length u) (header_at (layout spot.syntax) u) ≡ None
     whole_ok [] e w =
         let all : u ≡ hb = sym (append-nil u) ∙ sym e in
-        ap (λ z. broken_header lim spot (length z) (header_at spot.syntax z)) all ∙ ap (broken_header lim spot (length hb)) (read_spelled sp) ∙ sound_header lim spot (length hb) h ok.sound
-    whole_ok (x ∷ v) e w = absurd (let k : true ≡ false = sym w ∙ front_spelled u x v (subst (SpellsHeader spot.syntax h) e sp) in cc)
+        ap (λ z. broken_header lim spot (length z) (header_at (layout spot.syntax) z)) all ∙ ap (broken_header lim spot (length hb)) (read_spelled sp) ∙ sound_header lim spot (length hb) h ok.sound
+    whole_ok (x ∷ v) e w = absurd (let k : true ≡ false = sym w ∙ front_spelled u x v (subst (SpellsHeader (layout spot.syntax) h) e sp) in cc)
 
 -- a header that has room, before ends at q or after it
 
@@ -119,7 +120,7 @@ keeps lim f fs p q size h room tagged mark allowed fits shallow =
 
 -- the machine goes over it
 
-heading_goes : (lim : Limits) (f : Scope) (fs : List Scope) (p q start : ℕ) (t : List ℕ) (h : Header) (x : ℕ) (b : List ℕ) → SpellsHeader f.syntax h (t ++ x ∷ b) → Unbroken lim (spot_of f fs start) (t ++ x ∷ b) → q ≡ p + suc (length b)
+heading_goes : (lim : Limits) (f : Scope) (fs : List Scope) (p q start : ℕ) (t : List ℕ) (h : Header) (x : ℕ) (b : List ℕ) → SpellsHeader (layout f.syntax) h (t ++ x ∷ b) → Unbroken lim (spot_of f fs start) (t ++ x ∷ b) → q ≡ p + suc (length b)
     → run lim (at f fs p (Heading start t)) (x ∷ b) ≡ take_header q f fs h
 unfolding run headed
 heading_goes lim f fs p q start t h x [] sp ok q-is =
@@ -128,7 +129,7 @@ heading_goes lim f fs p q start t h x [] sp ok q-is =
     ap (λ z. headed_by z f fs (p + 1) start (t ++ x ∷ [])) none ∙ rw (whole_spelled sp, read_spelled sp, q-one) refl
 heading_goes lim f fs p q start t h x (y ∷ b) sp ok q-is =
     let regrouped : t ++ x ∷ y ∷ b ≡ (t ++ x ∷ []) ++ y ∷ b = sym (append_assoc t (x ∷ []) (y ∷ b)) in
-    let more = subst (SpellsHeader f.syntax h) regrouped sp in
+    let more = subst (SpellsHeader (layout f.syntax) h) regrouped sp in
     let none = ok (t ++ x ∷ []) (y ∷ b) regrouped in
     let part = front_spelled (t ++ x ∷ []) y b more in
     let first : headed lim f fs (p + 1) start (t ++ x ∷ []) ≡ at f fs (p + 1) (Heading start (t ++ x ∷ [])) = ap (λ z. headed_by z f fs (p + 1) start (t ++ x ∷ [])) none ∙ rw part refl in
@@ -138,13 +139,13 @@ open_before : (o : Option ℕ) (p q : ℕ) → LastsTo o q → p < q → IsOpen 
 open_before None p q h lt = tt
 open_before (Some e) p q h lt = omega (arith, h, lt)
 
-due_goes : (lim : Limits) (f : Scope) (fs : List Scope) (p q : ℕ) (h : Header) (hb : List ℕ) → SpellsHeader f.syntax h hb → Unbroken lim (spot_of f fs p) hb → broken_due (spot_of f fs p) ≡ None → 8 ≤ length hb → q ≡ p + length hb
+due_goes : (lim : Limits) (f : Scope) (fs : List Scope) (p q : ℕ) (h : Header) (hb : List ℕ) → SpellsHeader (layout f.syntax) h hb → Unbroken lim (spot_of f fs p) hb → broken_due (spot_of f fs p) ≡ None → 8 ≤ length hb → q ≡ p + length hb
     → run lim (due f fs p) hb ≡ take_header q f fs h
 unfolding due
 due_goes lim f fs p q h [] sp ok none le q-is = absurd (omega (arith, le))
 due_goes lim f fs p q h (x ∷ hb) sp ok none le q-is = ap (λ z. run lim (due_by z f fs p) (x ∷ hb)) none ∙ heading_goes lim f fs p q p [] h x hb sp ok q-is
 
-pub header_goes : (lim : Limits) (f : Scope) (fs : List Scope) (p q : ℕ) (h : Header) (hb : List ℕ) → SpellsHeader f.syntax h hb → KeepsRules lim (spot_of f fs p) (length hb) h → LastsTo f.stop (p + length hb) → q ≡ p + length hb
+pub header_goes : (lim : Limits) (f : Scope) (fs : List Scope) (p q : ℕ) (h : Header) (hb : List ℕ) → SpellsHeader (layout f.syntax) h hb → KeepsRules lim (spot_of f fs p) (length hb) h → LastsTo f.stop (p + length hb) → q ≡ p + length hb
     → run lim (arrive p f fs) hb ≡ take_header q f fs h
 header_goes lim f fs p q h hb sp ok hold q-is =
     let long = spelled_long sp in

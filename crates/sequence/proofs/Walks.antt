@@ -1,6 +1,7 @@
 -- The walker's state after its calls.
 use Rattle.std.proofs.Common.{◌≡◌, ℕ, ◌+◌, ◌-◌, ◌<◌, ◌≤◌, Bool, true, false, not, ◌&&◌, List, [], ◌∷◌, ◌++◌, length, Some, None, refl, sym, ap, ◌∙◌, inl, inr, ◌⊎◌, arith, nat_lt, nat_eq, eq-eqb, ltb-false, if◌then◌else◌}
-use Rattle.element.specs.declared.syntax.Syntax.{Syntax}
+use Rattle.sequence.specs.Coding.{layout}
+use Rattle.sequence.specs.declared.coding.Coding.{Coding}
 use Rattle.element.specs.declared.header.Header.{Header}
 use Rattle.element.specs.Header.{number, is_marker, header_at, is_whole, item_tag, sequence_end_tag}
 use Rattle.element.proofs.Public.{tag_read, whole_eight}
@@ -74,7 +75,7 @@ pub value_header : (p : ℕ) (f : Scope) (fs : List Scope) (h : Header) (top f2 
     → begin_value p f2 fs2 h.tag h.length ≡ take_header p f fs h
 value_header p f fs h top f2 fs2 m sh top-is f-is fs-is = ap (λ z. begin_value p z fs2 h.tag h.length) f-is ∙ ap (λ z. begin_value p (begun f h.tag) z h.tag h.length) fs-is ∙ element_header p f fs h top Value m sh top-is
 
-pub sequence_header : (p : ℕ) (f : Scope) (fs : List Scope) (h : Header) (top f2 g : Scope) (fs2 : List Scope) (inner : Syntax) → is_marker h.tag ≡ false → Sequence inner ≡ shape top.syntax h → top ≡ f → f2 ≡ begun f h.tag → fs2 ≡ fs
+pub sequence_header : (p : ℕ) (f : Scope) (fs : List Scope) (h : Header) (top f2 g : Scope) (fs2 : List Scope) (inner : Coding) → is_marker h.tag ≡ false → Sequence inner ≡ shape top.syntax h → top ≡ f → f2 ≡ begun f h.tag → fs2 ≡ fs
     → g ≡ sequence_scope inner (stop_of p h.length) → begin_level p g f2 fs2 h.length ≡ take_header p f fs h
 sequence_header p f fs h top f2 g fs2 inner m sh top-is f-is fs-is g-is =
     ap (λ z. begin_level p z f2 fs2 h.length) g-is ∙ ap (λ z. begin_level p (sequence_scope inner (stop_of p h.length)) z fs2 h.length) f-is ∙ ap (λ z. begin_level p (sequence_scope inner (stop_of p h.length)) (begun f h.tag) z h.length) fs-is
@@ -85,30 +86,30 @@ no_header p f fs h top m sh top-is = element_header p f fs h top NotAllowed m sh
 
 -- a byte of a header
 
-pub within_limit : (lim : Limits) (spot : Spot) (t : List ℕ) → broken lim spot t ≡ None → is_whole spot.syntax t ≡ true → spot.place + length t + counted_length (header_at spot.syntax t).length ≤ lim.bytes
-within_limit lim spot t ok w = ltb-false _ _ (is_sound lim spot (length t) (header_at spot.syntax t) ((unbroken_is lim spot t ok).whole_ok w)).short
+pub within_limit : (lim : Limits) (spot : Spot) (t : List ℕ) → broken lim spot t ≡ None → is_whole (layout spot.syntax) t ≡ true → spot.place + length t + counted_length (header_at (layout spot.syntax) t).length ≤ lim.bytes
+within_limit lim spot t ok w = ltb-false _ _ (is_sound lim spot (length t) (header_at (layout spot.syntax) t) ((unbroken_is lim spot t ok).whole_ok w)).short
 
-pub has_room_left : (lim : Limits) (spot : Spot) (t : List ℕ) → broken lim spot t ≡ None → is_whole spot.syntax t ≡ true → has_room lim.depth spot.depth spot.syntax (header_at spot.syntax t) ≡ true
-has_room_left lim spot t ok w = ap not (is_sound lim spot (length t) (header_at spot.syntax t) ((unbroken_is lim spot t ok).whole_ok w)).shallow
+pub has_room_left : (lim : Limits) (spot : Spot) (t : List ℕ) → broken lim spot t ≡ None → is_whole (layout spot.syntax) t ≡ true → has_room lim.depth spot.depth spot.syntax (header_at (layout spot.syntax) t) ≡ true
+has_room_left lim spot t ok w = ap not (is_sound lim spot (length t) (header_at (layout spot.syntax) t) ((unbroken_is lim spot t ok).whole_ok w)).shallow
 
 -- an element's tag is above the last one
-pub rises : (lim : Limits) (spot : Spot) (t : List ℕ) → broken lim spot t ≡ None → is_whole spot.syntax t ≡ true → is_marker (header_at spot.syntax t).tag ≡ false → spot.last < number (header_at spot.syntax t).tag
+pub rises : (lim : Limits) (spot : Spot) (t : List ℕ) → broken lim spot t ≡ None → is_whole (layout spot.syntax) t ≡ true → is_marker (header_at (layout spot.syntax) t).tag ≡ false → spot.last < number (header_at (layout spot.syntax) t).tag
 rises lim spot t ok w m = by spot.in_sequence refl
   where
-    ok2 : broken_tag spot (header_at spot.syntax t).tag ≡ None
-    ok2 = ap (broken_tag spot) (tag_read spot.syntax t) ∙ (unbroken_is lim spot t ok).tag_ok (let l = whole_eight spot.syntax t w in omega (arith, l))
+    ok2 : broken_tag spot (header_at (layout spot.syntax) t).tag ≡ None
+    ok2 = ap (broken_tag spot) (tag_read (layout spot.syntax) t) ∙ (unbroken_is lim spot t ok).tag_ok (let l = whole_eight (layout spot.syntax) t w in omega (arith, l))
 
-    by : (q : Bool) → spot.in_sequence ≡ q → spot.last < number (header_at spot.syntax t).tag
-    by true here = absurd (out (in_sequence_is spot (header_at spot.syntax t).tag ok2 here))
+    by : (q : Bool) → spot.in_sequence ≡ q → spot.last < number (header_at (layout spot.syntax) t).tag
+    by true here = absurd (out (in_sequence_is spot (header_at (layout spot.syntax) t).tag ok2 here))
       where
-        out : ((header_at spot.syntax t).tag ≡ item_tag) ⊎ (((header_at spot.syntax t).tag ≡ sequence_end_tag) × (spot.open_ended ≡ true)) → ⊥
+        out : ((header_at (layout spot.syntax) t).tag ≡ item_tag) ⊎ (((header_at (layout spot.syntax) t).tag ≡ sequence_end_tag) × (spot.open_ended ≡ true)) → ⊥
         out (inl e) = let k : true ≡ false = sym (ap (λ z. is_marker z) e) ∙ m in cc
         out (inr e) = let k : true ≡ false = sym (ap (λ z. is_marker z) e.0) ∙ m in cc
-    by false here = (element_tag spot (header_at spot.syntax t).tag ok2 here m).0
+    by false here = (element_tag spot (header_at (layout spot.syntax) t).tag ok2 here m).0
 
 -- a wanted value has room, and an element's tag is above the last one
-pub fits_left : (lim : Limits) (spot : Spot) (t : List ℕ) → broken lim spot t ≡ None → is_whole spot.syntax t ≡ true → fits_wanted lim.wanted spot.depth spot.syntax (header_at spot.syntax t) ≡ true
-fits_left lim spot t ok w = ap not (is_sound lim spot (length t) (header_at spot.syntax t) ((unbroken_is lim spot t ok).whole_ok w)).fits
+pub fits_left : (lim : Limits) (spot : Spot) (t : List ℕ) → broken lim spot t ≡ None → is_whole (layout spot.syntax) t ≡ true → fits_wanted lim.wanted spot.depth spot.syntax (header_at (layout spot.syntax) t) ≡ true
+fits_left lim spot t ok w = ap not (is_sound lim spot (length t) (header_at (layout spot.syntax) t) ((unbroken_is lim spot t ok).whole_ok w)).fits
 
 -- what is kept
 
@@ -130,14 +131,14 @@ keep_element lim f fs h top sh values m sh-is top-is = ap (λ z. keep_shaped lim
 pub keep_value : (lim : Limits) (f : Scope) (fs : List Scope) (h : Header) (top : Scope) (fs2 : List Scope) (values : Values) → is_marker h.tag ≡ false → Value ≡ shape top.syntax h → top ≡ f → fs2 ≡ fs → with_value lim fs2 (number h.tag) [] values ≡ keep_header lim f fs h values
 keep_value lim f fs h top fs2 values m sh top-is fs-is = ap (λ z. with_value lim z (number h.tag) [] values) fs-is ∙ keep_element lim f fs h top Value values m sh top-is
 
-pub keep_sequence : (lim : Limits) (f : Scope) (fs : List Scope) (h : Header) (top : Scope) (inner : Syntax) (values : Values) → is_marker h.tag ≡ false → Sequence inner ≡ shape top.syntax h → top ≡ f → values ≡ keep_header lim f fs h values
+pub keep_sequence : (lim : Limits) (f : Scope) (fs : List Scope) (h : Header) (top : Scope) (inner : Coding) (values : Values) → is_marker h.tag ≡ false → Sequence inner ≡ shape top.syntax h → top ≡ f → values ≡ keep_header lim f fs h values
 keep_sequence lim f fs h top inner values m sh top-is = keep_element lim f fs h top (Sequence inner) values m sh top-is
 
 pub keep_none : (lim : Limits) (f : Scope) (fs : List Scope) (h : Header) (top : Scope) (values : Values) → is_marker h.tag ≡ false → NotAllowed ≡ shape top.syntax h → top ≡ f → values ≡ keep_header lim f fs h values
 keep_none lim f fs h top values m sh top-is = keep_element lim f fs h top NotAllowed values m sh top-is
 
 -- a wanted value fits its room
-pub fits_room : (ws : List Want) (depth : ℕ) (s : Syntax) (h : Header) (room : ℕ) → fits_wanted ws depth s h ≡ true → depth ≡ 0 → is_marker h.tag ≡ false → Value ≡ shape s h → room_of ws (number h.tag) ≡ Some room → h.length ≤ room
+pub fits_room : (ws : List Want) (depth : ℕ) (s : Coding) (h : Header) (room : ℕ) → fits_wanted ws depth s h ≡ true → depth ≡ 0 → is_marker h.tag ≡ false → Value ≡ shape s h → room_of ws (number h.tag) ≡ Some room → h.length ≤ room
 fits_room ws depth s h room ok none m sh wanted = by ok
   where
     zero_depth : nat_eq depth 0 ≡ true

@@ -1,7 +1,7 @@
 -- The machine goes over a whole data set within its limits.
 use Rattle.std.proofs.Common.{◌≡◌, ℕ, suc, ◌+◌, ◌<◌, ◌≤◌, ◌≢◌, Bool, true, false, not, ◌&&◌, ◌||◌, List, [], ◌∷◌, ◌++◌, length, Option, Some, None, nat_eq, nat_le, nat_lt, refl, sym, ap, subst, ◌∙◌, arith, append_assoc, append-nil, length-append, false-eqb, eqb-true, ne_eqb, lit<, if◌then◌else◌}
 use Rattle.std.proofs.lemmas.Bool.Decides.{nat_tests}
-use Rattle.element.specs.declared.syntax.Syntax.{Syntax}
+use Rattle.sequence.specs.declared.coding.Coding.{Coding}
 use Rattle.element.specs.declared.tag.Tag.{Tag}
 use Rattle.element.specs.declared.header.Header.{Header}
 use Rattle.element.specs.Header.{number, is_marker, plain, item_tag, item_end_tag, sequence_end_tag}
@@ -29,7 +29,7 @@ then_run lim st mid want a b e g = run_append lim st a b ∙ ap (λ z. run lim z
 
 -- tags that are in place
 
-element_tagged : (s : Syntax) (stop : Option ℕ) (last p : ℕ) (fs : List Scope) (h : Header) (hb : List ℕ) → IsElement s last h hb → broken_tag (spot_of (set_scope s stop last) fs p) h.tag ≡ None
+element_tagged : (s : Coding) (stop : Option ℕ) (last p : ℕ) (fs : List Scope) (h : Header) (hb : List ℕ) → IsElement s last h hb → broken_tag (spot_of (set_scope s stop last) fs p) h.tag ≡ None
 unfolding broken_tag
 element_tagged s stop last p fs h hb el = else_none (is_marker h.tag) _ _ el.no_marker (else_none (nat_eq h.tag.0 0 || nat_eq h.tag.0 2) _ _ groups (else_none (nat_le (number h.tag) last) _ _ (rises el.rising) refl))
   where
@@ -39,15 +39,15 @@ element_tagged s stop last p fs h hb el = else_none (is_marker h.tag) _ _ el.no_
     rises : last < number h.tag → nat_le (number h.tag) last ≡ false
     rises lt = grind (arith, nat_tests)
 
-item_tagged : (s : Syntax) (stop : Option ℕ) (p : ℕ) (fs : List Scope) (t : Tag) → t ≡ item_tag → broken_tag (spot_of (sequence_scope s stop) fs p) t ≡ None
+item_tagged : (s : Coding) (stop : Option ℕ) (p : ℕ) (fs : List Scope) (t : Tag) → t ≡ item_tag → broken_tag (spot_of (sequence_scope s stop) fs p) t ≡ None
 unfolding broken_tag
 item_tagged s stop p fs t e = ap (broken_tag (spot_of (sequence_scope s stop) fs p)) e
 
-sequence_end_tagged : (s : Syntax) (p : ℕ) (f : Scope) (fs : List Scope) → broken_tag (spot_of (sequence_scope s None) (f ∷ fs) p) sequence_end_tag ≡ None
+sequence_end_tagged : (s : Coding) (p : ℕ) (f : Scope) (fs : List Scope) → broken_tag (spot_of (sequence_scope s None) (f ∷ fs) p) sequence_end_tag ≡ None
 unfolding broken_tag
 sequence_end_tagged s p f fs = refl
 
-item_end_tagged : (s : Syntax) (last p : ℕ) (f : Scope) (fs : List Scope) → broken_tag (spot_of (set_scope s None last) (f ∷ fs) p) item_end_tag ≡ None
+item_end_tagged : (s : Coding) (last p : ℕ) (f : Scope) (fs : List Scope) → broken_tag (spot_of (set_scope s None last) (f ∷ fs) p) item_end_tag ≡ None
 unfolding broken_tag
 item_end_tagged s last p f fs = refl
 
@@ -79,7 +79,7 @@ counted_less n k le = by (is_undefined n)
     by false = le
 
 -- a wanted value has room
-fits_room : (lim : Limits) (s : Syntax) (stop : Option ℕ) (last p : ℕ) (fs : List Scope) (h : Header) (v : List ℕ) (es : Elements) → length v ≡ h.length → FitIn lim.wanted fs (value h v es) → is_too_long lim (spot_of (set_scope s stop last) fs p) h ≡ false
+fits_room : (lim : Limits) (s : Coding) (stop : Option ℕ) (last p : ℕ) (fs : List Scope) (h : Header) (v : List ℕ) (es : Elements) → length v ≡ h.length → FitIn lim.wanted fs (value h v es) → is_too_long lim (spot_of (set_scope s stop last) fs p) h ≡ false
 fits_room lim s stop last p (f ∷ fs) h v es size fit = ap (λ z. ((z && not (is_marker h.tag)) && is_value (shape s h)) && passes (room_of lim.wanted (number h.tag)) h.length) (ne_eqb (suc (length fs)) 0 (omega arith))
 fits_room lim s stop last p [] h v es size fit = ap (λ z. (not (is_marker h.tag) && is_value (shape s h)) && z) (by (room_of lim.wanted (number h.tag)) refl) ∙ and_false (not (is_marker h.tag) && is_value (shape s h))
   where
@@ -138,16 +138,16 @@ level_goes {t} lim g0 g1 f fs p q (delimited {b = b}) mark marked tagged stops h
 
 -- the elements and items of a whole text
 
-module _ (s : Syntax) (lim : Limits) (whole : List ℕ) (short : length whole ≤ lim.bytes) (shallow : IsShallow s lim whole) where
-  abbrev GoesSet : Syntax → ℕ → Elements → List ℕ → Type 0
+module _ (s : Coding) (lim : Limits) (whole : List ℕ) (short : length whole ≤ lim.bytes) (shallow : IsShallow s lim whole) where
+  abbrev GoesSet : Coding → ℕ → Elements → List ℕ → Type 0
   GoesSet s1 last es b = (stop : Option ℕ) (fs : List Scope) (before : List ℕ) (p q : ℕ) → IsBefore s lim whole (set_scope s1 stop last) fs before b p q → FitIn lim.wanted fs es
       → run lim (arrive p (set_scope s1 stop last) fs) b ≡ arrive q (set_scope s1 stop (last_of last es)) fs
 
-  abbrev GoesItems : Syntax → List ℕ → Type 0
+  abbrev GoesItems : Coding → List ℕ → Type 0
   GoesItems s1 b = (stop : Option ℕ) (fs : List Scope) (before : List ℕ) (p q : ℕ) → IsBefore s lim whole (sequence_scope s1 stop) fs before b p q
       → run lim (arrive p (sequence_scope s1 stop) fs) b ≡ arrive q (sequence_scope s1 stop) fs
 
-  value_goes : (s1 : Syntax) (last : ℕ) (h : Header) (hb v b : List ℕ) (es : Elements) → IsElement s1 last h hb → shape s1 h ≡ Value → IsValue h.length v → GoesSet s1 (number h.tag) es b → GoesSet s1 last (value h v es) (hb ++ (v ++ b))
+  value_goes : (s1 : Coding) (last : ℕ) (h : Header) (hb v b : List ℕ) (es : Elements) → IsElement s1 last h hb → shape s1 h ≡ Value → IsValue h.length v → GoesSet s1 (number h.tag) es b → GoesSet s1 last (value h v es) (hb ++ (v ++ b))
   value_goes s1 last h hb v b es el sh val rest stop fs before p q here fit =
       let size : q ≡ p + length hb + length v + length b = omega (arith, here.size, length-append hb (v ++ b), length-append v b) in
       let far = ends_within here in
@@ -164,7 +164,7 @@ module _ (s : Syntax) (lim : Limits) (whole : List ℕ) (short : length whole �
       let place : p + length (hb ++ v) ≡ p + length hb + length v = omega (arith, length-append hb v) in
       then_run lim _ _ _ hb (v ++ b) first (then_run lim _ _ _ v b second (rest stop fs (before ++ (hb ++ v)) (p + length hb + length v) q (subst (λ z. IsBefore s lim whole (set_scope s1 stop (number h.tag)) fs (before ++ (hb ++ v)) b z q) place next) (fit_rest lim.wanted fs h v es fit)))
 
-  sequence_goes : (s1 : Syntax) (last : ℕ) (h : Header) (hb ib cb b : List ℕ) (inner : Syntax) (is : Items) (es : Elements) → IsElement s1 last h hb → shape s1 h ≡ Sequence inner → ItemList inner is ib → Ended sequence_end_tag h.length ib cb
+  sequence_goes : (s1 : Coding) (last : ℕ) (h : Header) (hb ib cb b : List ℕ) (inner : Coding) (is : Items) (es : Elements) → IsElement s1 last h hb → shape s1 h ≡ Sequence inner → ItemList inner is ib → Ended sequence_end_tag h.length ib cb
       → GoesItems inner ib → GoesSet s1 (number h.tag) es b → GoesSet s1 last (sequence h is es) (hb ++ (cb ++ b))
   sequence_goes s1 last h hb ib cb b inner is es el sh items closed in-it rest stop fs before p q here fit =
       let size : q ≡ p + length hb + length cb + length b = omega (arith, here.size, length-append hb (cb ++ b), length-append cb b) in
@@ -188,7 +188,7 @@ module _ (s : Syntax) (lim : Limits) (whole : List ℕ) (short : length whole �
       let place : p + length (hb ++ cb) ≡ p + length hb + length cb = omega (arith, length-append hb cb) in
       then_run lim _ _ _ hb (cb ++ b) first (then_run lim _ _ _ cb b second (rest stop fs (before ++ (hb ++ cb)) (p + length hb + length cb) q (subst (λ z. IsBefore s lim whole (set_scope s1 stop (number h.tag)) fs (before ++ (hb ++ cb)) b z q) place next) (fit_behind lim.wanted fs h is es fit)))
 
-  item_goes : (s1 : Syntax) (h : Header) (hb eb cb b : List ℕ) (es : Elements) → IsItem s1 h hb → DataSet s1 0 es eb → Ended item_end_tag h.length eb cb
+  item_goes : (s1 : Coding) (h : Header) (hb eb cb b : List ℕ) (es : Elements) → IsItem s1 h hb → DataSet s1 0 es eb → Ended item_end_tag h.length eb cb
       → GoesSet s1 0 es eb → GoesItems s1 b → GoesItems s1 (hb ++ (cb ++ b))
   item_goes s1 h hb eb cb b es it set closed in-it rest stop fs before p q here =
       let size : q ≡ p + length hb + length cb + length b = omega (arith, here.size, length-append hb (cb ++ b), length-append cb b) in
@@ -215,27 +215,27 @@ module _ (s : Syntax) (lim : Limits) (whole : List ℕ) (short : length whole �
       let place : p + length (hb ++ cb) ≡ p + length hb + length cb = omega (arith, length-append hb cb) in
       then_run lim _ _ _ hb (cb ++ b) first (then_run lim _ _ _ cb b second (rest stop fs (before ++ (hb ++ cb)) (p + length hb + length cb) q (subst (λ z. IsBefore s lim whole (sequence_scope s1 stop) fs (before ++ (hb ++ cb)) b z q) place next)))
 
-  nothing_goes : (s1 : Syntax) (last : ℕ) → GoesSet s1 last no_elements []
+  nothing_goes : (s1 : Coding) (last : ℕ) → GoesSet s1 last no_elements []
   unfolding run
   nothing_goes s1 last stop fs before p q here fit = let same : p ≡ q = omega (arith, here.size) in ap (λ z. arrive z (set_scope s1 stop last) fs) same
 
-  no_items_goes : (s1 : Syntax) → GoesItems s1 []
+  no_items_goes : (s1 : Coding) → GoesItems s1 []
   unfolding run
   no_items_goes s1 stop fs before p q here = let same : p ≡ q = omega (arith, here.size) in ap (λ z. arrive z (sequence_scope s1 stop) fs) same
 
   mutual
-    elements_go : {s1 : Syntax} {last : ℕ} {es : Elements} {b : List ℕ} → DataSet s1 last es b → GoesSet s1 last es b
+    elements_go : {s1 : Coding} {last : ℕ} {es : Elements} {b : List ℕ} → DataSet s1 last es b → GoesSet s1 last es b
     elements_go nothing = nothing_goes _ _
     elements_go (value_then {s = s1} {last = last} {h = h} {hb = hb} {v = v} {es = es} {b = b} el sh val rest) = value_goes s1 last h hb v b es el sh val (elements_go rest)
     elements_go (sequence_then {s = s1} {last = last} {h = h} {hb = hb} {inner = inner} {is = is} {ib = ib} {cb = cb} {es = es} {b = b} el sh items closed rest) = sequence_goes s1 last h hb ib cb b inner is es el sh items closed (items_go items) (elements_go rest)
 
-    items_go : {s1 : Syntax} {is : Items} {b : List ℕ} → ItemList s1 is b → GoesItems s1 b
+    items_go : {s1 : Coding} {is : Items} {b : List ℕ} → ItemList s1 is b → GoesItems s1 b
     items_go no_more = no_items_goes _
     items_go (item_then {s = s1} {h = h} {hb = hb} {es = es} {eb = eb} {cb = cb} {b = b} it set closed rest) = item_goes s1 h hb eb cb b es it set closed (elements_go set) (items_go rest)
 
 -- the law
 
-start_goes : (s : Syntax) (lim : Limits) (b : List ℕ) (w : IsWholeDataSet s lim b) → run lim (start s) b ≡ at (set_scope s None (last_of 0 w.elements)) [] (length b) (Heading (length b) [])
+start_goes : (s : Coding) (lim : Limits) (b : List ℕ) (w : IsWholeDataSet s lim b) → run lim (start s) b ≡ at (set_scope s None (last_of 0 w.elements)) [] (length b) (Heading (length b) [])
 unfolding arrive due
 start_goes s lim b w =
     elements_go s lim b w.within.bytes w.within.depth w.text None [] [] 0 (length b)

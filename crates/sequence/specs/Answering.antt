@@ -1,6 +1,7 @@
 -- What a step reports of the bytes that it took (this product's own profile).
 use Rattle.std.specs.Prelude.{◌≡◌, ℕ, ◌+◌, ◌<◌, ◌≤◌, true, false, List, [], ◌++◌, length}
-use Rattle.element.specs.declared.syntax.Syntax.{Syntax}
+use Rattle.sequence.specs.Coding.{layout}
+use Rattle.sequence.specs.declared.coding.Coding.{Coding}
 use Rattle.element.specs.declared.tag.Tag.{Tag}
 use Rattle.element.specs.declared.header.Header.{Header}
 use Rattle.element.specs.Header.{is_marker, SpellsHeader}
@@ -13,7 +14,7 @@ use Rattle.element.specs.Header.{item_tag}
 use Rattle.sequence.specs.FirstFault.{spot_behind, IsUnbroken, FirstFault}
 
 -- c ends with a whole header h, of an element, an item or a delimitation
-pub record EndsHeader (s : Syntax) (c taken : List ℕ) (h : Header) : Type 0 where
+pub record EndsHeader (s : Coding) (c taken : List ℕ) (h : Header) : Type 0 where
   pub before : List ℕ
   pub bytes : List ℕ
   pub text : c ≡ before ++ bytes
@@ -21,12 +22,12 @@ pub record EndsHeader (s : Syntax) (c taken : List ℕ) (h : Header) : Type 0 wh
   pub path : List PathEntry
   pub last : ℕ
   pub due : Open s before elements path last (in_header [])
-  pub spelled : SpellsHeader (spot_behind s path last (length before)).syntax h bytes
+  pub spelled : SpellsHeader (layout (spot_behind s path last (length before)).syntax) h bytes
   pub some : 0 < length taken
   pub own : length taken ≤ length bytes
 
 -- c ends with the bytes `taken` of one value
-pub record EndsRun (s : Syntax) (c taken : List ℕ) : Type 0 where
+pub record EndsRun (s : Coding) (c taken : List ℕ) : Type 0 where
   pub before : List ℕ
   pub text : c ≡ before ++ taken
   pub elements : Elements
@@ -39,7 +40,7 @@ pub record EndsRun (s : Syntax) (c taken : List ℕ) : Type 0 where
   pub within : length value + length taken ≤ header.length
 
 -- c ends with the beginning of a header
-pub record EndsPart (s : Syntax) (c taken : List ℕ) : Type 0 where
+pub record EndsPart (s : Coding) (c taken : List ℕ) : Type 0 where
   pub elements : Elements
   pub path : List PathEntry
   pub last : ℕ
@@ -58,18 +59,18 @@ IsRun bytes (Closed h) = ⊥
 IsRun bytes (Refused fault) = ⊥
 
 -- the bytes `taken` are the last ones of the header or of the value that ends where p ends
-pub data EndsWith (s : Syntax) (p taken : List ℕ) : Type 0 where
+pub data EndsWith (s : Coding) (p taken : List ℕ) : Type 0 where
   of_header : {h : Header} → EndsHeader s p taken h → EndsWith s p taken
   of_value : EndsRun s p taken → EndsWith s p taken
 
 -- a step that refuses takes bytes of one header or one value: of the faulty header u that is due after p, or, where
 -- nothing fits after p, of the header or the value that ends with p
-pub data RefusesAt (s : Syntax) (p u taken : List ℕ) : Type 0 where
+pub data RefusesAt (s : Coding) (p u taken : List ℕ) : Type 0 where
   in_header_of_fault : 0 < length taken → length taken ≤ length u → RefusesAt s p u taken
   at_end : u ≡ [] → EndsWith s p taken → RefusesAt s p u taken
 
 -- after the text b, a step that takes these bytes of the piece returns this
-pub data Answers (s : Syntax) (lim : Limits) (b piece taken : List ℕ) : Step → Type 0 where
+pub data Answers (s : Coding) (lim : Limits) (b piece taken : List ℕ) : Step → Type 0 where
   -- the piece is empty
   no_piece : IsUnbroken s lim b → piece ≡ [] → taken ≡ [] → Answers s lim b piece taken More
   -- the header goes on after the piece

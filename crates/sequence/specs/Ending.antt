@@ -1,7 +1,7 @@
 -- How a text ends (this product's own profile).
 use Rattle.std.specs.Prelude.{ℕ, List, ◌++◌, length}
 use Rattle.element.specs.Numbers.{IsBytes}
-use Rattle.element.specs.declared.syntax.Syntax.{Syntax}
+use Rattle.sequence.specs.declared.coding.Coding.{Coding}
 use Rattle.element.specs.declared.tag.Tag.{Tag}
 use Rattle.sequence.specs.declared.fault.Fault.{Fault}
 use Rattle.sequence.specs.Tree.{Elements, DataSet}
@@ -10,24 +10,24 @@ use Rattle.sequence.specs.Rules.{Limits, truncated}
 use Rattle.sequence.specs.FirstFault.{IsUnbroken, FirstFault, EndFault}
 
 -- b is a whole data set within the limits
-pub record IsWholeDataSet (s : Syntax) (lim : Limits) (b : List ℕ) : Type 0 where
+pub record IsWholeDataSet (s : Coding) (lim : Limits) (b : List ℕ) : Type 0 where
   pub elements : Elements
   pub text : DataSet s 0 elements b
   pub within : Within s lim elements b
 
 -- what is wrong with b: the first rule that it breaks, or that it ends too early
-pub data Fails (s : Syntax) (lim : Limits) (b : List ℕ) : Fault → Type 0 where
+pub data Fails (s : Coding) (lim : Limits) (b : List ℕ) : Fault → Type 0 where
   breaks_rule : {p u : List ℕ} {rule : ℕ} {tag : Tag} → FirstFault s lim b p u rule tag → Fails s lim b (record { number = rule; place = length p; tag = tag })
   ends_early : {tag : Tag} → EndFault s lim b tag → Fails s lim b (record { number = truncated; place = length b; tag = tag })
 
 -- a whole data set within the limits breaks no rule
 abbrev pub WholeBreaksNoRule : Type 0
-WholeBreaksNoRule = (s : Syntax) (lim : Limits) (b : List ℕ) → IsWholeDataSet s lim b → IsUnbroken s lim b
+WholeBreaksNoRule = (s : Coding) (lim : Limits) (b : List ℕ) → IsWholeDataSet s lim b → IsUnbroken s lim b
 
 -- so nothing is wrong with it
 abbrev pub WholeHasNoFault : Type 0
-WholeHasNoFault = (s : Syntax) (lim : Limits) (b : List ℕ) (fault : Fault) → IsWholeDataSet s lim b → Fails s lim b fault → ⊥
+WholeHasNoFault = (s : Coding) (lim : Limits) (b : List ℕ) (fault : Fault) → IsWholeDataSet s lim b → Fails s lim b fault → ⊥
 
 -- a fault comes only where no text that goes on from b is a whole data set within its limits
 abbrev pub FaultIsFinal : Type 0
-FaultIsFinal = (s : Syntax) (lim : Limits) (b more p u : List ℕ) (rule : ℕ) (tag : Tag) → IsBytes (b ++ more) → FirstFault s lim b p u rule tag → IsWholeDataSet s lim (b ++ more) → ⊥
+FaultIsFinal = (s : Coding) (lim : Limits) (b more p u : List ℕ) (rule : ℕ) (tag : Tag) → IsBytes (b ++ more) → FirstFault s lim b p u rule tag → IsWholeDataSet s lim (b ++ more) → ⊥

@@ -1,12 +1,12 @@
 -- Texts on which the definitions of data sets are tried (PS3.5 section 7.5), each beside one that comes out otherwise.
 use Rattle.std.specs.Prelude.{ℕ, ◌^◌, List, [], ◌∷◌, take, drop, Some, None, codes}
-use Rattle.element.specs.declared.syntax.Syntax.{Syntax}
+use Rattle.sequence.specs.declared.coding.Coding.{Coding}
 use Rattle.element.specs.declared.header.Header.{Header}
 use Rattle.sequence.specs.declared.wanted.Want.{Want}
 use Rattle.sequence.specs.declared.step.Step.{Step}
 use Rattle.sequence.specs.declared.step.Step.TheVariants.{Element, Opened, Closed}
 use Rattle.sequence.specs.Answering.{Answers, IsRun}
-use Rattle.element.specs.declared.syntax.Syntax.TheVariants.{Implicit, Explicit}
+use Rattle.sequence.specs.declared.coding.Coding.TheVariants.{Implicit, Explicit}
 use Rattle.element.specs.declared.tag.Tag.{Tag}
 use Rattle.sequence.specs.Rules.{Limits, no_tag}
 use Rattle.sequence.specs.Walk.{Told, Tells}
@@ -117,11 +117,11 @@ OneStore =
     })
 
 -- after the first `from` bytes of the text, a step takes `size` bytes and returns this
-abbrev pub Steps : Syntax → ℕ → List ℕ → ℕ → ℕ → Step → Type 0
+abbrev pub Steps : Coding → ℕ → List ℕ → ℕ → ℕ → Step → Type 0
 Steps s depth text from size step = Answers s (levels_of depth) (take from text) (drop from text) (take size (drop from text)) step
 
 -- it lends these bytes of a value
-abbrev pub StepsRun : Syntax → ℕ → List ℕ → ℕ → ℕ → Type 0
+abbrev pub StepsRun : Coding → ℕ → List ℕ → ℕ → ℕ → Type 0
 StepsRun s depth text from size = (step : Step) → IsRun (take size (drop from text)) step → Steps s depth text from size step
 
 abbrev pub plain_header : ℕ → ℕ → ℕ → Header

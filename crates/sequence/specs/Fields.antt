@@ -1,6 +1,7 @@
 -- What is kept of levels, of values and of what is unfinished, in the words of the definitions.
 use Rattle.std.specs.Prelude.{ℕ, Bool, false, List, [], ◌∷◌, Option, Some, None, take, drop, nat_eq, if◌then◌else◌}
-use Rattle.element.specs.declared.syntax.Syntax.TheVariants.{Implicit, Explicit}
+use Rattle.sequence.specs.declared.coding.Coding.{Coding}
+use Rattle.sequence.specs.declared.coding.Coding.TheVariants.{Implicit, Explicit, Encapsulated, Fragments}
 use Rattle.element.specs.Header.{number}
 use Rattle.sequence.specs.declared.fault.Fault.{Fault}
 use Rattle.sequence.specs.declared.level.Level.{Level}
@@ -11,11 +12,15 @@ use Rattle.sequence.specs.declared.wanted.Want.{Want}
 use Rattle.sequence.specs.Wanted.{Values}
 use Rattle.sequence.specs.Holding.{Pending, header_begun, value_due}
 
+-- the coding with this number
+abbrev pub coding_by : ℕ → Coding
+coding_by n = if nat_eq n 1 then Implicit else (if nat_eq n 2 then Encapsulated else (if nat_eq n 3 then Fragments else Explicit))
+
 -- a level: the end FFFFFFFFFFFFFFFFH is that of an undefined length
 abbrev pub scope_of : Level → Scope
 scope_of l = record {
   in_sequence = nat_eq l.kind 1;
-  syntax = if nat_eq l.implicit 1 then Implicit else Explicit;
+  syntax = coding_by l.coding;
   stop = if nat_eq l.end 0xffff_ffff_ffff_ffff then None else Some l.end;
   last = l.last;
 }

@@ -1,6 +1,7 @@
 -- The first rule that a text breaks (this product's own profile).
 use Rattle.std.specs.Prelude.{◌≡◌, ℕ, ◌≤◌, false, List, [], ◌∷◌, ◌++◌, length, Option, Some, None, is_some, is_none, nat_le, if◌then◌else◌}
-use Rattle.element.specs.declared.syntax.Syntax.{Syntax}
+use Rattle.sequence.specs.Coding.{layout}
+use Rattle.sequence.specs.declared.coding.Coding.{Coding}
 use Rattle.element.specs.declared.tag.Tag.{Tag}
 use Rattle.element.specs.Header.{tag_at, is_whole}
 use Rattle.sequence.specs.declared.spot.Spot.{Spot}
@@ -14,22 +15,22 @@ near_of [] = None
 near_of (e ∷ path) = if is_some e.left then e.left else near_of path
 
 -- where a header is due after a text of that many bytes with this path and last tag
-abbrev pub spot_behind : Syntax → List PathEntry → ℕ → ℕ → Spot
+abbrev pub spot_behind : Coding → List PathEntry → ℕ → ℕ → Spot
 spot_behind s [] last place = record { syntax = s; in_sequence = false; open_ended = false; near = None; last = last; depth = 0; place = place }
 spot_behind s (e ∷ path) last place = record { syntax = e.syntax; in_sequence = e.in_sequence; open_ended = is_none e.left; near = near_of (e ∷ path); last = e.last; depth = length (e ∷ path); place = place }
 
 -- after p a header is due, and its beginning u breaks a rule
-pub record Breaks (s : Syntax) (lim : Limits) (p u : List ℕ) (rule : ℕ) (tag : Tag) : Type 0 where
+pub record Breaks (s : Coding) (lim : Limits) (p u : List ℕ) (rule : ℕ) (tag : Tag) : Type 0 where
   pub elements : Elements
   pub path : List PathEntry
   pub last : ℕ
   pub due : Open s p elements path last (in_header [])
   -- u goes on no farther than one header
-  pub one_header : (w : List ℕ) (x : ℕ) (z : List ℕ) → u ≡ w ++ x ∷ z → is_whole (spot_behind s path last (length p)).syntax w ≡ false
+  pub one_header : (w : List ℕ) (x : ℕ) (z : List ℕ) → u ≡ w ++ x ∷ z → is_whole (layout (spot_behind s path last (length p)).syntax) w ≡ false
   pub breaks : broken lim (spot_behind s path last (length p)) u ≡ Some (rule, tag)
 
 -- no front of b breaks a rule
-abbrev pub IsUnbroken : Syntax → Limits → List ℕ → Type 0
+abbrev pub IsUnbroken : Coding → Limits → List ℕ → Type 0
 IsUnbroken s lim b = (q v more : List ℕ) (n : ℕ) (t : Tag) → b ≡ (q ++ v) ++ more → Breaks s lim q v n t → ⊥
 
 -- the front p ++ u, whose header is due after p, is no longer than q ++ v, nor is p longer than q
@@ -38,7 +39,7 @@ pub record IsNoLater (p u q v : List ℕ) : Type 0 where
   pub end : length (p ++ u) ≤ length (q ++ v)
 
 -- of the fronts of b that break a rule, p ++ u is the shortest; after a header that breaks one, none is due
-pub record FirstFault (s : Syntax) (lim : Limits) (b p u : List ℕ) (rule : ℕ) (tag : Tag) : Type 0 where
+pub record FirstFault (s : Coding) (lim : Limits) (b p u : List ℕ) (rule : ℕ) (tag : Tag) : Type 0 where
   pub rest : List ℕ
   pub text : b ≡ (p ++ u) ++ rest
   pub breaks : Breaks s lim p u rule tag
@@ -50,7 +51,7 @@ tag_of_tail (in_header t) = if nat_le 4 (length t) then tag_at t else no_tag
 tag_of_tail (in_value h v) = h.tag
 
 -- no rule is broken, and b is no whole data set (20)
-pub record EndFault (s : Syntax) (lim : Limits) (b : List ℕ) (tag : Tag) : Type 0 where
+pub record EndFault (s : Coding) (lim : Limits) (b : List ℕ) (tag : Tag) : Type 0 where
   pub unbroken : IsUnbroken s lim b
   pub elements : Elements
   pub path : List PathEntry

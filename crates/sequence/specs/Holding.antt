@@ -1,6 +1,6 @@
 -- What a walker holds of the bytes that it took, and goes on from (this product's own profile).
 use Rattle.std.specs.Prelude.{ℕ, ◌+◌, ◌-◌, false, List, [], ◌∷◌, ◌++◌, length, Option, Some, None, if◌then◌else◌}
-use Rattle.element.specs.declared.syntax.Syntax.{Syntax}
+use Rattle.sequence.specs.declared.coding.Coding.{Coding}
 use Rattle.element.specs.declared.tag.Tag.{Tag}
 use Rattle.element.specs.Header.{number}
 use Rattle.sequence.specs.declared.level.Scope.{Scope}
@@ -21,7 +21,7 @@ abbrev pub scope_at : ℕ → PathEntry → Scope
 scope_at n e = record { in_sequence = e.in_sequence; syntax = e.syntax; stop = stop_at n e.left; last = e.last }
 
 -- the levels of a path, the innermost first, and after them the data set itself, which has no end
-abbrev pub levels_at : ℕ → List PathEntry → Syntax → ℕ → List Scope
+abbrev pub levels_at : ℕ → List PathEntry → Coding → ℕ → List Scope
 levels_at n [] s last = record { in_sequence = false; syntax = s; stop = None; last = last } ∷ []
 levels_at n (e ∷ path) s last = scope_at n e ∷ levels_at n path s last
 
@@ -55,11 +55,11 @@ pub record Holding : Type 0 where
   pub values : Values
 
 -- what is held of a front of n bytes
-abbrev pub holding_of : Syntax → List Want → ℕ → Elements → List PathEntry → ℕ → Tail → Holding
+abbrev pub holding_of : Coding → List Want → ℕ → Elements → List PathEntry → ℕ → Tail → Holding
 holding_of s ws n es path last tail = record { levels = with_begun tail (levels_at n path s last); pending = pending_of tail; values = values_at ws es path tail }
 
 -- what is held after the bytes b
-pub data Holds (s : Syntax) (lim : Limits) (b : List ℕ) : Holding → Type 0 where
+pub data Holds (s : Coding) (lim : Limits) (b : List ℕ) : Holding → Type 0 where
   -- where b breaks no rule, it is what is held of b
   of_all : {es : Elements} {path : List PathEntry} {last : ℕ} {tail : Tail}
       → IsUnbroken s lim b → Open s b es path last tail

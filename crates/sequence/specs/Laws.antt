@@ -1,7 +1,8 @@
 -- What follows from the definitions alone.
 use Rattle.std.specs.Prelude.{◌≡◌, ℕ, ◌+◌, ◌*◌, ◌≤◌, List, [], ◌∷◌, ◌++◌, None, Some}
 use Rattle.element.specs.declared.size.Need.TheVariants.{Size}
-use Rattle.element.specs.declared.syntax.Syntax.{Syntax}
+use Rattle.sequence.specs.Coding.{layout}
+use Rattle.sequence.specs.declared.coding.Coding.{Coding}
 use Rattle.element.specs.declared.tag.Tag.{Tag}
 use Rattle.element.specs.Header.{need}
 use Rattle.element.specs.Numbers.{IsBytes}
@@ -18,11 +19,11 @@ use Rattle.sequence.specs.Holding.{Holding, Holds}
 
 -- the first fault of a text is that of every text that goes on from it
 abbrev pub FaultStays : Type 0
-FaultStays = (s : Syntax) (lim : Limits) (b more p u : List ℕ) (rule : ℕ) (tag : Tag) → IsBytes (b ++ more) → FirstFault s lim b p u rule tag → FirstFault s lim (b ++ more) p u rule tag
+FaultStays = (s : Coding) (lim : Limits) (b more p u : List ℕ) (rule : ℕ) (tag : Tag) → IsBytes (b ++ more) → FirstFault s lim b p u rule tag → FirstFault s lim (b ++ more) p u rule tag
 
 -- what is reported after a refusal is reported for good
 abbrev pub RefusalStays : Type 0
-RefusalStays = (s : Syntax) (lim : Limits) (b more : List ℕ) (told : Told) (fault : Fault) → IsBytes (b ++ more) → told.fault ≡ Some fault → Tells s lim b told → Tells s lim (b ++ more) told
+RefusalStays = (s : Coding) (lim : Limits) (b more : List ℕ) (told : Told) (fault : Fault) → IsBytes (b ++ more) → told.fault ≡ Some fault → Tells s lim b told → Tells s lim (b ++ more) told
 
 -- a walker that refused stands after any bytes more
 abbrev pub RefusedStands : Type 0
@@ -30,18 +31,18 @@ RefusedStands = (V D : ℕ) (w : Walker V D) (b more : List ℕ) (fault : Fault)
 
 -- a text spells one data set at most
 abbrev pub OneTree : Type 0
-OneTree = (s : Syntax) (last : ℕ) (es es2 : Elements) (b : List ℕ) → DataSet s last es b → DataSet s last es2 b → es ≡ es2
+OneTree = (s : Coding) (last : ℕ) (es es2 : Elements) (b : List ℕ) → DataSet s last es b → DataSet s last es2 b → es ≡ es2
 
 -- a text has one list of whole elements, one path, one last tag and one tail at most
 abbrev pub OnePath : Type 0
 OnePath =
-    (s : Syntax) (b : List ℕ) (es es2 : Elements) (path path2 : List PathEntry) (last last2 : ℕ) (tail tail2 : Tail)
+    (s : Coding) (b : List ℕ) (es es2 : Elements) (path path2 : List PathEntry) (last last2 : ℕ) (tail tail2 : Tail)
     → Open s b es path last tail → Open s b es2 path2 last2 tail2 → (es ≡ es2) × (path ≡ path2) × (last ≡ last2) × (tail ≡ tail2)
 
 -- a defined entry lacks no less than any defined entry inside it
 abbrev pub EndsAreNested : Type 0
 EndsAreNested =
-    (s : Syntax) (b : List ℕ) (es : Elements) (path inside between around : List PathEntry) (inner outer : PathEntry) (last n k : ℕ) (tail : Tail)
+    (s : Coding) (b : List ℕ) (es : Elements) (path inside between around : List PathEntry) (inner outer : PathEntry) (last n k : ℕ) (tail : Tail)
     → Open s b es path last tail → path ≡ inside ++ inner ∷ (between ++ outer ∷ around) → inner.left ≡ Some n → outer.left ≡ Some k → n ≤ k
 
 -- some entry is of undefined length
@@ -52,41 +53,41 @@ pub data HasOpenEnded : List PathEntry → Type 0 where
 -- a defined entry that lacks nothing has an entry of undefined length inside it
 abbrev pub WholeHasOpenInside : Type 0
 WholeHasOpenInside =
-    (s : Syntax) (b : List ℕ) (es : Elements) (path inside around : List PathEntry) (e : PathEntry) (last : ℕ) (tail : Tail)
+    (s : Coding) (b : List ℕ) (es : Elements) (path inside around : List PathEntry) (e : PathEntry) (last : ℕ) (tail : Tail)
     → Open s b es path last tail → path ≡ inside ++ e ∷ around → e.left ≡ Some 0 → HasOpenEnded inside
 
 -- a text has one first fault at most
 abbrev pub OneFault : Type 0
-OneFault = (s : Syntax) (lim : Limits) (b p p2 u u2 : List ℕ) (rule rule2 : ℕ) (tag tag2 : Tag) → FirstFault s lim b p u rule tag → FirstFault s lim b p2 u2 rule2 tag2 → (p ≡ p2) × (u ≡ u2) × (rule ≡ rule2) × (tag ≡ tag2)
+OneFault = (s : Coding) (lim : Limits) (b p p2 u u2 : List ℕ) (rule rule2 : ℕ) (tag tag2 : Tag) → FirstFault s lim b p u rule tag → FirstFault s lim b p2 u2 rule2 tag2 → (p ≡ p2) × (u ≡ u2) × (rule ≡ rule2) × (tag ≡ tag2)
 
 -- there is at most one report after a text
 abbrev pub OneTelling : Type 0
-OneTelling = (s : Syntax) (lim : Limits) (b : List ℕ) (told told2 : Told) → Tells s lim b told → Tells s lim b told2 → told ≡ told2
+OneTelling = (s : Coding) (lim : Limits) (b : List ℕ) (told told2 : Told) → Tells s lim b told → Tells s lim b told2 → told ≡ told2
 
 -- the bytes that are held after a text of bytes: an unfinished header, the rooms of the wanted values, and the levels
 -- of the limit at most
 abbrev pub HeldHasABound : Type 0
-HeldHasABound = (s : Syntax) (lim : Limits) (b : List ℕ) (told : Told) → IsBytes b → Tells s lim b told → told.held ≤ 12 + rooms lim.wanted + level_size * lim.depth
+HeldHasABound = (s : Coding) (lim : Limits) (b : List ℕ) (told : Told) → IsBytes b → Tells s lim b told → told.held ≤ 12 + rooms lim.wanted + level_size * lim.depth
 
 -- there is at most one thing to hold after a text
 abbrev pub OneHolding : Type 0
-OneHolding = (s : Syntax) (lim : Limits) (b : List ℕ) (held held2 : Holding) → Holds s lim b held → Holds s lim b held2 → held ≡ held2
+OneHolding = (s : Coding) (lim : Limits) (b : List ℕ) (held held2 : Holding) → Holds s lim b held → Holds s lim b held2 → held ≡ held2
 
 -- there is a report after every text of bytes
 abbrev pub SomeTelling : Type 0
-SomeTelling = (s : Syntax) (lim : Limits) (b : List ℕ) → IsBytes b → (told : Told) × Tells s lim b told
+SomeTelling = (s : Coding) (lim : Limits) (b : List ℕ) → IsBytes b → (told : Told) × Tells s lim b told
 
 -- the empty text breaks no rule
 abbrev pub NothingIsUnbroken : Type 0
-NothingIsUnbroken = (s : Syntax) (lim : Limits) → IsUnbroken s lim []
+NothingIsUnbroken = (s : Coding) (lim : Limits) → IsUnbroken s lim []
 
 -- where no byte of a header came, it is unfinished
 abbrev pub NoHeader : Type 0
-NoHeader = (s : Syntax) → IsUnfinishedHeader s []
+NoHeader = (s : Coding) → IsUnfinishedHeader s []
 
 -- a header takes at least eight bytes
 abbrev pub LeastHeader : Type 0
-LeastHeader = (s : Syntax) (b : List ℕ) (k : ℕ) → need s b ≡ Size k → 8 ≤ k
+LeastHeader = (s : Coding) (b : List ℕ) (k : ℕ) → need (layout s) b ≡ Size k → 8 ≤ k
 
 -- texts of bytes are one text of bytes
 abbrev pub BytesAreJoined : Type 0

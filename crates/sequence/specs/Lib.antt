@@ -1,3 +1,4 @@
+pub mod Coding
 pub mod Shape
 pub mod Tree
 pub mod Open

@@ -1,6 +1,7 @@
 -- What a front of a data set is: its whole elements, and what is open after them (PS3.5 section 7.5).
 use Rattle.std.specs.Prelude.{◌≡◌, ℕ, ◌-◌, ◌<◌, ◌≤◌, ◌≢◌, is_some, Bool, true, false, List, [], ◌∷◌, ◌++◌, length, Option, Some, None, if◌then◌else◌}
-use Rattle.element.specs.declared.syntax.Syntax.{Syntax}
+use Rattle.sequence.specs.Coding.{layout}
+use Rattle.sequence.specs.declared.coding.Coding.{Coding}
 use Rattle.element.specs.declared.header.Header.{Header}
 use Rattle.element.specs.declared.size.Need.TheVariants.{BadVr}
 use Rattle.element.specs.Header.{number, need, is_whole}
@@ -18,7 +19,7 @@ last_of last (sequence h is es) = last_of (number h.tag) es
 pub record PathEntry : Type 0 where
   pub in_sequence : Bool
   -- the syntax of its items or elements
-  pub syntax : Syntax
+  pub syntax : Coding
   -- the bytes that a defined length still lacks
   pub left : Option ℕ
   -- of an item, the tag of the last element that began in it
@@ -28,10 +29,10 @@ pub record PathEntry : Type 0 where
 abbrev pub left_of : ℕ → ℕ → Option ℕ
 left_of n came = if is_undefined n then None else Some (n - came)
 
-abbrev pub sequence_entry : Syntax → ℕ → ℕ → PathEntry
+abbrev pub sequence_entry : Coding → ℕ → ℕ → PathEntry
 sequence_entry s n came = record { in_sequence = true; syntax = s; left = left_of n came; last = 0 }
 
-abbrev pub item_entry : Syntax → ℕ → ℕ → ℕ → PathEntry
+abbrev pub item_entry : Coding → ℕ → ℕ → ℕ → PathEntry
 item_entry s n came last = record { in_sequence = false; syntax = s; left = left_of n came; last = last }
 
 -- what stands after the whole elements and items
@@ -42,12 +43,12 @@ pub data Tail : Type 0 where
   in_value : Header → List ℕ → Tail
 
 -- t is nothing, or the beginning of a header
-pub record IsUnfinishedHeader (s : Syntax) (t : List ℕ) : Type 0 where
-  pub part : is_whole s t ≡ false
-  pub good : need s t ≢ BadVr
+pub record IsUnfinishedHeader (s : Coding) (t : List ℕ) : Type 0 where
+  pub part : is_whole (layout s) t ≡ false
+  pub good : need (layout s) t ≢ BadVr
 
 -- t is this tail, where an element above the tag `last` is due
-pub data IsTail (s : Syntax) (last : ℕ) : Tail → List ℕ → Type 0 where
+pub data IsTail (s : Coding) (last : ℕ) : Tail → List ℕ → Type 0 where
   header_tail : {t : List ℕ} → IsUnfinishedHeader s t → IsTail s last (in_header t) t
   value_tail : {h : Header} {hb : List ℕ} (v : List ℕ) → IsElement s last h hb → shape s h ≡ Value → length v < h.length → IsTail s last (in_value h v) (hb ++ v)
 
@@ -57,14 +58,14 @@ pub record IsOpenLevel (n came : ℕ) : Type 0 where
   pub within : n ≢ undefined_length → came ≤ n
 
 -- a sequence that is open in a data set of syntax s: whole elements, a sequence's header, and the whole items after it
-pub record OpenSequence (s : Syntax) : Type 0 where
+pub record OpenSequence (s : Coding) : Type 0 where
   pub elements : Elements
   -- the bytes of these elements
   pub before : List ℕ
   pub header : Header
   pub spelling : List ℕ
   -- the syntax of the items
-  pub inner : Syntax
+  pub inner : Coding
   pub items : Items
   pub item_bytes : List ℕ
   pub elements-are : DataSet s 0 elements before
@@ -73,29 +74,29 @@ pub record OpenSequence (s : Syntax) : Type 0 where
   pub items-are : ItemList inner items item_bytes
 
 -- what came of the sequence after its header, where the bytes t stand after its whole items
-abbrev pub came_of : {s : Syntax} → OpenSequence s → List ℕ → List ℕ
+abbrev pub came_of : {s : Coding} → OpenSequence s → List ℕ → List ℕ
 came_of q t = q.item_bytes ++ t
 
 -- the text that leads to the bytes t after its whole items
-abbrev pub text_of : {s : Syntax} → OpenSequence s → List ℕ → List ℕ
+abbrev pub text_of : {s : Coding} → OpenSequence s → List ℕ → List ℕ
 text_of q t = q.before ++ (q.spelling ++ came_of q t)
 
 -- its entry in the path
-abbrev pub entry_of : {s : Syntax} → OpenSequence s → List ℕ → PathEntry
+abbrev pub entry_of : {s : Coding} → OpenSequence s → List ℕ → PathEntry
 entry_of q t = sequence_entry q.inner q.header.length (length (came_of q t))
 
 -- b is the whole elements es, and what is open after them: the path with its innermost entry first, the tag of
 -- the last element that began in b itself, and the tail
-pub data Nested : Syntax → List ℕ → Elements → List PathEntry → ℕ → Tail → Type 0 where
-  at_elements : {s : Syntax} {es : Elements} {b t : List ℕ} {tail : Tail}
+pub data Nested : Coding → List ℕ → Elements → List PathEntry → ℕ → Tail → Type 0 where
+  at_elements : {s : Coding} {es : Elements} {b t : List ℕ} {tail : Tail}
       → DataSet s 0 es b → IsTail s (last_of 0 es) tail t
       → Nested s (b ++ t) es [] (last_of 0 es) tail
   -- after the whole items of a sequence stands the beginning of a header, or nothing
-  in_sequence_of : {s : Syntax} (q : OpenSequence s) {t : List ℕ}
+  in_sequence_of : {s : Coding} (q : OpenSequence s) {t : List ℕ}
       → IsOpenLevel q.header.length (length (came_of q t)) → IsUnfinishedHeader q.inner t
       → Nested s (text_of q t) q.elements (entry_of q t ∷ []) (number q.header.tag) (in_header t)
   -- or the header k of an item, and after it a front b2 of a data set
-  in_item_of : {s : Syntax} (q : OpenSequence s) {k : Header} {kb b2 : List ℕ} {es : Elements} {path : List PathEntry} {last : ℕ} {tail : Tail}
+  in_item_of : {s : Coding} (q : OpenSequence s) {k : Header} {kb b2 : List ℕ} {es : Elements} {path : List PathEntry} {last : ℕ} {tail : Tail}
       → IsOpenLevel q.header.length (length (came_of q (kb ++ b2))) → IsItem q.inner k kb → IsOpenLevel k.length (length b2) → Nested q.inner b2 es path last tail
       → Nested s (text_of q (kb ++ b2)) q.elements (path ++ (item_entry q.inner k.length (length b2) last ∷ entry_of q (kb ++ b2) ∷ [])) (number q.header.tag) tail
 
@@ -117,7 +118,7 @@ IsInnermost (e ∷ path) = e.left ≢ Some 0
 
 -- b is a front of a data set: its whole elements, the path, the last tag and the tail. A defined entry of the
 -- path lacks at least one byte, or none where an undefined entry stands inside it
-pub record Open (s : Syntax) (b : List ℕ) (es : Elements) (path : List PathEntry) (last : ℕ) (tail : Tail) : Type 0 where
+pub record Open (s : Coding) (b : List ℕ) (es : Elements) (path : List PathEntry) (last : ℕ) (tail : Tail) : Type 0 where
   pub nested : Nested s b es path last tail
   pub left : AreLeft None path
   pub innermost : IsInnermost path

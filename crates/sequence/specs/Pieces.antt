@@ -1,6 +1,7 @@
 -- What a step does with the bytes of a piece.
 use Rattle.std.specs.Prelude.{◌≡◌, ℕ, ◌-◌, ◌<◌, List, ◌++◌, length, min, take}
-use Rattle.element.specs.declared.syntax.Syntax.{Syntax}
+use Rattle.sequence.specs.Coding.{layout}
+use Rattle.sequence.specs.declared.coding.Coding.{Coding}
 use Rattle.element.specs.declared.tag.Tag.{Tag}
 use Rattle.element.specs.declared.header.Header.{Header}
 use Rattle.element.specs.Header.{SpellsHeader}
@@ -10,9 +11,9 @@ use Rattle.sequence.specs.Rules.{Limits}
 use Rattle.sequence.specs.FirstFault.{spot_behind, IsUnbroken, FirstFault}
 
 -- after the text b, of which no front breaks a rule, a step takes n bytes of the piece
-pub record TakesMost (s : Syntax) (lim : Limits) (b piece : List ℕ) (n : ℕ) : Type 0 where
+pub record TakesMost (s : Coding) (lim : Limits) (b piece : List ℕ) (n : ℕ) : Type 0 where
   -- a header that is whole in the piece is taken to its end, where no rule is broken
-  pub header : (es : Elements) (path : List PathEntry) (last : ℕ) (begun bytes more : List ℕ) (h : Header) → Open s b es path last (in_header begun) → piece ≡ bytes ++ more → SpellsHeader (spot_behind s path last (length b)).syntax h (begun ++ bytes)
+  pub header : (es : Elements) (path : List PathEntry) (last : ℕ) (begun bytes more : List ℕ) (h : Header) → Open s b es path last (in_header begun) → piece ≡ bytes ++ more → SpellsHeader (layout (spot_behind s path last (length b)).syntax) h (begun ++ bytes)
       → IsUnbroken s lim (b ++ take n piece) → n ≡ length bytes
   -- of a value, all that the piece has of it
   pub value : (es : Elements) (path : List PathEntry) (last : ℕ) (h : Header) (v : List ℕ) → Open s b es path last (in_value h v) → n ≡ min (length piece) (h.length - length v)

@@ -6,6 +6,7 @@ use Rattle.element.specs.declared.header.Header.{Header}
 use Rattle.element.specs.declared.size.Need.{Need}
 use Rattle.element.specs.declared.size.Need.TheVariants.{More, Size, BadVr}
 use Rattle.element.specs.Header.{number, is_marker, is_plain, tag_at, need, is_whole, header_at, item_tag, item_end_tag, sequence_end_tag}
+use Rattle.sequence.specs.Coding.{layout}
 use Rattle.sequence.specs.declared.wanted.Want.{Want}
 use Rattle.sequence.specs.declared.spot.Spot.{Spot}
 use Rattle.sequence.specs.declared.shape.Shape.{Shape}
@@ -166,5 +167,5 @@ unfoldable pub broken : Limits → Spot → List ℕ → Broken
 broken lim spot t =
     broken_due spot
     or_else when (nat_le 4 (length t)) (broken_tag spot (tag_at t))
-    or_else when (nat_le 6 (length t) && not (is_plain spot.syntax (tag_at t))) (broken_need spot (need spot.syntax t) (tag_at t))
-    or_else when (is_whole spot.syntax t) (broken_header lim spot (length t) (header_at spot.syntax t))
+    or_else when (nat_le 6 (length t) && not (is_plain (layout spot.syntax) (tag_at t))) (broken_need spot (need (layout spot.syntax) t) (tag_at t))
+    or_else when (is_whole (layout spot.syntax) t) (broken_header lim spot (length t) (header_at (layout spot.syntax) t))

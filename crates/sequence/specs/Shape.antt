@@ -1,8 +1,9 @@
--- What follows the header of an element (PS3.5 sections 6.2.2 and 7.5). What an Implicit element of a tag
+-- What follows the header of an element (PS3.5 sections 6.2.2, 7.5 and A.4). What an Implicit element of a tag
 -- without an entry in the dictionary holds is this product's own profile.
-use Rattle.std.specs.Prelude.{ℕ, Bool, ◌&&◌, Option, Some, None, List, get_or, nat_eq, if◌then◌else◌, codes}
-use Rattle.element.specs.declared.syntax.Syntax.{Syntax}
-use Rattle.element.specs.declared.syntax.Syntax.TheVariants.{Implicit, Explicit}
+use Rattle.std.specs.Prelude.{ℕ, Bool, ◌&&◌, ◌||◌, Option, Some, None, List, get_or, nat_eq, if◌then◌else◌, codes}
+use Rattle.sequence.specs.declared.coding.Coding.{Coding}
+use Rattle.sequence.specs.declared.coding.Coding.TheVariants.{Implicit, Explicit, Encapsulated, Fragments}
+use Rattle.element.specs.declared.tag.Tag.{Tag}
 use Rattle.element.specs.declared.header.Header.{Header}
 use Rattle.dictionary.specs.Tags.{vr_of}
 use Rattle.sequence.specs.declared.shape.Shape.{Shape}
@@ -25,6 +26,19 @@ explicit_shape vr undefined =
     else (if undefined then (if is_vr (codes "UN") vr then Sequence Implicit else NotAllowed)
     else Value)
 
+-- the tag of Pixel Data
+abbrev pub is_pixel_data : Tag → Bool
+is_pixel_data t = nat_eq t.0 0x7fe0 && nat_eq t.1 0x0010
+
+-- where Pixel Data may be encapsulated, by the header's tag and VR: that of undefined length is, with VR OB, or with OW,
+-- which some senders write (this product's own profile)
+abbrev pub encapsulated_shape : Tag → List ℕ → Bool → Shape
+encapsulated_shape t vr undefined =
+    if is_vr (codes "SQ") vr then Sequence Encapsulated
+    else (if undefined then (if is_vr (codes "UN") vr then Sequence Implicit
+    else (if is_pixel_data t && (is_vr (codes "OB") vr || is_vr (codes "OW") vr) then Sequence Fragments else NotAllowed))
+    else Value)
+
 -- in Implicit, by the dictionary's VR
 abbrev pub implicit_shape : Option (List ℕ) → Bool → Shape
 implicit_shape None undefined = if undefined then Sequence Implicit else Value
@@ -33,12 +47,15 @@ implicit_shape (Some vr) undefined =
     else (if undefined then NotAllowed
     else Value)
 
--- the syntax, the header's VR, the dictionary's VR, and whether the length is undefined
-abbrev pub shape_by : Syntax → Option (List ℕ) → Option (List ℕ) → Bool → Shape
-shape_by Explicit (Some vr) known undefined = explicit_shape vr undefined
-shape_by Explicit None known undefined = NotAllowed
-shape_by Implicit vr known undefined = implicit_shape known undefined
+-- the coding, the header's tag and VR, the dictionary's VR, and whether the length is undefined
+abbrev pub shape_by : Coding → Tag → Option (List ℕ) → Option (List ℕ) → Bool → Shape
+shape_by Explicit t (Some vr) known undefined = explicit_shape vr undefined
+shape_by Explicit t None known undefined = NotAllowed
+shape_by Encapsulated t (Some vr) known undefined = encapsulated_shape t vr undefined
+shape_by Encapsulated t None known undefined = NotAllowed
+shape_by Fragments t vr known undefined = NotAllowed
+shape_by Implicit t vr known undefined = implicit_shape known undefined
 
 -- the shape of the element with this header
-abbrev pub shape : Syntax → Header → Shape
-shape s h = shape_by s h.vr (vr_of h.tag) (is_undefined h.length)
+abbrev pub shape : Coding → Header → Shape
+shape s h = shape_by s h.tag h.vr (vr_of h.tag) (is_undefined h.length)

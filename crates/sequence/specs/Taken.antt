@@ -1,7 +1,7 @@
 -- That a walker took certain bytes (this product's own profile).
 use Rattle.std.specs.Prelude.{ℕ, ◌+◌, ◌*◌, List, [], ◌∷◌, Option, length}
 use Rattle.element.specs.Numbers.{IsBytes}
-use Rattle.element.specs.declared.syntax.Syntax.{Syntax}
+use Rattle.sequence.specs.declared.coding.Coding.{Coding}
 use Rattle.sequence.specs.declared.fault.Fault.{Fault}
 use Rattle.sequence.specs.declared.walker.Walker.{Walker}
 use Rattle.sequence.specs.Wanted.{size_of_values, level_size}
@@ -16,7 +16,7 @@ abbrev pub limits_of : {V D : ℕ} → Walker V D → Limits
 limits_of {D = D} w = record { wanted = wants_of w.kept; depth = D; bytes = w.limit }
 
 -- the syntax of its data set
-abbrev pub walker_syntax : {V D : ℕ} → Walker V D → Syntax
+abbrev pub walker_syntax : {V D : ℕ} → Walker V D → Coding
 walker_syntax w = w.root.syntax
 
 -- its refusal, if there is one

@@ -1,6 +1,7 @@
 -- Which texts spell which data sets (PS3.5 sections 7.1 to 7.5).
 use Rattle.std.specs.Prelude.{◌≡◌, ℕ, ◌%◌, ◌<◌, ◌≢◌, false, List, [], ◌++◌, length}
-use Rattle.element.specs.declared.syntax.Syntax.{Syntax}
+use Rattle.sequence.specs.Coding.{layout}
+use Rattle.sequence.specs.declared.coding.Coding.{Coding}
 use Rattle.element.specs.declared.tag.Tag.{Tag}
 use Rattle.element.specs.declared.header.Header.{Header}
 use Rattle.element.specs.Numbers.{le}
@@ -27,16 +28,16 @@ abbrev pub IsEven : ℕ → Type 0
 IsEven n = n % 2 ≡ 0
 
 -- hb spells the header h of an element above the tag `last`, of a group that a data set may have
-pub record IsElement (s : Syntax) (last : ℕ) (h : Header) (hb : List ℕ) : Type 0 where
-  pub spelled : SpellsHeader s h hb
+pub record IsElement (s : Coding) (last : ℕ) (h : Header) (hb : List ℕ) : Type 0 where
+  pub spelled : SpellsHeader (layout s) h hb
   pub rising : last < number h.tag
   pub no_marker : is_marker h.tag ≡ false
   pub no_command : h.tag.0 ≢ 0
   pub no_file : h.tag.0 ≢ 2
 
 -- hb spells the header h of an item
-pub record IsItem (s : Syntax) (h : Header) (hb : List ℕ) : Type 0 where
-  pub spelled : SpellsHeader s h hb
+pub record IsItem (s : Coding) (h : Header) (hb : List ℕ) : Type 0 where
+  pub spelled : SpellsHeader (layout s) h hb
   pub tagged : h.tag ≡ item_tag
 
 -- v is a value of that length
@@ -51,21 +52,21 @@ pub data Ended (mark : Tag) : ℕ → List ℕ → List ℕ → Type 0 where
 
 mutual
   -- b spells these elements, whose tags rise and are above `last`
-  pub data DataSet : Syntax → ℕ → Elements → List ℕ → Type 0 where
-    nothing : {s : Syntax} {last : ℕ} → DataSet s last no_elements []
-    value_then : {s : Syntax} {last : ℕ} {h : Header} {hb v : List ℕ} {es : Elements} {b : List ℕ}
+  pub data DataSet : Coding → ℕ → Elements → List ℕ → Type 0 where
+    nothing : {s : Coding} {last : ℕ} → DataSet s last no_elements []
+    value_then : {s : Coding} {last : ℕ} {h : Header} {hb v : List ℕ} {es : Elements} {b : List ℕ}
         → IsElement s last h hb → shape s h ≡ Value → IsValue h.length v
         → DataSet s (number h.tag) es b
         → DataSet s last (value h v es) (hb ++ (v ++ b))
-    sequence_then : {s : Syntax} {last : ℕ} {h : Header} {hb : List ℕ} {inner : Syntax} {is : Items} {ib cb : List ℕ} {es : Elements} {b : List ℕ}
+    sequence_then : {s : Coding} {last : ℕ} {h : Header} {hb : List ℕ} {inner : Coding} {is : Items} {ib cb : List ℕ} {es : Elements} {b : List ℕ}
         → IsElement s last h hb → shape s h ≡ Sequence inner → ItemList inner is ib → Ended sequence_end_tag h.length ib cb
         → DataSet s (number h.tag) es b
         → DataSet s last (sequence h is es) (hb ++ (cb ++ b))
 
   -- b spells these items
-  pub data ItemList : Syntax → Items → List ℕ → Type 0 where
-    no_more : {s : Syntax} → ItemList s no_items []
-    item_then : {s : Syntax} {h : Header} {hb : List ℕ} {es : Elements} {eb cb : List ℕ} {is : Items} {b : List ℕ}
+  pub data ItemList : Coding → Items → List ℕ → Type 0 where
+    no_more : {s : Coding} → ItemList s no_items []
+    item_then : {s : Coding} {h : Header} {hb : List ℕ} {es : Elements} {eb cb : List ℕ} {is : Items} {b : List ℕ}
         → IsItem s h hb → DataSet s 0 es eb → Ended item_end_tag h.length eb cb
         → ItemList s is b
         → ItemList s (item h es is) (hb ++ (cb ++ b))

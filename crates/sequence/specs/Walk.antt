@@ -1,6 +1,6 @@
 -- What a walker reports after the bytes that it took (this product's own profile).
 use Rattle.std.specs.Prelude.{ℕ, List, [], ◌++◌, length, Option, Some, None}
-use Rattle.element.specs.declared.syntax.Syntax.{Syntax}
+use Rattle.sequence.specs.declared.coding.Coding.{Coding}
 use Rattle.element.specs.declared.tag.Tag.{Tag}
 use Rattle.sequence.specs.declared.fault.Fault.{Fault}
 use Rattle.sequence.specs.Tree.{Elements}
@@ -22,7 +22,7 @@ pub record Told : Type 0 where
   pub kept : Values
 
 -- what is reported after the bytes b
-pub data Tells (s : Syntax) (lim : Limits) (b : List ℕ) : Told → Type 0 where
+pub data Tells (s : Coding) (lim : Limits) (b : List ℕ) : Told → Type 0 where
   -- where b breaks no rule, the report is of b
   going : {es : Elements} {path : List PathEntry} {last : ℕ} {tail : Tail}
       → IsUnbroken s lim b → Open s b es path last tail

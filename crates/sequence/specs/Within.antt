@@ -1,6 +1,6 @@
 -- A data set that keeps its limits (this product's own profile).
 use Rattle.std.specs.Prelude.{◌≡◌, ℕ, ◌≤◌, List, ◌++◌, length, Some}
-use Rattle.element.specs.declared.syntax.Syntax.{Syntax}
+use Rattle.sequence.specs.declared.coding.Coding.{Coding}
 use Rattle.element.specs.Header.{number}
 use Rattle.sequence.specs.declared.wanted.Want.{Want}
 use Rattle.sequence.specs.Tree.{Elements, no_elements, value, sequence}
@@ -16,7 +16,7 @@ FitRooms ws (sequence h is es) = FitRooms ws es
 
 -- b, which spells the elements es, has no more bytes than the limit, no front of it has more open levels, and its
 -- wanted values fit their rooms
-pub record Within (s : Syntax) (lim : Limits) (es : Elements) (b : List ℕ) : Type 0 where
+pub record Within (s : Coding) (lim : Limits) (es : Elements) (b : List ℕ) : Type 0 where
   pub bytes : length b ≤ lim.bytes
   pub depth : (p rest : List ℕ) (some : Elements) (path : List PathEntry) (last : ℕ) (tail : Tail) → b ≡ p ++ rest → Open s p some path last tail → length path ≤ lim.depth
   pub rooms : FitRooms lim.wanted es

@@ -231,8 +231,8 @@ fn at_tag(spot: &Spot, bytes: &[u8]) -> Option<(Rule, Tag)>
 fn at_vr(spot: &Spot, bytes: &[u8]) -> Option<(Rule, Tag)>
     ensures { numbered result ≡ broken_at_vr spot.now bytes.now }
 {
-    if 6 <= bytes.len() && !is_plain(spot.syntax, read_tag(bytes)) {
-        broken_need(spot, need(spot.syntax, bytes), read_tag(bytes))
+    if 6 <= bytes.len() && !is_plain(spot.syntax.layout(), read_tag(bytes)) {
+        broken_need(spot, need(spot.syntax.layout(), bytes), read_tag(bytes))
     } else {
         None
     }
@@ -243,13 +243,13 @@ fn at_end(wanted: &Wanted, bounds: &Bounds, spot: &Spot, bytes: &[u8]) -> Option
     requires size { length bytes.now ≤ 12 }
     ensures { numbered result ≡ broken_at_end (limits_by wanted.now.list.items bounds.now) spot.now bytes.now }
 {
-    if is_whole(spot.syntax, bytes) {
+    if is_whole(spot.syntax.layout(), bytes) {
         broken_header(
             wanted,
             bounds,
             spot,
             bytes.len(),
-            &read_header(spot.syntax, bytes),
+            &read_header(spot.syntax.layout(), bytes),
         )
     } else {
         None

@@ -56,8 +56,8 @@ fn examine(
     match broken(wanted, bounds, spot, front) {
         Some((rule, tag)) => End::Refused(count, rule, tag),
         None => {
-            if is_whole(spot.syntax, front) {
-                let header = read_header(spot.syntax, front);
+            if is_whole(spot.syntax.layout(), front) {
+                let header = read_header(spot.syntax.layout(), front);
                 let shape = shape_of(spot.syntax, &header);
                 End::Whole(count, header, shape)
             } else {
@@ -83,7 +83,7 @@ fn end_after(wanted: &Wanted, bounds: &Bounds, spot: &Spot, bytes: &[u8], begun:
     if !is_part(&named) {
         return named;
     }
-    match need(spot.syntax, bytes) {
+    match need(spot.syntax.layout(), bytes) {
         Need::Size(size) => examine(wanted, bounds, spot, bytes, begun, size),
         Need::More => End::Part,
         Need::BadVr => End::Part,
@@ -116,7 +116,7 @@ fn end_in(wanted: &Wanted, bounds: &Bounds, spot: &Spot, bytes: &[u8], begun: us
     requires quiet { 0 < begun → IsQuiet (limits_by wanted.now.list.items bounds.now) spot.now (take begun bytes.now) }
     ensures { IsEnd (limits_by wanted.now.list.items bounds.now) spot.now bytes.now begun result }
 {
-    if let Need::Size(size) = need(spot.syntax, bytes) {
+    if let Need::Size(size) = need(spot.syntax.layout(), bytes) {
         let whole = examine(wanted, bounds, spot, bytes, begun, size);
         if is_whole_header(&whole) {
             return whole;

@@ -1,13 +1,14 @@
 //! Open levels.
 ghost use Rattle.std.specs.Prelude.{◌≡◌, ℕ, ◌<◌, ◌≤◌, ◌^◌, ◌+◌, ◌-◌, length, IfSome};
+ghost use Rattle.sequence.specs.Fields as fields;
 
-use element::Syntax;
+use crate::coding::Coding;
 
 /// A level, or the data set itself, which has no end.
 #[derive(Clone, Copy)]
 pub struct Scope {
     pub in_sequence: bool,
-    pub syntax: Syntax,
+    pub syntax: Coding,
     pub stop: Option<u64>,
     pub last: u32,
 }
@@ -21,8 +22,20 @@ pub struct Level {
     pub last: u32,
     /// 1 if it is a sequence, 0 if it is an item.
     pub kind: u8,
-    /// 1 if it is in Implicit VR Little Endian, 0 if it is in Explicit.
-    pub implicit: u8,
+    /// How it is laid out: 1 for Implicit, 2 for Encapsulated, 3 for Fragments, else Explicit.
+    pub coding: u8,
+}
+
+/// The coding with this number.
+fn coding_by(number: u8) -> Coding
+    ensures { result ≡ fields.coding_by number }
+{
+    match number {
+        1 => Coding::Implicit,
+        2 => Coding::Encapsulated,
+        3 => Coding::Fragments,
+        _ => Coding::Explicit,
+    }
 }
 
 impl Level {
@@ -35,11 +48,7 @@ impl Level {
     {
         Scope {
             in_sequence: self.kind == 1,
-            syntax: if self.implicit == 1 {
-                Syntax::Implicit
-            } else {
-                Syntax::Explicit
-            },
+            syntax: coding_by(self.coding),
             stop: if self.end == u64::MAX {
                 None
             } else {
@@ -60,9 +69,11 @@ impl Level {
             },
             last: scope.last,
             kind: if scope.in_sequence { 1 } else { 0 },
-            implicit: match scope.syntax {
-                Syntax::Implicit => 1,
-                Syntax::Explicit => 0,
+            coding: match scope.syntax {
+                Coding::Implicit => 1,
+                Coding::Encapsulated => 2,
+                Coding::Fragments => 3,
+                Coding::Explicit => 0,
             },
         }
     }

@@ -7,11 +7,12 @@ ghost use Rattle.sequence.specs.declared.level.Scope.{Scope};
 ghost use Rattle.sequence.specs.machine.Scopes.{LeavesEnded, top_of, below_of, nearest_from};
 ghost use Rattle.sequence.specs.Fields.{scope_of};
 
+use crate::coding::Coding;
 use crate::level::{Level, Scope};
 use crate::shape::UNDEFINED;
 use crate::spot::Spot;
 use arrayvec::ArrayVec;
-use element::{Syntax, Tag};
+use element::Tag;
 
 /// Returns whether the innermost level ends here.
 pub fn ends_here<const D: usize>(levels: &ArrayVec<Level, D>, place: u64) -> bool
@@ -125,7 +126,7 @@ fn stop_at(place: u64, length: u32) -> Option<u64>
 }
 
 /// Returns the level that an item opens after its header.
-pub fn item_scope(syntax: Syntax, place: u64, length: u32) -> Scope
+pub fn item_scope(syntax: Coding, place: u64, length: u32) -> Scope
     requires { place < 2 ^ 49 }
     ensures scope { result ≡ set_scope syntax (stop_of place length) 0 }
     ensures small { IfSome result.stop (λ end. end < 2 ^ 64 - 1) }
@@ -139,7 +140,7 @@ pub fn item_scope(syntax: Syntax, place: u64, length: u32) -> Scope
 }
 
 /// Returns the level that a sequence opens after its header.
-pub fn sequence_scope(syntax: Syntax, place: u64, length: u32) -> Scope
+pub fn sequence_scope(syntax: Coding, place: u64, length: u32) -> Scope
     requires { place < 2 ^ 49 }
     ensures scope { result ≡ sequence_scope syntax (stop_of place length) }
     ensures small { IfSome result.stop (λ end. end < 2 ^ 64 - 1) }

@@ -3,6 +3,7 @@
 
 mod answering;
 mod broken;
+mod coding;
 mod fault;
 mod heading;
 mod keep;
@@ -18,6 +19,7 @@ mod step;
 mod walker;
 mod wanted;
 
+pub use coding::Coding;
 pub use fault::Fault;
 pub use level::Level;
 pub use rule::Rule;

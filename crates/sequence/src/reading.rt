@@ -2,8 +2,11 @@
 ghost use Rattle.std.specs.Prelude.{◌≡◌, ◌≤◌, length, true, Some, IfSome};
 ghost use Rattle.element.specs.Header as spelling;
 ghost use Rattle.sequence.specs.machine.Heading.{IsFront};
-ghost use Rattle.sequence.specs.Shape.{explicit_shape, is_undefined};
+ghost use Rattle.dictionary.specs.Tags as known;
+ghost use Rattle.sequence.specs.Coding.{layout};
+ghost use Rattle.sequence.specs.Shape.{shape_by, is_undefined};
 
+use crate::coding::Coding;
 use crate::shape::{Shape, named_shape, plain_shape};
 use byteorder::{ByteOrder, LittleEndian};
 use element::{Header, Need, Syntax, Tag, Vr, need, read_tag};
@@ -42,11 +45,11 @@ pub struct Front {
 
 /// Reads the header of eight bytes without a VR.
 #[tactic(auto, unfolding(element::specs::Header::need, element::specs::Header::header_at))]
-fn plain_front(syntax: Syntax, tag: Tag, bytes: &[u8]) -> Front
+fn plain_front(coding: Coding, tag: Tag, bytes: &[u8]) -> Front
     requires size { 8 ≤ length bytes.now }
     requires tag { tag ≡ spelling.tag_at bytes.now }
-    requires plain { spelling.is_plain syntax tag ≡ true }
-    ensures { IsFront syntax bytes.now result }
+    requires plain { spelling.is_plain (layout coding) tag ≡ true }
+    ensures { IsFront coding bytes.now result }
 {
     let length = LittleEndian::read_u32(&bytes[4..]);
     Front {
@@ -56,13 +59,13 @@ fn plain_front(syntax: Syntax, tag: Tag, bytes: &[u8]) -> Front
             vr: None,
             length,
         },
-        shape: plain_shape(syntax, tag, length),
+        shape: plain_shape(coding, tag, length),
     }
 }
 
-/// A header of Explicit with a VR.
-fn named_front(size: usize, tag: Tag, vr: Vr, length: u32) -> Front
-    ensures { result ≡ record { size = size; header = record { tag = tag; vr = Some vr; length = length }; shape = explicit_shape vr (is_undefined length) } }
+/// A header with a VR.
+fn named_front(coding: Coding, size: usize, tag: Tag, vr: Vr, length: u32) -> Front
+    ensures { result ≡ record { size = size; header = record { tag = tag; vr = Some vr; length = length }; shape = shape_by coding tag (Some vr) (known.vr_of tag) (is_undefined length) } }
 {
     Front {
         size,
@@ -71,29 +74,29 @@ fn named_front(size: usize, tag: Tag, vr: Vr, length: u32) -> Front
             vr: Some(vr),
             length,
         },
-        shape: named_shape(vr, length),
+        shape: named_shape(coding, tag, vr, length),
     }
 }
 
 /// Reads the header at the front of the bytes, where it is whole.
-pub fn read_front(syntax: Syntax, bytes: &[u8]) -> Option<Front>
-    ensures { IfSome result (λ front. IsFront syntax bytes.now front) }
+pub fn read_front(coding: Coding, bytes: &[u8]) -> Option<Front>
+    ensures { IfSome result (λ front. IsFront coding bytes.now front) }
 {
     if bytes.len() < 8 {
         return None;
     }
     let tag = read_tag(bytes);
-    if is_plain(syntax, tag) {
-        return Some(plain_front(syntax, tag, bytes));
+    if is_plain(coding.layout(), tag) {
+        return Some(plain_front(coding, tag, bytes));
     }
     let vr = Vr::read([bytes[4], bytes[5]])?;
     if !vr.is_long() {
         let length = u32::from(LittleEndian::read_u16(&bytes[6..]));
-        Some(named_front(8, tag, vr, length))
+        Some(named_front(coding, 8, tag, vr, length))
     } else if bytes.len() < 12 {
         None
     } else {
         let length = LittleEndian::read_u32(&bytes[8..]);
-        Some(named_front(12, tag, vr, length))
+        Some(named_front(coding, 12, tag, vr, length))
     }
 }

@@ -1,10 +1,11 @@
 //! What follows the header of an element (PS3.5 sections 6.2.2 and 7.5).
-ghost use Rattle.std.specs.Prelude.{◌≡◌, None};
+ghost use Rattle.std.specs.Prelude.{◌≡◌, None, Some};
 ghost use Rattle.dictionary.specs.Tags as known;
 ghost use Rattle.sequence.specs.Shape as shapes;
 
+use crate::coding::Coding;
 use dictionary::vr_of;
-use element::{Header, Syntax, Tag, Vr};
+use element::{Header, Tag, Vr};
 
 /// FFFFFFFFH, undefined length.
 pub const UNDEFINED: u32 = 0xffff_ffff;
@@ -14,8 +15,8 @@ pub const UNDEFINED: u32 = 0xffff_ffff;
 pub enum Shape {
     /// As many bytes as the length says.
     Value,
-    /// Items in this syntax.
-    Sequence(Syntax),
+    /// Items that are laid out so.
+    Sequence(Coding),
     /// Nothing that could be read.
     NotAllowed,
 }
@@ -31,11 +32,33 @@ fn explicit_shape(vr: Vr, undefined: bool) -> Shape
     ensures { result ≡ shapes.explicit_shape vr undefined }
 {
     if is_vr(*b"SQ", vr) {
-        Shape::Sequence(Syntax::Explicit)
+        Shape::Sequence(Coding::Explicit)
     } else if !undefined {
         Shape::Value
     } else if is_vr(*b"UN", vr) {
-        Shape::Sequence(Syntax::Implicit)
+        Shape::Sequence(Coding::Implicit)
+    } else {
+        Shape::NotAllowed
+    }
+}
+
+fn is_pixel_data(tag: Tag) -> bool
+    ensures { result ≡ shapes.is_pixel_data tag }
+{
+    tag.0 == 0x7fe0 && tag.1 == 0x0010
+}
+
+fn encapsulated_shape(tag: Tag, vr: Vr, undefined: bool) -> Shape
+    ensures { result ≡ shapes.encapsulated_shape tag vr undefined }
+{
+    if is_vr(*b"SQ", vr) {
+        Shape::Sequence(Coding::Encapsulated)
+    } else if !undefined {
+        Shape::Value
+    } else if is_vr(*b"UN", vr) {
+        Shape::Sequence(Coding::Implicit)
+    } else if is_pixel_data(tag) && (is_vr(*b"OB", vr) || is_vr(*b"OW", vr)) {
+        Shape::Sequence(Coding::Fragments)
     } else {
         Shape::NotAllowed
     }
@@ -47,14 +70,14 @@ fn implicit_shape(known: Option<Vr>, undefined: bool) -> Shape
     match known {
         None => {
             if undefined {
-                Shape::Sequence(Syntax::Implicit)
+                Shape::Sequence(Coding::Implicit)
             } else {
                 Shape::Value
             }
         }
         Some(vr) => {
             if is_vr(*b"SQ", vr) {
-                Shape::Sequence(Syntax::Implicit)
+                Shape::Sequence(Coding::Implicit)
             } else if undefined {
                 Shape::NotAllowed
             } else {
@@ -64,33 +87,36 @@ fn implicit_shape(known: Option<Vr>, undefined: bool) -> Shape
     }
 }
 
-/// Returns the shape of the element with this header, in a data set of this syntax.
-pub fn shape_of(syntax: Syntax, header: &Header) -> Shape
-    ensures { result ≡ shapes.shape syntax header.now }
+/// Returns the shape of the element with this header, in a data set that is laid out so.
+pub fn shape_of(coding: Coding, header: &Header) -> Shape
+    ensures { result ≡ shapes.shape coding header.now }
 {
-    let undefined = header.length == UNDEFINED;
-    match syntax {
-        Syntax::Implicit => implicit_shape(vr_of(header.tag), undefined),
-        Syntax::Explicit => match header.vr {
-            Some(vr) => explicit_shape(vr, undefined),
-            None => Shape::NotAllowed,
-        },
+    match header.vr {
+        None => plain_shape(coding, header.tag, header.length),
+        Some(vr) => named_shape(coding, header.tag, vr, header.length),
     }
 }
 
 /// Returns the shape of the element with this header without a VR.
-pub fn plain_shape(syntax: Syntax, tag: Tag, length: u32) -> Shape
-    ensures { result ≡ shapes.shape_by syntax None (known.vr_of tag) (shapes.is_undefined length) }
+pub fn plain_shape(coding: Coding, tag: Tag, length: u32) -> Shape
+    ensures { result ≡ shapes.shape_by coding tag None (known.vr_of tag) (shapes.is_undefined length) }
 {
-    match syntax {
-        Syntax::Implicit => implicit_shape(vr_of(tag), length == UNDEFINED),
-        Syntax::Explicit => Shape::NotAllowed,
+    match coding {
+        Coding::Implicit => implicit_shape(vr_of(tag), length == UNDEFINED),
+        Coding::Explicit => Shape::NotAllowed,
+        Coding::Encapsulated => Shape::NotAllowed,
+        Coding::Fragments => Shape::NotAllowed,
     }
 }
 
-/// Returns the shape of the element with this VR in Explicit.
-pub fn named_shape(vr: Vr, length: u32) -> Shape
-    ensures { result ≡ shapes.explicit_shape vr (shapes.is_undefined length) }
+/// Returns the shape of the element with this header with a VR.
+pub fn named_shape(coding: Coding, tag: Tag, vr: Vr, length: u32) -> Shape
+    ensures { result ≡ shapes.shape_by coding tag (Some vr) (known.vr_of tag) (shapes.is_undefined length) }
 {
-    explicit_shape(vr, length == UNDEFINED)
+    match coding {
+        Coding::Implicit => implicit_shape(vr_of(tag), length == UNDEFINED),
+        Coding::Explicit => explicit_shape(vr, length == UNDEFINED),
+        Coding::Encapsulated => encapsulated_shape(tag, vr, length == UNDEFINED),
+        Coding::Fragments => Shape::NotAllowed,
+    }
 }

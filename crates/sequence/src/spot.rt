@@ -1,10 +1,10 @@
 //! Where a header is due.
-use element::Syntax;
+use crate::coding::Coding;
 
 /// Where a header is due: what decides whether it is allowed there.
 #[derive(Clone, Copy)]
 pub struct Spot {
-    pub syntax: Syntax,
+    pub syntax: Coding,
     /// An item is due, and else an element.
     pub in_sequence: bool,
     /// The innermost level is of undefined length.

@@ -13,6 +13,7 @@ ghost use Rattle.sequence.specs.FirstFault.{tag_of_tail};
 
 use crate::answering::{header_step, value_step};
 use crate::broken::{broken_due, same_tag};
+use crate::coding::Coding;
 use crate::fault::Fault;
 use crate::heading::{End, header_end};
 use crate::keep::Keep;
@@ -108,6 +109,8 @@ impl<const V: usize, const D: usize> Walker<V, D> {
     ghost use Rattle.sequence.specs.Shape as shapes;
     ghost use Rattle.sequence.specs.Wanted.{room_of, rooms, value_of};
     ghost use Rattle.sequence.specs.Stored.{wanted_tags};
+    ghost use Rattle.sequence.specs.Coding.{coding_of};
+    ghost use Rattle.sequence.specs.declared.coding.Coding.TheVariants as codings;
     ghost use Rattle.sequence.specs.declared.fault.Fault.{Fault};
     ghost use Rattle.sequence.specs.machine.State.{state_of, kept_values, top, below, IsSameWalk, has_room, fits_wanted};
     ghost use Rattle.sequence.specs.Taken.{limits_of, walker_syntax, fault_of, StandsAt};
@@ -293,9 +296,8 @@ impl<const V: usize, const D: usize> Walker<V, D> {
         }
     }
 
-    /// Creates a walker at the beginning of a data set of at most `limit` bytes, which keeps the
-    /// wanted values.
-    pub fn new(syntax: Syntax, wanted: Wanted, limit: u64) -> Self
+    /// Creates a walker at the beginning of a data set that is laid out so.
+    fn coded(coding: Coding, wanted: Wanted, limit: u64) -> Self
         requires least_kept { 140 ≤ V }
         requires greatest_kept { V ≤ 2 ^ 24 }
         requires least_levels { 2 ≤ D }
@@ -303,13 +305,13 @@ impl<const V: usize, const D: usize> Walker<V, D> {
         requires limit { limit ≤ 2 ^ 48 }
         requires rooms { rooms (wanted_tags wanted) + 12 ≤ V }
         ensures stands { StandsAt result [] }
-        ensures syntax { walker_syntax result ≡ syntax }
+        ensures syntax { walker_syntax result ≡ coding }
         ensures limits { limits_of result ≡ record { wanted = wanted_tags wanted; depth = D; bytes = limit } }
     {
         Walker {
             root: Scope {
                 in_sequence: false,
-                syntax,
+                syntax: coding,
                 stop: None,
                 last: 0,
             },
@@ -320,6 +322,38 @@ impl<const V: usize, const D: usize> Walker<V, D> {
             levels: ArrayVec::new(),
             stage: Stage::Heading,
         }
+    }
+
+    /// Creates a walker at the beginning of a data set of at most `limit` bytes, which keeps the
+    /// wanted values.
+    pub fn new(syntax: Syntax, wanted: Wanted, limit: u64) -> Self
+        requires least_kept { 140 ≤ V }
+        requires greatest_kept { V ≤ 2 ^ 24 }
+        requires least_levels { 2 ≤ D }
+        requires greatest_levels { D ≤ 2 ^ 24 }
+        requires limit { limit ≤ 2 ^ 48 }
+        requires rooms { rooms (wanted_tags wanted) + 12 ≤ V }
+        ensures stands { StandsAt result [] }
+        ensures syntax { walker_syntax result ≡ coding_of syntax }
+        ensures limits { limits_of result ≡ record { wanted = wanted_tags wanted; depth = D; bytes = limit } }
+    {
+        Walker::coded(Coding::of(syntax), wanted, limit)
+    }
+
+    /// Creates a walker at the beginning of a data set of at most `limit` bytes in Explicit VR Little Endian, whose Pixel
+    /// Data may be encapsulated. It keeps the wanted values.
+    pub fn encapsulated(wanted: Wanted, limit: u64) -> Self
+        requires least_kept { 140 ≤ V }
+        requires greatest_kept { V ≤ 2 ^ 24 }
+        requires least_levels { 2 ≤ D }
+        requires greatest_levels { D ≤ 2 ^ 24 }
+        requires limit { limit ≤ 2 ^ 48 }
+        requires rooms { rooms (wanted_tags wanted) + 12 ≤ V }
+        ensures stands { StandsAt result [] }
+        ensures syntax { walker_syntax result ≡ codings.Encapsulated }
+        ensures limits { limits_of result ≡ record { wanted = wanted_tags wanted; depth = D; bytes = limit } }
+    {
+        Walker::coded(Coding::Encapsulated, wanted, limit)
     }
 
     /// Takes the first bytes of the piece, at least one of a piece that is not empty, unless a

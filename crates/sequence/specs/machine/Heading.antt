@@ -2,7 +2,8 @@
 use Rattle.std.specs.Prelude.{◌≡◌, ℕ, ◌-◌, ◌<◌, ◌≤◌, Bool, true, false, not, ◌&&◌, List, [], ◌∷◌, length, take, Some, None, is_none}
 use Rattle.element.specs.declared.tag.Tag.{Tag}
 use Rattle.element.specs.declared.header.Header.{Header}
-use Rattle.element.specs.declared.syntax.Syntax.{Syntax}
+use Rattle.sequence.specs.Coding.{layout}
+use Rattle.sequence.specs.declared.coding.Coding.{Coding}
 use Rattle.element.specs.declared.size.Need.TheVariants.{Size}
 use Rattle.element.specs.Header.{is_plain, need, is_whole, header_at}
 use Rattle.sequence.specs.declared.level.Scope.{Scope}
@@ -30,7 +31,7 @@ is_end ends.Part = false
 -- the bytes t of a header break no rule, and it is not whole
 pub record IsQuiet (lim : Limits) (spot : Spot) (t : List ℕ) : Type 0 where
   pub fine : broken lim spot t ≡ None
-  pub part : is_whole spot.syntax t ≡ false
+  pub part : is_whole (layout spot.syntax) t ≡ false
 
 -- the bytes t of a header break this rule
 abbrev pub IsRefused : Limits → Spot → List ℕ → Rule → Tag → Type 0
@@ -39,8 +40,8 @@ IsRefused lim spot t rule tag = broken lim spot t ≡ Some (rule_number rule, ta
 -- the bytes t are the header h, which breaks no rule, and this follows it
 pub record IsRead (lim : Limits) (spot : Spot) (t : List ℕ) (h : Header) (sh : Shape) : Type 0 where
   pub fine : broken lim spot t ≡ None
-  pub whole : is_whole spot.syntax t ≡ true
-  pub read : h ≡ header_at spot.syntax t
+  pub whole : is_whole (layout spot.syntax) t ≡ true
+  pub read : h ≡ header_at (layout spot.syntax) t
   pub shaped : sh ≡ shape spot.syntax h
 
 -- more than a, and at most c or 12
@@ -68,10 +69,10 @@ kept_by (ends.Whole n h sh) bytes = []
 kept_by ends.Part bytes = bytes
 
 -- the whole header that stands at the front of the bytes
-pub record IsFront (s : Syntax) (bytes : List ℕ) (front : Front) : Type 0 where
-  pub size-is : need s bytes ≡ Size front.size
+pub record IsFront (s : Coding) (bytes : List ℕ) (front : Front) : Type 0 where
+  pub size-is : need (layout s) bytes ≡ Size front.size
   pub within : front.size ≤ length bytes
-  pub read : front.header ≡ header_at s bytes
+  pub read : front.header ≡ header_at (layout s) bytes
   pub shaped : front.shape ≡ shape s front.header
 
 -- which rule the whole header h of so many bytes breaks
@@ -79,10 +80,10 @@ unfoldable pub broken_whole : Limits → Spot → ℕ → Header → Broken
 broken_whole lim spot size h =
     broken_due spot
     or_else broken_tag spot h.tag
-    or_else when (not (is_plain spot.syntax h.tag)) (broken_need spot (Size size) h.tag)
+    or_else when (not (is_plain (layout spot.syntax) h.tag)) (broken_need spot (Size size) h.tag)
     or_else broken_header lim spot size h
 
 -- the bytes t of a header that came before the place p, if any came, break no rule, and it is not whole
 abbrev pub is_begun : Limits → Scope → List Scope → ℕ → List ℕ → Bool
 is_begun lim f fs p [] = true
-is_begun lim f fs p (x ∷ t) = is_none (broken lim (spot_of f fs (p - length (x ∷ t))) (x ∷ t)) && not (is_whole f.syntax (x ∷ t))
+is_begun lim f fs p (x ∷ t) = is_none (broken lim (spot_of f fs (p - length (x ∷ t))) (x ∷ t)) && not (is_whole (layout f.syntax) (x ∷ t))

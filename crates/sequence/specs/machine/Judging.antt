@@ -1,5 +1,6 @@
 -- The limits of a walk, from its parts, and a broken rule by its number.
 use Rattle.std.specs.Prelude.{ℕ, List, length, Option, ◌&&◌, not, nat_le, option_map}
+use Rattle.sequence.specs.Coding.{layout}
 use Rattle.sequence.specs.declared.wanted.Want.{Want}
 use Rattle.sequence.specs.declared.spot.Bounds.{Bounds}
 use Rattle.sequence.specs.declared.spot.Spot.{Spot}
@@ -22,7 +23,7 @@ abbrev pub broken_at_tag : Spot → List ℕ → Broken
 broken_at_tag spot t = when (nat_le 4 (length t)) (broken_tag spot (tag_at t))
 
 abbrev pub broken_at_vr : Spot → List ℕ → Broken
-broken_at_vr spot t = when (nat_le 6 (length t) && not (is_plain spot.syntax (tag_at t))) (broken_need spot (need spot.syntax t) (tag_at t))
+broken_at_vr spot t = when (nat_le 6 (length t) && not (is_plain (layout spot.syntax) (tag_at t))) (broken_need spot (need (layout spot.syntax) t) (tag_at t))
 
 abbrev pub broken_at_end : Limits → Spot → List ℕ → Broken
-broken_at_end lim spot t = when (is_whole spot.syntax t) (broken_header lim spot (length t) (header_at spot.syntax t))
+broken_at_end lim spot t = when (is_whole (layout spot.syntax) t) (broken_header lim spot (length t) (header_at (layout spot.syntax) t))

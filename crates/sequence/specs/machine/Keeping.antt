@@ -2,6 +2,7 @@
 use Rattle.std.specs.Prelude.{ℕ, zero, suc, ◌+◌, ◌-◌, Bool, true, ◌&&◌, ◌||◌, List, [], ◌∷◌, ◌++◌, Option, Some, None, if◌then◌else◌, nat_eq, nat_le}
 use Rattle.element.specs.declared.header.Header.{Header}
 use Rattle.element.specs.Header.{number, is_marker, is_whole, header_at}
+use Rattle.sequence.specs.Coding.{layout}
 use Rattle.sequence.specs.declared.level.Scope.{Scope}
 use Rattle.sequence.specs.declared.wanted.Want.{Want}
 use Rattle.sequence.specs.declared.shape.Shape.{Shape}
@@ -37,7 +38,7 @@ keep_header lim f fs h values = if is_marker h.tag then values else keep_shaped 
 
 abbrev pub keep_headed : Limits → Broken → Scope → List Scope → List ℕ → Values → Values
 keep_headed lim (Some x) f fs t values = values
-keep_headed lim None f fs t values = if is_whole f.syntax t then keep_header lim f fs (header_at f.syntax t) values else values
+keep_headed lim None f fs t values = if is_whole (layout f.syntax) t then keep_header lim f fs (header_at (layout f.syntax) t) values else values
 
 abbrev pub keep_read : Limits → List Scope → ℕ → Values → ℕ → Values
 keep_read lim fs t values x = if wanted_at lim fs t then with_byte values x else values

@@ -1,6 +1,7 @@
 -- The walk as a machine that takes one byte after another: levels by where they end, the innermost first.
 use Rattle.std.specs.Prelude.{◌≡◌, ℕ, ◌+◌, ◌-◌, Bool, true, false, not, ◌&&◌, List, [], ◌∷◌, ◌++◌, length, Option, Some, None, nat_eq, nat_le, if◌then◌else◌}
-use Rattle.element.specs.declared.syntax.Syntax.{Syntax}
+use Rattle.sequence.specs.Coding.{layout}
+use Rattle.sequence.specs.declared.coding.Coding.{Coding}
 use Rattle.element.specs.declared.tag.Tag.{Tag}
 use Rattle.element.specs.declared.header.Header.{Header}
 use Rattle.sequence.specs.declared.level.Scope.{Scope}
@@ -11,10 +12,10 @@ use Rattle.sequence.specs.declared.shape.Shape.{Shape}
 use Rattle.sequence.specs.declared.shape.Shape.TheVariants.{Value, Sequence, NotAllowed}
 use Rattle.sequence.specs.Rules.{Limits, Broken, broken_due, broken, same_tag}
 
-abbrev pub set_scope : Syntax → Option ℕ → ℕ → Scope
+abbrev pub set_scope : Coding → Option ℕ → ℕ → Scope
 set_scope s stop last = record { in_sequence = false; syntax = s; stop = stop; last = last }
 
-abbrev pub sequence_scope : Syntax → Option ℕ → Scope
+abbrev pub sequence_scope : Coding → Option ℕ → Scope
 sequence_scope s stop = record { in_sequence = true; syntax = s; stop = stop; last = 0 }
 
 pub data Mode : Type 0 where
@@ -116,7 +117,7 @@ take_header p f fs h =
 
 abbrev pub headed_by : Broken → Scope → List Scope → ℕ → ℕ → List ℕ → State
 headed_by (Some x) f fs p start t = at f fs p (Stopped x.0 start x.1)
-headed_by None f fs p start t = if is_whole f.syntax t then take_header p f fs (header_at f.syntax t) else at f fs p (Heading start t)
+headed_by None f fs p start t = if is_whole (layout f.syntax) t then take_header p f fs (header_at (layout f.syntax) t) else at f fs p (Heading start t)
 
 -- t came of a header
 unfoldable pub headed : Limits → Scope → List Scope → ℕ → ℕ → List ℕ → State
@@ -138,7 +139,7 @@ unfoldable pub run : Limits → State → List ℕ → State
 run lim st [] = st
 run lim st (x ∷ xs) = run lim (next lim st x) xs
 
-abbrev pub start : Syntax → State
+abbrev pub start : Coding → State
 start s = at (set_scope s None 0) [] 0 (Heading 0 [])
 
 -- where a mode is taken up after so many bytes: no byte of a header came, and a fault is at this place

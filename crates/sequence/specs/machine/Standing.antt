@@ -1,6 +1,6 @@
 -- The text at which the machine stands.
 use Rattle.std.specs.Prelude.{◌≡◌, ℕ, ◌+◌, ◌<◌, ◌≤◌, ◌≢◌, false, is_some, if◌then◌else◌, List, [], ◌∷◌, ◌++◌, length, Option, Some, None}
-use Rattle.element.specs.declared.syntax.Syntax.{Syntax}
+use Rattle.sequence.specs.declared.coding.Coding.{Coding}
 use Rattle.element.specs.declared.tag.Tag.{Tag}
 use Rattle.element.specs.declared.header.Header.{Header}
 pub use Rattle.element.specs.Numbers.{IsBytes}
@@ -23,13 +23,13 @@ abbrev pub IsLength : ℕ → Type 0
 IsLength n = n ≢ undefined_length → IsEven n
 
 -- in a data set of syntax s the text leads to these levels, the innermost first, and has these wanted values
-pub data Reaches (s : Syntax) (ws : List Want) : Values → Scope → List Scope → List ℕ → Type 0 where
+pub data Reaches (s : Coding) (ws : List Want) : Values → Scope → List Scope → List ℕ → Type 0 where
   at_root : {es : Elements} {b : List ℕ} {last : ℕ} {values : Values} → DataSet s 0 es b → last ≡ last_of 0 es → values ≡ kept_of ws es → FitRooms ws es → Reaches s ws values (set_scope s None last) [] b
-  into_sequence : {s1 : Syntax} {stop out : Option ℕ} {last : ℕ} {fs : List Scope} {q : List ℕ} {h : Header} {hb : List ℕ} {inner : Syntax} {is : Items} {ib b : List ℕ} {k : ℕ} {values : Values}
+  into_sequence : {s1 : Coding} {stop out : Option ℕ} {last : ℕ} {fs : List Scope} {q : List ℕ} {h : Header} {hb : List ℕ} {inner : Coding} {is : Items} {ib b : List ℕ} {k : ℕ} {values : Values}
       → Reaches s ws values (set_scope s1 out last) fs q → IsElement s1 last h hb → shape s1 h ≡ Sequence inner → IsLength h.length → h.length ≢ 0 → ItemList inner is ib
       → stop ≡ stop_of (length (q ++ hb)) h.length → k ≡ number h.tag → b ≡ q ++ (hb ++ ib)
       → Reaches s ws values (sequence_scope inner stop) (set_scope s1 out k ∷ fs) b
-  into_item : {s1 : Syntax} {stop out : Option ℕ} {last : ℕ} {fs : List Scope} {q : List ℕ} {h : Header} {hb : List ℕ} {es : Elements} {eb b : List ℕ} {values : Values}
+  into_item : {s1 : Coding} {stop out : Option ℕ} {last : ℕ} {fs : List Scope} {q : List ℕ} {h : Header} {hb : List ℕ} {es : Elements} {eb b : List ℕ} {values : Values}
       → Reaches s ws values (sequence_scope s1 out) fs q → IsItem s1 h hb → IsLength h.length → h.length ≢ 0 → DataSet s1 0 es eb
       → stop ≡ stop_of (length (q ++ hb)) h.length → last ≡ last_of 0 es → b ≡ q ++ (hb ++ eb)
       → Reaches s ws values (set_scope s1 stop last) (sequence_scope s1 out ∷ fs) b
@@ -56,7 +56,7 @@ pub record AreLevels (lim : Limits) (f : Scope) (fs : List Scope) (n : ℕ) : Ty
   pub short : n ≤ lim.bytes
 
 -- after the text `before` a header is due
-pub record IsDue (s : Syntax) (lim : Limits) (values : Values) (f : Scope) (fs : List Scope) (before : List ℕ) : Type 0 where
+pub record IsDue (s : Coding) (lim : Limits) (values : Values) (f : Scope) (fs : List Scope) (before : List ℕ) : Type 0 where
   pub reaches : Reaches s lim.wanted values f fs before
   pub levels : AreLevels lim f fs (length before)
   pub stays : stops_at f.stop (length before) ≡ false
@@ -66,7 +66,7 @@ abbrev pub Unbroken : Limits → Spot → List ℕ → Type 0
 Unbroken lim spot t = (u v : List ℕ) → t ≡ u ++ v → broken lim spot u ≡ None
 
 -- of a header that is due after the text `before`, the bytes t came
-pub record IsHeading (s : Syntax) (lim : Limits) (values : Values) (f : Scope) (fs : List Scope) (begin : ℕ) (t b : List ℕ) : Type 0 where
+pub record IsHeading (s : Coding) (lim : Limits) (values : Values) (f : Scope) (fs : List Scope) (begin : ℕ) (t b : List ℕ) : Type 0 where
   pub before : List ℕ
   pub due : IsDue s lim values f fs before
   pub place : begin ≡ length before
@@ -81,7 +81,7 @@ IsFit ws [] t n = (room : ℕ) → room_of ws t ≡ Some room → n ≤ room
 IsFit ws (f ∷ fs) t n = Unit {0}
 
 -- of the value after the header h, n bytes are due
-pub record IsReading (s : Syntax) (lim : Limits) (values : Values) (f : Scope) (fs : List Scope) (t : Tag) (n : ℕ) (b : List ℕ) : Type 0 where
+pub record IsReading (s : Coding) (lim : Limits) (values : Values) (f : Scope) (fs : List Scope) (t : Tag) (n : ℕ) (b : List ℕ) : Type 0 where
   pub before : List ℕ
   pub whole : Values
   pub last : ℕ
@@ -102,7 +102,7 @@ pub record IsReading (s : Syntax) (lim : Limits) (values : Values) (f : Scope) (
   pub kept : values ≡ with_value lim fs (number h.tag) v whole
 
 -- the bytes u of a header broke a rule
-pub record IsStopped (s : Syntax) (lim : Limits) (values : Values) (f : Scope) (fs : List Scope) (p rule place : ℕ) (t : Tag) (b : List ℕ) : Type 0 where
+pub record IsStopped (s : Coding) (lim : Limits) (values : Values) (f : Scope) (fs : List Scope) (p rule place : ℕ) (t : Tag) (b : List ℕ) : Type 0 where
   pub before : List ℕ
   pub u : List ℕ
   pub rest : List ℕ
@@ -115,11 +115,11 @@ pub record IsStopped (s : Syntax) (lim : Limits) (values : Values) (f : Scope) (
   -- and goes on no farther than one header
   pub one_header : (w : List ℕ) (x : ℕ) (z : List ℕ) → u ≡ w ++ x ∷ z → IsUnfinishedHeader f.syntax w
 
-abbrev pub StandsIn : Syntax → Limits → Values → Scope → List Scope → ℕ → Mode → List ℕ → Type 0
+abbrev pub StandsIn : Coding → Limits → Values → Scope → List Scope → ℕ → Mode → List ℕ → Type 0
 StandsIn s lim values f fs p (Heading begin t) b = (p ≡ length b) × IsHeading s lim values f fs begin t b
 StandsIn s lim values f fs p (Reading t n) b = (p ≡ length b) × IsReading s lim values f fs t n b
 StandsIn s lim values f fs p (Stopped rule place t) b = IsStopped s lim values f fs p rule place t b
 
 -- the machine stands at b, with these wanted values
-abbrev pub Stands : Syntax → Limits → State → Values → List ℕ → Type 0
+abbrev pub Stands : Coding → Limits → State → Values → List ℕ → Type 0
 Stands s lim st values b = StandsIn s lim values st.top st.below st.place st.mode b

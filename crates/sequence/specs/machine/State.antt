@@ -1,6 +1,6 @@
 -- The machine's state that a walker keeps.
 use Rattle.std.specs.Prelude.{◌≡◌, ℕ, ◌-◌, List, [], length, Bool, not, ◌&&◌, ◌||◌, nat_eq, nat_le}
-use Rattle.element.specs.declared.syntax.Syntax.{Syntax}
+use Rattle.sequence.specs.declared.coding.Coding.{Coding}
 use Rattle.element.specs.declared.header.Header.{Header}
 use Rattle.element.specs.Header.{number, is_marker}
 use Rattle.sequence.specs.declared.level.Scope.{Scope}
@@ -43,9 +43,9 @@ pub record IsSameWalk {V D : ℕ} (old new : Walker V D) : Type 0 where
   pub wanted : wants_of new.kept ≡ wants_of old.kept
 
 -- a level that the header opens has room
-abbrev pub has_room : ℕ → ℕ → Syntax → Header → Bool
+abbrev pub has_room : ℕ → ℕ → Coding → Header → Bool
 has_room limit depth s h = not (((is_marker h.tag || is_sequence (shape s h)) && not (nat_eq h.length 0)) && nat_le limit depth)
 
 -- a wanted value that it begins has room
-abbrev pub fits_wanted : List Want → ℕ → Syntax → Header → Bool
+abbrev pub fits_wanted : List Want → ℕ → Coding → Header → Bool
 fits_wanted ws depth s h = not (((nat_eq depth 0 && not (is_marker h.tag)) && is_value (shape s h)) && passes (room_of ws (number h.tag)) h.length)

@@ -1,6 +1,7 @@
 -- What a step took of a header, and the bytes of a value that are kept.
 use Rattle.std.specs.Prelude.{◌≡◌, ℕ, ◌+◌, ◌<◌, true, List, [], ◌∷◌, ◌++◌, length, take, Option, Some, None}
-use Rattle.element.specs.declared.syntax.Syntax.{Syntax}
+use Rattle.sequence.specs.Coding.{layout}
+use Rattle.sequence.specs.declared.coding.Coding.{Coding}
 use Rattle.element.specs.declared.header.Header.{Header}
 use Rattle.element.specs.Header.{is_whole, header_at}
 use Rattle.sequence.specs.declared.stage.Stage.{Stage}
@@ -15,17 +16,17 @@ with_bytes values [] = values
 with_bytes values (x ∷ xs) = with_bytes (with_byte values x) xs
 
 -- the bytes `taken` after t, the beginning of a header in syntax s, are all up to the end of the header h
-pub record IsMade (s : Syntax) (t taken : List ℕ) (h : Header) : Type 0 where
+pub record IsMade (s : Coding) (t taken : List ℕ) (h : Header) : Type 0 where
   pub front : List ℕ
   pub byte : ℕ
   pub text : taken ≡ front ++ byte ∷ []
   pub part : IsUnfinishedHeader s (t ++ front)
-  pub whole : is_whole s (t ++ taken) ≡ true
-  pub read : header_at s (t ++ taken) ≡ h
+  pub whole : is_whole (layout s) (t ++ taken) ≡ true
+  pub read : header_at (layout s) (t ++ taken) ≡ h
 
 -- after t, the beginning of a header in syntax s that ends at this place, n bytes of the piece are taken: all up to a
 -- refusal or the end of the header, and else the piece
-abbrev pub IsTaken : Syntax → List ℕ → List ℕ → ℕ → ℕ → Stage → List ℕ → Option Header → Type 0
+abbrev pub IsTaken : Coding → List ℕ → List ℕ → ℕ → ℕ → Stage → List ℕ → Option Header → Type 0
 IsTaken s t piece place n (stages.Stopped fault) header (Some h) = IsMade s t (take n piece) h × (fault.place ≡ place + n)
 IsTaken s t piece place n (stages.Stopped fault) header None = (fault.place + length t ≡ place) × (0 < n)
 IsTaken s t piece place n stages.Heading header (Some h) = IsMade s t (take n piece) h × (header ≡ [])

@@ -2,12 +2,13 @@
 //! and by `levels` alone. A further field does not compile here before it is named.
 
 use super::Walker;
+use crate::coding::Coding;
 use crate::fault::Fault;
 use crate::keep::Keep;
 use crate::level::{Level, Scope};
 use crate::stage::Stage;
 use arrayvec::ArrayVec;
-use element::{Syntax, Tag};
+use element::Tag;
 
 fn fields<const V: usize, const D: usize>(walker: &Walker<V, D>) {
     let Walker {
@@ -34,12 +35,12 @@ fn level_fields(level: &Level) {
         end,
         last,
         kind,
-        implicit,
+        coding,
     } = level;
     let _: &u64 = end;
     let _: &u32 = last;
     let _: &u8 = kind;
-    let _: &u8 = implicit;
+    let _: &u8 = coding;
 }
 
 fn scope_fields(scope: &Scope) {
@@ -53,8 +54,10 @@ fn scope_fields(scope: &Scope) {
     let _: &Option<u64> = stop;
     let _: &u32 = last;
     match syntax {
-        Syntax::Implicit => {}
-        Syntax::Explicit => {}
+        Coding::Implicit => {}
+        Coding::Explicit => {}
+        Coding::Encapsulated => {}
+        Coding::Fragments => {}
     }
 }
 

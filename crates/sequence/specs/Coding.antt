@@ -1,0 +1,25 @@
+-- How a data set, or a part of one, is laid out (PS3.5 sections A.1, A.2 and A.4).
+use Rattle.std.specs.Prelude.{Bool, true, false}
+use Rattle.element.specs.declared.syntax.Syntax.{Syntax}
+use Rattle.element.specs.declared.syntax.Syntax.TheVariants as syntaxes
+use Rattle.sequence.specs.declared.coding.Coding.{Coding}
+use Rattle.sequence.specs.declared.coding.Coding.TheVariants.{Implicit, Explicit, Encapsulated, Fragments}
+
+-- the coding of a data set in this syntax, in which no Pixel Data is encapsulated
+abbrev pub coding_of : Syntax → Coding
+coding_of syntaxes.Implicit = Implicit
+coding_of syntaxes.Explicit = Explicit
+
+-- how headers are laid out in it
+abbrev pub layout : Coding → Syntax
+layout Implicit = syntaxes.Implicit
+layout Explicit = syntaxes.Explicit
+layout Encapsulated = syntaxes.Explicit
+layout Fragments = syntaxes.Explicit
+
+-- whether its items hold bytes, and no elements
+abbrev pub has_fragments : Coding → Bool
+has_fragments Implicit = false
+has_fragments Explicit = false
+has_fragments Encapsulated = false
+has_fragments Fragments = true
