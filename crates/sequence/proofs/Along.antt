@@ -2,7 +2,7 @@
 use Rattle.std.proofs.Common.{◌≡◌, ℕ, ◌<◌, ◌≤◌, List, [], ◌++◌, length, take, drop, refl, sym, ap, subst, ◌∙◌, arith, append-nil}
 use Rattle.sequence.specs.Coding.{layout}
 use Rattle.sequence.specs.declared.coding.Coding.{Coding}
-use Rattle.sequence.specs.declared.coding.Coding.TheVariants.{Implicit, Explicit}
+use Rattle.sequence.specs.declared.coding.Coding.TheVariants.{Implicit, Explicit, Encapsulated}
 use Rattle.element.specs.declared.tag.Tag.{Tag}
 use Rattle.element.specs.declared.size.Need.TheVariants.{Size}
 use Rattle.element.specs.Header.{need, is_whole, header_at, SpellsHeader}
@@ -19,7 +19,7 @@ use Rattle.sequence.specs.Answering.{EndsHeader, EndsRun, element, opened, close
 use Rattle.sequence.specs.machine.Machine.{at, Heading, Reading, start, due, arrive, begin_value, begin_level, leave, take_header, headed, read, run}
 use Rattle.sequence.specs.machine.Keeping.{keeps}
 use Rattle.sequence.specs.machine.Standing.{IsBytes, IsHeading, IsReading, Stands}
-use Rattle.sequence.specs.Examples.{levels_of, one_store, four_levels, AlongOneStore, AlongFourLevels}
+use Rattle.sequence.specs.Examples.{levels_of, one_store, four_levels, AlongOneStore, AlongFourLevels, one_frame, AlongOneFrame}
 use Rattle.sequence.proofs.Quiet.{need_least}
 use Rattle.sequence.proofs.Telling.{open_due, due_open}
 use Rattle.sequence.proofs.Tales.{stands, spot_is, reading_front, goes_unbroken}
@@ -77,4 +77,18 @@ along_four_levels = (
   closed (goes_unbroken Implicit (levels_of 64) (take 50 four_levels) (λ k. k)) (header_along Implicit (levels_of 64) (take 42 four_levels) (take 8 (drop 42 four_levels)) _ _ _ _ (bytes_by (take 42 four_levels) refl) (bytes_by (take 8 (drop 42 four_levels)) refl) refl refl) refl refl,
   element (goes_unbroken Implicit (levels_of 64) (take 58 four_levels) (λ k. k)) (header_along Implicit (levels_of 64) (take 50 four_levels) (take 8 (drop 50 four_levels)) _ _ _ _ (bytes_by (take 50 four_levels) refl) (bytes_by (take 8 (drop 50 four_levels)) refl) refl refl) refl,
   λ step is. runs (goes_unbroken Implicit (levels_of 64) four_levels (λ k. k)) (value_along Implicit (levels_of 64) (take 58 four_levels) (take 2 (drop 58 four_levels)) _ _ _ _ _ (bytes_by (take 58 four_levels) refl) refl (omega arith) (omega arith)) is,
+)
+
+pub along_one_frame : AlongOneFrame
+unfolding need is_whole header_at is_short row_of broken_tag broken_header broken due arrive begin_value begin_level leave take_header headed read run
+along_one_frame = (
+  element (goes_unbroken Encapsulated (levels_of 64) (take 12 one_frame) (λ k. k)) (header_along Encapsulated (levels_of 64) [] (take 12 one_frame) _ _ _ _ (bytes_by [] refl) (bytes_by (take 12 one_frame) refl) refl refl) refl,
+  opened (goes_unbroken Encapsulated (levels_of 64) (take 20 one_frame) (λ k. k)) (header_along Encapsulated (levels_of 64) (take 12 one_frame) (take 8 (drop 12 one_frame)) _ _ _ _ (bytes_by (take 12 one_frame) refl) (bytes_by (take 8 (drop 12 one_frame)) refl) refl refl) refl refl,
+  opened (goes_unbroken Encapsulated (levels_of 64) (take 28 one_frame) (λ k. k)) (header_along Encapsulated (levels_of 64) (take 20 one_frame) (take 8 (drop 20 one_frame)) _ _ _ _ (bytes_by (take 20 one_frame) refl) (bytes_by (take 8 (drop 20 one_frame)) refl) refl refl) refl refl,
+  λ step is. runs (goes_unbroken Encapsulated (levels_of 64) (take 32 one_frame) (λ k. k)) (value_along Encapsulated (levels_of 64) (take 28 one_frame) (take 4 (drop 28 one_frame)) _ _ _ _ _ (bytes_by (take 28 one_frame) refl) refl (omega arith) (omega arith)) is,
+  opened (goes_unbroken Encapsulated (levels_of 64) (take 40 one_frame) (λ k. k)) (header_along Encapsulated (levels_of 64) (take 32 one_frame) (take 8 (drop 32 one_frame)) _ _ _ _ (bytes_by (take 32 one_frame) refl) (bytes_by (take 8 (drop 32 one_frame)) refl) refl refl) refl refl,
+  λ step is. runs (goes_unbroken Encapsulated (levels_of 64) (take 42 one_frame) (λ k. k)) (value_along Encapsulated (levels_of 64) (take 40 one_frame) (take 2 (drop 40 one_frame)) _ _ _ _ _ (bytes_by (take 40 one_frame) refl) refl (omega arith) (omega arith)) is,
+  opened (goes_unbroken Encapsulated (levels_of 64) (take 50 one_frame) (λ k. k)) (header_along Encapsulated (levels_of 64) (take 42 one_frame) (take 8 (drop 42 one_frame)) _ _ _ _ (bytes_by (take 42 one_frame) refl) (bytes_by (take 8 (drop 42 one_frame)) refl) refl refl) refl refl,
+  λ step is. runs (goes_unbroken Encapsulated (levels_of 64) (take 52 one_frame) (λ k. k)) (value_along Encapsulated (levels_of 64) (take 50 one_frame) (take 2 (drop 50 one_frame)) _ _ _ _ _ (bytes_by (take 50 one_frame) refl) refl (omega arith) (omega arith)) is,
+  closed (goes_unbroken Encapsulated (levels_of 64) one_frame (λ k. k)) (header_along Encapsulated (levels_of 64) (take 52 one_frame) (take 8 (drop 52 one_frame)) _ _ _ _ (bytes_by (take 52 one_frame) refl) (bytes_by (take 8 (drop 52 one_frame)) refl) refl refl) refl refl,
 )

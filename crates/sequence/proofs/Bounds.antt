@@ -1,5 +1,5 @@
 -- What a walk holds has a bound: the rooms of the wanted values, an unfinished header, and 16 for each level of the limit.
-use Rattle.std.proofs.Common.{◌≡◌, ℕ, ◌+◌, ◌*◌, ◌<◌, ◌≤◌, Bool, true, false, ◌&&◌, List, [], ◌∷◌, ◌++◌, length, Option, Some, None, is_some, nat_eq, nat_lt, refl, ap, arith, inl, inr, eqb-true, if◌then◌else◌}
+use Rattle.std.proofs.Common.{◌≡◌, ℕ, ◌+◌, ◌*◌, ◌<◌, ◌≤◌, Bool, true, false, ◌&&◌, List, [], ◌∷◌, ◌++◌, length, Option, Some, None, is_some, nat_eq, nat_lt, refl, ap, ◌∙◌, arith, inl, inr, eqb-true, if◌then◌else◌}
 use Rattle.std.proofs.lemmas.Bool.{cases_lt, lt-ltb, le-ltb}
 use Rattle.sequence.specs.declared.coding.Coding.{Coding}
 use Rattle.element.specs.Header.{number}
@@ -15,8 +15,9 @@ use Rattle.sequence.specs.Laws.{HeldHasABound}
 use Rattle.sequence.specs.machine.Machine.{Mode, Heading, Reading, Stopped, run, start}
 use Rattle.sequence.specs.machine.Keeping.{keeps, with_value}
 use Rattle.sequence.specs.machine.Reported.{header_in, told_in}
-use Rattle.sequence.specs.machine.Standing.{Reaches, at_root, into_sequence, into_item, IsFit, IsReading, StandsIn}
+use Rattle.sequence.specs.machine.Standing.{Reaches, at_root, into_sequence, into_item, IsFit, BeginsIn, an_element, a_fragment, IsReading, StandsIn}
 use Rattle.sequence.proofs.Parts.{part_short}
+use Rattle.sequence.proofs.Taking.{inside_kept}
 use Rattle.sequence.proofs.Tales.{stands, tells}
 use Rattle.sequence.proofs.Tellings.{one_telling}
 
@@ -100,8 +101,11 @@ begun_small lim [] last t n v whole le lt fit few = by (room_of lim.wanted t) re
     by (Some room) e = omega (arith, le, few, fit room e, room_above last t room lim.wanted lt e, size_with whole (t, v))
 
 reading_small : (s : Coding) (lim : Limits) (values : Values) (f : Scope) (fs : List Scope) (n : ℕ) (b : List ℕ) {t : _} → IsReading s lim values f fs t n b → size_of_values values ≤ rooms lim.wanted
-reading_small s lim values f fs n b r =
-    omega (arith, ap size_of_values r.kept, begun_small lim fs r.last (number r.h.tag) r.h.length r.v r.whole (reached_small r.reaches) r.element.rising r.fits (let size = r.size in omega (arith, size)))
+reading_small s lim values f fs n b r = by r.begins
+  where
+    by : BeginsIn lim.wanted r.round fs r.h r.hb → size_of_values values ≤ rooms lim.wanted
+    by (an_element here el sh fits) = omega (arith, ap size_of_values r.kept, begun_small lim fs r.round.last (number r.h.tag) r.h.length r.v r.whole (reached_small r.reaches) el.rising fits (let size = r.size in omega (arith, size)))
+    by (a_fragment here it) = omega (arith, ap size_of_values (r.kept ∙ inside_kept lim (number r.h.tag) r.v r.whole r.reaches here), reached_small r.reaches)
 
 mode_small : (s : Coding) (lim : Limits) (values : Values) (f : Scope) (fs : List Scope) (p : ℕ) (m : Mode) (b : List ℕ) → StandsIn s lim values f fs p m b → header_in m + size_of_values values + 16 * length fs ≤ 12 + rooms lim.wanted + 16 * lim.depth
 mode_small s lim values f fs p (Heading begin t) b h = omega (arith, part_short f.syntax t h.1.tail, reached_small h.1.due.reaches, h.1.due.levels.deep)

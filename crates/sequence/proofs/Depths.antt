@@ -4,7 +4,7 @@ use Rattle.sequence.specs.declared.coding.Coding.{Coding}
 use Rattle.sequence.specs.declared.level.Scope.{Scope}
 use Rattle.sequence.specs.Shape.{is_undefined}
 use Rattle.sequence.specs.Tree.{Elements}
-use Rattle.sequence.specs.Open.{PathEntry, Tail, in_header, header_tail, left_of, item_entry, text_of, entry_of, IsOpenLevel, IsInnermost, Nested, at_elements, in_sequence_of, in_item_of, Open}
+use Rattle.sequence.specs.Open.{PathEntry, Tail, in_header, header_tail, header_of_item, left_of, item_entry, text_of, entry_of, IsOpenLevel, IsInnermost, Nested, at_elements, in_sequence_of, in_item_of, Open}
 use Rattle.sequence.specs.Wanted.{Values}
 use Rattle.sequence.specs.Rules.{Limits, Broken, broken_due}
 use Rattle.sequence.specs.machine.Machine.{set_scope, State, Mode, Heading, Reading, Stopped, spot_of, arrive, due, due_by, run, start}
@@ -62,7 +62,7 @@ cut (in_sequence_of q {t = t} level tail) i =
       elements = _;
       path2 = _;
       last = _;
-      nested = in_sequence_of q (less_level q.header.length (length (q.item_bytes ++ t)) (length (q.item_bytes ++ [])) le level) (no_header q.inner);
+      nested = in_sequence_of q (less_level q.header.length (length (q.item_bytes ++ t)) (length (q.item_bytes ++ [])) le level) (header_of_item (no_header q.inner));
       same = refl;
       innermost = less_left q.header.length (length (q.item_bytes ++ t)) (length (q.item_bytes ++ [])) le i;
     }

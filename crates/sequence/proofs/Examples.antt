@@ -1,7 +1,7 @@
 -- The texts on which the definitions of data sets are tried.
-use Rattle.std.proofs.Common.{◌≡◌, ℕ, zero, suc, ◌&&◌, Bool, true, false, List, [], ◌∷◌, nat_lt, take, refl, lit<, ltb-true}
+use Rattle.std.proofs.Common.{◌≡◌, ℕ, zero, suc, ◌&&◌, Bool, true, false, List, [], ◌∷◌, ◌++◌, nat_lt, take, refl, lit<, ltb-true}
 use Rattle.std.specs.List.{list_all}
-use Rattle.sequence.specs.declared.coding.Coding.TheVariants.{Implicit, Explicit}
+use Rattle.sequence.specs.declared.coding.Coding.TheVariants.{Implicit, Explicit, Encapsulated}
 use Rattle.element.specs.Header.{need, is_whole, header_at}
 use Rattle.element.specs.Vr.{is_short}
 use Rattle.dictionary.specs.Tags.{row_of}
@@ -9,7 +9,7 @@ use Rattle.sequence.specs.Rules.{broken_tag, broken_header, broken}
 use Rattle.sequence.specs.machine.Machine.{due, arrive, begin_value, begin_level, leave, take_header, headed, read, run}
 use Rattle.sequence.specs.machine.Keeping.{keep_header, keeps}
 use Rattle.sequence.specs.machine.Standing.{IsBytes}
-use Rattle.sequence.specs.Examples.{wanting, levels_of, identifiers, two_levels, four_levels, past_item, level_past_item, third_level, empty_third, unknown, pixels, one_store, TwoOpenLevels, FourLevels, PastItsItem, TooDeep, UnknownContent, OneStore}
+use Rattle.sequence.specs.Examples.{wanting, levels_of, identifiers, two_levels, four_levels, past_item, level_past_item, third_level, empty_third, unknown, pixels, one_store, TwoOpenLevels, FourLevels, PastItsItem, TooDeep, UnknownContent, OneStore, pixel_data_header, one_frame, two_frames, icon, OneFrame, TwoFrames, AnIcon, NoFragment}
 use Rattle.sequence.proofs.Tales.{tells}
 
 both_left : (a b : Bool) → (a && b) ≡ true → a ≡ true
@@ -62,3 +62,35 @@ unknown_content wanted = (
 pub one_store_reported : OneStore
 unfolding need is_whole header_at is_short row_of broken_tag broken_header broken due arrive begin_value begin_level leave take_header headed read run keep_header keeps
 one_store_reported = tells Explicit (wanting identifiers 64) one_store (bytes_by one_store refl)
+
+pub one_frame_walked : OneFrame
+unfolding need is_whole header_at is_short row_of broken_tag broken_header broken due arrive begin_value begin_level leave take_header headed read run keep_header keeps
+one_frame_walked wanted = (
+  tells Encapsulated (wanting wanted 1) one_frame (bytes_by one_frame refl),
+  tells Encapsulated (wanting wanted 1) (take 30 one_frame) (bytes_by (take 30 one_frame) refl),
+  tells Encapsulated (wanting wanted 1) (take 55 one_frame) (bytes_by (take 55 one_frame) refl),
+  tells Encapsulated (wanting wanted 0) one_frame (bytes_by one_frame refl),
+  tells Explicit (wanting wanted 1) one_frame (bytes_by one_frame refl),
+)
+
+pub two_frames_walked : TwoFrames
+unfolding need is_whole header_at is_short row_of broken_tag broken_header broken due arrive begin_value begin_level leave take_header headed read run keep_header keeps
+two_frames_walked wanted = tells Encapsulated (wanting wanted 1) two_frames (bytes_by two_frames refl)
+
+pub an_icon : AnIcon
+unfolding need is_whole header_at is_short row_of broken_tag broken_header broken due arrive begin_value begin_level leave take_header headed read run keep_header keeps
+an_icon wanted = (
+  tells Encapsulated (wanting wanted 3) icon (bytes_by icon refl),
+  tells Encapsulated (wanting wanted 3) (take 49 icon) (bytes_by (take 49 icon) refl),
+  tells Encapsulated (wanting wanted 3) (take 58 icon) (bytes_by (take 58 icon) refl),
+)
+
+pub no_fragment : NoFragment
+unfolding need is_whole header_at is_short row_of broken_tag broken_header broken due arrive begin_value begin_level leave take_header headed read run keep_header keeps
+no_fragment wanted = (
+  tells Encapsulated (wanting wanted 64) (pixel_data_header ++ (254 ∷ 255 ∷ 0 ∷ 224 ∷ 255 ∷ 255 ∷ 255 ∷ 255 ∷ [])) (bytes_by (pixel_data_header ++ (254 ∷ 255 ∷ 0 ∷ 224 ∷ 255 ∷ 255 ∷ 255 ∷ 255 ∷ [])) refl),
+  tells Encapsulated (wanting wanted 64) (pixel_data_header ++ (254 ∷ 255 ∷ 0 ∷ 224 ∷ 3 ∷ 0 ∷ 0 ∷ 0 ∷ [])) (bytes_by (pixel_data_header ++ (254 ∷ 255 ∷ 0 ∷ 224 ∷ 3 ∷ 0 ∷ 0 ∷ 0 ∷ [])) refl),
+  tells Encapsulated (wanting wanted 64) (pixel_data_header ++ (254 ∷ 255 ∷ 13 ∷ 224 ∷ [])) (bytes_by (pixel_data_header ++ (254 ∷ 255 ∷ 13 ∷ 224 ∷ [])) refl),
+  tells Encapsulated (wanting wanted 64) (pixel_data_header ++ (8 ∷ 0 ∷ 96 ∷ 0 ∷ [])) (bytes_by (pixel_data_header ++ (8 ∷ 0 ∷ 96 ∷ 0 ∷ [])) refl),
+  tells Encapsulated (wanting wanted 64) (pixel_data_header ++ (254 ∷ 255 ∷ 221 ∷ 224 ∷ 2 ∷ 0 ∷ 0 ∷ 0 ∷ [])) (bytes_by (pixel_data_header ++ (254 ∷ 255 ∷ 221 ∷ 224 ∷ 2 ∷ 0 ∷ 0 ∷ 0 ∷ [])) refl),
+)

@@ -8,7 +8,7 @@ use Rattle.sequence.specs.declared.shape.Shape.TheVariants.{Sequence}
 use Rattle.element.specs.Header.{number}
 use Rattle.sequence.specs.Shape.{is_undefined, undefined_length, shape}
 use Rattle.sequence.specs.Tree.{Elements, Items, IsElement, IsItem, DataSet, ItemList}
-use Rattle.sequence.specs.Open.{last_of, PathEntry, Tail, in_header, IsTail, header_tail, value_tail, left_of, sequence_entry, item_entry, IsOpenLevel, Nested, at_elements, in_sequence_of, in_item_of}
+use Rattle.sequence.specs.Open.{last_of, PathEntry, Tail, in_header, IsTail, header_tail, value_tail, IsItemTail, header_of_item, value_of_fragment, left_of, sequence_entry, item_entry, IsOpenLevel, Nested, at_elements, in_sequence_of, in_item_of}
 use Rattle.sequence.specs.machine.Machine.{set_scope, sequence_scope, State, arrive, stop_of, begin_level, run}
 pub use Rattle.sequence.specs.Holding.{stop_at, scope_at}
 use Rattle.element.proofs.Public.{spelled_long}
@@ -85,7 +85,7 @@ item_step lim s k kb b2 path last it level goes stop fs p q room q-is =
     let size : q ≡ p + length kb + length b2 = omega (arith, q-is, length-append kb b2) in
     let long = spelled_long it.spelled in
     let first : Goes (run lim (arrive p (sequence_scope s stop) fs) kb) (arrive (p + length kb) (set_scope s (stop_of (p + length kb) k.length) 0) (sequence_scope s stop ∷ fs)) =
-    subst (λ z. Goes (run lim (arrive p (sequence_scope s stop) fs) kb) z) (taken_item (p + length kb) (sequence_scope s stop) fs k it.tagged ∙ opened (p + length kb) _ _ fs k.length level.some)
+    subst (λ z. Goes (run lim (arrive p (sequence_scope s stop) fs) kb) z) (taken_item (p + length kb) (sequence_scope s stop) fs k it.tagged it.nests ∙ opened (p + length kb) _ _ fs k.length level.some)
     (header_run lim (sequence_scope s stop) fs p (p + length kb) k kb it.spelled (open_from_lasts stop p (length kb) (lasts_less stop (p + length kb) q room (omega arith)) (omega arith)) refl) in
     let holds : LastsTo (stop_of (p + length kb) k.length) q = lasts_to_stop (p + length kb) k.length q (λ d. omega (arith, level.within d)) in
     let second = goes (stop_of (p + length kb) k.length) (sequence_scope s stop ∷ fs) (p + length kb) q holds size in
@@ -125,11 +125,15 @@ nothing_left : {s : Coding} {last : ℕ} {tail : Tail} {t : List ℕ} → IsTail
 nothing_left (header_tail part) e = cc
 nothing_left (value_tail v el sh lt) e = absurd cc
 
+no_item_left : {s : Coding} {tail : Tail} {t : List ℕ} → IsItemTail s tail t → tail ≡ in_header [] → t ≡ []
+no_item_left (header_of_item part) e = cc
+no_item_left (value_of_fragment v it lt) e = absurd cc
+
 -- where a header is due, the machine has the levels of the path, or has stopped
 pub nested_run : (lim : Limits) {s : Coding} {b : List ℕ} {es : Elements} {path : List PathEntry} {last : ℕ} {tail : Tail} → Nested s b es path last tail → tail ≡ in_header [] → Leads lim s b path last
 nested_run lim (at_elements {s = s} {es = es} {b = b} {t = t} set tail) e = subst (λ z. Leads lim s (b ++ z) [] (last_of 0 es)) (sym (nothing_left tail e)) (elements_lead lim s es b set)
 nested_run lim (in_sequence_of {s = s} q {t = t} level tail) e =
-    let nil : t ≡ [] = cc in
+    let nil : t ≡ [] = no_item_left tail e in
     let none : q.item_bytes ++ t ≡ q.item_bytes = ap (λ z. q.item_bytes ++ z) nil ∙ append-nil q.item_bytes in
     subst (λ z. Leads lim s (q.before ++ (q.spelling ++ z)) (sequence_entry q.inner q.header.length (length z) ∷ []) (number q.header.tag)) (sym none)
     (in_sequence_leads lim s q.elements q.before q.header q.spelling q.inner q.items q.item_bytes q.elements-are q.header-is q.shaped (subst (λ z. IsOpenLevel q.header.length (length z)) none level) q.items-are)

@@ -13,7 +13,7 @@ use Rattle.sequence.specs.declared.stage.Stage.{Stage}
 use Rattle.sequence.specs.declared.stage.Stage.TheVariants as stages
 use Rattle.sequence.specs.declared.walker.Walker.{Walker}
 use Rattle.sequence.specs.Tree.{Elements}
-use Rattle.sequence.specs.Open.{PathEntry, Tail, in_header, in_value, IsTail, header_tail, value_tail, Nested, at_elements, in_sequence_of, in_item_of, Open}
+use Rattle.sequence.specs.Open.{PathEntry, Tail, in_header, in_value, IsTail, header_tail, value_tail, IsItemTail, header_of_item, value_of_fragment, Nested, at_elements, in_sequence_of, in_item_of, Open}
 use Rattle.sequence.specs.Wanted.{Values, kept_of}
 use Rattle.sequence.specs.Rules.{Limits}
 use Rattle.sequence.specs.FirstFault.{IsUnbroken, FirstFault}
@@ -146,9 +146,13 @@ tail_short : {s : Coding} {last : ℕ} {tail : Tail} {t : List ℕ} → IsTail s
 tail_short (header_tail part) = tt
 tail_short (value_tail v el sh lt) = lt
 
+item_tail_short : {s : Coding} {tail : Tail} {t : List ℕ} → IsItemTail s tail t → begun_short tail
+item_tail_short (header_of_item part) = tt
+item_tail_short (value_of_fragment v it lt) = lt
+
 nested_short : {s : Coding} {b : List ℕ} {es : Elements} {path : List PathEntry} {last : ℕ} {tail : Tail} → Nested s b es path last tail → begun_short tail
 nested_short (at_elements set tail) = tail_short tail
-nested_short (in_sequence_of q level part) = tt
+nested_short (in_sequence_of q level tail) = item_tail_short tail
 nested_short (in_item_of q level it level2 deeper) = nested_short deeper
 
 in_tail : (stage : Stage) (header : List ℕ) (tail : Tail) → fault_by stage ≡ None → pending_by stage header ≡ pending_of tail → begun_short tail → IsIn stage header tail

@@ -52,6 +52,7 @@
 -- 8. Beside the theorem.
 --      Bounds             what is held has a bound
 --      Lefts              the ends of a path are nested
+--      Native             the two syntaxes hold no fragments
 --      Examples, Along    the texts on which the definitions are tried, and the steps along them
 --      Public             what the crates above cite: the contracts of `sequence::laws`
 --
@@ -99,3 +100,4 @@ pub mod Unstopped
 pub mod Places
 pub mod Whole
 pub mod Bounds
+pub mod Native

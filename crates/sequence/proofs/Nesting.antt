@@ -7,7 +7,7 @@ use Rattle.sequence.specs.declared.level.Scope.{Scope}
 use Rattle.sequence.specs.Rules.{Limits}
 use Rattle.element.specs.Header.{number, item_end_tag, sequence_end_tag}
 use Rattle.sequence.specs.Shape.{is_undefined, undefined_length}
-use Rattle.sequence.specs.Tree.{delimitation, Elements, no_elements, value, sequence, Items, no_items, item, Ended, counted, delimited, DataSet, nothing, value_then, sequence_then, ItemList, no_more, item_then}
+use Rattle.sequence.specs.Tree.{delimitation, Elements, no_elements, value, sequence, Items, no_items, item, fragment, Ended, counted, delimited, DataSet, nothing, value_then, sequence_then, ItemList, no_more, item_then, fragment_then}
 use Rattle.sequence.specs.Open.{last_of}
 use Rattle.sequence.specs.Wanted.{Values, is_wanted, kept_of}
 use Rattle.sequence.specs.Within.{FitRooms}
@@ -27,6 +27,7 @@ elements_append (sequence h is es) more = sequence h is (elements_append es more
 pub items_append : Items → Items → Items
 items_append no_items more = more
 items_append (item h es is) more = item h es (items_append is more)
+items_append (fragment h v is) more = fragment h v (items_append is more)
 
 pub last_append : (last : ℕ) (es more : Elements) → last_of last (elements_append es more) ≡ last_of (last_of last es) more
 unfolding elements_append
@@ -47,6 +48,7 @@ pub list_append : {s : Coding} {is more : Items} {b c : List ℕ} → ItemList s
 unfolding items_append
 list_append no_more d = d
 list_append {c = c} (item_then {hb = hb} {cb = cb} {b = b} it set closed rest) d = rw (regroup hb cb b c) (item_then it set closed (list_append rest d))
+list_append {c = c} (fragment_then {hb = hb} {v = v} {b = b} it val rest) d = rw (regroup hb v b c) (fragment_then it val (list_append rest d))
 
 -- the values of elements, in the data set itself or in an item
 

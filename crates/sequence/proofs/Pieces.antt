@@ -4,6 +4,7 @@ use Rattle.std.proofs.lemmas.Bool.Decides.{nat_tests}
 use Rattle.element.specs.declared.tag.Tag.{Tag}
 use Rattle.element.specs.declared.header.Header.{Header}
 use Rattle.element.specs.Header.{number, is_marker, item_tag}
+use Rattle.sequence.specs.Coding.{has_fragments}
 use Rattle.sequence.specs.declared.level.Scope.{Scope}
 use Rattle.sequence.specs.declared.level.Level.{Level}
 use Rattle.sequence.specs.declared.stage.Stage.{Stage}
@@ -13,7 +14,7 @@ use Rattle.sequence.specs.declared.shape.Shape.TheVariants.{Value, Sequence, Not
 use Rattle.sequence.specs.Shape.{shape}
 use Rattle.sequence.specs.Wanted.{Values}
 use Rattle.sequence.specs.Rules.{Limits, Broken, broken_due, same_tag}
-use Rattle.sequence.specs.machine.Machine.{State, at, arrive, due, due_by, spot_of, stops_at, stop_of, set_scope, sequence_scope, begin_value, begin_level, leave, begun, take_element, take_header, ArrivesAt, Reading, read, run}
+use Rattle.sequence.specs.machine.Machine.{State, at, arrive, due, due_by, spot_of, stops_at, stop_of, set_scope, sequence_scope, begin_value, begin_level, leave, begun, take_element, take_item, take_header, ArrivesAt, Reading, read, run}
 use Rattle.sequence.specs.machine.Scopes.{below_of}
 use Rattle.sequence.specs.machine.Keeping.{wanted_at, with_byte, keep_read, keeps}
 use Rattle.sequence.specs.Fields.{is_kept}
@@ -104,10 +105,13 @@ element_place p f fs h Value = begin_value_place p (begun f h.tag) fs h.tag h.le
 element_place p f fs h (Sequence inner) = begin_level_place p (sequence_scope inner (stop_of p h.length)) (begun f h.tag) fs h.length
 element_place p f fs h NotAllowed = arrive_place p f fs
 
+item_place : (p : ℕ) (f : Scope) (fs : List Scope) (h : Header) → (take_item p f fs h).place ≡ p
+item_place p f fs h = by_place (has_fragments f.syntax) _ _ p (begin_value_place p f fs h.tag h.length) (begin_level_place p (set_scope f.syntax (stop_of p h.length) 0) f fs h.length)
+
 pub take_place : (p : ℕ) (f : Scope) (fs : List Scope) (h : Header) → (take_header p f fs h).place ≡ p
 unfolding take_header
 take_place p f fs h =
-    by_place (is_marker h.tag) _ _ p (by_place (same_tag h.tag item_tag) _ _ p (begin_level_place p (set_scope f.syntax (stop_of p h.length) 0) f fs h.length) (leave_place p f fs))
+    by_place (is_marker h.tag) _ _ p (by_place (same_tag h.tag item_tag) _ _ p (item_place p f fs h) (leave_place p f fs))
     (element_place p f fs h (shape f.syntax h))
 
 -- what is taken up
@@ -143,10 +147,13 @@ element_arrives p f fs h Value = value_arrives p (begun f h.tag) fs h.tag h.leng
 element_arrives p f fs h (Sequence inner) = level_arrives p (sequence_scope inner (stop_of p h.length)) (begun f h.tag) fs h.length
 element_arrives p f fs h NotAllowed = arrive_arrives p f fs
 
+item_arrives : (p : ℕ) (f : Scope) (fs : List Scope) (h : Header) → ArrivesAt (take_item p f fs h).mode p
+item_arrives p f fs h = by_arrives (has_fragments f.syntax) _ _ p (value_arrives p f fs h.tag h.length) (level_arrives p (set_scope f.syntax (stop_of p h.length) 0) f fs h.length)
+
 pub take_arrives : (p : ℕ) (f : Scope) (fs : List Scope) (h : Header) → ArrivesAt (take_header p f fs h).mode p
 unfolding take_header
 take_arrives p f fs h =
-    by_arrives (is_marker h.tag) _ _ p (by_arrives (same_tag h.tag item_tag) _ _ p (level_arrives p (set_scope f.syntax (stop_of p h.length) 0) f fs h.length) (leave_arrives p f fs))
+    by_arrives (is_marker h.tag) _ _ p (by_arrives (same_tag h.tag item_tag) _ _ p (item_arrives p f fs h) (leave_arrives p f fs))
     (element_arrives p f fs h (shape f.syntax h))
 
 pub value_part_arrives : (f : Scope) (fs : List Scope) (lim : Limits) (place : ℕ) (stage : Stage) (header : List ℕ) (tag : Tag) (left : ℕ) (kept : Bool) (v : List ℕ) → stage ≡ stages.Value tag left kept → 0 < length v → length v ≤ left

@@ -3,11 +3,12 @@
 use Rattle.std.proofs.Common.{[]}
 use Rattle.sequence.specs.Ending.{WholeBreaksNoRule}
 use Rattle.sequence.specs.Examples.{PastItsItem, TooDeep, UnknownContent, OneStore}
-use Rattle.sequence.specs.Laws.{FaultStays, RefusalStays, RefusedStands, OneTree, OnePath, OneFault, SomeTelling, HeldHasABound, NothingIsUnbroken, NoHeader, LeastHeader, BytesAreJoined}
+use Rattle.sequence.specs.Laws.{FaultStays, RefusalStays, RefusedStands, OneTree, OnePath, OneFault, SomeTelling, HeldHasABound, NothingIsUnbroken, NoHeader, LeastHeader, BytesAreJoined, NativeInside, NativeHasNone}
 use Rattle.sequence.specs.machine.Machine.{run}
 use Rattle.sequence.proofs.Arriving as arriving
 use Rattle.sequence.proofs.Bounds as bounds
 use Rattle.sequence.proofs.Examples as examples
+use Rattle.sequence.proofs.Native as native
 use Rattle.sequence.proofs.Once as once
 use Rattle.sequence.proofs.Quiet as quiet
 use Rattle.sequence.proofs.Refused as refused
@@ -30,6 +31,12 @@ no_header = arriving.no_header
 
 pub need_least : LeastHeader
 need_least = quiet.need_least
+
+pub native_inside : NativeInside
+native_inside = native.native_inner
+
+pub native_holds : NativeHasNone
+native_holds = native.native_holds
 
 pub both_bytes : BytesAreJoined
 both_bytes = stepping.both_bytes

@@ -1,18 +1,18 @@
 -- A text is read in one way at most: header by header, a text gives one list of elements, one path and one tail.
-use Rattle.std.proofs.Common.{◌≡◌, ℕ, ◌-◌, ◌<◌, ◌≤◌, ◌≢◌, true, false, List, [], ◌∷◌, ◌++◌, length, Some, None, refl, sym, ap, subst, ◌∙◌, arith, append-nil, length-append, ne_eqb, le-leb, lit<}
+use Rattle.std.proofs.Common.{◌≡◌, ℕ, ◌-◌, ◌<◌, ◌≤◌, ◌≢◌, Bool, true, false, List, [], ◌∷◌, ◌++◌, length, Some, None, refl, sym, ap, subst, ◌∙◌, arith, append-nil, length-append, ne_eqb, le-leb, lit<}
 use Rattle.std.proofs.lemmas.List.{nil_from_length, append_cancel_left}
-use Rattle.sequence.specs.Coding.{layout}
+use Rattle.sequence.specs.Coding.{layout, has_fragments}
 use Rattle.sequence.specs.declared.coding.Coding.{Coding}
 use Rattle.element.specs.declared.syntax.Syntax.{Syntax}
 use Rattle.element.specs.declared.tag.Tag.{Tag}
 use Rattle.element.specs.declared.header.Header.{Header}
 use Rattle.element.specs.declared.size.Need.TheVariants.{Size}
-use Rattle.element.specs.Header.{number, is_marker, is_whole, has_size, SpellsHeader, plain, item_end_tag, sequence_end_tag}
+use Rattle.element.specs.Header.{number, is_marker, is_whole, has_size, SpellsHeader, plain, item_tag, item_end_tag, sequence_end_tag}
 use Rattle.element.proofs.Public.{spelled_need, one_spelling}
 use Rattle.sequence.specs.Shape.{undefined_length, shape}
 use Rattle.sequence.specs.declared.shape.Shape.{Shape}
 use Rattle.sequence.specs.declared.shape.Shape.TheVariants.{Value, Sequence}
-use Rattle.sequence.specs.Tree.{delimitation, Elements, no_elements, value, sequence, Items, no_items, item, IsElement, IsItem}
+use Rattle.sequence.specs.Tree.{delimitation, Elements, no_elements, value, sequence, Items, no_items, item, fragment, IsElement}
 use Rattle.sequence.specs.Open.{PathEntry, Tail, in_header, in_value, left_of, sequence_entry, item_entry, IsUnfinishedHeader, IsOpenLevel, IsInnermost}
 use Rattle.sequence.proofs.Runs.{sequence_end_mark, item_end_mark, IsMark}
 
@@ -49,15 +49,19 @@ mutual
     items_end : {s : Coding} {t : List ℕ} → IsUnfinishedHeader s t → ReadsItems s t no_items [] (in_tail (in_header t))
     items_marked : {s : Coding} {b : List ℕ} → ReadsItems s (delimitation sequence_end_tag ++ b) no_items [] (at_mark b)
     one_item : {s : Coding} {h : Header} {hb x : List ℕ} {is : Items} {path : List PathEntry} {e : End}
-        → IsItem s h hb → InItem s h x is path e → ReadsItems s (hb ++ x) is path e
+        → SpellsHeader (layout s) h hb → h.tag ≡ item_tag → InItem (has_fragments s) s h x is path e → ReadsItems s (hb ++ x) is path e
 
-  pub data InItem : Coding → Header → List ℕ → Items → List PathEntry → End → Type 0 where
+  -- the same of what stands after the header of an item, or of a fragment
+  pub data InItem : Bool → Coding → Header → List ℕ → Items → List PathEntry → End → Type 0 where
+    fragment_ends : {s : Coding} {h : Header} {v : List ℕ} → length v < h.length → InItem true s h v no_items [] (in_tail (in_value h v))
+    fragment_on : {s : Coding} {h : Header} {v b : List ℕ} {is : Items} {path : List PathEntry} {e : End}
+        → length v ≡ h.length → ReadsItems s b is path e → InItem true s h (v ++ b) (fragment h v is) path e
     open_item : {s : Coding} {h : Header} {x : List ℕ} {es : Elements} {path : List PathEntry} {l : ℕ} {tail : Tail}
-        → IsOpenLevel h.length (length x) → Reads s 0 x es path l (in_tail tail) → InItem s h x no_items (path ++ item_entry s h.length (length x) l ∷ []) (in_tail tail)
+        → IsOpenLevel h.length (length x) → Reads s 0 x es path l (in_tail tail) → InItem false s h x no_items (path ++ item_entry s h.length (length x) l ∷ []) (in_tail tail)
     counted_item : {s : Coding} {h : Header} {x b : List ℕ} {es : Elements} {is : Items} {path : List PathEntry} {l : ℕ} {e : End}
-        → h.length ≢ undefined_length → length x ≡ h.length → Reads s 0 x es [] l (in_tail (in_header [])) → ReadsItems s b is path e → InItem s h (x ++ b) (item h es is) path e
+        → h.length ≢ undefined_length → length x ≡ h.length → Reads s 0 x es [] l (in_tail (in_header [])) → ReadsItems s b is path e → InItem false s h (x ++ b) (item h es is) path e
     delimited_item : {s : Coding} {h : Header} {x b : List ℕ} {es : Elements} {is : Items} {path : List PathEntry} {l : ℕ} {e : End}
-        → h.length ≡ undefined_length → Reads s 0 x es [] l (at_mark b) → ReadsItems s b is path e → InItem s h x (item h es is) path e
+        → h.length ≡ undefined_length → Reads s 0 x es [] l (at_mark b) → ReadsItems s b is path e → InItem false s h x (item h es is) path e
 
 -- the parts of a text
 
@@ -91,10 +95,10 @@ element_not {s} {last} {h} {hb} x b el same =
     let k = one_spelling (layout s) (record { tag = item_end_tag; vr = None; length = 0 }) h (delimitation item_end_tag) hb b x (mark_spells s item_end_tag item_end_mark) el.spelled same in
     absurd (let m : true ≡ false = ap (λ (z : Header). is_marker z.tag) k.0 ∙ el.no_marker in cc)
 
-item_not : {s : Coding} {h : Header} {hb : List ℕ} {A : Type 0} (x b : List ℕ) → IsItem s h hb → delimitation sequence_end_tag ++ b ≡ hb ++ x → A
-item_not {s} {h} {hb} x b it same =
-    let k = one_spelling (layout s) (record { tag = sequence_end_tag; vr = None; length = 0 }) h (delimitation sequence_end_tag) hb b x (mark_spells s sequence_end_tag sequence_end_mark) it.spelled same in
-    absurd (let m : 0xe0dd ≡ 0xe000 = ap (λ (z : Header). z.tag.1) k.0 ∙ ap (λ (z : Tag). z.1) it.tagged in omega (arith, m))
+item_not : (s : Coding) {h : Header} {hb : List ℕ} {A : Type 0} (x b : List ℕ) → SpellsHeader (layout s) h hb → h.tag ≡ item_tag → delimitation sequence_end_tag ++ b ≡ hb ++ x → A
+item_not s {h} {hb} x b sp tagged same =
+    let k = one_spelling (layout s) (record { tag = sequence_end_tag; vr = None; length = 0 }) h (delimitation sequence_end_tag) hb b x (mark_spells s sequence_end_tag sequence_end_mark) sp same in
+    absurd (let m : 0xe0dd ≡ 0xe000 = ap (λ (z : Header). z.tag.1) k.0 ∙ ap (λ (z : Tag). z.1) tagged in omega (arith, m))
 
 record SameHeader (h h2 : Header) (hb hb2 x x2 : List ℕ) : Type 0 where
   header : h ≡ h2
@@ -193,17 +197,24 @@ mutual
   items_once : {s : Coding} {x x2 : List ℕ} {is is2 : Items} {path path2 : List PathEntry} {e e2 : End} → ReadsItems s x is path e → ReadsItems s x2 is2 path2 e2 → x ≡ x2 → IsInnermost path → IsInnermost path2 → SameItems is is2 path path2 e e2
   items_once (items_end u) (items_end u2) same i j = record { items = refl; path-is = refl; end = ap (λ z. in_tail (in_header z)) same }
   items_once (items_end {s = s} u) items_marked same i j = unfinished_not _ u (mark_spells s sequence_end_tag sequence_end_mark) same
-  items_once (items_end u) (one_item it b) same i j = unfinished_not _ u it.spelled same
+  items_once (items_end u) (one_item sp tagged b) same i j = unfinished_not _ u sp same
   items_once (items_marked {s = s}) (items_end u) same i j = unfinished_not _ u (mark_spells s sequence_end_tag sequence_end_mark) (sym same)
   items_once (items_marked {b = b}) (items_marked {b = b2}) same i j = record { items = refl; path-is = refl; end = ap at_mark (append_cancel_left (delimitation sequence_end_tag) b b2 same) }
-  items_once items_marked (one_item it b) same i j = item_not _ _ it same
-  items_once (one_item it b) (items_end u) same i j = unfinished_not _ u it.spelled (sym same)
-  items_once (one_item it b) items_marked same i j = item_not _ _ it (sym same)
-  items_once (one_item {s = s} it b) (one_item {x = x2} {is = is2} {path = path2} {e = e2} it2 b2) same i j =
-      let k = header_once it.spelled it2.spelled same in
-      item_once b (subst (λ (z : Header). InItem s z x2 is2 path2 e2) (sym k.header) b2) k.rest i j
+  items_once items_marked (one_item {s = s} sp tagged b) same i j = item_not s _ _ sp tagged same
+  items_once (one_item sp tagged b) (items_end u) same i j = unfinished_not _ u sp (sym same)
+  items_once (one_item {s = s} sp tagged b) items_marked same i j = item_not s _ _ sp tagged (sym same)
+  items_once (one_item {s = s} sp tagged b) (one_item {x = x2} {is = is2} {path = path2} {e = e2} sp2 tagged2 b2) same i j =
+      let k = header_once sp sp2 same in
+      item_once b (subst (λ (z : Header). InItem (has_fragments s) s z x2 is2 path2 e2) (sym k.header) b2) k.rest i j
 
-  item_once : {s : Coding} {h : Header} {x x2 : List ℕ} {is is2 : Items} {path path2 : List PathEntry} {e e2 : End} → InItem s h x is path e → InItem s h x2 is2 path2 e2 → x ≡ x2 → IsInnermost path → IsInnermost path2 → SameItems is is2 path path2 e e2
+  item_once : {k : Bool} {s : Coding} {h : Header} {x x2 : List ℕ} {is is2 : Items} {path path2 : List PathEntry} {e e2 : End} → InItem k s h x is path e → InItem k s h x2 is2 path2 e2 → x ≡ x2 → IsInnermost path → IsInnermost path2 → SameItems is is2 path path2 e e2
+  item_once (fragment_ends {h = h} lt) (fragment_ends lt2) same i j = record { items = refl; path-is = refl; end = ap (λ z. in_tail (in_value h z)) same }
+  item_once (fragment_ends lt) (fragment_on {v = v} {b = b} size r) same i j = absurd (omega (arith, lt, size, ap length same, length-append v b))
+  item_once (fragment_on {v = v} {b = b} size r) (fragment_ends lt) same i j = absurd (omega (arith, lt, size, ap length same, length-append v b))
+  item_once (fragment_on {h = h} {v = v} {b = b} size r) (fragment_on {v = v2} {b = b2} size2 r2) same i j =
+      let parts = same_front v v2 b b2 same (size ∙ sym size2) in
+      let k = items_once r r2 parts.1 i j in
+      record { items = λ n. fragment h (parts.0 n) (k.items n); path-is = k.path-is; end = k.end }
   item_once (open_item {s = s} {h = h} {x = x} {path = path} level r) (open_item {x = x2} {path = path2} level2 r2) same i j =
       let k = reads_once r r2 same (front_innermost path _ i) (front_innermost path2 _ j) in
       record { items = refl; path-is = λ n. k.path-is n ++ item_entry s h.length (length (same n)) (k.last n) ∷ []; end = k.end }

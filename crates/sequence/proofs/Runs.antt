@@ -1,7 +1,7 @@
 -- The machine goes over what is spelled, or stops.
 use Rattle.std.proofs.Common.{◌≡◌, ℕ, suc, ◌+◌, ◌-◌, ◌<◌, ◌≤◌, ◌⊎◌, Bool, true, false, List, [], ◌∷◌, ◌++◌, length, Option, Some, None, nat_eq, nat_le, refl, sym, ap, subst, ◌∙◌, inl, inr, arith, append_assoc, length-append, eqb-true, false-eqb, eq-eqb, le-leb, ne_eqb, ◌≢◌, lit<}
 use Rattle.std.proofs.lemmas.Bool.Decides.{nat_tests}
-use Rattle.sequence.specs.Coding.{layout}
+use Rattle.sequence.specs.Coding.{layout, has_fragments}
 use Rattle.sequence.specs.declared.coding.Coding.{Coding}
 use Rattle.sequence.specs.declared.coding.Coding.TheVariants.{Implicit, Explicit, Encapsulated, Fragments}
 use Rattle.element.specs.declared.tag.Tag.{Tag}
@@ -11,7 +11,7 @@ use Rattle.sequence.specs.Rules.{Limits}
 use Rattle.element.specs.Header.{number, is_marker, is_plain, header_at, IsTag, SpellsHeader, plain, item_tag, item_end_tag, sequence_end_tag}
 use Rattle.sequence.specs.Shape.{is_undefined, undefined_length, shape}
 use Rattle.sequence.specs.declared.shape.Shape.TheVariants.{Value, Sequence}
-use Rattle.sequence.specs.Tree.{delimitation, Elements, Items, IsElement, IsItem, IsValue, Ended, counted, delimited, DataSet, nothing, value_then, sequence_then, ItemList, no_more, item_then}
+use Rattle.sequence.specs.Tree.{delimitation, Elements, Items, IsElement, IsItem, IsFragmentItem, IsValue, Ended, counted, delimited, DataSet, nothing, value_then, sequence_then, ItemList, no_more, item_then, fragment_then}
 use Rattle.sequence.specs.Open.{last_of}
 use Rattle.sequence.specs.Rules.{Broken, broken_due, broken}
 use Rattle.element.specs.Header.{is_whole}
@@ -199,9 +199,13 @@ pub taken_sequence : (p : ℕ) (s : Coding) (stop : Option ℕ) (last : ℕ) (fs
 unfolding take_header
 taken_sequence p s stop last fs h inner m e = rw (m, e) refl
 
-pub taken_item : (p : ℕ) (f : Scope) (fs : List Scope) (h : Header) → h.tag ≡ item_tag → take_header p f fs h ≡ begin_level p (set_scope f.syntax (stop_of p h.length) 0) f fs h.length
+pub taken_item : (p : ℕ) (f : Scope) (fs : List Scope) (h : Header) → h.tag ≡ item_tag → has_fragments f.syntax ≡ false → take_header p f fs h ≡ begin_level p (set_scope f.syntax (stop_of p h.length) 0) f fs h.length
 unfolding take_header
-taken_item p f fs h e = rw e refl
+taken_item p f fs h e n = rw (e, n) refl
+
+pub taken_fragment : (p : ℕ) (f : Scope) (fs : List Scope) (h : Header) → h.tag ≡ item_tag → has_fragments f.syntax ≡ true → take_header p f fs h ≡ begin_value p f fs h.tag h.length
+unfolding take_header
+taken_fragment p f fs h e n = rw (e, n) refl
 
 value_step : (lim : Limits) (s : Coding) (last : ℕ) (h : Header) (hb v b : List ℕ) (end : ℕ) → IsElement s last h hb → shape s h ≡ Value → IsValue h.length v → RunsSet lim s (number h.tag) end b → RunsSet lim s last end (hb ++ (v ++ b))
 value_step lim s last h hb v b end el sh val rest stop fs p q room q-is =
@@ -234,11 +238,22 @@ item_step lim s h hb eb cb b end it closed elements rest stop fs p q room q-is =
     let long = spelled_long it.spelled in
     let f : Scope = sequence_scope s stop in
     let first : Goes (run lim (arrive p f fs) hb) (begin_level (p + length hb) (set_scope s (stop_of (p + length hb) h.length) 0) f fs h.length) =
-    subst (λ z. Goes (run lim (arrive p f fs) hb) z) (taken_item (p + length hb) f fs h it.tagged)
+    subst (λ z. Goes (run lim (arrive p f fs) hb) z) (taken_item (p + length hb) f fs h it.tagged it.nests)
     (header_run lim f fs p (p + length hb) h hb it.spelled (open_from_lasts stop p (length hb) (lasts_less stop (p + length hb) q room (omega arith)) (omega arith)) refl) in
     let second : Goes (run lim (begin_level (p + length hb) (set_scope s (stop_of (p + length hb) h.length) 0) f fs h.length) cb) (arrive (p + length hb + length cb) f fs) =
     level_run lim (λ o. set_scope s o 0) (λ o. set_scope s o end) f fs (p + length hb) (p + length hb + length cb) closed item_end_mark (λ o. refl) (λ o holds. elements o (f ∷ fs) (p + length hb) (p + length hb + length eb) holds refl) refl in
     goes_then lim _ _ _ hb (cb ++ b) first (goes_then lim _ _ _ cb b second (rest stop fs (p + length hb + length cb) q room size))
+
+fragment_step : (lim : Limits) (s : Coding) (h : Header) (hb v b : List ℕ) → IsFragmentItem s h hb → IsValue h.length v → RunsItems lim s b → RunsItems lim s (hb ++ (v ++ b))
+fragment_step lim s h hb v b it val rest stop fs p q room q-is =
+    let size : q ≡ p + length hb + length v + length b = omega (arith, length-append hb (v ++ b), length-append v b) in
+    let long = spelled_long it.spelled in
+    let first : Goes (run lim (arrive p (sequence_scope s stop) fs) hb) (begin_value (p + length hb) (sequence_scope s stop) fs h.tag h.length) =
+    subst (λ z. Goes (run lim (arrive p (sequence_scope s stop) fs) hb) z) (taken_fragment (p + length hb) (sequence_scope s stop) fs h it.tagged it.holds)
+    (header_run lim (sequence_scope s stop) fs p (p + length hb) h hb it.spelled (open_from_lasts stop p (length hb) (lasts_less stop (p + length hb) q room (omega arith)) (omega arith)) refl) in
+    let second : Goes (run lim (begin_value (p + length hb) (sequence_scope s stop) fs h.tag h.length) v) (arrive (p + length hb + length v) (sequence_scope s stop) fs) =
+    inl (value_on lim (sequence_scope s stop) fs h.tag (p + length hb) (p + length hb + length v) h.length v (nat_eq h.length 0) refl val.size (omega (arith, val.size))) in
+    goes_then lim _ _ _ hb (v ++ b) first (goes_then lim _ _ _ v b second (rest stop fs (p + length hb + length v) q room size))
 
 nothing_run : (lim : Limits) (s : Coding) (last : ℕ) → RunsSet lim s last last []
 unfolding run
@@ -258,3 +273,4 @@ mutual
   pub items_run : (lim : Limits) {s : Coding} {is : Items} {b : List ℕ} → ItemList s is b → RunsItems lim s b
   items_run lim no_more = no_items_run lim _
   items_run lim (item_then {s = s} {h = h} {hb = hb} {es = es} {eb = eb} {cb = cb} {b = b} it elements closed rest) = item_step lim s h hb eb cb b (last_of 0 es) it closed (elements_run lim elements) (items_run lim rest)
+  items_run lim (fragment_then {s = s} {h = h} {hb = hb} {v = v} {b = b} it val rest) = fragment_step lim s h hb v b it val (items_run lim rest)

@@ -2,11 +2,12 @@
 use Rattle.std.proofs.Common.{◌≡◌, ℕ, ◌+◌, ◌%◌, ◌<◌, ◌≢◌, ◌⊎◌, Bool, true, false, not, ◌&&◌, ◌||◌, Option, Some, None, nat_eq, nat_le, nat_lt, refl, sym, ap, inl, inr, arith, eqb-true, false-eqb, ne_eqb, leb-false, if◌then◌else◌}
 use Rattle.element.specs.declared.tag.Tag.{Tag}
 use Rattle.element.specs.declared.header.Header.{Header}
+use Rattle.sequence.specs.Coding.{has_fragments}
 use Rattle.sequence.specs.declared.spot.Spot.{Spot}
 use Rattle.sequence.specs.Rules.{Limits}
 use Rattle.element.specs.Header.{number, is_marker, item_tag, item_end_tag, sequence_end_tag}
 use Rattle.sequence.specs.Shape.{is_undefined, undefined_length, shape}
-use Rattle.sequence.specs.Rules.{broken_tag, broken_header, same_tag, is_not_allowed, is_long_mark, is_too_long, opens, counted_length, passes}
+use Rattle.sequence.specs.Rules.{broken_tag, broken_header, same_tag, is_not_allowed, is_sequence, is_long_mark, is_too_long, is_endless, opens, counted_length, passes}
 use Rattle.sequence.specs.machine.Standing.{IsLength}
 
 pub if_some : {A : Type 0} {y : Option A} (b : Bool) (x : A) → (if b then Some x else y) ≡ None → (b ≡ false) × (y ≡ None)
@@ -87,6 +88,7 @@ in_sequence_is spot t ok here = by (or_true (same_tag t item_tag) (same_tag t se
 pub record IsSound (lim : Limits) (spot : Spot) (size : ℕ) (h : Header) : Type 0 where
   pub mark : is_long_mark h ≡ false
   pub allowed : not (is_marker h.tag) && is_not_allowed (shape spot.syntax h) ≡ false
+  pub bounded : is_endless spot h ≡ false
   pub counted : not (is_undefined h.length) && nat_eq (h.length % 2) 1 ≡ false
   pub within : not (is_undefined h.length) && passes spot.near (size + h.length) ≡ false
   pub short : nat_lt lim.bytes (spot.place + size + counted_length h.length) ≡ false
@@ -98,12 +100,13 @@ unfolding broken_header
 is_sound lim spot size h ok =
     let a = if_some (is_long_mark h) (16, h.tag) ok in
     let b = if_some (not (is_marker h.tag) && is_not_allowed (shape spot.syntax h)) (14, h.tag) a.1 in
-    let c = if_some (not (is_undefined h.length) && nat_eq (h.length % 2) 1) (11, h.tag) b.1 in
+    let o = if_some (is_endless spot h) (14, h.tag) b.1 in
+    let c = if_some (not (is_undefined h.length) && nat_eq (h.length % 2) 1) (11, h.tag) o.1 in
     let d = if_some (not (is_undefined h.length) && passes spot.near (size + h.length)) (17, h.tag) c.1 in
     let e = if_some (nat_lt lim.bytes (spot.place + size + counted_length h.length)) (19, h.tag) d.1 in
     let f = if_some (is_too_long lim spot h) (21, h.tag) e.1 in
     let g = if_some (opens spot h && nat_le lim.depth spot.depth) (18, h.tag) f.1 in
-    record { mark = a.0; allowed = b.0; counted = c.0; within = d.0; short = e.0; fits = f.0; shallow = g.0 }
+    record { mark = a.0; allowed = b.0; bounded = o.0; counted = c.0; within = d.0; short = e.0; fits = f.0; shallow = g.0 }
 
 pub sound_length : (lim : Limits) (spot : Spot) (size : ℕ) (h : Header) → IsSound lim spot size h → IsLength h.length
 sound_length lim spot size h ok defined =
@@ -115,3 +118,11 @@ pub sound_mark : (lim : Limits) (spot : Spot) (size : ℕ) (h : Header) → IsSo
 sound_mark lim spot size h ok marked other =
     let d : (is_marker h.tag && not (same_tag h.tag item_tag)) ≡ true = and_not (is_marker h.tag) (same_tag h.tag item_tag) marked other in
     eqb-true h.length 0 (not_false (nat_eq h.length 0) (and_false (is_marker h.tag && not (same_tag h.tag item_tag)) (not (nat_eq h.length 0)) ok.mark d))
+
+-- the length of a fragment is defined
+pub sound_fragment : (lim : Limits) (spot : Spot) (size : ℕ) (h : Header) → IsSound lim spot size h → is_marker h.tag ≡ true → has_fragments spot.syntax ≡ true → is_undefined h.length ≡ false
+sound_fragment lim spot size h ok marked holds = and_false (is_marker h.tag && has_fragments spot.syntax) (is_undefined h.length) ok.bounded (λ i. marked i && holds i)
+
+-- where no fragment is due, a marker opens a level
+pub marker_opens : (spot : Spot) (h : Header) → is_marker h.tag ≡ true → has_fragments spot.syntax ≡ false → ((is_marker h.tag && not (has_fragments spot.syntax)) || is_sequence (shape spot.syntax h)) ≡ true
+marker_opens spot h marked nests = λ i. (marked i && not (nests i)) || is_sequence (shape spot.syntax h)

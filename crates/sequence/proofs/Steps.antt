@@ -7,20 +7,19 @@ use Rattle.element.specs.Header.{number, header_at, is_whole}
 use Rattle.element.proofs.Public.{tag_read, spelled_long}
 use Rattle.sequence.specs.declared.level.Scope.{Scope}
 use Rattle.sequence.specs.declared.spot.Spot.{Spot}
-use Rattle.sequence.specs.Tree.{no_elements, value, IsValue, DataSet, nothing, value_then}
 use Rattle.sequence.specs.Open.{IsUnfinishedHeader}
+use Rattle.sequence.specs.Holding.{begun_in}
 use Rattle.sequence.specs.Wanted.{Values}
 use Rattle.sequence.specs.Rules.{Limits, Broken, broken_tag, broken}
-use Rattle.sequence.specs.machine.Machine.{set_scope, Mode, Heading, Reading, Stopped, State, at, spot_of, arrive, take_header, headed_by, headed, read, next, next_by}
+use Rattle.sequence.specs.machine.Machine.{Mode, Heading, Reading, Stopped, State, at, spot_of, arrive, take_header, headed_by, headed, read, next, next_by}
 use Rattle.sequence.specs.machine.Keeping.{with_value, with_byte, wanted_at, keep_header, keep_headed, keep_read, keep_by, keep}
 use Rattle.sequence.specs.machine.Standing.{IsBytes, Reaches, AreLevels, Unbroken, IsHeading, IsReading, StandsIn, Stands}
 use Rattle.sequence.proofs.Parts.{whole_spells, unfinished_front}
 use Rattle.sequence.proofs.Sound.{IsSound, is_sound}
 use Rattle.sequence.proofs.Unbroken.{unbroken_is, on_tail}
-use Rattle.sequence.proofs.Nesting.{more_value}
 use Rattle.sequence.proofs.Ends.{taken}
 use Rattle.sequence.proofs.Arriving.{arrive_stands, no_cons}
-use Rattle.sequence.proofs.Taking.{header_stands}
+use Rattle.sequence.proofs.Taking.{begun_ends, header_stands}
 
 front_of : (t w : List ℕ) (x y : ℕ) (z : List ℕ) → t ++ x ∷ [] ≡ w ++ y ∷ z → (v : List ℕ) × (t ≡ w ++ v)
 front_of t [] x y z e = (t, refl)
@@ -116,13 +115,10 @@ read_stands s lim values f fs p t n x b p-is r = by (nat_le n 1) refl
     by true w =
         let one : n ≤ 1 = leb-true n 1 w in
         let size : length (r.v ++ x ∷ []) ≡ r.h.length = omega (arith, length-append r.v (x ∷ []), r.size, r.more) in
-        let val : IsValue r.h.length (r.v ++ x ∷ []) = record { even = r.even; size = size } in
-        let text : DataSet f.syntax r.last (value r.h (r.v ++ x ∷ []) no_elements) (r.hb ++ ((r.v ++ x ∷ []) ++ [])) = value_then r.element r.shaped val nothing in
-        let whole = more_value lim r.h (r.v ++ x ∷ []) r.reaches text size r.fits in
-        let same : r.before ++ (r.hb ++ ((r.v ++ x ∷ []) ++ [])) ≡ b ++ x ∷ [] = ap (λ z. r.before ++ (r.hb ++ z)) (append-nil (r.v ++ x ∷ [])) ∙ sym regrouped in
+        let whole = begun_ends lim r.round r.h r.hb (r.v ++ x ∷ []) r.reaches r.begins r.even size in
         let here : length b + n ≡ p + 1 = omega (arith, one, r.more, p-is, more-is) in
         rw kept-is
-        (arrive_stands lim (p + 1) p-is (subst (λ z. Reaches s lim.wanted (with_value lim fs (number r.h.tag) (r.v ++ x ∷ []) r.whole) z fs (b ++ x ∷ [])) (sym r.top) (subst (λ z. Reaches s lim.wanted (with_value lim fs (number r.h.tag) (r.v ++ x ∷ []) r.whole) (set_scope f.syntax f.stop (number r.h.tag)) fs z) same whole))
+        (arrive_stands lim (p + 1) p-is (subst (λ z. Reaches s lim.wanted (with_value lim fs (number r.h.tag) (r.v ++ x ∷ []) r.whole) z fs (b ++ x ∷ [])) (sym r.top) (subst (λ z. Reaches s lim.wanted (with_value lim fs (number r.h.tag) (r.v ++ x ∷ []) r.whole) (begun_in r.round r.h) fs z) (sym regrouped) whole))
         (subst (AreLevels lim f fs) here r.levels))
     by false w =
         let lt = leb-false n 1 w in (
@@ -130,17 +126,15 @@ read_stands s lim values f fs p t n x b p-is r = by (nat_le n 1) refl
           record {
             before = r.before;
             whole = r.whole;
-            last = r.last;
+            round = r.round;
             h = r.h;
             hb = r.hb;
             v = r.v ++ x ∷ [];
             reaches = r.reaches;
             levels = subst (AreLevels lim f fs) (let k : length b + n ≡ length (b ++ x ∷ []) + (n - 1) = omega (arith, more-is, lt) in k) r.levels;
             top = r.top;
-            element = r.element;
-            shaped = r.shaped;
+            begins = r.begins;
             even = r.even;
-            fits = r.fits;
             size = omega (arith, length-append r.v (x ∷ []), r.size, lt);
             more = omega (arith, lt);
             tagged = r.tagged;

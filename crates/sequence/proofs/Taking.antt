@@ -1,6 +1,5 @@
 -- A header was made whole.
 use Rattle.std.proofs.Common.{◌≡◌, ℕ, suc, ◌+◌, ◌≤◌, ◌≢◌, ◌⊎◌, Bool, true, false, not, ◌&&◌, ◌||◌, List, [], ◌∷◌, ◌++◌, length, Option, Some, None, nat_eq, nat_le, refl, sym, ap, subst, ◌∙◌, inl, inr, arith, append-nil, eqb-true, false-eqb, eq-eqb, ne_eqb, if◌then◌else◌, codes, leb-false, ltb-false}
-use Rattle.sequence.specs.Coding.{layout}
 use Rattle.sequence.specs.declared.coding.Coding.{Coding}
 use Rattle.sequence.specs.declared.coding.Coding.TheVariants.{Implicit, Explicit, Encapsulated, Fragments}
 use Rattle.element.specs.declared.tag.Tag.{Tag}
@@ -12,15 +11,17 @@ use Rattle.sequence.specs.declared.wanted.Want.{Want}
 use Rattle.sequence.specs.declared.shape.Shape.{Shape}
 use Rattle.sequence.specs.declared.shape.Shape.TheVariants.{Value, Sequence, NotAllowed}
 use Rattle.sequence.specs.Shape.{is_undefined, undefined_length, shape, shape_by, implicit_shape, is_vr, is_pixel_data}
-use Rattle.sequence.specs.Tree.{delimitation, no_elements, value, sequence, no_items, item, IsEven, IsElement, IsItem, IsValue, counted, DataSet, nothing, value_then, sequence_then, ItemList, no_more, item_then}
+use Rattle.sequence.specs.Tree.{delimitation, no_elements, value, sequence, no_items, item, fragment, IsEven, IsElement, IsItem, IsFragmentItem, IsValue, counted, DataSet, nothing, value_then, sequence_then, ItemList, no_more, item_then, fragment_then}
 use Rattle.sequence.specs.Wanted.{Values, room_of}
-use Rattle.sequence.specs.Rules.{Limits, broken_tag, same_tag, is_not_allowed, is_value, is_sequence, passes}
+use Rattle.sequence.specs.Rules.{Limits, broken_tag, same_tag, is_not_allowed, is_value, is_sequence, passes, counted_length}
 use Rattle.sequence.specs.machine.Machine.{set_scope, sequence_scope, Reading, at, spot_of, is_none, is_empty, stop_of, arrive, begin_value, begin_level, leave, take_header}
 use Rattle.sequence.specs.machine.Keeping.{with_value, keep_header}
-use Rattle.sequence.specs.machine.Standing.{IsLength, IsFit, Reaches, at_root, into_sequence, into_item, AreLevels, Stands}
+use Rattle.sequence.specs.machine.Standing.{IsLength, IsFit, Reaches, at_root, into_sequence, into_item, AreLevels, BeginsIn, an_element, a_fragment, Stands}
+use Rattle.sequence.specs.Holding.{begun_in}
+use Rattle.sequence.specs.Coding.{layout, has_fragments}
 use Rattle.sequence.proofs.Parts.{mark_spelled}
-use Rattle.sequence.proofs.Runs.{taken_value, taken_sequence, taken_item}
-use Rattle.sequence.proofs.Sound.{and_false, element_tag, item_end_is, in_sequence_is, IsSound, sound_length, sound_mark}
+use Rattle.sequence.proofs.Runs.{taken_value, taken_sequence, taken_item, taken_fragment}
+use Rattle.sequence.proofs.Sound.{and_false, element_tag, item_end_is, in_sequence_is, IsSound, sound_length, sound_mark, sound_fragment, marker_opens}
 use Rattle.sequence.proofs.Nesting.{more_value, more_sequence, more_items, level_ends}
 use Rattle.sequence.proofs.Ends.{levels_end, IsTaken, taken, levels_open, levels_read}
 use Rattle.sequence.proofs.Arriving.{arrive_stands, same_taken}
@@ -46,10 +47,10 @@ implicit_by : (k : Option (List ℕ)) (u : Bool) → implicit_shape k u ≡ Valu
 implicit_by None u e h = unknown_by u e h
 implicit_by (Some v) u e h = known_by (is_vr (codes "SQ") v) u e h
 
-encapsulated_by : (a b p u : Bool) → (if a then Sequence Encapsulated else (if u then (if b then Sequence Implicit else (if p then Sequence Fragments else NotAllowed)) else Value)) ≡ Value → u ≡ true → ⊥
+encapsulated_by : (a b p u : Bool) → (if a then Sequence Encapsulated else (if u && p then Sequence Fragments else (if a then Sequence Explicit else (if u then (if b then Sequence Implicit else NotAllowed) else Value)))) ≡ Value → u ≡ true → ⊥
 encapsulated_by true b p u e h = cc
-encapsulated_by false true p true e h = cc
-encapsulated_by false false true true e h = cc
+encapsulated_by false b true true e h = cc
+encapsulated_by false true false true e h = cc
 encapsulated_by false false false true e h = cc
 encapsulated_by false b p false e h = cc
 
@@ -64,6 +65,14 @@ value_by Implicit t v k u e h = implicit_by k u e h
 -- a value has a defined length
 value_defined : (s : Coding) (h : Header) → shape s h ≡ Value → h.length ≢ undefined_length
 value_defined s h e same = value_by s h.tag h.vr (vr_of h.tag) (is_undefined h.length) e (eq-eqb h.length undefined_length same)
+
+-- so its length counts
+pub value_counts : (s : Coding) (h : Header) → Value ≡ shape s h → counted_length h.length ≡ h.length
+value_counts s h e = by (is_undefined h.length) (ne_eqb h.length undefined_length (value_defined s h (sym e)))
+  where
+    by : (u : Bool) → u ≡ false → (if u then 0 else h.length) ≡ h.length
+    by true e = absurd cc
+    by false e = refl
 
 value_stands : {s s1 : Coding} {values : Values} {stop : Option ℕ} {last : ℕ} {fs : List Scope} {b hb : List ℕ} {h : Header} (lim : Limits) (p : ℕ) → p ≡ length (b ++ hb) → Reaches s lim.wanted values (set_scope s1 stop last) fs b → IsElement s1 last h hb → shape s1 h ≡ Value → IsEven h.length
     → IsFit lim.wanted fs (number h.tag) h.length → IsTaken lim (set_scope s1 stop (number h.tag)) fs p h
@@ -82,17 +91,15 @@ value_stands {s = s} {s1 = s1} {values = values} {stop = stop} {last = last} {fs
       record {
         before = b;
         whole = values;
-        last = last;
+        round = set_scope s1 stop last;
         h = h;
         hb = hb;
         v = [];
         reaches = r;
         levels = subst (λ z. AreLevels lim (set_scope s1 stop (number h.tag)) fs (z + h.length)) p-is (levels_read lim (set_scope s1 stop (number h.tag)) fs p h t (value_defined s1 h sh));
-        top = refl;
-        element = el;
-        shaped = sh;
+        top = let m = el.no_marker in rw m refl;
+        begins = an_element refl el sh fits;
         even = even;
-        fits = fits;
         size = omega arith;
         more = omega (arith, false-eqb h.length 0 (sym z));
         tagged = refl;
@@ -139,6 +146,52 @@ item_stands {s = s} {s1 = s1} {values = values} {stop = stop} {fs = fs} {b = b} 
         arrive_stands lim p p-is (into_item r it len some nothing (ap (λ z. stop_of z h.length) p-is) refl (ap (λ z. b ++ z) (sym (append-nil hb))))
         (levels_open lim (sequence_scope s1 stop) (set_scope s1 (stop_of p h.length) 0) fs p h t refl (deep some))
 
+-- outside the data set itself no value is kept
+pub inside_kept : {s : Coding} {ws : List Want} {values : Values} {f : Scope} {fs : List Scope} {b : List ℕ} (lim : Limits) (t : ℕ) (v : List ℕ) (kept : Values) → Reaches s ws values f fs b → f.in_sequence ≡ true → with_value lim fs t v kept ≡ kept
+inside_kept lim t v kept (at_root d e k fits) here = absurd cc
+inside_kept lim t v kept (into_sequence r el sh len some items stop-is k-is b-is) here = refl
+inside_kept lim t v kept (into_item r it len some set stop-is last-is b-is) here = absurd cc
+
+begun_fragment : (g : Scope) (h : Header) → is_marker h.tag ≡ true → begun_in g h ≡ g
+begun_fragment g h m = ap (λ z. if z then g else record g { last = number h.tag }) m
+
+begun_element : (g : Scope) (h : Header) → is_marker h.tag ≡ false → g.in_sequence ≡ false → begun_in g h ≡ set_scope g.syntax g.stop (number h.tag)
+begun_element g h m e = ap (λ z. if z then g else record g { last = number h.tag }) m ∙ (λ i. record { in_sequence = e i; syntax = g.syntax; stop = g.stop; last = number h.tag })
+
+fragment_stands : {s s1 : Coding} {values : Values} {stop : Option ℕ} {fs : List Scope} {b hb : List ℕ} {h : Header} (lim : Limits) (p : ℕ) → p ≡ length (b ++ hb) → Reaches s lim.wanted values (sequence_scope s1 stop) fs b → IsFragmentItem s1 h hb → IsEven h.length
+    → IsTaken lim (sequence_scope s1 stop) fs p h
+    → Stands s lim (begin_value p (sequence_scope s1 stop) fs h.tag h.length) values (b ++ hb)
+unfolding begin_value
+fragment_stands {s = s} {s1 = s1} {values = values} {stop = stop} {fs = fs} {b = b} {hb = hb} {h = h} lim p p-is r it even t = by (nat_eq h.length 0) refl
+  where
+    by : (zero : Bool) → nat_eq h.length 0 ≡ zero → Stands s lim (if zero then arrive p (sequence_scope s1 stop) fs else at (sequence_scope s1 stop) fs p (Reading h.tag h.length)) values (b ++ hb)
+    by true z =
+        let none : h.length ≡ 0 = eqb-true h.length 0 z in
+        let val : IsValue h.length [] = record { even = even; size = sym none } in
+        let text : ItemList s1 (fragment h [] no_items) (hb ++ ([] ++ [])) = fragment_then it val no_more in
+        arrive_stands lim p p-is (subst (λ z. Reaches s lim.wanted values (sequence_scope s1 stop) fs (b ++ z)) (append-nil hb) (more_items r text)) t.levels
+    by false z = (
+      p-is,
+      record {
+        before = b;
+        whole = values;
+        round = sequence_scope s1 stop;
+        h = h;
+        hb = hb;
+        v = [];
+        reaches = r;
+        levels = subst (λ z. AreLevels lim (sequence_scope s1 stop) fs (z + h.length)) p-is (levels_read lim (sequence_scope s1 stop) fs p h t it.defined);
+        top = sym (begun_fragment (sequence_scope s1 stop) h (ap (λ z. is_marker z) it.tagged));
+        begins = a_fragment refl it;
+        even = even;
+        size = omega arith;
+        more = omega (arith, false-eqb h.length 0 (sym z));
+        tagged = refl;
+        text = ap (λ z. b ++ z) (sym (append-nil hb));
+        kept = sym (inside_kept lim (number h.tag) [] values r refl);
+      },
+    )
+
 end_stands : {s : Coding} {values : Values} {f g : Scope} {gs : List Scope} {b hb : List ℕ} {h : Header} (lim : Limits) (p : ℕ) (t : Tag) → p ≡ length (b ++ hb) → Reaches s lim.wanted values f (g ∷ gs) b → SpellsHeader (layout f.syntax) h hb → h.tag ≡ t → is_marker t ≡ true → h.length ≡ 0
     → t ≡ (if f.in_sequence then sequence_end_tag else item_end_tag) → f.stop ≡ None → AreLevels lim f (g ∷ gs) p → Stands s lim (arrive p g gs) values (b ++ hb)
 end_stands {s = s} {f = f} {g = g} {gs = gs} {b = b} {hb = hb} lim p t p-is r e same m none which open-ended l =
@@ -159,6 +212,27 @@ pub sequence_of : {s : Coding} {ws : List Want} {values : Values} {f : Scope} {f
 sequence_of (at_root d e k fits) h = absurd cc
 sequence_of (into_sequence r el sh len some items stop-is k-is b-is) h = refl
 sequence_of (into_item r it len some set stop-is last-is b-is) h = absurd cc
+
+-- a value or a fragment is whole
+pub begun_ends : {s : Coding} {whole : Values} {fs : List Scope} {before : List ℕ} (lim : Limits) (g : Scope) (h : Header) (hb v : List ℕ) → Reaches s lim.wanted whole g fs before → BeginsIn lim.wanted g fs h hb → IsEven h.length → length v ≡ h.length
+    → Reaches s lim.wanted (with_value lim fs (number h.tag) v whole) (begun_in g h) fs (before ++ (hb ++ v))
+begun_ends {s = s} {whole = whole} {fs = fs} {before = before} lim g h hb v r (an_element here el sh fits) even size =
+    let val : IsValue h.length v = record { even = even; size = size } in
+    let text : DataSet g.syntax g.last (value h v no_elements) (hb ++ (v ++ [])) = value_then el sh val nothing in
+    let r2 : Reaches s lim.wanted whole (set_scope g.syntax g.stop g.last) fs before = subst (λ z. Reaches s lim.wanted whole z fs before) (set_of g here) r in
+    subst (λ z. Reaches s lim.wanted (with_value lim fs (number h.tag) v whole) z fs (before ++ (hb ++ v))) (sym (begun_element g h el.no_marker here))
+    (subst (λ z. Reaches s lim.wanted (with_value lim fs (number h.tag) v whole) (set_scope g.syntax g.stop (number h.tag)) fs (before ++ (hb ++ z))) (append-nil v) (more_value lim h v r2 text size fits))
+begun_ends {s = s} {whole = whole} {fs = fs} {before = before} lim g h hb v r (a_fragment here it) even size =
+    let val : IsValue h.length v = record { even = even; size = size } in
+    let text : ItemList g.syntax (fragment h v no_items) (hb ++ (v ++ [])) = fragment_then it val no_more in
+    let is = sequence_of r here in
+    let r2 : Reaches s lim.wanted whole (sequence_scope g.syntax g.stop) fs before = subst (λ z. Reaches s lim.wanted whole z fs before) is r in
+    let more : Reaches s lim.wanted whole (sequence_scope g.syntax g.stop) fs (before ++ (hb ++ v)) = subst (λ z. Reaches s lim.wanted whole (sequence_scope g.syntax g.stop) fs (before ++ (hb ++ z))) (append-nil v) (more_items r2 text) in
+    subst (λ z. Reaches s lim.wanted z (begun_in g h) fs (before ++ (hb ++ v))) (sym (inside_kept lim (number h.tag) v whole r here))
+    (subst (λ z. Reaches s lim.wanted whole z fs (before ++ (hb ++ v))) (is-sequence is) more)
+  where
+    is-sequence : g ≡ sequence_scope g.syntax g.stop → sequence_scope g.syntax g.stop ≡ begun_in g h
+    is-sequence is = sym is ∙ sym (begun_fragment g h (ap (λ z. is_marker z) it.tagged))
 
 open_none : (o : Option ℕ) (rest : Bool) → (is_none o && rest) ≡ true → o ≡ None
 open_none None rest e = refl
@@ -207,7 +281,7 @@ element_case {values = values} f fs {b = b} {hb = hb} h lim p p-is r el len soun
     (value_stands lim p p-is r el sh (len (value_defined f.syntax h sh)) (fits_by lim.wanted fs h None (nat_eq (length fs) 0) (is_marker h.tag) (is_value (shape f.syntax h)) refl el.no_marker (ap is_value sh) refl sound.fits) (same_taken (set_scope f.syntax f.stop (number h.tag)) refl t))
 element_case {values = values} f fs h lim p p-is r el len sound t (Sequence inner) sh =
     rw (taken_sequence p f.syntax f.stop f.last fs h inner el.no_marker sh, kept_sequence lim (set_scope f.syntax f.stop f.last) fs h inner values el.no_marker sh)
-    (sequence_stands lim p p-is r el sh len (deep_by lim fs h (is_marker h.tag || is_sequence (shape f.syntax h)) (ap (λ z. z || is_sequence (shape f.syntax h)) el.no_marker ∙ ap is_sequence sh) sound.shallow) (same_taken (set_scope f.syntax f.stop (number h.tag)) refl t))
+    (sequence_stands lim p p-is r el sh len (deep_by lim fs h ((is_marker h.tag && not (has_fragments f.syntax)) || is_sequence (shape f.syntax h)) (ap (λ z. (z && not (has_fragments f.syntax)) || is_sequence (shape f.syntax h)) el.no_marker ∙ ap is_sequence sh) sound.shallow) (same_taken (set_scope f.syntax f.stop (number h.tag)) refl t))
 element_case f fs h lim p p-is r el len sound t NotAllowed sh =
     absurd (let k : is_not_allowed (shape f.syntax h) ≡ false = and_false (not (is_marker h.tag)) (is_not_allowed (shape f.syntax h)) sound.allowed (ap not el.no_marker) in let g : true ≡ false = sym (ap is_not_allowed sh) ∙ k in cc)
 
@@ -220,12 +294,21 @@ header_stands {s = s} {values = values} f fs {b = b} hb h lim p p-is r sp tag-ok
         rw (kept_marker lim f fs h values (ap (λ z. is_marker z) same ∙ m))
         (end_case f fs lim p u p-is r sp same m (sound_mark lim (spot_of f fs (length b)) (length hb) h sound (ap (λ z. is_marker z) same ∙ m) (ap (λ z. same_tag z item_tag) same ∙ other)) which open-ended gone t.levels)
 
-    items : (h.tag ≡ item_tag) ⊎ ((h.tag ≡ sequence_end_tag) × ((is_none f.stop && not (is_empty fs)) ≡ true)) → f.in_sequence ≡ true → Stands s lim (take_header p f fs h) (keep_header lim f fs h values) (b ++ hb)
-    items (inl same) here =
-        rw (taken_item p f fs h same, kept_marker lim f fs h values (ap (λ z. is_marker z) same)) (let is = sequence_of r here in let r2 : Reaches s lim.wanted values (sequence_scope f.syntax f.stop) fs b = subst (λ z. Reaches s lim.wanted values z fs b) is r in
+    an_item : h.tag ≡ item_tag → f.in_sequence ≡ true → (k : Bool) → has_fragments f.syntax ≡ k → Stands s lim (take_header p f fs h) (keep_header lim f fs h values) (b ++ hb)
+    an_item same here false nests =
+        rw (taken_item p f fs h same nests, kept_marker lim f fs h values (ap (λ z. is_marker z) same)) (let is = sequence_of r here in let r2 : Reaches s lim.wanted values (sequence_scope f.syntax f.stop) fs b = subst (λ z. Reaches s lim.wanted values z fs b) is r in
         subst (λ z. Stands s lim (begin_level p (set_scope f.syntax (stop_of p h.length) 0) z fs h.length) values (b ++ hb)) (sym is)
-        (item_stands lim p p-is r2 (record { spelled = sp; tagged = same }) (sound_length lim (spot_of f fs (length b)) (length hb) h sound)
-        (deep_by lim fs h (is_marker h.tag || is_sequence (shape f.syntax h)) (ap (λ z. z || is_sequence (shape f.syntax h)) (ap (λ z. is_marker z) same)) sound.shallow) (same_taken (sequence_scope f.syntax f.stop) refl t)))
+        (item_stands lim p p-is r2 (record { spelled = sp; tagged = same; nests = nests }) (sound_length lim (spot_of f fs (length b)) (length hb) h sound)
+        (deep_by lim fs h _ (marker_opens (spot_of f fs (length b)) h (ap (λ z. is_marker z) same) nests) sound.shallow) (same_taken (sequence_scope f.syntax f.stop) refl t)))
+    an_item same here true holds =
+        rw (taken_fragment p f fs h same holds, kept_marker lim f fs h values (ap (λ z. is_marker z) same)) (let is = sequence_of r here in let r2 : Reaches s lim.wanted values (sequence_scope f.syntax f.stop) fs b = subst (λ z. Reaches s lim.wanted values z fs b) is r in
+        let counted = sound_fragment lim (spot_of f fs (length b)) (length hb) h sound (ap (λ z. is_marker z) same) holds in
+        let defined : h.length ≢ undefined_length = λ e. absurd (let k : true ≡ false = sym (eq-eqb h.length undefined_length e) ∙ counted in cc) in
+        subst (λ z. Stands s lim (begin_value p z fs h.tag h.length) values (b ++ hb)) (sym is)
+        (fragment_stands lim p p-is r2 (record { spelled = sp; tagged = same; holds = holds; defined = defined }) (sound_length lim (spot_of f fs (length b)) (length hb) h sound defined) (same_taken (sequence_scope f.syntax f.stop) refl t)))
+
+    items : (h.tag ≡ item_tag) ⊎ ((h.tag ≡ sequence_end_tag) × ((is_none f.stop && not (is_empty fs)) ≡ true)) → f.in_sequence ≡ true → Stands s lim (take_header p f fs h) (keep_header lim f fs h values) (b ++ hb)
+    items (inl same) here = an_item same here (has_fragments f.syntax) refl
     items (inr both) here = an_end sequence_end_tag both.0 refl refl (rw here refl) both.1 (λ g gs. taken_sequence_end p f g gs h both.0)
 
     by : (q : Bool) → f.in_sequence ≡ q → (m : Bool) → is_marker h.tag ≡ m → Stands s lim (take_header p f fs h) (keep_header lim f fs h values) (b ++ hb)

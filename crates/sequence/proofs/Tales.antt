@@ -1,15 +1,16 @@
 -- What is told after any bytes.
-use Rattle.std.proofs.Common.{◌≡◌, ℕ, zero, suc, ◌+◌, ◌*◌, ◌≤◌, ◌⊎◌, Bool, true, false, List, [], ◌∷◌, ◌++◌, length, Some, None, refl, sym, ap, subst, ◌∙◌, inl, inr, arith, lit<, append_assoc, append-nil, length-append, if◌then◌else◌}
+use Rattle.std.proofs.Common.{◌≡◌, ℕ, zero, suc, ◌+◌, ◌*◌, ◌≤◌, ◌⊎◌, Bool, true, false, List, [], ◌∷◌, ◌++◌, length, Some, None, is_some, refl, sym, ap, subst, ◌∙◌, inl, inr, arith, lit<, append_assoc, append-nil, length-append, if◌then◌else◌}
 use Rattle.sequence.specs.Coding.{layout}
 use Rattle.sequence.specs.declared.coding.Coding.{Coding}
 use Rattle.element.specs.declared.tag.Tag.{Tag}
 use Rattle.element.specs.declared.header.Header.{Header}
-use Rattle.element.specs.Header.{number, is_whole}
+use Rattle.element.specs.Header.{number, is_marker, is_whole}
 use Rattle.sequence.specs.declared.level.Scope.{Scope}
 use Rattle.sequence.specs.declared.spot.Spot.{Spot}
 use Rattle.sequence.specs.declared.wanted.Want.{Want}
 use Rattle.sequence.specs.Tree.{Elements, nothing}
-use Rattle.sequence.specs.Open.{PathEntry, Tail, in_header, in_value, Open}
+use Rattle.sequence.specs.Open.{PathEntry, Tail, in_header, in_value, IsLeft, Open}
+use Rattle.sequence.specs.Holding.{begun_in}
 use Rattle.sequence.specs.Wanted.{Values, is_wanted, kept_of, size_of_values, begun_bytes, held_of}
 use Rattle.sequence.specs.Rules.{Limits, broken}
 use Rattle.sequence.specs.FirstFault.{IsNoLater, spot_behind, Breaks, IsUnbroken, FirstFault}
@@ -18,7 +19,7 @@ use Rattle.sequence.specs.machine.Machine.{set_scope, spot_of, arrive, due, Stat
 use Rattle.sequence.specs.machine.Reported.{told_in}
 use Rattle.sequence.specs.machine.Keeping.{keep, keeps, with_value, wanted_at}
 use Rattle.sequence.specs.Fields.{but_last}
-use Rattle.sequence.specs.machine.Standing.{IsBytes, at_root, AllLastTo, IsHeading, IsReading, IsStopped, StandsIn, Stands}
+use Rattle.sequence.specs.machine.Standing.{IsBytes, at_root, AreNested, LastsTo, AllLastTo, IsHeading, IsReading, IsStopped, StandsIn, Stands}
 use Rattle.sequence.proofs.Runs.{HasStopped, run_append, run_stopped}
 use Rattle.sequence.proofs.Arriving.{arrive_stands}
 use Rattle.sequence.proofs.Steps.{next_stands}
@@ -201,13 +202,27 @@ value_whole lim fs t v whole = by (wanted_at lim fs t)
     by true = cut whole (t, v)
     by false = refl
 
-pub reading_at : (s : Coding) (lim : Limits) (values : Values) (f : Scope) (fs : List Scope) (t : Tag) (n : ℕ) (b : List ℕ) (r : IsReading s lim values f fs t n b) → FrontAt s lim.wanted r.whole b (in_value r.h r.v) (set_scope f.syntax f.stop r.last) fs
+-- the level before a value began ends where it ends
+begun_stop : (g : Scope) (h : Header) → (begun_in g h).stop ≡ g.stop
+begun_stop g h = by (is_marker h.tag)
+  where
+    by : (m : Bool) → (if m then g else record g { last = number h.tag }).stop ≡ g.stop
+    by true = refl
+    by false = refl
+
+round_stop : (f g : Scope) (h : Header) → f ≡ begun_in g h → f.stop ≡ g.stop
+round_stop f g h e = ap (λ (z : Scope). z.stop) e ∙ begun_stop g h
+
+pub reading_at : (s : Coding) (lim : Limits) (values : Values) (f : Scope) (fs : List Scope) (t : Tag) (n : ℕ) (b : List ℕ) (r : IsReading s lim values f fs t n b) → FrontAt s lim.wanted r.whole b (in_value r.h r.v) r.round fs
 reading_at s lim values f fs t n b r =
     let place : length b ≡ length (r.before ++ (r.hb ++ r.v)) = ap length r.text in
     let past = less_all (f ∷ fs) (length b + 1) (length b + n) r.levels.hold (omega (arith, r.more)) in
     let here = less_all (f ∷ fs) (length b) (length b + 1) past (omega arith) in
-    let x = subst (λ z. IsFront s lim.wanted r.whole (length b) z (in_value r.h r.v) (set_scope f.syntax f.stop r.last) fs) (sym r.text) (front_reading r.h r.hb r.v (length b) r.reaches r.element r.shaped (omega (arith, r.size, r.more)) here.0 here.1 place) in
-    record { front = x; is_open = open_of x r.levels.nested (past_stays f.stop (length b) past.0) }
+    let stop = round_stop f r.round r.h r.top in
+    let hold : AllLastTo (r.round ∷ fs) (length b) = (subst (λ o. LastsTo o (length b)) stop here.0, here.1) in
+    let nested : AreNested None (r.round ∷ fs) = subst (λ o. IsLeft o None × AreNested (if is_some o then o else None) fs) stop r.levels.nested in
+    let x = subst (λ z. IsFront s lim.wanted r.whole (length b) z (in_value r.h r.v) r.round fs) (sym r.text) (front_reading r.h r.hb r.v (length b) r.reaches r.begins (omega (arith, r.size, r.more)) hold place) in
+    record { front = x; is_open = open_of x nested (past_stays r.round.stop (length b) (subst (λ o. LastsTo o (length b + 1)) stop past.0)) }
 
 pub reading_front : (s : Coding) (lim : Limits) (values : Values) (f : Scope) (fs : List Scope) (t : Tag) (n : ℕ) (b : List ℕ) (r : IsReading s lim values f fs t n b) → OpenEnd s lim r.whole b (in_value r.h r.v) fs
 reading_front s lim values f fs t n b r =

@@ -15,11 +15,11 @@ use Rattle.sequence.specs.declared.wanted.Want.{Want}
 use Rattle.sequence.specs.declared.shape.Shape.TheVariants.{Value}
 use Rattle.sequence.specs.Shape.{shape}
 use Rattle.sequence.specs.Tree.{IsElement}
-use Rattle.sequence.specs.Open.{PathEntry, Tail, in_header, in_value, header_tail, value_tail, IsUnfinishedHeader, IsLeft, AreLeft, IsInnermost, Nested, at_elements, in_sequence_of, Open, sequence_entry}
+use Rattle.sequence.specs.Open.{PathEntry, Tail, in_header, in_value, header_tail, value_tail, IsItemTail, header_of_item, value_of_fragment, IsUnfinishedHeader, IsLeft, AreLeft, IsInnermost, Nested, at_elements, in_sequence_of, Open, sequence_entry}
 use Rattle.sequence.specs.Wanted.{Values}
 use Rattle.sequence.specs.Rules.{Limits, broken, passes, broken_need}
 use Rattle.sequence.specs.machine.Machine.{set_scope, stops_at, less}
-use Rattle.sequence.specs.machine.Standing.{Reaches, at_root, into_sequence, into_item, AreNested, LastsTo, AllLastTo, IsDue}
+use Rattle.sequence.specs.machine.Standing.{Reaches, at_root, into_sequence, into_item, AreNested, LastsTo, AllLastTo, IsDue, BeginsIn, an_element, a_fragment}
 use Rattle.sequence.proofs.Sound.{if_some}
 use Rattle.sequence.proofs.Unbroken.{BreaksNone, unbroken_is}
 use Rattle.sequence.proofs.Fronts.{stop_at, top_over, below_over}
@@ -67,22 +67,22 @@ open_of {s = s} {n = n} {f = f} {fs = fs} x nested stays = record {
 
 -- where a header is due or begun
 
-front_sequence : {s : Coding} {ws : List Want} {values : Values} {f : Scope} {fs : List Scope} {before : List ℕ} (t : List ℕ) (n : ℕ) → Reaches s ws values f fs before → f.in_sequence ≡ true → IsUnfinishedHeader f.syntax t → AllLastTo (f ∷ fs) n → n ≡ length (before ++ t) → IsFront s ws values n (before ++ t) (in_header t) f fs
-front_sequence t n (at_root d e k fits) here tail hold n-is = absurd cc
-front_sequence t n (into_item r it len some set stop-is last-is b-is) here tail hold n-is = absurd cc
-front_sequence {s = s} {ws = ws} {values = values} t n (into_sequence {s1 = s1} {stop = stop} {out = out} {last = last} {fs = fs} {q = q} {h = h} {hb = hb} {inner = inner} {is = is} {ib = ib} {b = b} {k = k} r el sh len some items stop-is k-is b-is) here tail hold n-is =
+front_sequence : {s : Coding} {ws : List Want} {values : Values} {f : Scope} {fs : List Scope} {before : List ℕ} (t : List ℕ) (end : Tail) (n : ℕ) → Reaches s ws values f fs before → f.in_sequence ≡ true → IsItemTail f.syntax end t → AllLastTo (f ∷ fs) n → n ≡ length (before ++ t) → IsFront s ws values n (before ++ t) end f fs
+front_sequence t end n (at_root d e k fits) here tail hold n-is = absurd cc
+front_sequence t end n (into_item r it len some set stop-is last-is b-is) here tail hold n-is = absurd cc
+front_sequence {s = s} {ws = ws} {values = values} t end n (into_sequence {s1 = s1} {stop = stop} {out = out} {last = last} {fs = fs} {q = q} {h = h} {hb = hb} {inner = inner} {is = is} {ib = ib} {b = b} {k = k} r el sh len some items stop-is k-is b-is) here tail hold n-is =
     let text : q ++ (hb ++ (ib ++ t)) ≡ b ++ t = sym (ap (λ z. z ++ t) b-is ∙ simp append_assoc) in
     let n0 : n ≡ length (q ++ (hb ++ (ib ++ t))) = n-is ∙ ap length (sym text) in
     let n1 : n ≡ length (q ++ hb) + length (ib ++ t) = n0 ∙ omega (arith, length-append q (hb ++ (ib ++ t)), length-append hb (ib ++ t), length-append q hb) in
     let level = level_is stop (q ++ hb) (ib ++ t) n h.length n1 some stop-is hold.0 in
     let seq : PathEntry = sequence_entry inner h.length (length (ib ++ t)) in
-    let front = plug (hb ++ (ib ++ t)) (in_header t) (seq ∷ []) (number h.tag) n r n0 hold.1.0 hold.1.1 (λ es eb set e. in_sequence_of (record { elements = es; before = eb; header = h; spelling = hb; inner = inner; items = is; item_bytes = ib; elements-are = set; header-is = subst (λ z. IsElement s1 z h hb) e el; shaped = sh; items-are = items }) level tail) in
+    let front = plug (hb ++ (ib ++ t)) end (seq ∷ []) (number h.tag) n r n0 hold.1.0 hold.1.1 (λ es eb set e. in_sequence_of (record { elements = es; before = eb; header = h; spelling = hb; inner = inner; items = is; item_bytes = ib; elements-are = set; header-is = subst (λ z. IsElement s1 z h hb) e el; shaped = sh; items-are = items }) level tail) in
     let scope = entry_scope true inner stop 0 (length (q ++ hb)) n h.length (length (ib ++ t)) n1 level stop-is in
     record {
       elements = front.elements;
       path = front.path;
       last = front.last;
-      nested = subst (λ z. Nested s z front.elements front.path front.last (in_header t)) text front.nested;
+      nested = subst (λ z. Nested s z front.elements front.path front.last end) text front.nested;
       top = front.top ∙ scope;
       below = front.below ∙ ap (λ z. set_scope s1 out z ∷ fs) (sym k-is);
       kept = front.kept;
@@ -97,15 +97,22 @@ pub front_heading : (s : Coding) (ws : List Want) (values : Values) (f : Scope) 
 front_heading s ws values f fs before t n r tail hold n-is = by f.in_sequence refl
   where
     by : (q : Bool) → f.in_sequence ≡ q → IsFront s ws values n (before ++ t) (in_header t) f fs
-    by true here = front_sequence t n r here tail hold n-is
+    by true here = front_sequence t (in_header t) n r here (header_of_item tail) hold n-is
     by false here =
         let is = set_of f here in
         subst (λ z. IsFront s ws values n (before ++ t) (in_header t) z fs) (sym is) (front_elements t n (subst (λ z. Reaches s ws values z fs before) is r) tail hold.0 hold.1 n-is)
 
-pub front_reading : {s : Coding} {ws : List Want} {values : Values} {s1 : Coding} {stop : Option ℕ} {last : ℕ} {fs : List Scope} {before : List ℕ} (h : Header) (hb v : List ℕ) (n : ℕ) → Reaches s ws values (set_scope s1 stop last) fs before → IsElement s1 last h hb → shape s1 h ≡ Value → length v < h.length → LastsTo stop n → AllLastTo fs n → n ≡ length (before ++ (hb ++ v))
+front_value : {s : Coding} {ws : List Want} {values : Values} {s1 : Coding} {stop : Option ℕ} {last : ℕ} {fs : List Scope} {before : List ℕ} (h : Header) (hb v : List ℕ) (n : ℕ) → Reaches s ws values (set_scope s1 stop last) fs before → IsElement s1 last h hb → shape s1 h ≡ Value → length v < h.length → LastsTo stop n → AllLastTo fs n → n ≡ length (before ++ (hb ++ v))
     → IsFront s ws values n (before ++ (hb ++ v)) (in_value h v) (set_scope s1 stop last) fs
-front_reading {s1 = s1} {last = last} h hb v n r el sh lt hold all n-is =
+front_value {s1 = s1} {last = last} h hb v n r el sh lt hold all n-is =
     plug (hb ++ v) (in_value h v) [] last n r n-is hold all (λ es eb set e. subst (λ z. Nested s1 (eb ++ (hb ++ v)) es [] z (in_value h v)) (sym e) (at_elements set (value_tail v (subst (λ z. IsElement s1 z h hb) e el) sh lt)))
+
+pub front_reading : {s : Coding} {ws : List Want} {values : Values} {f : Scope} {fs : List Scope} {before : List ℕ} (h : Header) (hb v : List ℕ) (n : ℕ) → Reaches s ws values f fs before → BeginsIn ws f fs h hb → length v < h.length → AllLastTo (f ∷ fs) n → n ≡ length (before ++ (hb ++ v))
+    → IsFront s ws values n (before ++ (hb ++ v)) (in_value h v) f fs
+front_reading {s} {ws} {values} {f} {fs} {before} h hb v n r (an_element here el sh fits) lt hold n-is =
+    let is = set_of f here in
+    subst (λ z. IsFront s ws values n (before ++ (hb ++ v)) (in_value h v) z fs) (sym is) (front_value h hb v n (subst (λ z. Reaches s ws values z fs before) is r) el sh lt hold.0 hold.1 n-is)
+front_reading h hb v n r (a_fragment here it) lt hold n-is = front_sequence (hb ++ v) (in_value h v) n r here (value_of_fragment v it lt) hold n-is
 
 -- a header that is not whole is inside the nearest end
 

@@ -10,7 +10,7 @@ use Rattle.sequence.specs.Coding.{layout}
 use Rattle.sequence.specs.declared.level.Scope.{Scope}
 use Rattle.sequence.specs.declared.spot.Spot.{Spot}
 use Rattle.sequence.specs.Shape.{is_undefined, undefined_length, shape}
-use Rattle.sequence.specs.Rules.{Limits, Broken, broken_due, broken_tag, broken_need, broken_header, broken, passes, is_long_mark, is_not_allowed, is_too_long, opens, counted_length, ◌or_else◌, when}
+use Rattle.sequence.specs.Rules.{Limits, Broken, broken_due, broken_tag, broken_need, broken_header, broken, passes, is_long_mark, is_not_allowed, is_too_long, is_endless, opens, counted_length, ◌or_else◌, when}
 use Rattle.sequence.specs.machine.Machine.{nearest, less, spot_of, at, due, due_by, arrive, headed, headed_by, take_header, Heading, run}
 use Rattle.sequence.specs.machine.Standing.{IsLength, LastsTo, AllLastTo, Unbroken}
 use Rattle.sequence.proofs.Sound.{IsSound}
@@ -35,7 +35,7 @@ all_none None y e f = f
 sound_header : (lim : Limits) (spot : Spot) (size : ℕ) (h : Header) → IsSound lim spot size h → broken_header lim spot size h ≡ None
 unfolding broken_header
 sound_header lim spot size h ok =
-    else_none _ _ _ ok.mark (else_none _ _ _ ok.allowed (else_none _ _ _ ok.counted (else_none _ _ _ ok.within (else_none _ _ _ ok.short (else_none _ _ _ ok.fits (else_none _ _ _ ok.shallow refl))))))
+    else_none _ _ _ ok.mark (else_none _ _ _ ok.allowed (else_none _ _ _ ok.bounded (else_none _ _ _ ok.counted (else_none _ _ _ ok.within (else_none _ _ _ ok.short (else_none _ _ _ ok.fits (else_none _ _ _ ok.shallow refl)))))))
 
 -- the header h of so many bytes keeps the rules
 pub record KeepsRules (lim : Limits) (spot : Spot) (size : ℕ) (h : Header) : Type 0 where
@@ -94,14 +94,14 @@ pub record HasRoom (lim : Limits) (f : Scope) (fs : List Scope) (p q size : ℕ)
   pub counts : p + (size + counted_length h.length) ≤ q
   pub even : IsLength h.length
 
-pub keeps : (lim : Limits) (f : Scope) (fs : List Scope) (p q size : ℕ) (h : Header) → HasRoom lim f fs p q size h → broken_tag (spot_of f fs p) h.tag ≡ None → is_long_mark h ≡ false → (not (is_marker h.tag) && is_not_allowed (shape f.syntax h)) ≡ false → is_too_long lim (spot_of f fs p) h ≡ false
+pub keeps : (lim : Limits) (f : Scope) (fs : List Scope) (p q size : ℕ) (h : Header) → HasRoom lim f fs p q size h → broken_tag (spot_of f fs p) h.tag ≡ None → is_long_mark h ≡ false → (not (is_marker h.tag) && is_not_allowed (shape f.syntax h)) ≡ false → is_endless (spot_of f fs p) h ≡ false → is_too_long lim (spot_of f fs p) h ≡ false
     → (opens (spot_of f fs p) h && nat_le lim.depth (length fs)) ≡ false → KeepsRules lim (spot_of f fs p) size h
-keeps lim f fs p q size h room tagged mark allowed fits shallow =
+keeps lim f fs p q size h room tagged mark allowed bounded fits shallow =
     let counts = room.counts in
     record {
       room = room_before f fs p q size room.hold (omega (arith, counts));
       tagged = tagged;
-      sound = record { mark = mark; allowed = allowed; counted = counted_by (is_undefined h.length) refl; within = within_by (is_undefined h.length) refl; short = short_by (omega (arith, counts, room.short)); fits = fits; shallow = shallow };
+      sound = record { mark = mark; allowed = allowed; bounded = bounded; counted = counted_by (is_undefined h.length) refl; within = within_by (is_undefined h.length) refl; short = short_by (omega (arith, counts, room.short)); fits = fits; shallow = shallow };
     }
   where
     short_by : p + size + counted_length h.length ≤ lim.bytes → nat_lt lim.bytes (p + size + counted_length h.length) ≡ false

@@ -1,6 +1,6 @@
 -- The walker's state after its calls.
-use Rattle.std.proofs.Common.{◌≡◌, ℕ, ◌+◌, ◌-◌, ◌<◌, ◌≤◌, Bool, true, false, not, ◌&&◌, List, [], ◌∷◌, ◌++◌, length, Some, None, refl, sym, ap, ◌∙◌, inl, inr, ◌⊎◌, arith, nat_lt, nat_eq, eq-eqb, ltb-false, if◌then◌else◌}
-use Rattle.sequence.specs.Coding.{layout}
+use Rattle.std.proofs.Common.{◌≡◌, ℕ, ◌+◌, ◌-◌, ◌<◌, ◌≤◌, Bool, true, false, not, ◌&&◌, List, [], ◌∷◌, ◌++◌, length, Some, None, refl, sym, ap, ◌∙◌, inl, inr, ◌⊎◌, arith, nat_lt, nat_eq, eq-eqb, ne_eqb, ltb-false, if◌then◌else◌}
+use Rattle.sequence.specs.Coding.{layout, has_fragments}
 use Rattle.sequence.specs.declared.coding.Coding.{Coding}
 use Rattle.element.specs.declared.header.Header.{Header}
 use Rattle.element.specs.Header.{number, is_marker, header_at, is_whole, item_tag, sequence_end_tag}
@@ -12,17 +12,17 @@ use Rattle.sequence.specs.declared.wanted.Want.{Want}
 use Rattle.sequence.specs.declared.stage.Stage.{Stage}
 use Rattle.sequence.specs.declared.shape.Shape.{Shape}
 use Rattle.sequence.specs.declared.shape.Shape.TheVariants.{Value, Sequence, NotAllowed}
-use Rattle.sequence.specs.Shape.{shape}
+use Rattle.sequence.specs.Shape.{is_undefined, shape}
 use Rattle.sequence.specs.Wanted.{Values}
 use Rattle.sequence.specs.Rules.{Limits, Broken, broken_due, broken_tag, broken, same_tag, counted_length, is_value, passes}
-use Rattle.sequence.specs.machine.Machine.{at, arrive, due, due_by, spot_of, Heading, stop_of, set_scope, sequence_scope, begin_level, begin_value, leave, begun, take_element, take_header}
+use Rattle.sequence.specs.machine.Machine.{at, arrive, due, due_by, spot_of, Heading, stop_of, set_scope, sequence_scope, begin_level, begin_value, leave, begun, take_element, take_item, take_header}
 use Rattle.sequence.specs.machine.Scopes.{top_of, below_of}
 use Rattle.sequence.specs.machine.Keeping.{keep_shaped, keep_header, wanted_at, with_value}
 use Rattle.sequence.specs.machine.Spare.{stage_by}
 use Rattle.sequence.specs.machine.State.{mode_of, has_room, fits_wanted}
 use Rattle.sequence.specs.Wanted.{is_wanted, room_of}
 use Rattle.sequence.proofs.Tops.{below_empty}
-use Rattle.sequence.proofs.Sound.{is_sound, element_tag, in_sequence_is}
+use Rattle.sequence.proofs.Sound.{is_sound, sound_fragment, element_tag, in_sequence_is}
 use Rattle.sequence.proofs.Unbroken.{unbroken_is}
 
 not_true : (a : Bool) → not a ≡ true → a ≡ false
@@ -56,12 +56,33 @@ if_false : {A : Type 0} (b : Bool) (x y : A) → b ≡ false → (if b then x el
 if_false true x y e = absurd cc
 if_false false x y e = refl
 
-pub item_header : (p : ℕ) (f : Scope) (fs : List Scope) (h : Header) (top g : Scope) → is_marker h.tag ≡ true → same_tag h.tag item_tag ≡ true → g ≡ set_scope top.syntax (stop_of p h.length) 0 → top ≡ f
-    → begin_level p g f fs h.length ≡ take_header p f fs h
+pub item_header : (p : ℕ) (f : Scope) (fs : List Scope) (h : Header) → is_marker h.tag ≡ true → same_tag h.tag item_tag ≡ true → take_item p f fs h ≡ take_header p f fs h
 unfolding take_header
-item_header p f fs h top g m t g-is top-is =
-    ap (λ z. begin_level p z f fs h.length) (g-is ∙ ap (λ z. set_scope z.syntax (stop_of p h.length) 0) top-is)
-    ∙ sym (if_true (is_marker h.tag) _ _ m ∙ if_true (same_tag h.tag item_tag) _ _ t)
+item_header p f fs h m t = sym (if_true (is_marker h.tag) _ _ m ∙ if_true (same_tag h.tag item_tag) _ _ t)
+
+pub item_level : (p : ℕ) (f : Scope) (fs : List Scope) (h : Header) (coding : Coding) (g : Scope) → coding ≡ f.syntax → has_fragments coding ≡ false → g ≡ set_scope coding (stop_of p h.length) 0 → begin_level p g f fs h.length ≡ take_item p f fs h
+item_level p f fs h coding g same nests g-is =
+    ap (λ z. begin_level p z f fs h.length) (g-is ∙ ap (λ z. set_scope z (stop_of p h.length) 0) same)
+    ∙ sym (if_false (has_fragments f.syntax) _ _ (ap has_fragments (sym same) ∙ nests))
+
+pub item_bytes : (p : ℕ) (f : Scope) (fs : List Scope) (h : Header) (coding : Coding) → coding ≡ f.syntax → has_fragments coding ≡ true → begin_value p f fs h.tag h.length ≡ take_item p f fs h
+item_bytes p f fs h coding same holds = sym (if_true (has_fragments f.syntax) _ _ (ap has_fragments (sym same) ∙ holds))
+
+-- where no level is open, the innermost one is the data set itself
+pub top_none : (root : Scope) (levels : List Level) → length levels ≡ 0 → top_of root levels ≡ root
+top_none root [] none = refl
+top_none root (l ∷ levels) none = absurd (omega (arith, none))
+
+-- the data set itself holds no fragments
+pub fragments_inside : (root : Scope) (levels : List Level) → has_fragments root.syntax ≡ false → has_fragments (top_of root levels).syntax ≡ true → 0 < length levels
+fragments_inside root [] no-fragments holds = absurd (let k : true ≡ false = sym holds ∙ no-fragments in cc)
+fragments_inside root (l ∷ levels) no-fragments holds = omega arith
+
+pub inside_value : (lim : Limits) (root : Scope) (levels : List Level) (t : ℕ) (values : Values) → 0 < length levels → with_value lim (below_of root [] levels) t [] values ≡ values
+inside_value lim root levels t values some = ap (λ z. if z && is_wanted lim.wanted t then values ++ (t, []) ∷ [] else values) (below_empty root levels ∙ none levels some)
+  where
+    none : (ls : List Level) → 0 < length ls → nat_eq (length ls) 0 ≡ false
+    none ls lt = ne_eqb (length ls) 0 (λ e. absurd (omega (arith, lt, e)))
 
 pub mark_header : (p : ℕ) (f : Scope) (fs : List Scope) (h : Header) → is_marker h.tag ≡ true → same_tag h.tag item_tag ≡ false → leave p f fs ≡ take_header p f fs h
 unfolding take_header
@@ -91,6 +112,10 @@ within_limit lim spot t ok w = ltb-false _ _ (is_sound lim spot (length t) (head
 
 pub has_room_left : (lim : Limits) (spot : Spot) (t : List ℕ) → broken lim spot t ≡ None → is_whole (layout spot.syntax) t ≡ true → has_room lim.depth spot.depth spot.syntax (header_at (layout spot.syntax) t) ≡ true
 has_room_left lim spot t ok w = ap not (is_sound lim spot (length t) (header_at (layout spot.syntax) t) ((unbroken_is lim spot t ok).whole_ok w)).shallow
+
+-- the length of a fragment is defined
+pub defined_left : (lim : Limits) (spot : Spot) (t : List ℕ) → broken lim spot t ≡ None → is_whole (layout spot.syntax) t ≡ true → is_marker (header_at (layout spot.syntax) t).tag ≡ true → has_fragments spot.syntax ≡ true → is_undefined (header_at (layout spot.syntax) t).length ≡ false
+defined_left lim spot t ok w = sound_fragment lim spot (length t) (header_at (layout spot.syntax) t) (is_sound lim spot (length t) (header_at (layout spot.syntax) t) ((unbroken_is lim spot t ok).whole_ok w))
 
 -- an element's tag is above the last one
 pub rises : (lim : Limits) (spot : Spot) (t : List ℕ) → broken lim spot t ≡ None → is_whole (layout spot.syntax) t ≡ true → is_marker (header_at (layout spot.syntax) t).tag ≡ false → spot.last < number (header_at (layout spot.syntax) t).tag

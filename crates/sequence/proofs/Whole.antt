@@ -2,6 +2,8 @@
 use Rattle.std.proofs.Common.{◌≡◌, ℕ, suc, ◌+◌, ◌<◌, ◌≤◌, ◌≢◌, Bool, true, false, not, ◌&&◌, ◌||◌, List, [], ◌∷◌, ◌++◌, length, Option, Some, None, nat_eq, nat_le, nat_lt, refl, sym, ap, subst, ◌∙◌, arith, append_assoc, append-nil, length-append, false-eqb, eqb-true, ne_eqb, lit<, if◌then◌else◌}
 use Rattle.std.proofs.lemmas.Bool.Decides.{nat_tests}
 use Rattle.sequence.specs.declared.coding.Coding.{Coding}
+use Rattle.sequence.specs.declared.coding.Coding.TheVariants.{Implicit, Explicit, Encapsulated, Fragments}
+use Rattle.sequence.specs.Coding.{has_fragments}
 use Rattle.element.specs.declared.tag.Tag.{Tag}
 use Rattle.element.specs.declared.header.Header.{Header}
 use Rattle.element.specs.Header.{number, is_marker, plain, item_tag, item_end_tag, sequence_end_tag}
@@ -9,14 +11,14 @@ use Rattle.sequence.specs.declared.level.Scope.{Scope}
 use Rattle.sequence.specs.declared.wanted.Want.{Want}
 use Rattle.sequence.specs.declared.shape.Shape.TheVariants.{Value, Sequence}
 use Rattle.sequence.specs.Shape.{is_undefined, undefined_length, shape}
-use Rattle.sequence.specs.Tree.{delimitation, Elements, no_elements, value, sequence, Items, no_items, item, IsElement, IsItem, IsValue, Ended, counted, delimited, DataSet, nothing, value_then, sequence_then, ItemList, no_more, item_then}
+use Rattle.sequence.specs.Tree.{delimitation, Elements, no_elements, value, sequence, Items, no_items, item, fragment, IsElement, IsItem, IsFragmentItem, IsValue, Ended, counted, delimited, DataSet, nothing, value_then, sequence_then, ItemList, no_more, item_then, fragment_then}
 use Rattle.sequence.specs.Open.{last_of}
 use Rattle.sequence.specs.Wanted.{room_of}
 use Rattle.sequence.specs.Rules.{Limits, broken_tag, same_tag, passes, is_value, is_sequence, is_not_allowed, is_long_mark, is_too_long, counted_length}
 use Rattle.sequence.specs.Ending.{IsWholeDataSet, breaks_rule, ends_early, WholeBreaksNoRule, WholeHasNoFault}
 use Rattle.sequence.specs.machine.Machine.{set_scope, sequence_scope, spot_of, stop_of, State, at, Heading, start, due, arrive, begin_level, run}
 use Rattle.sequence.specs.machine.Standing.{at_root, into_sequence, into_item, LastsTo, AllLastTo}
-use Rattle.sequence.proofs.Runs.{HasStopped, run_append, arrive_stopped, value_on, IsMark, sequence_end_mark, item_end_mark, taken_value, taken_sequence, taken_item}
+use Rattle.sequence.proofs.Runs.{HasStopped, run_append, arrive_stopped, value_on, IsMark, sequence_end_mark, item_end_mark, taken_value, taken_sequence, taken_item, taken_fragment}
 use Rattle.sequence.proofs.Nesting.{FitIn, more_elements, more_sequence, more_items}
 use Rattle.sequence.proofs.Telling.{less_all}
 use Rattle.sequence.proofs.Tales.{goes_unbroken}
@@ -111,8 +113,9 @@ mark_goes lim t mark g f fs p q tagged marked none hold short q-is =
     let all : AllLastTo (g ∷ f ∷ fs) q = (subst (λ o. LastsTo o q) (sym none) tt, hold) in
     let room : HasRoom lim g (f ∷ fs) p q 8 (record { tag = t; vr = None; length = 0 }) = record { hold = all; short = short; counts = omega (arith, q-is); even = λ d. refl } in
     let ok = keeps lim g (f ∷ fs) p q 8 (record { tag = t; vr = None; length = 0 }) room tagged (and_false (is_marker t && not (same_tag t item_tag))) (ap (λ z. not z && is_not_allowed (shape g.syntax (record { tag = t; vr = None; length = 0 }))) marked)
+    (and_false (is_marker t && has_fragments g.syntax))
     (ap (λ z. ((nat_eq (length (f ∷ fs)) 0 && not z) && is_value (shape g.syntax (record { tag = t; vr = None; length = 0 }))) && passes (room_of lim.wanted (number t)) 0) marked ∙ ap (λ z. (z && is_value (shape g.syntax (record { tag = t; vr = None; length = 0 }))) && passes (room_of lim.wanted (number t)) 0) (and_false (nat_eq (length (f ∷ fs)) 0)))
-    (opens_room (is_marker t || is_sequence (shape g.syntax (record { tag = t; vr = None; length = 0 }))) 0 lim (f ∷ fs) (λ some. absurd (some refl))) in
+    (opens_room ((is_marker t && not (has_fragments g.syntax)) || is_sequence (shape g.syntax (record { tag = t; vr = None; length = 0 }))) 0 lim (f ∷ fs) (λ some. absurd (some refl))) in
     header_goes lim g (f ∷ fs) p q (record { tag = t; vr = None; length = 0 }) (delimitation t) (plain t 0 mark.0 (mark.1 g.syntax) (lit< tt)) ok (subst (λ o. LastsTo o (p + 8)) (sym none) tt) q-is ∙ mark.2 q g f fs
 
 counted_goes : (lim : Limits) (g0 g1 : Option ℕ → Scope) (f : Scope) (fs : List Scope) (p q n : ℕ) (b : List ℕ) (none : Bool) → nat_eq n 0 ≡ none → ((stop : Option ℕ) → (g1 stop).stop ≡ stop) → n ≢ undefined_length → length b ≡ n → q ≡ p + n
@@ -136,6 +139,13 @@ level_goes {t} lim g0 g1 f fs p q (delimited {b = b}) mark marked tagged stops h
     then_run lim (arrive p (g0 None) (f ∷ fs)) (arrive (p + length b) (g1 None) (f ∷ fs)) (arrive q f fs) b (delimitation t) (in-it (λ e. absurd cc))
     (mark_goes lim t mark (g1 None) f fs (p + length b) q tagged marked (stops None) hold short (omega (arith, q-is, length-append b (delimitation t))))
 
+-- an element in fragments is none that opens a level
+fragments_nest : (s : Coding) (h : Header) → has_fragments s ≡ true → is_sequence (shape s h) ≡ false
+fragments_nest Implicit h e = absurd cc
+fragments_nest Explicit h e = absurd cc
+fragments_nest Encapsulated h e = absurd cc
+fragments_nest Fragments h e = refl
+
 -- the elements and items of a whole text
 
 module _ (s : Coding) (lim : Limits) (whole : List ℕ) (short : length whole ≤ lim.bytes) (shallow : IsShallow s lim whole) where
@@ -154,8 +164,9 @@ module _ (s : Coding) (lim : Limits) (whole : List ℕ) (short : length whole �
       let counts : counted_length h.length ≤ length v = counted_less h.length (length v) (omega (arith, val.size)) in
       let room : HasRoom lim (set_scope s1 stop last) fs p q (length hb) h = record { hold = here.hold; short = omega (arith, far, short); counts = omega (arith, counts, size); even = λ d. val.even } in
       let ok = keeps lim (set_scope s1 stop last) fs p q (length hb) h room (element_tagged s1 stop last p fs h hb el) (no_mark h el.no_marker) (ap (λ z. not (is_marker h.tag) && is_not_allowed z) sh ∙ and_false (not (is_marker h.tag)))
+      (ap (λ z. (z && has_fragments s1) && is_undefined h.length) el.no_marker)
       (fits_room lim s1 stop last p fs h v es val.size fit)
-      (ap (λ z. ((z || is_sequence (shape s1 h)) && not (nat_eq h.length 0)) && nat_le lim.depth (length fs)) el.no_marker ∙ ap (λ z. (is_sequence z && not (nat_eq h.length 0)) && nat_le lim.depth (length fs)) sh) in
+      (ap (λ z. (((z && not (has_fragments s1)) || is_sequence (shape s1 h)) && not (nat_eq h.length 0)) && nat_le lim.depth (length fs)) el.no_marker ∙ ap (λ z. (is_sequence z && not (nat_eq h.length 0)) && nat_le lim.depth (length fs)) sh) in
       let first = header_goes lim (set_scope s1 stop last) fs p (p + length hb) h hb el.spelled ok (less_all (set_scope s1 stop last ∷ fs) (p + length hb) q here.hold (omega (arith, size))).0 refl ∙ taken_value (p + length hb) s1 stop last fs h el.no_marker sh in
       let second = value_on lim (set_scope s1 stop (number h.tag)) fs h.tag (p + length hb) (p + length hb + length v) h.length v (nat_eq h.length 0) refl val.size (omega (arith, val.size)) in
       let one : DataSet s1 last (value h v no_elements) (hb ++ v) = subst (λ z. DataSet s1 last (value h v no_elements) (hb ++ z)) (append-nil v) (value_then el sh val nothing) in
@@ -176,8 +187,9 @@ module _ (s : Coding) (lim : Limits) (whole : List ℕ) (short : length whole �
       (into_sequence here.reaches el sh c.even some no_more (ap (λ z. stop_of z h.length) (omega (arith, here.place, length-append before hb))) refl (ap (λ z. before ++ z) (sym (append-nil hb)))) in
       let room : HasRoom lim (set_scope s1 stop last) fs p q (length hb) h = record { hold = here.hold; short = omega (arith, far, short); counts = omega (arith, counts, size); even = c.even } in
       let ok = keeps lim (set_scope s1 stop last) fs p q (length hb) h room (element_tagged s1 stop last p fs h hb el) (no_mark h el.no_marker) (ap (λ z. not (is_marker h.tag) && is_not_allowed z) sh ∙ and_false (not (is_marker h.tag)))
+      (ap (λ z. (z && has_fragments s1) && is_undefined h.length) el.no_marker)
       (ap (λ z. ((nat_eq (length fs) 0 && not (is_marker h.tag)) && is_value z) && passes (room_of lim.wanted (number h.tag)) h.length) sh ∙ ap (λ z. z && passes (room_of lim.wanted (number h.tag)) h.length) (and_false (nat_eq (length fs) 0 && not (is_marker h.tag))))
-      (opens_room (is_marker h.tag || is_sequence (shape s1 h)) h.length lim fs (λ some. deep_at shallow (in-place some) (opened_stays (p + length hb) h.length some))) in
+      (opens_room ((is_marker h.tag && not (has_fragments s1)) || is_sequence (shape s1 h)) h.length lim fs (λ some. deep_at shallow (in-place some) (opened_stays (p + length hb) h.length some))) in
       let first = header_goes lim (set_scope s1 stop last) fs p (p + length hb) h hb el.spelled ok (less_all (set_scope s1 stop last ∷ fs) (p + length hb) q here.hold (omega (arith, size))).0 refl ∙ taken_sequence (p + length hb) s1 stop last fs h inner el.no_marker sh in
       let second = level_goes lim (sequence_scope inner) (sequence_scope inner) (set_scope s1 stop (number h.tag)) fs (p + length hb) (p + length hb + length cb) closed sequence_end_mark refl (sequence_end_tagged inner (p + length hb + length ib) (set_scope s1 stop (number h.tag)) fs) (λ o. refl)
       (less_all (set_scope s1 stop last ∷ fs) (p + length hb + length cb) q here.hold (omega (arith, size))) (omega (arith, size, far, short)) refl
@@ -203,9 +215,10 @@ module _ (s : Coding) (lim : Limits) (whole : List ℕ) (short : length whole �
       let ok = keeps lim (sequence_scope s1 stop) fs p q (length hb) h room (item_tagged s1 stop p fs h.tag it.tagged)
       (ap (λ z. (is_marker z && not (same_tag z item_tag)) && not (nat_eq h.length 0)) it.tagged)
       (ap (λ z. not z && is_not_allowed (shape s1 h)) marked)
+      (ap (λ z. (is_marker h.tag && z) && is_undefined h.length) it.nests ∙ ap (λ z. z && is_undefined h.length) (and_false (is_marker h.tag)))
       (ap (λ z. ((nat_eq (length fs) 0 && not z) && is_value (shape s1 h)) && passes (room_of lim.wanted (number h.tag)) h.length) marked ∙ ap (λ z. (z && is_value (shape s1 h)) && passes (room_of lim.wanted (number h.tag)) h.length) (and_false (nat_eq (length fs) 0)))
-      (opens_room (is_marker h.tag || is_sequence (shape s1 h)) h.length lim fs (λ some. deep_at shallow (in-place some) (opened_stays (p + length hb) h.length some))) in
-      let first = header_goes lim (sequence_scope s1 stop) fs p (p + length hb) h hb it.spelled ok (less_all (sequence_scope s1 stop ∷ fs) (p + length hb) q here.hold (omega (arith, size))).0 refl ∙ taken_item (p + length hb) (sequence_scope s1 stop) fs h it.tagged in
+      (opens_room ((is_marker h.tag && not (has_fragments s1)) || is_sequence (shape s1 h)) h.length lim fs (λ some. deep_at shallow (in-place some) (opened_stays (p + length hb) h.length some))) in
+      let first = header_goes lim (sequence_scope s1 stop) fs p (p + length hb) h hb it.spelled ok (less_all (sequence_scope s1 stop ∷ fs) (p + length hb) q here.hold (omega (arith, size))).0 refl ∙ taken_item (p + length hb) (sequence_scope s1 stop) fs h it.tagged it.nests in
       let second = level_goes lim (λ o. set_scope s1 o 0) (λ o. set_scope s1 o (last_of 0 es)) (sequence_scope s1 stop) fs (p + length hb) (p + length hb + length cb) closed item_end_mark refl (item_end_tagged s1 (last_of 0 es) (p + length hb + length eb) (sequence_scope s1 stop) fs) (λ o. refl)
       (less_all (sequence_scope s1 stop ∷ fs) (p + length hb + length cb) q here.hold (omega (arith, size))) (omega (arith, size, far, short)) refl
       (λ some. in-it (stop_of (p + length hb) h.length) (sequence_scope s1 stop ∷ fs) (before ++ hb) (p + length hb) (p + length hb + length eb) (in-place some) tt) in
@@ -214,6 +227,27 @@ module _ (s : Coding) (lim : Limits) (whole : List ℕ) (short : length whole �
       let next = behind (hb ++ cb) b _ grouped here.nested here.hold (more_items here.reaches one) in
       let place : p + length (hb ++ cb) ≡ p + length hb + length cb = omega (arith, length-append hb cb) in
       then_run lim _ _ _ hb (cb ++ b) first (then_run lim _ _ _ cb b second (rest stop fs (before ++ (hb ++ cb)) (p + length hb + length cb) q (subst (λ z. IsBefore s lim whole (sequence_scope s1 stop) fs (before ++ (hb ++ cb)) b z q) place next)))
+
+  fragment_goes : (s1 : Coding) (h : Header) (hb v b : List ℕ) → IsFragmentItem s1 h hb → IsValue h.length v → GoesItems s1 b → GoesItems s1 (hb ++ (v ++ b))
+  fragment_goes s1 h hb v b it val rest stop fs before p q here =
+      let size : q ≡ p + length hb + length v + length b = omega (arith, here.size, length-append hb (v ++ b), length-append v b) in
+      let far = ends_within here in
+      let counts : counted_length h.length ≤ length v = counted_less h.length (length v) (omega (arith, val.size)) in
+      let marked : is_marker h.tag ≡ true = ap (λ z. is_marker z) it.tagged in
+      let room : HasRoom lim (sequence_scope s1 stop) fs p q (length hb) h = record { hold = here.hold; short = omega (arith, far, short); counts = omega (arith, counts, size); even = λ d. val.even } in
+      let ok = keeps lim (sequence_scope s1 stop) fs p q (length hb) h room (item_tagged s1 stop p fs h.tag it.tagged)
+      (ap (λ z. (is_marker z && not (same_tag z item_tag)) && not (nat_eq h.length 0)) it.tagged)
+      (ap (λ z. not z && is_not_allowed (shape s1 h)) marked)
+      (ap (λ z. (is_marker h.tag && has_fragments s1) && z) (ne_eqb h.length undefined_length it.defined) ∙ and_false (is_marker h.tag && has_fragments s1))
+      (ap (λ z. ((nat_eq (length fs) 0 && not z) && is_value (shape s1 h)) && passes (room_of lim.wanted (number h.tag)) h.length) marked ∙ ap (λ z. (z && is_value (shape s1 h)) && passes (room_of lim.wanted (number h.tag)) h.length) (and_false (nat_eq (length fs) 0)))
+      (ap (λ z. (((is_marker h.tag && not z) || is_sequence (shape s1 h)) && not (nat_eq h.length 0)) && nat_le lim.depth (length fs)) it.holds ∙ ap (λ z. ((z || is_sequence (shape s1 h)) && not (nat_eq h.length 0)) && nat_le lim.depth (length fs)) (and_false (is_marker h.tag)) ∙ ap (λ z. (z && not (nat_eq h.length 0)) && nat_le lim.depth (length fs)) (fragments_nest s1 h it.holds)) in
+      let first = header_goes lim (sequence_scope s1 stop) fs p (p + length hb) h hb it.spelled ok (less_all (sequence_scope s1 stop ∷ fs) (p + length hb) q here.hold (omega (arith, size))).0 refl ∙ taken_fragment (p + length hb) (sequence_scope s1 stop) fs h it.tagged it.holds in
+      let second = value_on lim (sequence_scope s1 stop) fs h.tag (p + length hb) (p + length hb + length v) h.length v (nat_eq h.length 0) refl val.size (omega (arith, val.size)) in
+      let one : ItemList s1 (fragment h v no_items) (hb ++ v) = subst (λ z. ItemList s1 (fragment h v no_items) (hb ++ z)) (append-nil v) (fragment_then it val no_more) in
+      let grouped = subst (λ z. IsBefore s lim whole (sequence_scope s1 stop) fs before z p q) (sym (append_assoc hb v b)) here in
+      let next = behind (hb ++ v) b _ grouped here.nested here.hold (more_items here.reaches one) in
+      let place : p + length (hb ++ v) ≡ p + length hb + length v = omega (arith, length-append hb v) in
+      then_run lim _ _ _ hb (v ++ b) first (then_run lim _ _ _ v b second (rest stop fs (before ++ (hb ++ v)) (p + length hb + length v) q (subst (λ z. IsBefore s lim whole (sequence_scope s1 stop) fs (before ++ (hb ++ v)) b z q) place next)))
 
   nothing_goes : (s1 : Coding) (last : ℕ) → GoesSet s1 last no_elements []
   unfolding run
@@ -232,6 +266,7 @@ module _ (s : Coding) (lim : Limits) (whole : List ℕ) (short : length whole �
     items_go : {s1 : Coding} {is : Items} {b : List ℕ} → ItemList s1 is b → GoesItems s1 b
     items_go no_more = no_items_goes _
     items_go (item_then {s = s1} {h = h} {hb = hb} {es = es} {eb = eb} {cb = cb} {b = b} it set closed rest) = item_goes s1 h hb eb cb b es it set closed (elements_go set) (items_go rest)
+    items_go (fragment_then {s = s1} {h = h} {hb = hb} {v = v} {b = b} it val rest) = fragment_goes s1 h hb v b it val (items_go rest)
 
 -- the law
 

@@ -17,6 +17,13 @@ layout Explicit = syntaxes.Explicit
 layout Encapsulated = syntaxes.Explicit
 layout Fragments = syntaxes.Explicit
 
+-- whether it is that of a data set in one of the two syntaxes, or of a part of one
+abbrev pub is_native : Coding → Bool
+is_native Implicit = true
+is_native Explicit = true
+is_native Encapsulated = false
+is_native Fragments = false
+
 -- whether its items hold bytes, and no elements
 abbrev pub has_fragments : Coding → Bool
 has_fragments Implicit = false

@@ -1,12 +1,12 @@
--- Texts on which the definitions of data sets are tried (PS3.5 section 7.5), each beside one that comes out otherwise.
-use Rattle.std.specs.Prelude.{ℕ, ◌^◌, List, [], ◌∷◌, take, drop, Some, None, codes}
+-- Texts on which the definitions of data sets are tried (PS3.5 sections 7.5 and A.4), each beside one that comes out otherwise.
+use Rattle.std.specs.Prelude.{ℕ, ◌^◌, List, [], ◌∷◌, ◌++◌, take, drop, Some, None, codes}
 use Rattle.sequence.specs.declared.coding.Coding.{Coding}
 use Rattle.element.specs.declared.header.Header.{Header}
 use Rattle.sequence.specs.declared.wanted.Want.{Want}
 use Rattle.sequence.specs.declared.step.Step.{Step}
 use Rattle.sequence.specs.declared.step.Step.TheVariants.{Element, Opened, Closed}
 use Rattle.sequence.specs.Answering.{Answers, IsRun}
-use Rattle.sequence.specs.declared.coding.Coding.TheVariants.{Implicit, Explicit}
+use Rattle.sequence.specs.declared.coding.Coding.TheVariants.{Implicit, Explicit, Encapsulated}
 use Rattle.element.specs.declared.tag.Tag.{Tag}
 use Rattle.sequence.specs.Rules.{Limits, no_tag}
 use Rattle.sequence.specs.Walk.{Told, Tells}
@@ -150,3 +150,74 @@ AlongFourLevels =
     × Steps Implicit 64 four_levels 42 8 (Closed (plain_header 0xfffe 0xe0dd 0))
     × Steps Implicit 64 four_levels 50 8 (Element (plain_header 0x7fe0 0x0010 2))
     × StepsRun Implicit 64 four_levels 58 2
+
+-- encapsulated Pixel Data, after the standard's own examples (PS3.5 Tables A.4-1 and A.4-2), whose fragments are longer
+
+abbrev pub pixel_data_header : List ℕ
+pixel_data_header = 224 ∷ 127 ∷ 16 ∷ 0 ∷ 79 ∷ 66 ∷ 0 ∷ 0 ∷ 255 ∷ 255 ∷ 255 ∷ 255 ∷ []
+
+-- a frame of three fragments behind an empty offset table
+abbrev pub one_frame : List ℕ
+one_frame =
+    224 ∷ 127 ∷ 16 ∷ 0 ∷ 79 ∷ 66 ∷ 0 ∷ 0 ∷ 255 ∷ 255 ∷ 255 ∷ 255 ∷ 254 ∷ 255 ∷ 0 ∷ 224 ∷ 0 ∷ 0 ∷ 0 ∷ 0
+    ∷ 254 ∷ 255 ∷ 0 ∷ 224 ∷ 4 ∷ 0 ∷ 0 ∷ 0 ∷ 255 ∷ 216 ∷ 254 ∷ 255 ∷ 254 ∷ 255 ∷ 0 ∷ 224 ∷ 2 ∷ 0 ∷ 0 ∷ 0 ∷ 221 ∷ 224
+    ∷ 254 ∷ 255 ∷ 0 ∷ 224 ∷ 2 ∷ 0 ∷ 0 ∷ 0 ∷ 255 ∷ 217 ∷ 254 ∷ 255 ∷ 221 ∷ 224 ∷ 0 ∷ 0 ∷ 0 ∷ 0 ∷ []
+
+-- two frames of three fragments, of which the offset table says where they begin
+abbrev pub two_frames : List ℕ
+two_frames =
+    224 ∷ 127 ∷ 16 ∷ 0 ∷ 79 ∷ 66 ∷ 0 ∷ 0 ∷ 255 ∷ 255 ∷ 255 ∷ 255 ∷ 254 ∷ 255 ∷ 0 ∷ 224 ∷ 8 ∷ 0 ∷ 0 ∷ 0 ∷ 0 ∷ 0 ∷ 0 ∷ 0 ∷ 22 ∷ 0 ∷ 0 ∷ 0
+    ∷ 254 ∷ 255 ∷ 0 ∷ 224 ∷ 4 ∷ 0 ∷ 0 ∷ 0 ∷ 255 ∷ 216 ∷ 1 ∷ 2 ∷ 254 ∷ 255 ∷ 0 ∷ 224 ∷ 2 ∷ 0 ∷ 0 ∷ 0 ∷ 255 ∷ 217
+    ∷ 254 ∷ 255 ∷ 0 ∷ 224 ∷ 4 ∷ 0 ∷ 0 ∷ 0 ∷ 255 ∷ 216 ∷ 255 ∷ 217 ∷ 254 ∷ 255 ∷ 221 ∷ 224 ∷ 0 ∷ 0 ∷ 0 ∷ 0 ∷ []
+
+-- in an item of Icon Image Sequence
+abbrev pub icon : List ℕ
+icon =
+    136 ∷ 0 ∷ 0 ∷ 2 ∷ 83 ∷ 81 ∷ 0 ∷ 0 ∷ 255 ∷ 255 ∷ 255 ∷ 255 ∷ 254 ∷ 255 ∷ 0 ∷ 224 ∷ 38 ∷ 0 ∷ 0 ∷ 0
+    ∷ 224 ∷ 127 ∷ 16 ∷ 0 ∷ 79 ∷ 87 ∷ 0 ∷ 0 ∷ 255 ∷ 255 ∷ 255 ∷ 255 ∷ 254 ∷ 255 ∷ 0 ∷ 224 ∷ 0 ∷ 0 ∷ 0 ∷ 0
+    ∷ 254 ∷ 255 ∷ 0 ∷ 224 ∷ 2 ∷ 0 ∷ 0 ∷ 0 ∷ 1 ∷ 2 ∷ 254 ∷ 255 ∷ 221 ∷ 224 ∷ 0 ∷ 0 ∷ 0 ∷ 0 ∷ 254 ∷ 255 ∷ 221 ∷ 224 ∷ 0 ∷ 0 ∷ 0 ∷ 0 ∷ []
+
+-- fragments open one level; in Explicit their Pixel Data is not allowed
+abbrev pub OneFrame : Type 0
+OneFrame =
+    (wanted : List Want)
+    → Tells Encapsulated (wanting wanted 1) one_frame (going_on 0 60 0)
+    × Tells Encapsulated (wanting wanted 1) (take 30 one_frame) (going_on 1 30 16)
+    × Tells Encapsulated (wanting wanted 1) (take 55 one_frame) (going_on 1 55 19)
+    × Tells Encapsulated (wanting wanted 0) one_frame (faulty 18 0 (record { 0 = 0x7fe0; 1 = 0x0010 }) 0 12 0)
+    × Tells Explicit (wanting wanted 1) one_frame (faulty 14 0 (record { 0 = 0x7fe0; 1 = 0x0010 }) 0 12 0)
+
+abbrev pub TwoFrames : Type 0
+TwoFrames = (wanted : List Want) → Tells Encapsulated (wanting wanted 1) two_frames (going_on 0 70 0)
+
+-- in an item they open the third level, and end with it
+abbrev pub AnIcon : Type 0
+AnIcon =
+    (wanted : List Want)
+    → Tells Encapsulated (wanting wanted 3) icon (going_on 0 66 0)
+    × Tells Encapsulated (wanting wanted 3) (take 49 icon) (going_on 3 49 48)
+    × Tells Encapsulated (wanting wanted 3) (take 58 icon) (going_on 1 58 16)
+
+-- after the header of Pixel Data, what no fragment is: an undefined length, an odd one, another tag, a delimitation of
+-- another length than 0
+abbrev pub NoFragment : Type 0
+NoFragment =
+    (wanted : List Want)
+    → Tells Encapsulated (wanting wanted 64) (pixel_data_header ++ (254 ∷ 255 ∷ 0 ∷ 224 ∷ 255 ∷ 255 ∷ 255 ∷ 255 ∷ [])) (faulty 14 12 (record { 0 = 0xfffe; 1 = 0xe000 }) 1 20 16)
+    × Tells Encapsulated (wanting wanted 64) (pixel_data_header ++ (254 ∷ 255 ∷ 0 ∷ 224 ∷ 3 ∷ 0 ∷ 0 ∷ 0 ∷ [])) (faulty 11 12 (record { 0 = 0xfffe; 1 = 0xe000 }) 1 20 16)
+    × Tells Encapsulated (wanting wanted 64) (pixel_data_header ++ (254 ∷ 255 ∷ 13 ∷ 224 ∷ [])) (faulty 15 12 (record { 0 = 0xfffe; 1 = 0xe00d }) 1 16 16)
+    × Tells Encapsulated (wanting wanted 64) (pixel_data_header ++ (8 ∷ 0 ∷ 96 ∷ 0 ∷ [])) (faulty 15 12 (record { 0 = 0x0008; 1 = 0x0060 }) 1 16 16)
+    × Tells Encapsulated (wanting wanted 64) (pixel_data_header ++ (254 ∷ 255 ∷ 221 ∷ 224 ∷ 2 ∷ 0 ∷ 0 ∷ 0 ∷ [])) (faulty 16 12 (record { 0 = 0xfffe; 1 = 0xe0dd }) 1 20 16)
+
+-- along one frame: each fragment's header opens it, its bytes are lent, and the delimitation closes the last
+abbrev pub AlongOneFrame : Type 0
+AlongOneFrame =
+    Steps Encapsulated 64 one_frame 0 12 (Element (record { tag = record { 0 = 0x7fe0; 1 = 0x0010 }; vr = Some (codes "OB"); length = 0xffffffff }))
+    × Steps Encapsulated 64 one_frame 12 8 (Opened (plain_header 0xfffe 0xe000 0))
+    × Steps Encapsulated 64 one_frame 20 8 (Opened (plain_header 0xfffe 0xe000 4))
+    × StepsRun Encapsulated 64 one_frame 28 4
+    × Steps Encapsulated 64 one_frame 32 8 (Opened (plain_header 0xfffe 0xe000 2))
+    × StepsRun Encapsulated 64 one_frame 40 2
+    × Steps Encapsulated 64 one_frame 42 8 (Opened (plain_header 0xfffe 0xe000 2))
+    × StepsRun Encapsulated 64 one_frame 50 2
+    × Steps Encapsulated 64 one_frame 52 8 (Closed (plain_header 0xfffe 0xe0dd 0))

@@ -12,7 +12,7 @@ use Rattle.sequence.specs.declared.wanted.Want.{Want}
 use Rattle.sequence.specs.Wanted.{Values}
 use Rattle.sequence.specs.Holding.{Pending, header_begun, value_due}
 
--- the coding with this number
+-- the coding that a level is in
 abbrev pub coding_by : ℕ → Coding
 coding_by n = if nat_eq n 1 then Implicit else (if nat_eq n 2 then Encapsulated else (if nat_eq n 3 then Fragments else Explicit))
 
@@ -20,7 +20,7 @@ coding_by n = if nat_eq n 1 then Implicit else (if nat_eq n 2 then Encapsulated 
 abbrev pub scope_of : Level → Scope
 scope_of l = record {
   in_sequence = nat_eq l.kind 1;
-  syntax = coding_by l.coding;
+  syntax = coding_by l.implicit;
   stop = if nat_eq l.end 0xffff_ffff_ffff_ffff then None else Some l.end;
   last = l.last;
 }

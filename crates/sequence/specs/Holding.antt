@@ -2,7 +2,8 @@
 use Rattle.std.specs.Prelude.{ℕ, ◌+◌, ◌-◌, false, List, [], ◌∷◌, ◌++◌, length, Option, Some, None, if◌then◌else◌}
 use Rattle.sequence.specs.declared.coding.Coding.{Coding}
 use Rattle.element.specs.declared.tag.Tag.{Tag}
-use Rattle.element.specs.Header.{number}
+use Rattle.element.specs.declared.header.Header.{Header}
+use Rattle.element.specs.Header.{number, is_marker}
 use Rattle.sequence.specs.declared.level.Scope.{Scope}
 use Rattle.sequence.specs.declared.wanted.Want.{Want}
 use Rattle.sequence.specs.Tree.{Elements}
@@ -25,11 +26,15 @@ abbrev pub levels_at : ℕ → List PathEntry → Coding → ℕ → List Scope
 levels_at n [] s last = record { in_sequence = false; syntax = s; stop = None; last = last } ∷ []
 levels_at n (e ∷ path) s last = scope_at n e ∷ levels_at n path s last
 
--- a value that has begun is the last element of the innermost data set
+-- an element that has begun is the last one of the innermost data set; a fragment is none
+abbrev pub begun_in : Scope → Header → Scope
+begun_in f h = if is_marker h.tag then f else record f { last = number h.tag }
+
+-- the levels where a value or a fragment has begun
 abbrev pub with_begun : Tail → List Scope → List Scope
 with_begun (in_header t) levels = levels
 with_begun (in_value h v) [] = []
-with_begun (in_value h v) (f ∷ levels) = record f { last = number h.tag } ∷ levels
+with_begun (in_value h v) (f ∷ levels) = begun_in f h ∷ levels
 
 -- what is unfinished
 pub data Pending : Type 0 where

@@ -1,13 +1,18 @@
 -- What follows from the definitions alone.
-use Rattle.std.specs.Prelude.{◌≡◌, ℕ, ◌+◌, ◌*◌, ◌≤◌, List, [], ◌∷◌, ◌++◌, None, Some}
+use Rattle.std.specs.Prelude.{◌≡◌, ℕ, true, ◌+◌, ◌*◌, ◌≤◌, List, [], ◌∷◌, ◌++◌, None, Some}
 use Rattle.element.specs.declared.size.Need.TheVariants.{Size}
-use Rattle.sequence.specs.Coding.{layout}
+use Rattle.sequence.specs.Coding.{coding_of, layout, is_native, has_fragments}
 use Rattle.sequence.specs.declared.coding.Coding.{Coding}
 use Rattle.element.specs.declared.tag.Tag.{Tag}
 use Rattle.element.specs.Header.{need}
 use Rattle.element.specs.Numbers.{IsBytes}
 use Rattle.sequence.specs.declared.fault.Fault.{Fault}
-use Rattle.sequence.specs.Tree.{Elements, DataSet}
+use Rattle.element.specs.declared.syntax.Syntax.{Syntax}
+use Rattle.sequence.specs.declared.coding.Coding.TheVariants.{Explicit, Encapsulated}
+use Rattle.sequence.specs.Tree.{Elements, no_elements, value, sequence, Items, no_items, item, fragment, DataSet}
+use Rattle.element.specs.declared.header.Header.{Header}
+use Rattle.sequence.specs.Shape.{shape}
+use Rattle.sequence.specs.declared.shape.Shape.TheVariants.{Sequence}
 use Rattle.sequence.specs.Open.{PathEntry, Tail, IsUnfinishedHeader, Open}
 use Rattle.sequence.specs.Rules.{Limits}
 use Rattle.sequence.specs.Wanted.{rooms, level_size}
@@ -92,3 +97,31 @@ LeastHeader = (s : Coding) (b : List ℕ) (k : ℕ) → need (layout s) b ≡ Si
 -- texts of bytes are one text of bytes
 abbrev pub BytesAreJoined : Type 0
 BytesAreJoined = (a b : List ℕ) → IsBytes a → IsBytes b → IsBytes (a ++ b)
+
+-- a sequence in a data set in one of the two syntaxes is in one, too
+abbrev pub NativeInside : Type 0
+NativeInside = (s inner : Coding) (h : Header) → is_native s ≡ true → shape s h ≡ Sequence inner → is_native inner ≡ true
+
+-- and has no fragments
+abbrev pub NativeHasNone : Type 0
+NativeHasNone = (s : Coding) → is_native s ≡ true → has_fragments s ≡ true → ⊥
+
+-- of these elements no Pixel Data is encapsulated
+abbrev mutual
+  pub AreNative : Elements → Type 0
+  AreNative no_elements = Unit {0}
+  AreNative (value h v es) = AreNative es
+  AreNative (sequence h is es) = AreNativeItems is × AreNative es
+
+  pub AreNativeItems : Items → Type 0
+  AreNativeItems no_items = Unit {0}
+  AreNativeItems (item h es is) = AreNative es × AreNativeItems is
+  AreNativeItems (fragment h v is) = ⊥
+
+-- in the two syntaxes no Pixel Data is encapsulated
+abbrev pub SyntaxesAreNative : Type 0
+SyntaxesAreNative = (syntax : Syntax) (last : ℕ) (es : Elements) (b : List ℕ) → DataSet (coding_of syntax) last es b → AreNative es
+
+-- a data set in Explicit is one whose Pixel Data may be encapsulated, but is not
+abbrev pub ExplicitIsEncapsulated : Type 0
+ExplicitIsEncapsulated = (last : ℕ) (es : Elements) (b : List ℕ) → DataSet Explicit last es b → DataSet Encapsulated last es b

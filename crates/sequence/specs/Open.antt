@@ -1,4 +1,4 @@
--- What a front of a data set is: its whole elements, and what is open after them (PS3.5 section 7.5).
+-- What a front of a data set is: its whole elements, and what is open after them (PS3.5 sections 7.5 and A.4).
 use Rattle.std.specs.Prelude.{◌≡◌, ℕ, ◌-◌, ◌<◌, ◌≤◌, ◌≢◌, is_some, Bool, true, false, List, [], ◌∷◌, ◌++◌, length, Option, Some, None, if◌then◌else◌}
 use Rattle.sequence.specs.Coding.{layout}
 use Rattle.sequence.specs.declared.coding.Coding.{Coding}
@@ -7,7 +7,7 @@ use Rattle.element.specs.declared.size.Need.TheVariants.{BadVr}
 use Rattle.element.specs.Header.{number, need, is_whole}
 use Rattle.sequence.specs.Shape.{is_undefined, undefined_length, shape}
 use Rattle.sequence.specs.declared.shape.Shape.TheVariants.{Value, Sequence}
-use Rattle.sequence.specs.Tree.{Elements, no_elements, value, sequence, Items, IsElement, IsItem, DataSet, ItemList}
+use Rattle.sequence.specs.Tree.{Elements, no_elements, value, sequence, Items, IsElement, IsItem, IsFragmentItem, DataSet, ItemList}
 
 -- the tag of the last element, and `last` where there is none
 abbrev pub last_of : ℕ → Elements → ℕ
@@ -15,7 +15,7 @@ last_of last no_elements = last
 last_of last (value h v es) = last_of (number h.tag) es
 last_of last (sequence h is es) = last_of (number h.tag) es
 
--- a level that is open: a sequence or an item
+-- a level that is open: a sequence, encapsulated Pixel Data or an item
 pub record PathEntry : Type 0 where
   pub in_sequence : Bool
   -- the syntax of its items or elements
@@ -39,7 +39,7 @@ item_entry s n came last = record { in_sequence = false; syntax = s; left = left
 pub data Tail : Type 0 where
   -- nothing, or the beginning of a header
   in_header : List ℕ → Tail
-  -- after the header of a value, what came of it
+  -- after the header of a value or of a fragment, what came of it
   in_value : Header → List ℕ → Tail
 
 -- t is nothing, or the beginning of a header
@@ -51,6 +51,11 @@ pub record IsUnfinishedHeader (s : Coding) (t : List ℕ) : Type 0 where
 pub data IsTail (s : Coding) (last : ℕ) : Tail → List ℕ → Type 0 where
   header_tail : {t : List ℕ} → IsUnfinishedHeader s t → IsTail s last (in_header t) t
   value_tail : {h : Header} {hb : List ℕ} (v : List ℕ) → IsElement s last h hb → shape s h ≡ Value → length v < h.length → IsTail s last (in_value h v) (hb ++ v)
+
+-- t is this tail, where an item or a fragment is due
+pub data IsItemTail (s : Coding) : Tail → List ℕ → Type 0 where
+  header_of_item : {t : List ℕ} → IsUnfinishedHeader s t → IsItemTail s (in_header t) t
+  value_of_fragment : {h : Header} {hb : List ℕ} (v : List ℕ) → IsFragmentItem s h hb → length v < h.length → IsItemTail s (in_value h v) (hb ++ v)
 
 -- after the header of a level that is open, so many bytes came: its length is not 0, and they are not more
 pub record IsOpenLevel (n came : ℕ) : Type 0 where
@@ -91,10 +96,10 @@ pub data Nested : Coding → List ℕ → Elements → List PathEntry → ℕ �
   at_elements : {s : Coding} {es : Elements} {b t : List ℕ} {tail : Tail}
       → DataSet s 0 es b → IsTail s (last_of 0 es) tail t
       → Nested s (b ++ t) es [] (last_of 0 es) tail
-  -- after the whole items of a sequence stands the beginning of a header, or nothing
-  in_sequence_of : {s : Coding} (q : OpenSequence s) {t : List ℕ}
-      → IsOpenLevel q.header.length (length (came_of q t)) → IsUnfinishedHeader q.inner t
-      → Nested s (text_of q t) q.elements (entry_of q t ∷ []) (number q.header.tag) (in_header t)
+  -- after the whole items of a sequence stands the beginning of a header, or nothing, or a fragment that is not whole
+  in_sequence_of : {s : Coding} (q : OpenSequence s) {t : List ℕ} {tail : Tail}
+      → IsOpenLevel q.header.length (length (came_of q t)) → IsItemTail q.inner tail t
+      → Nested s (text_of q t) q.elements (entry_of q t ∷ []) (number q.header.tag) tail
   -- or the header k of an item, and after it a front b2 of a data set
   in_item_of : {s : Coding} (q : OpenSequence s) {k : Header} {kb b2 : List ℕ} {es : Elements} {path : List PathEntry} {last : ℕ} {tail : Tail}
       → IsOpenLevel q.header.length (length (came_of q (kb ++ b2))) → IsItem q.inner k kb → IsOpenLevel k.length (length b2) → Nested q.inner b2 es path last tail

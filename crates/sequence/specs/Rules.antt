@@ -1,4 +1,4 @@
--- Which rules a header, or its beginning, breaks (PS3.5 sections 7.1 and 7.5; the limits and the numbers are this
+-- Which rules a header, or its beginning, breaks (PS3.5 sections 7.1, 7.5 and A.4; the limits and the numbers are this
 -- product's own profile). They are judged in this order; the tag is that of the header.
 use Rattle.std.specs.Prelude.{ℕ, ◌+◌, ◌%◌, Bool, true, false, not, ◌&&◌, ◌||◌, List, length, Option, Some, None, nat_eq, nat_le, nat_lt, if◌then◌else◌}
 use Rattle.element.specs.declared.tag.Tag.{Tag}
@@ -6,7 +6,7 @@ use Rattle.element.specs.declared.header.Header.{Header}
 use Rattle.element.specs.declared.size.Need.{Need}
 use Rattle.element.specs.declared.size.Need.TheVariants.{More, Size, BadVr}
 use Rattle.element.specs.Header.{number, is_marker, is_plain, tag_at, need, is_whole, header_at, item_tag, item_end_tag, sequence_end_tag}
-use Rattle.sequence.specs.Coding.{layout}
+use Rattle.sequence.specs.Coding.{layout, has_fragments}
 use Rattle.sequence.specs.declared.wanted.Want.{Want}
 use Rattle.sequence.specs.declared.spot.Spot.{Spot}
 use Rattle.sequence.specs.declared.shape.Shape.{Shape}
@@ -40,7 +40,7 @@ not_rising = rule_number rules.Order
 abbrev pub bad_group : ℕ
 bad_group = rule_number rules.BadGroup
 
--- an undefined length that the element may not have
+-- an undefined length that the element or the fragment may not have
 abbrev pub undefined_not_allowed : ℕ
 undefined_not_allowed = rule_number rules.UndefinedLength
 
@@ -135,9 +135,13 @@ counted_length n = if is_undefined n then 0 else n
 abbrev pub is_too_long : Limits → Spot → Header → Bool
 is_too_long lim spot h = ((nat_eq spot.depth 0 && not (is_marker h.tag)) && is_value (shape spot.syntax h)) && passes (room_of lim.wanted (number h.tag)) h.length
 
--- the header opens a level
+-- the header of a fragment whose length is undefined
+abbrev pub is_endless : Spot → Header → Bool
+is_endless spot h = (is_marker h.tag && has_fragments spot.syntax) && is_undefined h.length
+
+-- the header opens a level: that of a fragment does not
 abbrev pub opens : Spot → Header → Bool
-opens spot h = (is_marker h.tag || is_sequence (shape spot.syntax h)) && not (nat_eq h.length 0)
+opens spot h = ((is_marker h.tag && not (has_fragments spot.syntax)) || is_sequence (shape spot.syntax h)) && not (nat_eq h.length 0)
 
 -- when the header is whole: the length of a delimitation (16), an undefined length that is not allowed (14), an odd
 -- length (11), an end past the nearest one (17), past the limit (19), a wanted value longer than its room (21),
@@ -146,12 +150,13 @@ unfoldable pub broken_header : Limits → Spot → ℕ → Header → Broken
 broken_header lim spot size h =
     if is_long_mark h then Some (delimiter_length, h.tag)
     else (if not (is_marker h.tag) && is_not_allowed (shape spot.syntax h) then Some (undefined_not_allowed, h.tag)
+    else (if is_endless spot h then Some (undefined_not_allowed, h.tag)
     else (if not (is_undefined h.length) && nat_eq (h.length % 2) 1 then Some (odd_length, h.tag)
     else (if not (is_undefined h.length) && passes spot.near (size + h.length) then Some (overrun, h.tag)
     else (if nat_lt lim.bytes (spot.place + size + counted_length h.length) then Some (too_long, h.tag)
     else (if is_too_long lim spot h then Some (kept_too_long, h.tag)
     else (if opens spot h && nat_le lim.depth spot.depth then Some (too_deep, h.tag)
-    else None))))))
+    else None)))))))
 
 infixr 20 ◌or_else◌
 abbrev pub ◌or_else◌ : Broken → Broken → Broken

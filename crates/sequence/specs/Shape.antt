@@ -31,13 +31,12 @@ abbrev pub is_pixel_data : Tag → Bool
 is_pixel_data t = nat_eq t.0 0x7fe0 && nat_eq t.1 0x0010
 
 -- where Pixel Data may be encapsulated, by the header's tag and VR: that of undefined length is, with VR OB, or with OW,
--- which some senders write (this product's own profile)
+-- which some senders write (this product's own profile); all else is as in Explicit
 abbrev pub encapsulated_shape : Tag → List ℕ → Bool → Shape
 encapsulated_shape t vr undefined =
     if is_vr (codes "SQ") vr then Sequence Encapsulated
-    else (if undefined then (if is_vr (codes "UN") vr then Sequence Implicit
-    else (if is_pixel_data t && (is_vr (codes "OB") vr || is_vr (codes "OW") vr) then Sequence Fragments else NotAllowed))
-    else Value)
+    else (if undefined && (is_pixel_data t && (is_vr (codes "OB") vr || is_vr (codes "OW") vr)) then Sequence Fragments
+    else explicit_shape vr undefined)
 
 -- in Implicit, by the dictionary's VR
 abbrev pub implicit_shape : Option (List ℕ) → Bool → Shape

@@ -1,6 +1,6 @@
--- Which texts spell which data sets (PS3.5 sections 7.1 to 7.5).
-use Rattle.std.specs.Prelude.{◌≡◌, ℕ, ◌%◌, ◌<◌, ◌≢◌, false, List, [], ◌++◌, length}
-use Rattle.sequence.specs.Coding.{layout}
+-- Which texts spell which data sets (PS3.5 sections 7.1 to 7.5 and A.4).
+use Rattle.std.specs.Prelude.{◌≡◌, ℕ, ◌%◌, ◌<◌, ◌≢◌, true, false, List, [], ◌++◌, length}
+use Rattle.sequence.specs.Coding.{layout, has_fragments}
 use Rattle.sequence.specs.declared.coding.Coding.{Coding}
 use Rattle.element.specs.declared.tag.Tag.{Tag}
 use Rattle.element.specs.declared.header.Header.{Header}
@@ -9,7 +9,7 @@ use Rattle.element.specs.Header.{number, is_marker, tag_bytes, SpellsHeader, ite
 use Rattle.sequence.specs.Shape.{undefined_length, shape}
 use Rattle.sequence.specs.declared.shape.Shape.TheVariants.{Value, Sequence}
 
--- a data set is a list of elements, and a sequence a list of items
+-- a data set is a list of elements, a sequence a list of items, and encapsulated Pixel Data one of fragments
 mutual
   pub data Elements : Type 0 where
     no_elements : Elements
@@ -19,6 +19,7 @@ mutual
   pub data Items : Type 0 where
     no_items : Items
     item : Header → Elements → Items → Items
+    fragment : Header → List ℕ → Items → Items
 
 -- a delimitation, the header of length 0 with its tag
 abbrev pub delimitation : Tag → List ℕ
@@ -35,10 +36,18 @@ pub record IsElement (s : Coding) (last : ℕ) (h : Header) (hb : List ℕ) : Ty
   pub no_command : h.tag.0 ≢ 0
   pub no_file : h.tag.0 ≢ 2
 
--- hb spells the header h of an item
+-- hb spells the header h of an item, which holds elements
 pub record IsItem (s : Coding) (h : Header) (hb : List ℕ) : Type 0 where
   pub spelled : SpellsHeader (layout s) h hb
   pub tagged : h.tag ≡ item_tag
+  pub nests : has_fragments s ≡ false
+
+-- hb spells the header h of a fragment: an item of defined length that holds bytes
+pub record IsFragmentItem (s : Coding) (h : Header) (hb : List ℕ) : Type 0 where
+  pub spelled : SpellsHeader (layout s) h hb
+  pub tagged : h.tag ≡ item_tag
+  pub holds : has_fragments s ≡ true
+  pub defined : h.length ≢ undefined_length
 
 -- v is a value of that length
 pub record IsValue (length-is : ℕ) (v : List ℕ) : Type 0 where
@@ -70,3 +79,7 @@ mutual
         → IsItem s h hb → DataSet s 0 es eb → Ended item_end_tag h.length eb cb
         → ItemList s is b
         → ItemList s (item h es is) (hb ++ (cb ++ b))
+    fragment_then : {s : Coding} {h : Header} {hb v : List ℕ} {is : Items} {b : List ℕ}
+        → IsFragmentItem s h hb → IsValue h.length v
+        → ItemList s is b
+        → ItemList s (fragment h v is) (hb ++ (v ++ b))

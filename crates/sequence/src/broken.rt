@@ -2,6 +2,7 @@
 ghost use Rattle.std.specs.Prelude.{◌≡◌, ◌<◌, ◌≤◌, ◌^◌, ◌+◌, ◌%◌, length, nat_le, nat_lt, nat_eq, ◌&&◌, not, None, IsTrue};
 ghost use Rattle.element.specs.Header.{is_marker};
 ghost use Rattle.sequence.specs.Shape.{is_undefined};
+ghost use Rattle.sequence.specs.Coding.{has_fragments};
 ghost use Rattle.sequence.specs.Shape as shapes;
 ghost use Rattle.sequence.specs.Rules as rules;
 ghost use Rattle.sequence.specs.machine.Heading.{broken_whole};
@@ -132,6 +133,13 @@ fn is_forbidden(header: &Header, shape: Shape) -> bool
     !header.tag.is_marker() && is_not_allowed(shape)
 }
 
+/// Whether it is the header of a fragment of undefined length.
+fn is_endless(spot: &Spot, header: &Header) -> bool
+    ensures { result ≡ rules.is_endless spot.now header.now }
+{
+    header.tag.is_marker() && spot.syntax.has_fragments() && header.length == UNDEFINED
+}
+
 /// Whether its length is defined and odd.
 fn is_odd(header: &Header) -> bool
     ensures { result ≡ (not (is_undefined header.now.length) && nat_eq (header.now.length % 2) 1) }
@@ -173,7 +181,8 @@ fn opens(spot: &Spot, header: &Header, shape: Shape) -> bool
     requires { shape ≡ shapes.shape spot.now.syntax header.now }
     ensures { result ≡ rules.opens spot.now header.now }
 {
-    (header.tag.is_marker() || is_sequence(shape)) && header.length != 0
+    let nests = header.tag.is_marker() && !spot.syntax.has_fragments();
+    (nests || is_sequence(shape)) && header.length != 0
 }
 
 /// Whether it opens a level more than the limit.
@@ -202,6 +211,8 @@ pub fn broken_header(
     if is_long_mark(header) {
         Some((Rule::DelimiterLength, tag))
     } else if is_forbidden(header, shape) {
+        Some((Rule::UndefinedLength, tag))
+    } else if is_endless(spot, header) {
         Some((Rule::UndefinedLength, tag))
     } else if is_odd(header) {
         Some((Rule::OddLength, tag))
@@ -293,6 +304,7 @@ pub fn is_unbroken(wanted: &Wanted, bounds: &Bounds, spot: &Spot, front: &Front)
         && spot.place + end <= bounds.bytes
         && !is_long_mark(header)
         && !is_forbidden(header, front.shape)
+        && !is_endless(spot, header)
         && !is_odd(header)
         && !is_too_long(wanted, bounds, spot, header, front.shape)
         && !is_too_deep(bounds, spot, header, front.shape)

@@ -4,8 +4,9 @@ ghost use Rattle.std.specs.Prelude.{◌≡◌, ◌∷◌, []};
 ghost use Rattle.sequence.specs.Rules.{bad_vr, odd_length, not_rising, bad_group, undefined_not_allowed, unexpected_tag, delimiter_length, overrun, too_deep, too_long, truncated, kept_too_long};
 ghost use Rattle.sequence.specs.Ending.{WholeBreaksNoRule, WholeHasNoFault, FaultIsFinal};
 ghost use Rattle.sequence.specs.Laws.{FaultStays, RefusalStays, RefusedStands, OneTree, OnePath, EndsAreNested, WholeHasOpenInside, OneFault};
-ghost use Rattle.sequence.specs.Laws.{OneTelling, OneHolding, SomeTelling, HeldHasABound, NothingIsUnbroken, NoHeader, LeastHeader, BytesAreJoined};
+ghost use Rattle.sequence.specs.Laws.{OneTelling, OneHolding, SomeTelling, HeldHasABound, NothingIsUnbroken, NoHeader, LeastHeader, BytesAreJoined, NativeInside, NativeHasNone, SyntaxesAreNative, ExplicitIsEncapsulated};
 ghost use Rattle.sequence.specs.Examples.{TwoOpenLevels, FourLevels, PastItsItem, TooDeep, UnknownContent, OneStore, AlongOneStore, AlongFourLevels};
+ghost use Rattle.sequence.specs.Examples.{OneFrame, TwoFrames, AnIcon, NoFragment, AlongOneFrame};
 
 use crate::fault::Fault;
 
@@ -70,6 +71,31 @@ pub fn along_four_levels()
     ensures { AlongFourLevels }
 {}
 
+/// Encapsulated Pixel Data opens one level, and is not allowed in Explicit.
+pub fn one_frame()
+    ensures { OneFrame }
+{}
+
+/// Its first fragment may say where the frames begin: the walk goes over it as over any other.
+pub fn two_frames()
+    ensures { TwoFrames }
+{}
+
+/// Encapsulated Pixel Data in an item of Icon Image Sequence.
+pub fn an_icon()
+    ensures { AnIcon }
+{}
+
+/// What is refused where a fragment is due.
+pub fn no_fragment()
+    ensures { NoFragment }
+{}
+
+/// What a step returns along encapsulated Pixel Data.
+pub fn along_one_frame()
+    ensures { AlongOneFrame }
+{}
+
 /// The first fault of a text is that of every text that goes on from it.
 pub fn a_fault_stays()
     ensures { FaultStays }
@@ -83,6 +109,26 @@ pub fn a_refusal_stays()
 /// A text spells one data set at most.
 pub fn one_tree()
     ensures { OneTree }
+{}
+
+/// A sequence in a data set in one of the two syntaxes is in one, too.
+pub fn native_inside()
+    ensures { NativeInside }
+{}
+
+/// Such a sequence has no fragments.
+pub fn native_has_none()
+    ensures { NativeHasNone }
+{}
+
+/// In the two syntaxes no Pixel Data is encapsulated.
+pub fn syntaxes_are_native()
+    ensures { SyntaxesAreNative }
+{}
+
+/// What is a data set in Explicit is one, with the same elements, where Pixel Data may be encapsulated.
+pub fn explicit_is_encapsulated()
+    ensures { ExplicitIsEncapsulated }
 {}
 
 /// A text has one list of whole elements, one path, one last tag and one tail at most.

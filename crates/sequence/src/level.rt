@@ -22,8 +22,9 @@ pub struct Level {
     pub last: u32,
     /// 1 if it is a sequence, 0 if it is an item.
     pub kind: u8,
-    /// How it is laid out: 1 for Implicit, 2 for Encapsulated, 3 for Fragments, else Explicit.
-    pub coding: u8,
+    /// 1 if it is in Implicit VR Little Endian, 0 if it is in Explicit; 2 if its Pixel Data may be encapsulated, 3 if it
+    /// is such Pixel Data.
+    pub implicit: u8,
 }
 
 /// The coding with this number.
@@ -48,7 +49,7 @@ impl Level {
     {
         Scope {
             in_sequence: self.kind == 1,
-            syntax: coding_by(self.coding),
+            syntax: coding_by(self.implicit),
             stop: if self.end == u64::MAX {
                 None
             } else {
@@ -69,7 +70,7 @@ impl Level {
             },
             last: scope.last,
             kind: if scope.in_sequence { 1 } else { 0 },
-            coding: match scope.syntax {
+            implicit: match scope.syntax {
                 Coding::Implicit => 1,
                 Coding::Encapsulated => 2,
                 Coding::Fragments => 3,

@@ -15,7 +15,7 @@ pub enum Rule {
     Order = 12,
     /// Group 0000 or 0002.
     BadGroup = 13,
-    /// An undefined length that the element may not have.
+    /// An undefined length that the element or the fragment may not have.
     UndefinedLength = 14,
     /// An item or a delimitation out of place, or something else where one is due.
     UnexpectedTag = 15,

@@ -53,14 +53,10 @@ fn encapsulated_shape(tag: Tag, vr: Vr, undefined: bool) -> Shape
 {
     if is_vr(*b"SQ", vr) {
         Shape::Sequence(Coding::Encapsulated)
-    } else if !undefined {
-        Shape::Value
-    } else if is_vr(*b"UN", vr) {
-        Shape::Sequence(Coding::Implicit)
-    } else if is_pixel_data(tag) && (is_vr(*b"OB", vr) || is_vr(*b"OW", vr)) {
+    } else if undefined && is_pixel_data(tag) && (is_vr(*b"OB", vr) || is_vr(*b"OW", vr)) {
         Shape::Sequence(Coding::Fragments)
     } else {
-        Shape::NotAllowed
+        explicit_shape(vr, undefined)
     }
 }
 

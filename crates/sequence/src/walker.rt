@@ -1,5 +1,5 @@
 //! The walker.
-ghost use Rattle.std.specs.Prelude.{◌≡◌, ℕ, ◌<◌, ◌≤◌, ◌^◌, ◌+◌, ◌-◌, ◌&&◌, ◌++◌, ◌∷◌, [], None, Some, length, take, IsTrue, IfSome, nat_eq, true, if◌then◌else◌};
+ghost use Rattle.std.specs.Prelude.{◌≡◌, ℕ, ◌<◌, ◌≤◌, ◌^◌, ◌+◌, ◌-◌, ◌&&◌, ◌++◌, ◌∷◌, [], None, Some, length, take, IsTrue, IfSome, nat_eq, true, false, if◌then◌else◌};
 ghost use Rattle.arrayvec.specs.ArrayVec.{array_vec_len};
 ghost use Rattle.sequence.specs.machine.Spare.{owed, spare, head_room, due_of, due_kept, is_wanted_in};
 ghost use Rattle.sequence.specs.Fields.{is_kept};
@@ -10,6 +10,7 @@ ghost use Rattle.sequence.specs.Open.{in_header};
 ghost use Rattle.sequence.specs.machine.Scopes.{top_of, below_of};
 ghost use Rattle.sequence.specs.machine.Heading.{is_begun};
 ghost use Rattle.sequence.specs.FirstFault.{tag_of_tail};
+ghost use Rattle.sequence.specs.Coding.{has_fragments};
 
 use crate::answering::{header_step, value_step};
 use crate::broken::{broken_due, same_tag};
@@ -88,6 +89,7 @@ pub struct Walker<const V: usize, const D: usize> {
     ghost greatest_v: { V ≤ 2 ^ 24 },
     ghost greatest_d: { D ≤ 2 ^ 24 },
     ghost no_end: { root.stop ≡ None },
+    ghost elements: { has_fragments root.syntax ≡ false },
     ghost few: { array_vec_len header ≤ head_room stage },
     ghost together: { array_vec_len header + array_vec_len kept.bytes ≤ V },
     ghost begun: { is_begun (record { wanted = wants_of kept; depth = D; bytes = limit }) (top_of root levels.items) (below_of root [] levels.items) place header.items ≡ true },
@@ -103,13 +105,13 @@ pub struct Walker<const V: usize, const D: usize> {
 impl<const V: usize, const D: usize> Walker<V, D> {
     ghost use Rattle.std.specs.Prelude.{◌++◌, take, List, ◌≡◌, ℕ, ◌<◌, ◌≤◌, ◌^◌, ◌+◌, ◌-◌, [], None, Some, length, IsTrue, IfSome, IsOk, IfErr, true, false, nat_eq, ◌&&◌, option_map};
     ghost use Rattle.element.specs.Header.{number, is_marker};
-    ghost use Rattle.sequence.specs.machine.Machine.{arrive, begin_level, begin_value, leave, take_header, run};
+    ghost use Rattle.sequence.specs.machine.Machine.{arrive, begin_level, begin_value, leave, take_item, take_header, run};
     ghost use Rattle.sequence.specs.machine.Keeping.{wanted_at, with_value, keep_header, keeps};
     ghost use Rattle.sequence.specs.Rules.{counted_length};
     ghost use Rattle.sequence.specs.Shape as shapes;
     ghost use Rattle.sequence.specs.Wanted.{room_of, rooms, value_of};
     ghost use Rattle.sequence.specs.Stored.{wanted_tags};
-    ghost use Rattle.sequence.specs.Coding.{coding_of};
+    ghost use Rattle.sequence.specs.Coding.{coding_of, has_fragments};
     ghost use Rattle.sequence.specs.declared.coding.Coding.TheVariants as codings;
     ghost use Rattle.sequence.specs.declared.fault.Fault.{Fault};
     ghost use Rattle.sequence.specs.machine.State.{state_of, kept_values, top, below, IsSameWalk, has_room, fits_wanted};
@@ -189,6 +191,26 @@ impl<const V: usize, const D: usize> Walker<V, D> {
         self.arrive();
     }
 
+    /// Goes on after the whole header of an item or a fragment.
+    fn take_item(&mut self, header: &Header, coding: Coding)
+        requires coding { coding ≡ (top self.old).syntax }
+        requires header { self.old.header.items ≡ [] }
+        requires stage { self.old.stage ≡ Stage.Heading }
+        requires place { self.old.place + counted_length header.now.length ≤ self.old.limit }
+        requires marker { is_marker header.now.tag ≡ true }
+        requires defined { has_fragments coding ≡ true → shapes.is_undefined header.now.length ≡ false }
+        requires room { IsTrue (has_room D (array_vec_len self.old.levels) coding header.now) }
+        ensures state { state_of self.new ≡ take_item self.old.place (top self.old) (below self.old) header.now }
+        ensures same { IsSameWalk self.old self.new }
+        ensures values { kept_values self.new ≡ kept_values self.old }
+    {
+        if coding.has_fragments() {
+            self.begin_value(header.tag, header.length);
+        } else {
+            self.begin_level(item_scope(coding, self.place, header.length), header.length);
+        }
+    }
+
     /// Goes on after the whole header.
     fn take_header(&mut self, header: &Header, shape: Shape)
         requires shape { shape ≡ shapes.shape (top self.old).syntax header.now }
@@ -198,6 +220,7 @@ impl<const V: usize, const D: usize> Walker<V, D> {
         requires room { IsTrue (has_room D (array_vec_len self.old.levels) (top self.old).syntax header.now) }
         requires fit { IsTrue (fits_wanted (wants_of self.old.kept) (array_vec_len self.old.levels) (top self.old).syntax header.now) }
         requires rising { is_marker header.now.tag ≡ false → (top self.old).last < number header.now.tag }
+        requires defined { is_marker header.now.tag ≡ true → has_fragments (top self.old).syntax ≡ true → shapes.is_undefined header.now.length ≡ false }
         ensures state { state_of self.new ≡ take_header self.old.place (top self.old) (below self.old) header.now }
         ensures same { IsSameWalk self.old self.new }
         ensures values { kept_values self.new ≡ keep_header (limits_of self.old) (top self.old) (below self.old) header.now (kept_values self.old) }
@@ -205,10 +228,7 @@ impl<const V: usize, const D: usize> Walker<V, D> {
         let top = top_scope(self.root, self.levels.as_slice());
         if header.tag.is_marker() {
             if same_tag(header.tag, Tag::ITEM) {
-                self.begin_level(
-                    item_scope(top.syntax, self.place, header.length),
-                    header.length,
-                );
+                self.take_item(header, top.syntax);
             } else {
                 self.leave();
             }
@@ -298,6 +318,7 @@ impl<const V: usize, const D: usize> Walker<V, D> {
 
     /// Creates a walker at the beginning of a data set that is laid out so.
     fn coded(coding: Coding, wanted: Wanted, limit: u64) -> Self
+        requires elements { has_fragments coding ≡ false }
         requires least_kept { 140 ≤ V }
         requires greatest_kept { V ≤ 2 ^ 24 }
         requires least_levels { 2 ≤ D }

@@ -1,6 +1,6 @@
 -- The walk as a machine that takes one byte after another: levels by where they end, the innermost first.
 use Rattle.std.specs.Prelude.{◌≡◌, ℕ, ◌+◌, ◌-◌, Bool, true, false, not, ◌&&◌, List, [], ◌∷◌, ◌++◌, length, Option, Some, None, nat_eq, nat_le, if◌then◌else◌}
-use Rattle.sequence.specs.Coding.{layout}
+use Rattle.sequence.specs.Coding.{layout, has_fragments}
 use Rattle.sequence.specs.declared.coding.Coding.{Coding}
 use Rattle.element.specs.declared.tag.Tag.{Tag}
 use Rattle.element.specs.declared.header.Header.{Header}
@@ -108,11 +108,16 @@ take_element p f fs h Value = begin_value p (begun f h.tag) fs h.tag h.length
 take_element p f fs h (Sequence inner) = begin_level p (sequence_scope inner (stop_of p h.length)) (begun f h.tag) fs h.length
 take_element p f fs h NotAllowed = arrive p f fs
 
+abbrev pub take_item : ℕ → Scope → List Scope → Header → State
+take_item p f fs h =
+    if has_fragments f.syntax then begin_value p f fs h.tag h.length
+    else begin_level p (set_scope f.syntax (stop_of p h.length) 0) f fs h.length
+
 -- after the whole header h
 unfoldable pub take_header : ℕ → Scope → List Scope → Header → State
 take_header p f fs h =
     if is_marker h.tag
-    then (if same_tag h.tag item_tag then begin_level p (set_scope f.syntax (stop_of p h.length) 0) f fs h.length else leave p f fs)
+    then (if same_tag h.tag item_tag then take_item p f fs h else leave p f fs)
     else take_element p f fs h (shape f.syntax h)
 
 abbrev pub headed_by : Broken → Scope → List Scope → ℕ → ℕ → List ℕ → State

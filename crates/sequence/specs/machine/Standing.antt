@@ -1,5 +1,5 @@
 -- The text at which the machine stands.
-use Rattle.std.specs.Prelude.{◌≡◌, ℕ, ◌+◌, ◌<◌, ◌≤◌, ◌≢◌, false, is_some, if◌then◌else◌, List, [], ◌∷◌, ◌++◌, length, Option, Some, None}
+use Rattle.std.specs.Prelude.{◌≡◌, ℕ, ◌+◌, ◌<◌, ◌≤◌, ◌≢◌, true, false, is_some, if◌then◌else◌, List, [], ◌∷◌, ◌++◌, length, Option, Some, None}
 use Rattle.sequence.specs.declared.coding.Coding.{Coding}
 use Rattle.element.specs.declared.tag.Tag.{Tag}
 use Rattle.element.specs.declared.header.Header.{Header}
@@ -10,12 +10,13 @@ use Rattle.sequence.specs.declared.spot.Spot.{Spot}
 use Rattle.sequence.specs.declared.wanted.Want.{Want}
 use Rattle.sequence.specs.declared.shape.Shape.TheVariants.{Value, Sequence}
 use Rattle.sequence.specs.Shape.{undefined_length, shape}
-use Rattle.sequence.specs.Tree.{Elements, Items, IsEven, IsElement, IsItem, DataSet, ItemList}
+use Rattle.sequence.specs.Tree.{Elements, Items, IsEven, IsElement, IsItem, IsFragmentItem, DataSet, ItemList}
 use Rattle.sequence.specs.Open.{last_of, IsUnfinishedHeader, IsLeft}
 use Rattle.sequence.specs.Wanted.{Values, room_of, kept_of}
 use Rattle.sequence.specs.Within.{FitRooms}
 use Rattle.sequence.specs.Rules.{Limits, broken}
 use Rattle.sequence.specs.machine.Machine.{set_scope, sequence_scope, stop_of, stops_at, spot_of, Mode, Heading, Reading, Stopped, State}
+use Rattle.sequence.specs.Holding.{begun_in}
 use Rattle.sequence.specs.machine.Keeping.{with_value}
 
 -- a length that is defined is even
@@ -80,21 +81,25 @@ abbrev pub IsFit : List Want → List Scope → ℕ → ℕ → Type 0
 IsFit ws [] t n = (room : ℕ) → room_of ws t ≡ Some room → n ≤ room
 IsFit ws (f ∷ fs) t n = Unit {0}
 
--- of the value after the header h, n bytes are due
+-- the header h in this level is that of a value that is due, or of a fragment
+pub data BeginsIn (ws : List Want) (f : Scope) (fs : List Scope) (h : Header) (hb : List ℕ) : Type 0 where
+  an_element : f.in_sequence ≡ false → IsElement f.syntax f.last h hb → shape f.syntax h ≡ Value → IsFit ws fs (number h.tag) h.length → BeginsIn ws f fs h hb
+  a_fragment : f.in_sequence ≡ true → IsFragmentItem f.syntax h hb → BeginsIn ws f fs h hb
+
+-- of the value or the fragment after the header h, n bytes are due
 pub record IsReading (s : Coding) (lim : Limits) (values : Values) (f : Scope) (fs : List Scope) (t : Tag) (n : ℕ) (b : List ℕ) : Type 0 where
   pub before : List ℕ
   pub whole : Values
-  pub last : ℕ
+  -- the level before it began
+  pub round : Scope
   pub h : Header
   pub hb : List ℕ
   pub v : List ℕ
-  pub reaches : Reaches s lim.wanted whole (set_scope f.syntax f.stop last) fs before
+  pub reaches : Reaches s lim.wanted whole round fs before
   pub levels : AreLevels lim f fs (length (b) + n)
-  pub top : f ≡ set_scope f.syntax f.stop (number h.tag)
-  pub element : IsElement f.syntax last h hb
-  pub shaped : shape f.syntax h ≡ Value
+  pub top : f ≡ begun_in round h
+  pub begins : BeginsIn lim.wanted round fs h hb
   pub even : IsEven h.length
-  pub fits : IsFit lim.wanted fs (number h.tag) h.length
   pub size : length v + n ≡ h.length
   pub more : 0 < n
   pub tagged : t ≡ h.tag

@@ -8,6 +8,7 @@ use Rattle.sequence.specs.declared.wanted.Want.{Want}
 use Rattle.sequence.specs.declared.stage.Stage.{Stage}
 use Rattle.sequence.specs.declared.stage.Stage.TheVariants as stages
 use Rattle.sequence.specs.declared.walker.Walker.{Walker}
+use Rattle.sequence.specs.Coding.{has_fragments}
 use Rattle.sequence.specs.Shape.{shape}
 use Rattle.sequence.specs.Wanted.{Values, room_of}
 use Rattle.sequence.specs.Rules.{is_sequence, is_value, passes}
@@ -44,7 +45,7 @@ pub record IsSameWalk {V D : ℕ} (old new : Walker V D) : Type 0 where
 
 -- a level that the header opens has room
 abbrev pub has_room : ℕ → ℕ → Coding → Header → Bool
-has_room limit depth s h = not (((is_marker h.tag || is_sequence (shape s h)) && not (nat_eq h.length 0)) && nat_le limit depth)
+has_room limit depth s h = not ((((is_marker h.tag && not (has_fragments s)) || is_sequence (shape s h)) && not (nat_eq h.length 0)) && nat_le limit depth)
 
 -- a wanted value that it begins has room
 abbrev pub fits_wanted : List Want → ℕ → Coding → Header → Bool

@@ -35,12 +35,12 @@ fn level_fields(level: &Level) {
         end,
         last,
         kind,
-        coding,
+        implicit,
     } = level;
     let _: &u64 = end;
     let _: &u32 = last;
     let _: &u8 = kind;
-    let _: &u8 = coding;
+    let _: &u8 = implicit;
 }
 
 fn scope_fields(scope: &Scope) {

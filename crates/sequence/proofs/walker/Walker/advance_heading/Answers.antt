@@ -2,6 +2,7 @@ use Rattle.std.proofs.Common.{◌≡◌, ◌+◌, ◌-◌, ◌<◌, ◌≤◌, �
 use Rattle.std.proofs.lemmas.List.{length-take-le}
 use Rattle.element.specs.declared.header.Header.{Header}
 use Rattle.element.specs.Header.{number, is_marker}
+use Rattle.sequence.specs.Shape.{is_undefined}
 use Rattle.sequence.specs.declared.shape.Shape.{Shape}
 use Rattle.sequence.specs.declared.fault.Fault.{Fault}
 use Rattle.sequence.specs.declared.stage.Stage.TheVariants as stages
@@ -20,7 +21,7 @@ use Rattle.sequence.proofs.Tops.{below_length}
 use Rattle.sequence.proofs.Pieces.{take_place, take_arrives}
 use Rattle.sequence.proofs.Begun.{begun_tail, quiet_begun, none_told}
 use Rattle.sequence.proofs.Gathered.{no_items}
-use Rattle.sequence.proofs.Walks.{within_limit, has_room_left, fits_left, rises}
+use Rattle.sequence.proofs.Walks.{defined_left, within_limit, has_room_left, fits_left, rises}
 use Rattle.sequence.proofs.Heads.{refused_run, refused_kept, refused_told, whole_run, whole_kept, whole_told, all_quiet, part_run, part_kept, part_told, part_short_of}
 use Rattle.sequence.proofs.walker.Walker.advance_heading.Given as given
 use Rattle.sequence.proofs.walker.Walker.advance_heading.Goals as goal
@@ -89,6 +90,7 @@ invariant_of-self g c =
       greatest_v = w.greatest_v;
       greatest_d = w.greatest_d;
       no_end = w.no_end;
+      elements = w.elements;
       few = omega (arith, none);
       together = omega (arith, none, w.together);
       begun = ap (is_begun (limits_of w) (top w) (below w) (w.place - c.len-begun.result + c.in-Refused.count)) empty;
@@ -121,6 +123,7 @@ invariant_of-self-in-Whole g c =
       greatest_v = w.greatest_v;
       greatest_d = w.greatest_d;
       no_end = w.no_end;
+      elements = w.elements;
       few = omega (arith, none);
       together = omega (arith, none, w.together);
       begun = ap (is_begun (limits_of w) (top w) (below w) (w.place - c.len-begun.result + c.in-Whole.count)) empty;
@@ -148,7 +151,7 @@ take_header-requires g c =
     ap (λ z. has_room (limits_of c.args.self.now).depth z (top c.args.self.now).syntax c.in-Whole.header) (sym depth-is) ∙ ap (has_room (limits_of c.args.self.now).depth (length (below c.args.self.now)) (top c.args.self.now).syntax) k.1.read ∙ left in
     let keeps : fits_wanted (limits_of c.args.self.now).wanted (length c.args.self.now.levels.items) (top c.args.self.now).syntax c.in-Whole.header ≡ true =
     ap (λ z. fits_wanted (limits_of c.args.self.now).wanted z (top c.args.self.now).syntax c.in-Whole.header) (sym depth-is) ∙ ap (fits_wanted (limits_of c.args.self.now).wanted (length (below c.args.self.now)) (top c.args.self.now).syntax) k.1.read ∙ fit in
-    (search rules, (k.1.shaped, (c.header_end.ensures.kept ∙ ap (λ z. kept_by z (c.args.self.now.header.items ++ c.args.piece.now)) c.in-Whole.is, (c.requires, (fits, (room, (keeps, λ m. let lt = up (ap (λ (z : Header). is_marker z.tag) (sym k.1.read) ∙ m) in let n = ap (λ (z : Header). number z.tag) k.1.read in omega (arith, lt, n))))))))
+    (search rules, (k.1.shaped, (c.header_end.ensures.kept ∙ ap (λ z. kept_by z (c.args.self.now.header.items ++ c.args.piece.now)) c.in-Whole.is, (c.requires, (fits, (room, (keeps, (λ m. let lt = up (ap (λ (z : Header). is_marker z.tag) (sym k.1.read) ∙ m) in let n = ap (λ (z : Header). number z.tag) k.1.read in omega (arith, lt, n), λ m holds. ap (λ (z : Header). is_undefined z.length) k.1.read ∙ defined_left (limits_of c.args.self.now) spot t k.1.fine k.1.whole (ap (λ (z : Header). is_marker z.tag) (sym k.1.read) ∙ m) holds))))))))
 
 pub returns-in-Whole : goal.returns-in-Whole
 returns-in-Whole g c =
@@ -208,6 +211,7 @@ invariant_of-self-in-Part g c =
       greatest_v = w.greatest_v;
       greatest_d = w.greatest_d;
       no_end = w.no_end;
+      elements = w.elements;
       few = rw c.requires (omega (arith, short, ap length (part-items g b c.in-Part.is), length-append c.args.self.now.header.items c.args.piece.now));
       together = omega (arith, short, ap length (part-items g b c.in-Part.is), length-append c.args.self.now.header.items c.args.piece.now, c.args.self.now.kept.short);
       begun = ap (is_begun (limits_of w) (top w) (below w) (w.place + length c.args.piece.now)) items
