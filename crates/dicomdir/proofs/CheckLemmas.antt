@@ -1,8 +1,8 @@
 -- The faults of a directory, in the order in which they are looked for.
-use Rattle.std.proofs.Common.{◌≡◌, ◌≢◌, ℕ, suc, List, [], length, map, Option, Some, None, length-append, ◌-◌, sym, ap, subst, ◌∙◌, arith}
+use Rattle.std.proofs.Common.{◌≡◌, ◌≢◌, ℕ, suc, List, [], length, map, Option, Some, None, length-append, ◌-◌, refl, sym, ap, subst, ◌∙◌, arith}
 use Rattle.std.proofs.lemmas.List.{append-nil}
-use Rattle.element.specs.declared.syntax.Syntax.{Syntax}
-use Rattle.element.specs.declared.syntax.Syntax.TheVariants.{Explicit}
+use Rattle.sequence.specs.declared.coding.Coding.{Coding}
+use Rattle.sequence.specs.declared.coding.Coding.TheVariants.{Explicit}
 use Rattle.sequence.proofs.Public.{whole_breaks_no_rule}
 use Rattle.sequence.specs.Ending.{IsWholeDataSet}
 use Rattle.sequence.specs.Rules.{no_tag}
@@ -31,8 +31,8 @@ fails_on o p f is on = record { tag = is.tag; memory = is.memory; fault = λ e. 
 
 -- ---- the whole directory
 
-pub whole_elements : {s : Syntax} {es : Elements} {text : List ℕ} → DataSet s 0 es text → HasElements s es text
-whole_elements {text = text} d = record { more = []; after = nothing_after; spelled = record { bytes = text; data_set = d; whole = sym (append-nil text) } }
+pub whole_elements : {es : Elements} {text : List ℕ} → DataSet Explicit 0 es text → HasElements Explicit es text
+whole_elements {text = text} d = record { more = []; after = nothing_after; spelled = record { native = refl; bytes = text; data_set = d; whole = sym (append-nil text) } }
 
 pub fails_first : (start : ℕ) (es : Elements) (f : DirFault) → FailsAs (offset_fault start (found 0x00041200 start es)) f → FailsAs (directory_fault start es) f
 unfolding directory_fault
@@ -57,7 +57,7 @@ directory_is : (start : ℕ) (es : Elements) (records : List Record) → HasReco
 unfolding directory_fault
 directory_is start es records has = grind (arith, common_steps, or_none (root_fault start es) (records_then_links start es (records_of start es)) has.good)
 
-pub has_records : (s : Syntax) (start p first : ℕ) (es : Elements) (text : List ℕ) (finds : FindsItems p first s text (found 0x00041220 start es))
+pub has_records : (s : Coding) (start p first : ℕ) (es : Elements) (text : List ℕ) (finds : FindsItems p first s text (found 0x00041220 start es))
     → offset_fault start (found 0x00041200 start es) ≡ None → offset_fault start (found 0x00041202 start es) ≡ None
     → HasRecords start es (records_at first finds.items)
 has_records s start p first es text finds first_good last_good = grind (arith, common_steps)

@@ -5,12 +5,13 @@ use Rattle.element.specs.declared.header.Header.{Header}
 use Rattle.element.specs.Vr.{is_capital, IsVrOrNone, is_short_vr}
 use Rattle.element.specs.Header.{number, is_marker, header_bytes, header_fits, SpellsHeader, is_plain}
 use Rattle.element.proofs.Public.{written_spells}
+use Rattle.sequence.specs.Coding.{layout}
 use Rattle.sequence.specs.declared.shape.Shape.{Shape}
 use Rattle.sequence.specs.declared.shape.Shape.TheVariants.{Value, Sequence, NotAllowed}
 use Rattle.sequence.specs.Shape.{shape, undefined_length, is_vr}
-use Rattle.sequence.specs.Tree.{Elements, no_elements, value, sequence, Items, no_items, item, IsElement, IsItem, DataSet, ItemList, nothing, value_then, sequence_then, no_more, item_then, counted}
-use Rattle.element.specs.declared.syntax.Syntax.{Syntax}
-use Rattle.element.specs.declared.syntax.Syntax.TheVariants.{Implicit, Explicit}
+use Rattle.sequence.specs.Tree.{Elements, no_elements, value, sequence, Items, no_items, item, fragment, IsElement, IsItem, DataSet, ItemList, nothing, value_then, sequence_then, no_more, item_then, counted}
+use Rattle.sequence.specs.declared.coding.Coding.{Coding}
+use Rattle.sequence.specs.declared.coding.Coding.TheVariants.{Implicit, Explicit, Encapsulated, Fragments}
 use Rattle.dicomdir.specs.Record.{spelled, spelled_items, field}
 use Rattle.dicomdir.proofs.Distinct.{not_true}
 use Rattle.std.proofs.lemmas.Bool.Decides.{nat_tests}
@@ -28,7 +29,7 @@ is_vr_or_none (Some letters) = (is_capital (get_or letters 0 0) && is_capital (g
 -- the header can be written, and its length is defined and even
 abbrev pub is_header : Header → Bool
 is_header h =
-    ((nat_lt h.tag.0 65536 && nat_lt h.tag.1 65536) && (is_vr_or_none h.vr && header_fits Explicit h))
+    ((nat_lt h.tag.0 65536 && nat_lt h.tag.1 65536) && (is_vr_or_none h.vr && header_fits (layout Explicit) h))
     && (nat_lt h.length undefined_length && nat_eq (h.length % 2) 0)
 
 abbrev pub is_element : ℕ → Header → Bool
@@ -44,9 +45,11 @@ is_value Value = true
 is_value (Sequence s) = false
 is_value NotAllowed = false
 
-abbrev pub is_explicit : Syntax → Bool
+abbrev pub is_explicit : Coding → Bool
 is_explicit Explicit = true
 is_explicit Implicit = false
+is_explicit Encapsulated = false
+is_explicit Fragments = false
 
 abbrev pub is_sequence : Shape → Bool
 is_sequence Value = false
@@ -65,6 +68,7 @@ abbrev mutual
   pub are_laid : Items → Bool
   are_laid no_items = true
   are_laid (item h es is) = (is_item h && nat_eq (length (spelled es)) h.length) && (is_laid 0 es && are_laid is)
+  are_laid (fragment h v is) = false
 
 value_shape : (s : Shape) → is_value s ≡ true → s ≡ Value
 value_shape v1 e = grind (arith, nat_tests)
@@ -77,12 +81,12 @@ named v1 e = grind (arith, nat_tests)
 
 -- what the test of a header says
 record IsLaidHeader (h : Header) : Type 0 where
-  pub spells : SpellsHeader Explicit h (header_bytes h)
+  pub spells : SpellsHeader (layout Explicit) h (header_bytes h)
   pub defined : h.length ≢ undefined_length
   pub even : h.length % 2 ≡ 0
 
 laid_header : (h : Header) → is_header h ≡ true → IsLaidHeader h
-laid_header h e = grind (arith, common_steps, written_spells Explicit h, named h.vr)
+laid_header h e = grind (arith, common_steps, written_spells (layout Explicit) h, named h.vr)
 
 apart : (a b : ℕ) → not (nat_eq a b) ≡ true → a ≢ b
 apart a b e = false-eqb a b (sym (not_true (nat_eq a b) e))
@@ -144,13 +148,14 @@ mutual
       (laid_elements 0 es back.0)
       (counted h.length header.defined header.even (eqb-true _ _ front.1))
       (laid_items is back.1)
+  laid_items (fragment h v is) e = absurd cc
 
 -- ---- elements with even values and a VR whose length takes two bytes
 
 -- whether an element with this tag and this VR, whose length takes two bytes, can follow the tag with number `last`
 abbrev pub is_fixed : ℕ → Tag → List ℕ → Bool
 is_fixed last t vr =
-    ((nat_lt t.0 65536 && nat_lt t.1 65536) && (is_vr_or_none (Some vr) && not (is_plain Explicit t)))
+    ((nat_lt t.0 65536 && nat_lt t.1 65536) && (is_vr_or_none (Some vr) && not (is_plain (layout Explicit) t)))
     && (((nat_lt last (number t) && not (is_marker t)) && (not (nat_eq t.0 0) && not (nat_eq t.0 2)))
     && (not (is_vr (codes "SQ") vr) && is_short_vr vr))
 

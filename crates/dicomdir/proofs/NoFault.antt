@@ -4,13 +4,14 @@ use Rattle.std.proofs.lemmas.Bool.{and_parts, or_right, or_left}
 use Rattle.std.proofs.lemmas.List.{length-append, append_cancel_left}
 use Rattle.std.proofs.lemmas.Bool.Decides.{nat_tests}
 use Rattle.element.specs.declared.header.Header.{Header}
-use Rattle.sequence.specs.Tree.{Elements, Items, no_items, item, DataSet}
+use Rattle.sequence.specs.Tree.{Elements, Items, no_items, item, fragment, DataSet}
 use Rattle.dicomdir.specs.TreeOf.{Forest, no_nodes, node, count_of}
 use Rattle.dicomdir.specs.Directory.{Found, missing, value_at, items_at, found, Record, header_size, size_of, end_size, records_at, records_in, Node, carried_node, first_offset, records_of, next_offset, lower_offset, IsExplicitFile, IsDirectoryFile, number_in, or_zero}
 use Rattle.dicomdir.specs.Linked.{PlacedNode, places_of, is_distinct, record_at, AreLinked, is_one_of, LinkedElements, nodes_of, first_place, are_records}
 use Rattle.dicomdir.specs.Laws.{NodesAreRecords, OneTreeOfFile, LinkedHasNoFault, PathsNameNodes, AcceptedHasNoFault, OneCheckFault, OneListOfNodes}
 use Rattle.dicomdir.proofs.Distinct.{not_true, not_place, same_place, same_one, backwards}
 use Rattle.std.proofs.lemmas.Grind.{common_steps}
+use Rattle.sequence.specs.declared.coding.Coding.TheVariants as codings
 use Rattle.element.specs.declared.syntax.Syntax.TheVariants.{Explicit, Implicit}
 use Rattle.part10.specs.MetaText.{HasMeta, Said, MetaFaultOf}
 use Rattle.part10.proofs.Public.{one_header, one_verdict}
@@ -80,6 +81,7 @@ header_some h = omega arith
 none_at_zero : (place : ℕ) (is : Items) → 0 < place → is_one_of 0 (places (records_at place is)) ≡ false
 none_at_zero place no_items some = refl
 none_at_zero place (item h es is) some = grind (arith, common_steps, none_at_zero (place + header_size h + size_of es + end_size h.length) is (omega (arith, some)))
+none_at_zero place (fragment h v is) some = none_at_zero (place + header_size h + length v) is (omega (arith, some))
 
 pub none_in : (f : Found) (records : List Record) → records_in f ≡ Some records → is_one_of 0 (places records) ≡ false
 none_in missing records e = absurd cc
@@ -138,8 +140,8 @@ same_fronts {file = file} {front = front} {back = back} {front2 = front2} {back2
 pub same_files : {file : List ℕ} {start start2 : ℕ} {es es2 : Elements} → IsDirectoryFile file start es → IsDirectoryFile file start2 es2 → (start ≡ start2) × (es ≡ es2)
 same_files {file = file} {start = start} {start2 = start2} {es = es} {es2 = es2} a b =
     let fronts = same_fronts a.explicit b.explicit in
-    let moved : DataSet Explicit 0 es2 a.back = subst (λ z. DataSet Explicit 0 es2 z) (sym fronts.1) b.data_set in
-    (a.begins ∙ (ap length fronts.0 ∙ sym b.begins), one_tree Explicit 0 es es2 a.back a.data_set moved)
+    let moved : DataSet codings.Explicit 0 es2 a.back = subst (λ z. DataSet codings.Explicit 0 es2 z) (sym fronts.1) b.data_set in
+    (a.begins ∙ (ap length fronts.0 ∙ sym b.begins), one_tree codings.Explicit 0 es es2 a.back a.data_set moved)
 
 pub one_tree_of_file : OneTreeOfFile
 one_tree_of_file file tree other a b =
@@ -212,21 +214,21 @@ not_implicit {file = file} {said = said} x has is = grind (arith, common_steps, 
 
 -- ---- the data set
 
-unbroken_there : (back back2 : List ℕ) → back ≡ back2 → IsUnbroken Explicit check_limits back → IsUnbroken Explicit check_limits back2
-unbroken_there back back2 same unbroken = subst (λ z. IsUnbroken Explicit check_limits z) same unbroken
+unbroken_there : (back back2 : List ℕ) → back ≡ back2 → IsUnbroken codings.Explicit check_limits back → IsUnbroken codings.Explicit check_limits back2
+unbroken_there back back2 same unbroken = subst (λ z. IsUnbroken codings.Explicit check_limits z) same unbroken
 
-no_first_fault : {b p u : List ℕ} {rule : ℕ} {tag : Tag} → IsUnbroken Explicit check_limits b → FirstFault Explicit check_limits b p u rule tag → ⊥
+no_first_fault : {b p u : List ℕ} {rule : ℕ} {tag : Tag} → IsUnbroken codings.Explicit check_limits b → FirstFault codings.Explicit check_limits b p u rule tag → ⊥
 no_first_fault {p = p} {u = u} {rule = rule} {tag = tag} unbroken first = unbroken p u first.rest rule tag first.text first.breaks
 
-no_end_fault : {b b2 : List ℕ} {elements : Elements} {tag : Tag} → b ≡ b2 → DataSet Explicit 0 elements b → EndFault Explicit check_limits b2 tag → ⊥
-no_end_fault {elements = elements} same text end = end.unfinished elements (subst (λ z. DataSet Explicit 0 elements z) same text)
+no_end_fault : {b b2 : List ℕ} {elements : Elements} {tag : Tag} → b ≡ b2 → DataSet codings.Explicit 0 elements b → EndFault codings.Explicit check_limits b2 tag → ⊥
+no_end_fault {elements = elements} same text end = end.unfinished elements (subst (λ z. DataSet codings.Explicit 0 elements z) same text)
 
 pub accepted_has_no_fault : AcceptedHasNoFault
 accepted_has_no_fault file nodes _ _ _ taken has (in_header fault is) = header_is_taken taken.header.explicit fault is
 accepted_has_no_fault file nodes _ _ _ taken has (in_syntax meta is) = not_implicit taken.header.explicit meta is
 accepted_has_no_fault file nodes _ _ _ taken has (in_data_set {back = back} x first) =
     let fronts = same_fronts taken.header.explicit x in
-    no_first_fault (unbroken_there taken.back back fronts.1 (whole_breaks_no_rule Explicit check_limits taken.back taken.whole)) first
+    no_first_fault (unbroken_there taken.back back fronts.1 (whole_breaks_no_rule codings.Explicit check_limits taken.back taken.whole)) first
 accepted_has_no_fault file nodes _ _ _ taken has (at_the_end x end) = no_end_fault (same_fronts taken.header.explicit x).1 taken.whole.text end
 accepted_has_no_fault file nodes _ _ _ taken has (in_directory {front = front} {back = back} {elements = elements} {f = f} x unbroken text told) =
     let same = same_files has.is_file (record { front = front; back = back; explicit = x; data_set = text; begins = refl }) in
@@ -244,14 +246,14 @@ one_list_of_nodes file nodes other a b =
 -- ---- one fault
 
 same_directory_faults : {file front back front2 back2 : List ℕ} {elements elements2 : Elements} {f f2 : Fault} → IsExplicitFile file front back → IsExplicitFile file front2 back2
-    → DataSet Explicit 0 elements back → DataSet Explicit 0 elements2 back2
+    → DataSet codings.Explicit 0 elements back → DataSet codings.Explicit 0 elements2 back2
     → directory_fault (length front) elements ≡ Some f → directory_fault (length front2) elements2 ≡ Some f2 → f ≡ f2
 same_directory_faults {front = front} {back = back} {front2 = front2} {back2 = back2} {elements = elements} {elements2 = elements2} {f = f} {f2 = f2} x y text text2 told told2 = grind (arith, common_steps, same_files (record { front = front; back = back; explicit = x; data_set = text; begins = refl }) (record { front = front2; back = back2; explicit = y; data_set = text2; begins = refl }))
 
-same_ends : {b b2 : List ℕ} {tag tag2 : Tag} → b ≡ b2 → EndFault Explicit check_limits b tag → EndFault Explicit check_limits b2 tag2 → tag ≡ tag2
+same_ends : {b b2 : List ℕ} {tag tag2 : Tag} → b ≡ b2 → EndFault codings.Explicit check_limits b tag → EndFault codings.Explicit check_limits b2 tag2 → tag ≡ tag2
 same_ends {b = b} {b2 = b2} {tag = tag} {tag2 = tag2} same end end2 =
-    let moved : EndFault Explicit check_limits b tag2 = subst (λ z. EndFault Explicit check_limits z tag2) (sym same) end2 in
-    let path = one_path Explicit b end.elements moved.elements end.path moved.path end.last moved.last end.tail moved.tail end.front moved.front in
+    let moved : EndFault codings.Explicit check_limits b tag2 = subst (λ z. EndFault codings.Explicit check_limits z tag2) (sym same) end2 in
+    let path = one_path codings.Explicit b end.elements moved.elements end.path moved.path end.last moved.last end.tail moved.tail end.front moved.front in
     end.tagged ∙ (ap tag_of_tail path.3 ∙ sym moved.tagged)
 
 pub one_check_fault : OneCheckFault
@@ -269,8 +271,8 @@ one_check_fault file _ _ _ _ _ _ (in_data_set x first) (in_header fault is) = ab
 one_check_fault file _ _ _ _ _ _ (in_data_set x first) (in_syntax meta implicit) = absurd (not_implicit x meta implicit)
 one_check_fault file _ _ _ _ _ _ (in_data_set {front = front} {back = back} {p = p} {u = u} {rule = rule} {tag = tag} x first) (in_data_set {front = front2} {p = p2} {u = u2} {rule = rule2} {tag = tag2} y first2) =
     let fronts = same_fronts x y in
-    let moved = subst (λ z. FirstFault Explicit check_limits z p2 u2 rule2 tag2) (sym fronts.1) first2 in
-    let same = one_fault Explicit check_limits back p p2 u u2 rule rule2 tag tag2 first moved in
+    let moved = subst (λ z. FirstFault codings.Explicit check_limits z p2 u2 rule2 tag2) (sym fronts.1) first2 in
+    let same = one_fault codings.Explicit check_limits back p p2 u u2 rule rule2 tag tag2 first moved in
     (same.2, (λ i. length (fronts.0 i) + length (same.0 i)), same.3)
 one_check_fault file _ _ _ _ _ _ (in_data_set x first) (at_the_end {back = back} y end) =
     absurd (no_first_fault (unbroken_there back _ (same_fronts y x).1 end.unbroken) first)

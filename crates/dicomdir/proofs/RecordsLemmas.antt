@@ -1,7 +1,7 @@
 -- Reading one record after the other: what is read of a record is what its elements say.
 use Rattle.std.proofs.Common.{◌≡◌, ℕ, Bool, true, false, not, ◌&&◌, ◌||◌, List, [], ◌∷◌, length, Option, Some, None, is_some, refl, sym, ap, ◌∙◌, nat_eq, if◌then◌else◌, arith, ◌≢◌, suc, ◌+◌, ◌-◌, ◌≤◌, ◌++◌, drop, subst, append_assoc}
 use Rattle.std.specs.Str.{bytes_eq}
-use Rattle.sequence.specs.Tree.{Elements, Items, no_items, item}
+use Rattle.sequence.specs.Tree.{Elements, Items, no_items, item, fragment}
 use Rattle.dicomdir.specs.declared.found.Element.{Element}
 use Rattle.dicomdir.specs.declared.records.ReadRecord.{ReadRecord}
 use Rattle.dicomdir.specs.Directory.{Found, found, number_in, kind_in, file_id_in, is_missing, is_in_use, is_use_flag, carried_node, next_offset, lower_offset, has_file_id, or_zero, Record, header_size, size_of, end_size, records_at}
@@ -11,7 +11,7 @@ use Rattle.std.proofs.lemmas.Bool.Decides.{nat_tests}
 use Rattle.std.proofs.lemmas.Grind.{common_steps}
 use Rattle.element.specs.Header.{item_tag, sequence_end_tag}
 use Rattle.std.proofs.lemmas.List.{append-nil}
-use Rattle.element.specs.declared.syntax.Syntax.{Syntax}
+use Rattle.sequence.specs.declared.coding.Coding.{Coding}
 use Rattle.dicomdir.specs.declared.fault.DirFault.{DirFault}
 use Rattle.dicomdir.specs.declared.found.Head.{Head}
 use Rattle.dicomdir.specs.DirFault.{◌or_else◌, record_fault, each_fault}
@@ -92,7 +92,7 @@ each_append (x ∷ xs) ys e = grind (arith, nat_tests, each_append xs ys)
 
 -- ---- one item after the other
 
-pub record ReadUpTo (s : Syntax) (first : ℕ) (items : Items) (text rest : List ℕ) (old now : List ReadRecord) : Type 0 where
+pub record ReadUpTo (s : Coding) (first : ℕ) (items : Items) (text rest : List ℕ) (old now : List ReadRecord) : Type 0 where
   pub done : List Record
   pub left : Items
   pub more : List ℕ
@@ -102,7 +102,7 @@ pub record ReadUpTo (s : Syntax) (first : ℕ) (items : Items) (text rest : List
   pub good : each_fault done ≡ None
   pub all : records_at first items ≡ done ++ records_at (first + (length text - length rest)) left
 
-pub read_none : (s : Syntax) (first : ℕ) (items : Items) (text : List ℕ) (old : List ReadRecord) → HasItems s items text → ReadUpTo s first items text text old old
+pub read_none : (s : Coding) (first : ℕ) (items : Items) (text : List ℕ) (old : List ReadRecord) → HasItems s items text → ReadUpTo s first items text text old old
 read_none s first items text old has =
     let none : first ≡ first + (length text - length text) = omega arith in
     record {
@@ -116,7 +116,7 @@ read_none s first items text old has =
       all = ap (λ n. records_at n items) none;
     }
 
-pub read_next : (s : Syntax) (first : ℕ) (items : Items) (text rest after : List ℕ) (old now new : List ReadRecord) (head : Head) (e : ReadRecord) → length rest ≤ length text
+pub read_next : (s : Coding) (first : ℕ) (items : Items) (text rest after : List ℕ) (old now new : List ReadRecord) (head : Head) (e : ReadRecord) → length rest ≤ length text
     → ReadUpTo s first items text rest old now → head_at s rest ≡ Some head → head.header.tag ≡ item_tag
     → ((es : Elements) → HasElements s es (content_at head.header (drop head.size rest)) → IsEntry e (record { place = first + (length text - length rest); elements = es }))
     → ((es : Elements) (c more : List ℕ) → IsItemContent s head.header es c → drop head.size rest ≡ c ++ more → after ≡ more)
@@ -148,7 +148,7 @@ read_next s first items text rest after old now new head e fits r read tagged en
 
 -- ---- the first record with a fault
 
-pub read_fails : (s : Syntax) (first : ℕ) (items : Items) (text rest : List ℕ) (old now : List ReadRecord) (head : Head) (f : DirFault)
+pub read_fails : (s : Coding) (first : ℕ) (items : Items) (text rest : List ℕ) (old now : List ReadRecord) (head : Head) (f : DirFault)
     → ReadUpTo s first items text rest old now → head_at s rest ≡ Some head → head.header.tag ≡ item_tag
     → ((es : Elements) → HasElements s es (content_at head.header (drop head.size rest)) → FailsAs (record_fault (record { place = first + (length text - length rest); elements = es })) f)
     → FailsAs (each_fault (records_at first items)) f
@@ -161,16 +161,16 @@ read_fails s first items text rest old now head f r read tagged fails =
 
 -- ---- all records
 
-all_read : (s : Syntax) (first : ℕ) (items : Items) (text rest : List ℕ) (old now : List ReadRecord) (before : List Record) (r : ReadUpTo s first items text rest old now) → r.left ≡ no_items
+all_read : (s : Coding) (first : ℕ) (items : Items) (text rest : List ℕ) (old now : List ReadRecord) (before : List Record) (r : ReadUpTo s first items text rest old now) → r.left ≡ no_items
     → AreEntries old before → AreEntries now (before ++ records_at first items)
 all_read s first items text rest old now before r none are = grind (arith, common_steps)
 
-pub read_to_mark : (s : Syntax) (first : ℕ) (items : Items) (text rest : List ℕ) (old now : List ReadRecord) (before : List Record) (head : Head) → ReadUpTo s first items text rest old now
+pub read_to_mark : (s : Coding) (first : ℕ) (items : Items) (text rest : List ℕ) (old now : List ReadRecord) (before : List Record) (head : Head) → ReadUpTo s first items text rest old now
     → head_at s rest ≡ Some head → head.header.tag ≢ item_tag → AreEntries old before → AreEntries now (before ++ records_at first items)
 read_to_mark s first items text rest old now before head r read other are =
     all_read s first items text rest old now before r (no_items_here r.spelled (λ one there tagged. other (let same : one ≡ head = cc in ap (λ z. z.header.tag) (sym same) ∙ tagged))).0 are
 
-pub read_to_end : (s : Syntax) (first : ℕ) (items : Items) (text rest : List ℕ) (old now : List ReadRecord) (before : List Record) → ReadUpTo s first items text rest old now
+pub read_to_end : (s : Coding) (first : ℕ) (items : Items) (text rest : List ℕ) (old now : List ReadRecord) (before : List Record) → ReadUpTo s first items text rest old now
     → head_at s rest ≡ None → AreEntries old before → AreEntries now (before ++ records_at first items)
 read_to_end s first items text rest old now before r read are = all_read s first items text rest old now before r (no_items_here r.spelled (λ one there tagged. absurd cc)).0 are
 
@@ -179,3 +179,4 @@ read_to_end s first items text rest old now before r read are = all_read s first
 pub records_rise : (least place : ℕ) (items : Items) → least ≤ place → Rise least (records_at place items)
 records_rise least place no_items fits = tt
 records_rise least place (item h es is) fits = (fits, records_rise (suc place) (place + header_size h + size_of es + end_size h.length) is (omega arith))
+records_rise least place (fragment h v is) fits = records_rise least (place + header_size h + length v) is (omega arith)

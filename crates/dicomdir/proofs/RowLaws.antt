@@ -3,6 +3,8 @@ use Rattle.std.proofs.Common.{◌≡◌, ◌≤◌, ◌<◌, ◌+◌, get_or, �
 use Rattle.std.specs.List.{list_all, find}
 use Rattle.std.proofs.lemmas.Bool.{and_parts, leb-true, le-leb}
 use Rattle.element.specs.Header.{number}
+use Rattle.sequence.specs.Coding.{coding_of}
+use Rattle.sequence.specs.declared.coding.Coding.{Coding}
 use Rattle.sequence.specs.Wanted.{Values, value_of, room_of, is_wanted, kept_of}
 use Rattle.dicomdir.specs.declared.record_table.RecordRule.{RecordRule}
 use Rattle.dicomdir.specs.RecordTable.{key_table, want_of}
@@ -124,23 +126,23 @@ unfolding has_meta
 same_instance {file = file} a b = grind (arith, common_steps, one_header file (record { class = a.class; instance = a.instance; syntax = syntax_uid a.syntax }) (record { class = b.class; instance = b.instance; syntax = syntax_uid b.syntax }) (has_meta a) (has_meta b), has_meta a, has_meta b, append_cancel_left, one_syntax)
 
 -- the number of what is wrong with a data set is one
-one_number : {s : Syntax} {lim : Limits} {b : List ℕ} {f g : Fault} → Fails s lim b f → Fails s lim b g → f.number ≡ g.number
+one_number : {s : Coding} {lim : Limits} {b : List ℕ} {f g : Fault} → Fails s lim b f → Fails s lim b g → f.number ≡ g.number
 one_number {s = s} {lim = lim} {b = b} (breaks_rule {p = p} {u = u} {rule = rule} {tag = t} first) (breaks_rule {p = p2} {u = u2} {rule = rule2} {tag = t2} second) = grind (arith, common_steps, one_fault s lim b p p2 u u2 rule rule2 t t2 first second)
 one_number (breaks_rule {p = p} {u = u} {rule = rule} {tag = t} first) (ends_early end) = absurd (end.unbroken p u first.rest rule t first.text first.breaks)
 one_number (ends_early end) (breaks_rule {p = p} {u = u} {rule = rule} {tag = t} first) = absurd (end.unbroken p u first.rest rule t first.text first.breaks)
 one_number (ends_early end) (ends_early other) = refl
 
-not_both : {s : Syntax} {lim : Limits} {b : List ℕ} {f : Fault} → IsWholeDataSet s lim b → Fails s lim b f → ⊥
+not_both : {s : Coding} {lim : Limits} {b : List ℕ} {f : Fault} → IsWholeDataSet s lim b → Fails s lim b f → ⊥
 not_both {s = s} {lim = lim} {b = b} whole (breaks_rule {p = p} {u = u} {rule = rule} {tag = t} first) = whole_breaks_no_rule s lim b whole p u first.rest rule t first.text first.breaks
 not_both whole (ends_early end) = end.unfinished whole.elements whole.text
 
 -- of the same data set
 
-fails_too : {s t : Syntax} {b c : List ℕ} {f : Fault} → s ≡ t → b ≡ c → Fails s row_limits b f → Fails t row_limits c f
-fails_too {s = s} {t = t} {b = b} {c = c} {f = f} e d x = subst (λ z. Fails t row_limits z f) d (subst (λ z. Fails z row_limits b f) e x)
+fails_too : {s t : Syntax} {b c : List ℕ} {f : Fault} → s ≡ t → b ≡ c → Fails (coding_of s) row_limits b f → Fails (coding_of t) row_limits c f
+fails_too {s = s} {t = t} {b = b} {c = c} {f = f} e d x = subst (λ z. Fails (coding_of t) row_limits z f) d (subst (λ z. Fails (coding_of z) row_limits b f) e x)
 
-spells_too : {s t : Syntax} {b c : List ℕ} {es : Elements} → s ≡ t → b ≡ c → DataSet s 0 es b → DataSet t 0 es c
-spells_too {s = s} {t = t} {b = b} {c = c} {es = es} e d x = subst (λ z. DataSet t 0 es z) d (subst (λ z. DataSet z 0 es b) e x)
+spells_too : {s t : Syntax} {b c : List ℕ} {es : Elements} → s ≡ t → b ≡ c → DataSet (coding_of s) 0 es b → DataSet (coding_of t) 0 es c
+spells_too {s = s} {t = t} {b = b} {c = c} {es = es} e d x = subst (λ z. DataSet (coding_of t) 0 es z) d (subst (λ z. DataSet (coding_of z) 0 es b) e x)
 
 one_result : {file : List ℕ} (file_id : List ℕ) (a b : IsInstance file) (es fs : Elements) → SameInstance a b → es ≡ fs
     → checked_row (row_from file_id a.class a.instance a.syntax (kept_of row_wants es)) ≡ checked_row (row_from file_id b.class b.instance b.syntax (kept_of row_wants fs))
@@ -163,7 +165,7 @@ one_row file file_id r q (of_values a es text within e) (in_data_set b g n d) =
     absurd (not_both (record { elements = es; text = text; within = within }) (fails_too same.syntax same.back n))
 one_row file file_id r q (of_values a es text within e) (of_values b fs text2 within2 d) =
     let same = same_instance a b in
-    e ∙ one_result file_id a b es fs same (one_tree b.syntax 0 es fs b.back (spells_too same.syntax same.back text) text2) ∙ sym d
+    e ∙ one_result file_id a b es fs same (one_tree (coding_of b.syntax) 0 es fs b.back (spells_too same.syntax same.back text) text2) ∙ sym d
 
 -- ---- its keys fit
 

@@ -5,6 +5,7 @@ use Rattle.std.specs.Io.KnownBytes.{Consumes, IsAtEnd}
 use Rattle.std.specs.Bool.{◌==◌}
 use Rattle.std.proofs.KnownBytes.{Consumes-trans}
 use Rattle.element.specs.Numbers.{IsBytes}
+use Rattle.sequence.specs.Coding.{coding_of}
 use Rattle.sequence.specs.declared.fault.Fault.{Fault}
 use Rattle.sequence.specs.declared.step.Step.{Step}
 use Rattle.sequence.specs.declared.step.Step.TheVariants.{Refused}
@@ -19,7 +20,7 @@ use Rattle.dicomdir.specs.machine.RowReading.{refusal_of, IsGoing, IsSameSet, Fa
 use Rattle.dicomdir.proofs.WalkLemmas.{unrefused, refused_fails, tells_none, failed_text, not_refused, farther}
 use Rattle.std.proofs.lemmas.Bool.Decides.{nat_tests}
 use Rattle.std.proofs.lemmas.Grind.{common_steps}
-use Rattle.element.specs.declared.syntax.Syntax.{Syntax}
+use Rattle.sequence.specs.declared.coding.Coding.{Coding}
 use Rattle.part10.specs.declared.meta.Meta.{Meta}
 use Rattle.part10.specs.declared.meta_fault.MetaFault.{MetaFault}
 use Rattle.part10.specs.declared.meta_fault.MetaFault.TheVariants.{NotPart10, BadMeta, OtherSyntax, ReadFailed}
@@ -143,13 +144,13 @@ reads_fails w0 w old mid new piece fault r more fails = text_fails (by old new (
 -- ---- what reading a file for its row gives
 
 -- after a whole data set nothing is open
-whole_is_open : {s : Syntax} {es : Elements} {b : List ℕ} → DataSet s 0 es b → Open s b es [] (last_of 0 es) (in_header [])
+whole_is_open : {s : Coding} {es : Elements} {b : List ℕ} → DataSet s 0 es b → Open s b es [] (last_of 0 es) (in_header [])
 whole_is_open {s = s} {es = es} {b = b} d =
     let nested : Nested s (b ++ []) es [] (last_of 0 es) (in_header []) = at_elements d (header_tail (no_header s)) in
     record { nested = subst (λ z. Nested s z es [] (last_of 0 es) (in_header [])) (append-nil b) nested; left = record {}; innermost = record {} }
 
 -- the values that are kept of a whole data set are those of its elements
-pub kept_at_end : {s : Syntax} {lim : Limits} {b : List ℕ} {told : Told} (whole : IsWholeDataSet s lim b) → Tells s lim b told → told.kept ≡ kept_of lim.wanted whole.elements
+pub kept_at_end : {s : Coding} {lim : Limits} {b : List ℕ} {told : Told} (whole : IsWholeDataSet s lim b) → Tells s lim b told → told.kept ≡ kept_of lim.wanted whole.elements
 kept_at_end {s = s} {lim = lim} {b = b} whole (going {es = es} {path = path} {last = last} {tail = tail} unbroken front) = grind (arith, common_steps, one_path s b es whole.elements path [] last (last_of 0 whole.elements) tail (in_header []) front (whole_is_open whole.text))
 kept_at_end {s = s} {lim = lim} {b = b} whole (refused {p = p} {u = u} {rule = rule} {tag = tag} first front) = grind (arith, common_steps, whole_breaks_no_rule s lim b whole p u first.rest rule tag first.text first.breaks)
 
@@ -172,28 +173,28 @@ instance_of : (meta : Meta) (file back : List ℕ) → TakesMeta (said_of meta) 
 instance_of meta file back takes = grind (arith, common_steps)
 
 pub refused_data_set : {V D : ℕ} (w : Walker V D) (meta : Meta) (old mid : Option (List ℕ)) (file_id : List ℕ) (reason : Skip) → TakesMeta (said_of meta) old mid
-    → walker_syntax w ≡ meta.syntax → limits_of w ≡ row_limits → WalkFails w mid reason → Read old file_id (Err reason)
+    → walker_syntax w ≡ (coding_of meta.syntax) → limits_of w ≡ row_limits → WalkFails w mid reason → Read old file_id (Err reason)
 unfolding instance_of
 refused_data_set w meta None mid file_id reason takes syntax limits fails = tt
 refused_data_set w meta (Some file) None file_id reason takes syntax limits fails = absurd takes.2
 refused_data_set w meta (Some file) (Some back) file_id reason takes syntax limits (walking.read_failed e) = λ _. read_failed (ap (λ z. Err z) e)
 refused_data_set w meta (Some file) (Some back) file_id reason takes syntax limits (walking.text_fails f) = λ bytes.
     let told = f (bytes_behind takes.0 back (subst (λ z. IsBytes z) takes.2 bytes)) in
-    let fails : Fails meta.syntax row_limits back told.0 = subst (λ z. Fails z row_limits back told.0) syntax (subst (λ z. Fails (walker_syntax w) z back told.0) limits told.1) in
+    let fails : Fails (coding_of meta.syntax) row_limits back told.0 = subst (λ z. Fails z row_limits back told.0) syntax (subst (λ z. Fails (walker_syntax w) z back told.0) limits told.1) in
     has_row (in_data_set (instance_of meta file back takes) told.0 fails (ap (λ z. Err z) told.2))
 
 pub out_of_memory : (old : Option (List ℕ)) (file_id : List ℕ) (reason : Skip) → reason ≡ skip.OutOfMemory → Read old file_id (Err reason)
 out_of_memory v1 file_id reason e = grind (arith, nat_tests)
 
 pub whole_file : {V D : ℕ} (w : Walker V D) (meta : Meta) (old mid : Option (List ℕ)) (file_id : List ℕ) (result : Result Row Skip) → TakesMeta (said_of meta) old mid
-    → walker_syntax w ≡ meta.syntax → limits_of w ≡ row_limits → TookWhole w mid
+    → walker_syntax w ≡ (coding_of meta.syntax) → limits_of w ≡ row_limits → TookWhole w mid
     → result ≡ checked_row (row_from file_id meta.class meta.instance meta.syntax (told_by w).kept) → Read old file_id result
 unfolding instance_of
 whole_file w meta None mid file_id result takes syntax limits took is = tt
 whole_file w meta (Some file) None file_id result takes syntax limits took is = absurd takes.2
 whole_file w meta (Some file) (Some back) file_id result takes syntax limits took is = λ _.
-    let whole : IsWholeDataSet meta.syntax row_limits back = subst (λ z. IsWholeDataSet z row_limits back) syntax (subst (λ z. IsWholeDataSet (walker_syntax w) z back) limits took.1) in
-    let tells : Tells meta.syntax row_limits back (told_by w) = subst (λ z. Tells z row_limits back (told_by w)) syntax (subst (λ z. Tells (walker_syntax w) z back (told_by w)) limits took.0.tells) in
+    let whole : IsWholeDataSet (coding_of meta.syntax) row_limits back = subst (λ z. IsWholeDataSet z row_limits back) syntax (subst (λ z. IsWholeDataSet (walker_syntax w) z back) limits took.1) in
+    let tells : Tells (coding_of meta.syntax) row_limits back (told_by w) = subst (λ z. Tells z row_limits back (told_by w)) syntax (subst (λ z. Tells (walker_syntax w) z back (told_by w)) limits took.0.tells) in
     let kept : (told_by w).kept ≡ kept_of row_wants whole.elements = kept_at_end whole tells in
     has_row (of_values (instance_of meta file back takes) whole.elements whole.text whole.within
     (is ∙ ap (λ z. checked_row (row_from file_id meta.class meta.instance meta.syntax z)) kept))

@@ -1,18 +1,21 @@
 -- What a file header and a walk over a whole text mean for a check.
-use Rattle.std.proofs.Common.{◌≡◌, ℕ, ◌≤◌, Bool, Some, None, arith, if◌then◌else◌, List, ◌≢◌, ◌+◌, ◌-◌, length, refl, ap, subst, ◌∙◌, zero, suc, [], ◌∷◌, ◌++◌, take, drop, sym}
+use Rattle.std.proofs.Common.{◌≡◌, ℕ, ◌≤◌, Bool, Some, None, arith, if◌then◌else◌, List, ◌≢◌, ◌+◌, ◌-◌, length, refl, ap, subst, ◌∙◌, zero, suc, [], ◌∷◌, ◌++◌, take, drop, sym, not, ◌&&◌, nat_eq, nat_lt, nat_le, ◌%◌}
 use Rattle.element.specs.declared.size.Need.{Need}
-use Rattle.element.specs.declared.syntax.Syntax.{Syntax}
+use Rattle.element.specs.declared.syntax.Syntax.TheVariants as syntaxes
+use Rattle.sequence.specs.Shape.{is_undefined, shape}
+use Rattle.sequence.specs.Coding.{layout}
+use Rattle.sequence.specs.declared.coding.Coding.{Coding}
 use Rattle.element.specs.declared.tag.Tag.{Tag}
 use Rattle.element.specs.declared.header.Header.{Header}
-use Rattle.element.specs.Header.{tag_at, need}
+use Rattle.element.specs.Header.{tag_at, need, is_marker}
 use Rattle.sequence.specs.declared.fault.Fault.{Fault}
 use Rattle.sequence.specs.declared.spot.Spot.{Spot}
 use Rattle.sequence.specs.Ending.{Fails, breaks_rule, ends_early}
-use Rattle.sequence.specs.Rules.{Limits, Broken, broken_tag, broken_need, broken_header, broken, ◌or_else◌, no_tag}
+use Rattle.sequence.specs.Rules.{Limits, Broken, broken_tag, broken_need, broken_header, broken, ◌or_else◌, no_tag, is_long_mark, is_not_allowed, is_endless, passes, counted_length, is_too_long, opens}
 use Rattle.std.proofs.lemmas.Bool.Decides.{nat_tests}
 use Rattle.std.proofs.lemmas.Grind.{common_steps}
 use Rattle.std.proofs.lemmas.List.{length-append, append-nil, length-drop, drop-drop, take-append-drop}
-use Rattle.element.specs.declared.syntax.Syntax.TheVariants.{Implicit, Explicit}
+use Rattle.sequence.specs.declared.coding.Coding.TheVariants.{Implicit, Explicit}
 use Rattle.dictionary.specs.Syntaxes.{syntax_uid}
 use Rattle.part10.specs.declared.meta.Meta.{Meta}
 use Rattle.part10.specs.declared.meta_fault.MetaFault.{MetaFault}
@@ -57,23 +60,24 @@ need_rule spot v2 t = grind (arith, nat_tests)
 header_rule : (lim : Limits) (spot : Spot) (size : ℕ) (h : Header) → IsRule (broken_header lim spot size h)
 unfolding broken_header
 header_rule lim spot size h =
-    if_rule _ _ _ (some_rule 16 h.tag (omega arith))
-    (if_rule _ _ _ (some_rule 14 h.tag (omega arith))
-    (if_rule _ _ _ (some_rule 11 h.tag (omega arith))
-    (if_rule _ _ _ (some_rule 17 h.tag (omega arith))
-    (if_rule _ _ _ (some_rule 19 h.tag (omega arith))
-    (if_rule _ _ _ (some_rule 21 h.tag (omega arith))
-    (if_rule _ _ _ (some_rule 18 h.tag (omega arith)) none_rule))))))
+    if_rule (is_long_mark h) _ _ (some_rule 16 h.tag (omega arith))
+    (if_rule (not (is_marker h.tag) && is_not_allowed (shape spot.syntax h)) _ _ (some_rule 14 h.tag (omega arith))
+    (if_rule (is_endless spot h) _ _ (some_rule 14 h.tag (omega arith))
+    (if_rule (not (is_undefined h.length) && nat_eq (h.length % 2) 1) _ _ (some_rule 11 h.tag (omega arith))
+    (if_rule (not (is_undefined h.length) && passes spot.near (size + h.length)) _ _ (some_rule 17 h.tag (omega arith))
+    (if_rule (nat_lt lim.bytes (spot.place + size + counted_length h.length)) _ _ (some_rule 19 h.tag (omega arith))
+    (if_rule (is_too_long lim spot h) _ _ (some_rule 21 h.tag (omega arith))
+    (if_rule (opens spot h && nat_le lim.depth spot.depth) _ None (some_rule 18 h.tag (omega arith)) none_rule)))))))
 
 broken_rule : (lim : Limits) (spot : Spot) (t : List ℕ) → IsRule (broken lim spot t)
 unfolding broken
-broken_rule lim spot t = grind (arith, common_steps, tag_rule spot (tag_at t), need_rule spot (need spot.syntax t) (tag_at t), header_rule, if_rule, none_rule, or_rule)
+broken_rule lim spot t = grind (arith, common_steps, tag_rule spot (tag_at t), need_rule spot (need (layout spot.syntax) t) (tag_at t), header_rule, if_rule, none_rule, or_rule)
 
-pub fault_number : {s : Syntax} {lim : Limits} {b : List ℕ} {fault : Fault} → Fails s lim b fault → fault.number ≤ 21
+pub fault_number : {s : Coding} {lim : Limits} {b : List ℕ} {fault : Fault} → Fails s lim b fault → fault.number ≤ 21
 fault_number {lim = lim} (breaks_rule {u = u} {rule = rule} {tag = tag} first) = broken_rule lim _ u rule tag first.breaks.breaks
 fault_number (ends_early end) = omega arith
 
-pub fault_at_none : {s : Syntax} {lim : Limits} {b : List ℕ} {fault : Fault} → Fails s lim b fault → fault.number ≡ 67 → ⊥
+pub fault_at_none : {s : Coding} {lim : Limits} {b : List ℕ} {fault : Fault} → Fails s lim b fault → fault.number ≡ 67 → ⊥
 fault_at_none fails e = let le = fault_number fails in omega (arith, le, e)
 
 -- ---- what a file header says of a check
@@ -88,11 +92,11 @@ header_check file ReadFailed r some = absurd (some refl)
 pub header_at_none : (fault : MetaFault) (f : DirFault) → f ≡ header_fault_of fault → IsAtNone f
 header_at_none v1 f is e = grind (arith, nat_tests)
 
-pub implicit_check : (file rest : List ℕ) (meta : Meta) → TakesMeta (said_of meta) (Some file) (Some rest) → meta.syntax ≡ Implicit → CheckFault file 53 132 no_tag
+pub implicit_check : (file rest : List ℕ) (meta : Meta) → TakesMeta (said_of meta) (Some file) (Some rest) → meta.syntax ≡ syntaxes.Implicit → CheckFault file 53 132 no_tag
 implicit_check file rest meta takes is =
     in_syntax (record { front = takes.0; back = rest; whole = takes.2; spelled = takes.1 }) (ap (λ s. syntax_uid s) is)
 
-pub explicit_check : (file rest : List ℕ) (meta : Meta) → TakesMeta (said_of meta) (Some file) (Some rest) → meta.syntax ≡ Explicit → HasHeader file rest
+pub explicit_check : (file rest : List ℕ) (meta : Meta) → TakesMeta (said_of meta) (Some file) (Some rest) → meta.syntax ≡ syntaxes.Explicit → HasHeader file rest
 explicit_check file rest meta takes is = grind (arith, common_steps)
 
 pub header_before : {file back : List ℕ} → HasHeader file back → length back ≤ length file
@@ -112,7 +116,7 @@ data_set_check {file = file} {back = back} h fault start from (ends_early {tag =
 -- ---- a walk over a whole text, step by step
 
 -- where nothing is refused, no rule is broken
-pub unrefused : {s : Syntax} {lim : Limits} {b piece taken : List ℕ} {step : Step} → Answers s lim b piece taken step → refusal_of step ≡ None → IsUnbroken s lim (b ++ taken)
+pub unrefused : {s : Coding} {lim : Limits} {b piece taken : List ℕ} {step : Step} → Answers s lim b piece taken step → refusal_of step ≡ None → IsUnbroken s lim (b ++ taken)
 unrefused {s = s} {lim = lim} {b = b} (no_piece unbroken p t) e = subst (λ z. IsUnbroken s lim z) (sym (ap (λ z. b ++ z) t ∙ append-nil b)) unbroken
 unrefused (goes_on unbroken part all) e = unbroken
 unrefused (element unbroken ends mark) e = unbroken
@@ -126,7 +130,7 @@ runs_none : (bytes : List ℕ) (step : Step) → IsRun bytes step → refusal_of
 runs_none bytes v2 r = grind (arith, nat_tests)
 
 -- and else a rule is broken, in any text that goes on from there
-pub refused_fails : {s : Syntax} {lim : Limits} {b piece taken : List ℕ} {step : Step} (more text : List ℕ) (fault : Fault) → Answers s lim b piece taken step → refusal_of step ≡ Some fault
+pub refused_fails : {s : Coding} {lim : Limits} {b piece taken : List ℕ} {step : Step} (more text : List ℕ) (fault : Fault) → Answers s lim b piece taken step → refusal_of step ≡ Some fault
     → IsBytes text → text ≡ (b ++ taken) ++ more → Fails s lim text fault
 refused_fails more text fault (no_piece unbroken p t) e bytes whole = absurd cc
 refused_fails more text fault (goes_on unbroken part all) e bytes whole = absurd cc
@@ -145,11 +149,11 @@ refused_fails {s = s} {lim = lim} {b = b} {taken = taken} more text fault (stays
     subst (λ z. Fails s lim text z) same (subst (λ z. Fails s lim z (record { number = rule; place = length p; tag = tag })) (sym all) (breaks_rule stays_first))
 
 -- what is told where no rule is broken is no fault
-pub tells_none : {s : Syntax} {lim : Limits} {b : List ℕ} {told : Told} → Tells s lim b told → IsUnbroken s lim b → told.fault ≡ None
+pub tells_none : {s : Coding} {lim : Limits} {b : List ℕ} {told : Told} → Tells s lim b told → IsUnbroken s lim b → told.fault ≡ None
 tells_none (going unbroken front) u = refl
 tells_none (refused {p = p} {u = t} {rule = rule} {tag = tag} first front) u = absurd (u p t first.rest rule tag first.text first.breaks)
 
-pub failed_text : {s : Syntax} {lim : Limits} (s2 : Syntax) (lim2 : Limits) (text : List ℕ) (fault : Fault) → s ≡ s2 → lim ≡ lim2 → Fails s lim text fault → Fails s2 lim2 text fault
+pub failed_text : {s : Coding} {lim : Limits} (s2 : Coding) (lim2 : Limits) (text : List ℕ) (fault : Fault) → s ≡ s2 → lim ≡ lim2 → Fails s lim text fault → Fails s2 lim2 text fault
 failed_text {s = s} {lim = lim} s2 lim2 text fault e f w = grind (arith, common_steps)
 
 -- one step farther along the text
@@ -174,7 +178,7 @@ farther text rest n fits is within =
     grind (arith, common_steps, length-drop n rest, drop-drop n a text, further_take a n text inside, take-append-drop (a + n) text)
 
 -- a fault stands in the text
-pub fault_within : {s : Syntax} {lim : Limits} {b : List ℕ} {fault : Fault} → Fails s lim b fault → fault.place ≤ length b
+pub fault_within : {s : Coding} {lim : Limits} {b : List ℕ} {fault : Fault} → Fails s lim b fault → fault.place ≤ length b
 fault_within {b = b} (breaks_rule {p = p} {u = u} first) = grind (arith, common_steps, length-append p u)
 fault_within (ends_early end) = omega arith
 

@@ -6,6 +6,7 @@ use Rattle.dicomdir.specs.FaultNumbers.{bad_offset, cycle, twice_reached, unreac
 use Rattle.dicomdir.specs.Directory.{Found, missing, value_at, items_at, found, Record, carried_node, first_offset, last_offset, records_of, or_zero, has_record, has_file_id, IsExplicitFile}
 use Rattle.dicomdir.specs.Linked.{fits, is_one_of, record_at, elements_at}
 use Rattle.dicomdir.specs.Paths.{Links, Turn, named_by, told_at, level_of, makes_cycle, paths_of, reached_by, root_records, last_from}
+use Rattle.sequence.specs.declared.coding.Coding.TheVariants as codings
 use Rattle.element.specs.declared.syntax.Syntax.TheVariants.{Implicit, Explicit}
 use Rattle.element.specs.declared.tag.Tag.{Tag}
 use Rattle.dictionary.specs.Syntaxes.{syntax_uid}
@@ -134,7 +135,7 @@ pub record HasHeader (file back : List ℕ) : Type 0 where
 pub record HasDataSet (file : List ℕ) : Type 0 where
   pub back : List ℕ
   pub header : HasHeader file back
-  pub whole : IsWholeDataSet Explicit check_limits back
+  pub whole : IsWholeDataSet codings.Explicit check_limits back
 
 -- where a fault of the file header is told: at its letters, and else behind them
 abbrev pub place_of_meta_fault : ℕ → ℕ
@@ -146,11 +147,11 @@ pub data CheckFault (file : List ℕ) : ℕ → ℕ → Tag → Type 0 where
   in_header : (fault : MetaFault) → MetaFaultOf file fault → CheckFault file (fault_number fault) (place_of_meta_fault (fault_number fault)) no_tag
   in_syntax : {said : Said} → HasMeta said file → said.syntax ≡ syntax_uid Implicit → CheckFault file 53 132 no_tag
   in_data_set : {front back p u : List ℕ} {rule : ℕ} {tag : Tag} → IsExplicitFile file front back
-      → FirstFault Explicit check_limits back p u rule tag → CheckFault file rule (length front + length p) tag
+      → FirstFault codings.Explicit check_limits back p u rule tag → CheckFault file rule (length front + length p) tag
   at_the_end : {front back : List ℕ} {tag : Tag} → IsExplicitFile file front back
-      → EndFault Explicit check_limits back tag → CheckFault file 20 (length file) tag
+      → EndFault codings.Explicit check_limits back tag → CheckFault file 20 (length file) tag
   in_directory : {front back : List ℕ} {elements : Elements} {f : Fault} → IsExplicitFile file front back
-      → IsUnbroken Explicit check_limits back → DataSet Explicit 0 elements back
+      → IsUnbroken codings.Explicit check_limits back → DataSet codings.Explicit 0 elements back
       → directory_fault (length front) elements ≡ Some f → CheckFault file f.number f.place no_tag
 
 -- where memory ran out, no place and no tag are told

@@ -4,12 +4,13 @@ use Rattle.std.specs.Prelude.{◌≡◌, ℕ, ◌+◌, Bool, true, false, not, �
 use Rattle.std.specs.Str.{bytes_eq}
 use Rattle.byteorder.specs.Endian.{little_number}
 use Rattle.element.specs.declared.syntax.Syntax.TheVariants.{Explicit}
+use Rattle.sequence.specs.declared.coding.Coding.TheVariants as codings
 use Rattle.element.specs.declared.header.Header.{Header}
 use Rattle.element.specs.Header.{number, header_bytes}
 use Rattle.dictionary.specs.Syntaxes.{syntax_uid}
 use Rattle.part10.specs.MetaText.{Said, SpellsMeta}
 use Rattle.sequence.specs.Shape.{is_undefined}
-use Rattle.sequence.specs.Tree.{Elements, no_elements, value, sequence, Items, no_items, item, DataSet}
+use Rattle.sequence.specs.Tree.{Elements, no_elements, value, sequence, Items, no_items, item, fragment, DataSet}
 use Rattle.dicomdir.specs.FileId.{file_id_of}
 use Rattle.dicomdir.specs.Row.{key}
 use Rattle.dicomdir.specs.declared.level.Level.TheVariants.{Image}
@@ -27,7 +28,7 @@ pub record IsDirectoryFile (file : List ℕ) (start : ℕ) (elements : Elements)
   pub front : List ℕ
   pub back : List ℕ
   pub explicit : IsExplicitFile file front back
-  pub data_set : DataSet Explicit 0 elements back
+  pub data_set : DataSet codings.Explicit 0 elements back
   pub begins : start ≡ length front
 
 -- how many bytes a header takes, and the delimitation behind an undefined length
@@ -47,6 +48,7 @@ abbrev mutual
   pub size_of_items : Items → ℕ
   size_of_items no_items = 0
   size_of_items (item h es is) = header_size h + size_of es + end_size h.length + size_of_items is
+  size_of_items (fragment h v is) = header_size h + length v + size_of_items is
 
 -- what stands under a tag: a value or items, behind a header at a place
 pub data Found : Type 0 where
@@ -74,11 +76,12 @@ pub record Record : Type 0 where
   pub place : ℕ
   pub elements : Elements
 
--- the records of which the first stands at `place`
+-- the records of which the first stands at `place`; a fragment is none
 abbrev pub records_at : ℕ → Items → List Record
 records_at place no_items = []
 records_at place (item h es is) =
     record { place = place; elements = es } ∷ records_at (place + header_size h + size_of es + end_size h.length) is
+records_at place (fragment h v is) = records_at (place + header_size h + length v) is
 
 abbrev pub records_in : Found → Option (List Record)
 records_in missing = None

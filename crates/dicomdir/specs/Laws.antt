@@ -1,6 +1,7 @@
 -- What holds of the definitions.
 use Rattle.std.specs.Prelude.{◌≡◌, ℕ, true, List, Result, ◌≤◌, length, false, None, suc, ◌+◌, [], ◌∷◌, map, unwrap_or}
 use Rattle.element.specs.declared.syntax.Syntax.{Syntax}
+use Rattle.sequence.specs.Coding.{coding_of}
 use Rattle.sequence.specs.Tree.{Elements, DataSet, no_items}
 use Rattle.sequence.specs.Within.{FitRooms, Within}
 use Rattle.sequence.specs.Wanted.{kept_of}
@@ -40,7 +41,7 @@ abbrev pub FiledHasRow : Type 0
 FiledHasRow =
     (meta : Meta) (file_id back : List ℕ) (elements : Elements)
     → is_uid meta.class ≡ true → is_uid meta.instance ≡ true → length meta.calling.0 ≡ 16 → length (meta_group meta) ≤ 360
-    → DataSet meta.syntax 0 elements back → Within meta.syntax row_limits elements back
+    → DataSet (coding_of meta.syntax) 0 elements back → Within (coding_of meta.syntax) row_limits elements back
     → RowOf (File meta back) file_id (checked_row (row_from file_id meta.class meta.instance meta.syntax (kept_of row_wants elements)))
 
 -- ---- what a check finds is determined by the file

@@ -6,7 +6,7 @@ use Rattle.element.specs.Header.{number, header_bytes, item_tag}
 use Rattle.element.specs.Numbers.{le}
 use Rattle.dictionary.specs.Syntaxes.{syntax_uid}
 use Rattle.element.specs.Padding.{padded}
-use Rattle.sequence.specs.Tree.{Elements, no_elements, value, sequence, Items, no_items, item}
+use Rattle.sequence.specs.Tree.{Elements, no_elements, value, sequence, Items, no_items, item, fragment}
 use Rattle.sequence.specs.Wanted.{Values, value_of}
 use Rattle.dicomdir.specs.declared.record_table.RecordRule.{RecordRule}
 use Rattle.dicomdir.specs.declared.record_table.ElementType.{ElementType}
@@ -86,6 +86,7 @@ abbrev mutual
   pub spelled_items : Items → List ℕ
   spelled_items no_items = []
   spelled_items (item h es is) = header_bytes h ++ (spelled es ++ spelled_items is)
+  spelled_items (fragment h v is) = header_bytes h ++ (v ++ spelled_items is)
 
 -- a record's elements with its offsets, round Record In-use Flag, which comes first without them
 abbrev pub with_offsets : ℕ → ℕ → Elements → Elements

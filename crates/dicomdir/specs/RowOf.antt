@@ -8,6 +8,7 @@ use Rattle.part10.specs.declared.meta_fault.MetaFault.{MetaFault}
 use Rattle.part10.specs.MetaText.{SpellsMeta, MetaFaultOf, fault_number}
 use Rattle.sequence.specs.declared.fault.Fault.{Fault}
 use Rattle.sequence.specs.declared.wanted.Want.{Want}
+use Rattle.sequence.specs.Coding.{coding_of}
 use Rattle.sequence.specs.Tree.{Elements, DataSet}
 use Rattle.sequence.specs.Within.{Within}
 use Rattle.sequence.specs.Rules.{Limits}
@@ -62,9 +63,9 @@ pub data RowOf (file file_id : List ℕ) (result : Result Row Skip) : Type 0 whe
   -- the first fault of the file header
   in_header : (fault : MetaFault) → MetaFaultOf file fault → result ≡ Err (skip.Fault (fault_number fault)) → RowOf file file_id result
   -- the first fault of the whole data set, before any key is looked at
-  in_data_set : (is : IsInstance file) (fault : Fault) → Fails is.syntax row_limits is.back fault → result ≡ Err (skip.Fault fault.number) → RowOf file file_id result
+  in_data_set : (is : IsInstance file) (fault : Fault) → Fails (coding_of is.syntax) row_limits is.back fault → result ≡ Err (skip.Fault fault.number) → RowOf file file_id result
   -- the row of the header's class, instance and syntax and the data set's values, if none that must be there is missing
-  of_values : (is : IsInstance file) (elements : Elements) → DataSet is.syntax 0 elements is.back → Within is.syntax row_limits elements is.back
+  of_values : (is : IsInstance file) (elements : Elements) → DataSet (coding_of is.syntax) 0 elements is.back → Within (coding_of is.syntax) row_limits elements is.back
       → result ≡ checked_row (row_from file_id is.class is.instance is.syntax (kept_of row_wants elements)) → RowOf file file_id result
 
 -- what reading the file gives: a growth was refused, a read failed, or this

@@ -1,6 +1,6 @@
 //! Checks directories.
 ghost use Rattle.std.specs.Prelude.{◌≡◌, ◌≤◌, ◌<◌, ◌+◌, ◌^◌, ℕ, List, ◌≢◌, length, IsOk, IfOk, IfErr};
-ghost use Rattle.element.specs.declared.syntax.Syntax.TheVariants.{Explicit};
+ghost use Rattle.sequence.specs.declared.coding.Coding.TheVariants.{Explicit};
 ghost use Rattle.sequence.specs.Ending.{IsWholeDataSet, Fails};
 ghost use Rattle.sequence.specs.Tree.{Elements, DataSet};
 ghost use Rattle.dicomdir.specs.DirFault.{check_limits, CheckFault, HasHeader, HasDataSet, IsAtNone, offset_fault, directory_fault};
@@ -18,7 +18,7 @@ use crate::records::read_records;
 use crate::tree::Tree;
 use element::{Syntax, Tag};
 use part10::{MetaFault, read_meta};
-use sequence::{Fault, Walker, Wanted};
+use sequence::{Coding, Fault, Walker, Wanted};
 use std::alloc::Allocator;
 
 /// Returns the fault of a file header. No read of a slice fails, so `ReadFailed` does not come.
@@ -88,14 +88,14 @@ fn check_elements<'a, A: Allocator + Copy>(
     ensures fails { IfErr result (λ f. (es : Elements) → DataSet Explicit 0 es text.now → FailsAs (directory_fault start es) f) }
 {
     let (first_place, first) = root_offset(
-        &find(Syntax::Explicit, Tag(0x0004, 0x1200), start, text),
+        &find(Coding::Explicit, Tag(0x0004, 0x1200), start, text),
         start,
     )?;
     let (last_place, last) = root_offset(
-        &find(Syntax::Explicit, Tag(0x0004, 0x1202), start, text),
+        &find(Coding::Explicit, Tag(0x0004, 0x1202), start, text),
         start,
     )?;
-    match find(Syntax::Explicit, Tag(0x0004, 0x1220), start, text) {
+    match find(Coding::Explicit, Tag(0x0004, 0x1220), start, text) {
         Element::Missing => Err(DirFault::at(DirFault::BAD_RECORD, start)),
         Element::Value { place, .. } => Err(DirFault::at(DirFault::BAD_RECORD, place)),
         Element::Items {

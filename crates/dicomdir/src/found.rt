@@ -7,8 +7,8 @@ ghost use Rattle.dicomdir.specs.machine.Texts.{head_at, EndsBefore, ElementsThen
 ghost use Rattle.dicomdir.specs.machine.Texts as texts;
 
 use byteorder::{ByteOrder, LittleEndian};
-use element::{Header, Need, Syntax, Tag, need, read_header};
-use sequence::{Shape, shape_of};
+use element::{Header, Need, Tag, need, read_header};
+use sequence::{Coding, Shape, shape_of};
 
 const UNDEFINED: u32 = 0xffff_ffff;
 
@@ -32,17 +32,17 @@ pub(crate) fn after(text: &[u8], count: usize) -> &[u8]
 
 /// Reads the header at the front of the bytes.
 #[tactic(auto, using(crate::proofs::TextLemmas::head_whole, crate::proofs::TextLemmas::head_some))]
-pub(crate) fn head_of(syntax: Syntax, text: &[u8]) -> Option<Head>
+pub(crate) fn head_of(syntax: Coding, text: &[u8]) -> Option<Head>
     ensures value { result ≡ head_at syntax text.now }
     ensures some { IfSome result (λ r. 8 ≤ r.size) }
     ensures within { IfSome result (λ r. r.size ≤ length text.now) }
 {
-    match need(syntax, text) {
+    match need(syntax.layout(), text) {
         Need::More | Need::BadVr => None,
         Need::Size(size) => {
             if size <= text.len() {
                 Some(Head {
-                    header: read_header(syntax, text),
+                    header: read_header(syntax.layout(), text),
                     size,
                 })
             } else {
@@ -54,7 +54,7 @@ pub(crate) fn head_of(syntax: Syntax, text: &[u8]) -> Option<Head>
 
 /// Returns the bytes after what an element's header announces.
 #[cycle(levels)]
-pub(crate) fn after_content(syntax: Syntax, header: Header, text: &[u8]) -> &[u8]
+pub(crate) fn after_content(syntax: Coding, header: Header, text: &[u8]) -> &[u8]
     ensures within { length result.now ≤ length text.now }
     ensures after { (place : ℕ) (f : Found) (content rest : List ℕ) → IsContent syntax header place f content → text.now ≡ content ++ rest → result.now ≡ rest }
 {
@@ -69,7 +69,7 @@ pub(crate) fn after_content(syntax: Syntax, header: Header, text: &[u8]) -> &[u8
 
 /// Returns the bytes after items and the delimitation after them.
 #[cycle(levels)]
-fn after_items(syntax: Syntax, text: &[u8]) -> &[u8]
+fn after_items(syntax: Coding, text: &[u8]) -> &[u8]
     ensures within { length result.now ≤ length text.now }
     ensures after { (items : Items) (rest : List ℕ) → ItemsThen syntax items (delimitation sequence_end_tag ++ rest) text.now → result.now ≡ rest }
 {
@@ -86,7 +86,7 @@ fn after_items(syntax: Syntax, text: &[u8]) -> &[u8]
 
 /// Returns the bytes after what an item's header announces.
 #[cycle(levels)]
-pub(crate) fn after_item(syntax: Syntax, header: Header, text: &[u8]) -> &[u8]
+pub(crate) fn after_item(syntax: Coding, header: Header, text: &[u8]) -> &[u8]
     ensures within { length result.now ≤ length text.now }
     ensures after { (es : Elements) (content rest : List ℕ) → IsItemContent syntax header es content → text.now ≡ content ++ rest → result.now ≡ rest }
 {
@@ -98,7 +98,7 @@ pub(crate) fn after_item(syntax: Syntax, header: Header, text: &[u8]) -> &[u8]
 
 /// Returns the bytes after elements and the delimitation after them.
 #[cycle(levels)]
-fn after_elements(syntax: Syntax, text: &[u8]) -> &[u8]
+fn after_elements(syntax: Coding, text: &[u8]) -> &[u8]
     ensures within { length result.now ≤ length text.now }
     ensures after { (es : Elements) (rest : List ℕ) → ElementsThen syntax 0 es (delimitation item_end_tag ++ rest) text.now → result.now ≡ rest }
 {
@@ -137,12 +137,12 @@ pub(crate) enum Element<'a> {
     Items {
         place: u64,
         first: u64,
-        syntax: Syntax,
+        syntax: Coding,
         text: &'a [u8],
     },
 }
 
-fn element_at<'a>(syntax: Syntax, head: Head, place: u64, text: &'a [u8]) -> Element<'a>
+fn element_at<'a>(syntax: Coding, head: Head, place: u64, text: &'a [u8]) -> Element<'a>
     requires { place + head.size < 2 ^ 64 }
     ensures end { EndsBefore (place + head.size + length text.now) result }
     ensures found { (f : Found) (content more : List ℕ) → head.size ≡ header_size head.header → IsContent syntax head.header place f content
@@ -161,7 +161,7 @@ fn element_at<'a>(syntax: Syntax, head: Head, place: u64, text: &'a [u8]) -> Ele
 }
 
 /// Finds the element with a tag among elements of which the first stands at `place`.
-pub(crate) fn find<'a>(syntax: Syntax, tag: Tag, place: u64, text: &'a [u8]) -> Element<'a>
+pub(crate) fn find<'a>(syntax: Coding, tag: Tag, place: u64, text: &'a [u8]) -> Element<'a>
     requires room { place + length text.now < 2 ^ 64 }
     requires is_tag { IsTag tag }
     ensures end { EndsBefore (place + length text.now) result }

@@ -11,7 +11,8 @@ use crate::fault::DirFault;
 use crate::file_id::FileId;
 use crate::found::{Element, after, after_item, content_of, find, head_of};
 use crate::level::Level;
-use element::{Syntax, Tag, unpadded};
+use element::{Tag, unpadded};
+use sequence::Coding;
 use std::alloc::Allocator;
 
 /// A record: its place, its offsets, and what it says.
@@ -62,7 +63,7 @@ fn file_id_of<'a>(element: &Element<'a>) -> Option<FileId>
 }
 
 /// Reads the record of an item with these elements; `None` where it lacks something.
-fn entry_of<'a>(syntax: Syntax, place: u64, text: &'a [u8]) -> Option<ReadRecord<'a>>
+fn entry_of<'a>(syntax: Coding, place: u64, text: &'a [u8]) -> Option<ReadRecord<'a>>
     ensures read { IfSome result (λ e. (es : Elements) → HasElements syntax es text.now → EntrySays e (record { place = place; elements = es })) }
     ensures lacks { IsNone result → (es : Elements) → HasElements syntax es text.now → has_record es ≡ false }
 {
@@ -94,7 +95,7 @@ fn has_file_id(entry: &ReadRecord, element: &Element) -> bool
 }
 
 /// Reads the record at a place.
-fn read_record<'a>(syntax: Syntax, place: u64, text: &'a [u8]) -> Result<ReadRecord<'a>, DirFault>
+fn read_record<'a>(syntax: Coding, place: u64, text: &'a [u8]) -> Result<ReadRecord<'a>, DirFault>
     ensures read { IfOk result (λ e. (es : Elements) → HasElements syntax es text.now → IsEntry e (record { place = place; elements = es })) }
     ensures fails { IfErr result (λ f. (es : Elements) → HasElements syntax es text.now → FailsAs (record_fault (record { place = place; elements = es })) f) }
 {
@@ -109,7 +110,7 @@ fn read_record<'a>(syntax: Syntax, place: u64, text: &'a [u8]) -> Result<ReadRec
 
 /// Reads the records of items of which the first stands at `first`, and adds them.
 pub(crate) fn read_records<'a, A: Allocator + Copy>(
-    syntax: Syntax,
+    syntax: Coding,
     first: u64,
     text: &'a [u8],
     records: &mut Vec<ReadRecord<'a>, A>,

@@ -1,6 +1,6 @@
 -- What walking the data set of a file leaves.
 use Rattle.std.specs.Prelude.{◌≡◌, List, ℕ, ◌++◌, Option, None, IfSome, Some}
-use Rattle.element.specs.declared.syntax.Syntax.{Syntax}
+use Rattle.sequence.specs.declared.coding.Coding.{Coding}
 use Rattle.element.specs.Numbers.{IsBytes}
 use Rattle.sequence.specs.declared.fault.Fault.{Fault}
 use Rattle.sequence.specs.declared.walker.Walker.{Walker}
@@ -24,7 +24,7 @@ abbrev pub IsSameSet : {V D : ℕ} → Walker V D → Walker V D → Type 0
 IsSameSet w v = (walker_syntax v ≡ walker_syntax w) × (limits_of v ≡ limits_of w)
 
 -- the text has a fault, which is the reason
-abbrev pub FailsBy : Syntax → Limits → List ℕ → Skip → Type 0
+abbrev pub FailsBy : Coding → Limits → List ℕ → Skip → Type 0
 FailsBy s lim text reason = (fault : Fault) × Fails s lim text fault × (reason ≡ skip.Fault fault.number)
 
 -- the piece has this fault after what the walker took, whatever bytes follow

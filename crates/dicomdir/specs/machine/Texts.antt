@@ -1,6 +1,7 @@
 -- What is read of a text: the header at its front, what it spells, and what is found in it under a tag.
 use Rattle.std.specs.Prelude.{ℕ, List, length, Option, Some, None, nat_le, if◌then◌else◌, ◌≡◌, ◌≤◌, ◌+◌, Bool, true, false, not, ◌&&◌, [], ◌++◌, take}
-use Rattle.element.specs.declared.syntax.Syntax.{Syntax}
+use Rattle.sequence.specs.Coding.{layout, is_native}
+use Rattle.sequence.specs.declared.coding.Coding.{Coding}
 use Rattle.element.specs.declared.size.Need.{Need}
 use Rattle.element.specs.declared.size.Need.TheVariants.{More, Size, BadVr}
 use Rattle.element.specs.Header.{need, header_at, item_end_tag, sequence_end_tag}
@@ -14,13 +15,13 @@ use Rattle.dicomdir.specs.declared.found.Element.{Element}
 use Rattle.dicomdir.specs.Directory.{Found, missing, value_at, items_at, header_size}
 use Rattle.dicomdir.specs.declared.found.Element.TheVariants as got
 
-abbrev pub head_by : Syntax → List ℕ → Need → Option Head
+abbrev pub head_by : Coding → List ℕ → Need → Option Head
 head_by s b More = None
 head_by s b BadVr = None
-head_by s b (Size k) = if nat_le k (length b) then Some (record { header = header_at s b; size = k }) else None
+head_by s b (Size k) = if nat_le k (length b) then Some (record { header = header_at (layout s) b; size = k }) else None
 
-abbrev pub head_at : Syntax → List ℕ → Option Head
-head_at s b = head_by s b (need s b)
+abbrev pub head_at : Coding → List ℕ → Option Head
+head_at s b = head_by s b (need (layout s) b)
 
 -- ---- what a text spells from its front, and what is found in it under a tag
 
@@ -30,13 +31,16 @@ EndsBefore end got.Missing = Unit {0}
 EndsBefore end (got.Value p v) = Unit {0}
 EndsBefore end (got.Items p f s t) = f + length t.now ≤ end
 
--- the text spells these elements, whose tags are above `last`, and then goes on by `more`
-pub record ElementsThen (s : Syntax) (last : ℕ) (es : Elements) (more text : List ℕ) : Type 0 where
+-- the text spells these elements, whose tags are above `last`, and then goes on by `more`; no Pixel Data in them is
+-- encapsulated
+pub record ElementsThen (s : Coding) (last : ℕ) (es : Elements) (more text : List ℕ) : Type 0 where
+  pub native : is_native s ≡ true
   pub bytes : List ℕ
   pub data_set : DataSet s last es bytes
   pub whole : text ≡ bytes ++ more
 
-pub record ItemsThen (s : Syntax) (is : Items) (more text : List ℕ) : Type 0 where
+pub record ItemsThen (s : Coding) (is : Items) (more text : List ℕ) : Type 0 where
+  pub native : is_native s ≡ true
   pub bytes : List ℕ
   pub items : ItemList s is bytes
   pub whole : text ≡ bytes ++ more
@@ -47,32 +51,32 @@ pub data IsAfter (mark : Tag) : List ℕ → Type 0 where
   end_after : (rest : List ℕ) → IsAfter mark (delimitation mark ++ rest)
 
 -- the text spells these elements, and goes on after them by nothing or by the end of their item
-pub record HasElements (s : Syntax) (es : Elements) (text : List ℕ) : Type 0 where
+pub record HasElements (s : Coding) (es : Elements) (text : List ℕ) : Type 0 where
   pub more : List ℕ
   pub after : IsAfter item_end_tag more
   pub spelled : ElementsThen s 0 es more text
 
 -- the text spells these items, and goes on after them by nothing or by the end of their sequence
-pub record HasItems (s : Syntax) (is : Items) (text : List ℕ) : Type 0 where
+pub record HasItems (s : Coding) (is : Items) (text : List ℕ) : Type 0 where
   pub more : List ℕ
   pub after : IsAfter sequence_end_tag more
   pub spelled : ItemsThen s is more text
 
 -- the bytes after the header of an element at a place, and what is found there
-pub data IsContent (s : Syntax) (h : Header) (place : ℕ) : Found → List ℕ → Type 0 where
+pub data IsContent (s : Coding) (h : Header) (place : ℕ) : Found → List ℕ → Type 0 where
   of_value : {v : List ℕ} → shape s h ≡ Value → IsValue h.length v → IsContent s h place (value_at place v) v
-  of_items : {inner : Syntax} {is : Items} {b c : List ℕ} → shape s h ≡ Sequence inner → ItemList inner is b → Ended sequence_end_tag h.length b c
+  of_items : {inner : Coding} {is : Items} {b c : List ℕ} → is_native inner ≡ true → shape s h ≡ Sequence inner → ItemList inner is b → Ended sequence_end_tag h.length b c
       → IsContent s h place (items_at place h is) c
 
 -- the bytes after the header of an item
-pub data IsItemContent (s : Syntax) (h : Header) (es : Elements) : List ℕ → Type 0 where
-  of_elements : {b c : List ℕ} → DataSet s 0 es b → Ended item_end_tag h.length b c → IsItemContent s h es c
+pub data IsItemContent (s : Coding) (h : Header) (es : Elements) : List ℕ → Type 0 where
+  of_elements : {b c : List ℕ} → is_native s ≡ true → DataSet s 0 es b → Ended item_end_tag h.length b c → IsItemContent s h es c
 
 -- of a text after a header, what its length announces: all of the text where it is undefined
 abbrev pub content_at : Header → List ℕ → List ℕ
 content_at h text = if not (is_undefined h.length) && nat_le h.length (length text) then take h.length text else text
 
-pub record FindsItems (p first : ℕ) (s : Syntax) (text : List ℕ) (f : Found) : Type 0 where
+pub record FindsItems (p first : ℕ) (s : Coding) (text : List ℕ) (f : Found) : Type 0 where
   pub header : Header
   pub items : Items
   pub is : f ≡ items_at p header items

@@ -9,7 +9,7 @@ use Rattle.dicomdir.specs.NodesInUse.{LevelNode, node_of}
 use Rattle.dicomdir.specs.Paths.{Links, Turn, named_by, level_of, paths_from, paths_of}
 use Rattle.std.specs.List.{flat_map}
 use Rattle.sequence.specs.Rules.{no_tag}
-use Rattle.element.specs.declared.syntax.Syntax.{Syntax}
+use Rattle.sequence.specs.declared.coding.Coding.{Coding}
 use Rattle.sequence.specs.Tree.{Elements, Items}
 use Rattle.dicomdir.specs.declared.fault.DirFault.{DirFault}
 use Rattle.dicomdir.specs.declared.links.Root.{Root}
@@ -108,7 +108,7 @@ pub data AreEntries : List ReadRecord → List Record → Type 0 where
   entry_then : {e : ReadRecord} {r : Record} {es : List ReadRecord} {rs : List Record} → IsEntry e r → AreEntries es rs → AreEntries (e ∷ es) (r ∷ rs)
 
 -- to the entries those of the records of a sequence were added
-abbrev pub AddsEntries : Syntax → ℕ → List ℕ → List ReadRecord → List ReadRecord → Type 0
+abbrev pub AddsEntries : Coding → ℕ → List ℕ → List ReadRecord → List ReadRecord → Type 0
 AddsEntries s first text old new =
     (items : Items) (before : List Record) → HasItems s items text → AreEntries old before → AreEntries new (before ++ records_at first items)
 
