@@ -11,7 +11,7 @@ use Rattle.pdu.proofs.Public.{spot_opening}
 use Rattle.negotiate.specs.Settings.{Settings}
 use Rattle.dimse.specs.Messages.{Begun}
 use Rattle.part10.specs.Store.{Store}
-use Rattle.element.specs.declared.syntax.Syntax.{Syntax}
+use Rattle.sequence.specs.declared.coding.Coding.{Coding}
 use Rattle.sequence.specs.Rules.{Limits}
 use Rattle.sequence.specs.Walk.{Told, Tells, going, refused}
 use Rattle.sequence.specs.Taken.{walker_syntax, limits_of, told_by}
@@ -109,7 +109,7 @@ module _ (q : Position) (k : Kept) (store : Store) (r : Reached) where
 
 -- ---- the data set
 
-held_told : {syntax : Syntax} {lim : Limits} {set : List ℕ} {told : Told} → Tells syntax lim set told → IsHeldOfSet syntax lim set told.held
+held_told : {syntax : Coding} {lim : Limits} {set : List ℕ} {told : Told} → Tells syntax lim set told → IsHeldOfSet syntax lim set told.held
 held_told (going whole front) = unbroken whole front
 held_told (refused fault front) = faulty fault front
 

@@ -1,6 +1,7 @@
 -- The number of held bytes is one.
 use Rattle.std.proofs.Common.{◌≡◌, ℕ, List, [], Option, Some, refl, sym, ap, subst, ◌∙◌, arith}
-use Rattle.element.specs.declared.syntax.Syntax.{Syntax}
+use Rattle.sequence.specs.Coding.{coding_of}
+use Rattle.sequence.specs.declared.coding.Coding.{Coding}
 use Rattle.element.specs.declared.tag.Tag.{Tag}
 use Rattle.sequence.specs.Open.{in_header, Open}
 use Rattle.sequence.specs.Rules.{Limits}
@@ -19,11 +20,11 @@ use Rattle.engine.specs.Held.{IsHeldOfSet, unbroken, faulty, IsHeldOfMessage, wa
 use Rattle.engine.specs.Reached.{message_so_far}
 use Rattle.engine.specs.HeldLaws.{HeldIsOne}
 
-pub no_fault : {s : Syntax} {lim : Limits} {b p u : List ℕ} {rule : ℕ} {tag : Tag} → IsUnbroken s lim b → FirstFault s lim b p u rule tag → ⊥
+pub no_fault : {s : Coding} {lim : Limits} {b p u : List ℕ} {rule : ℕ} {tag : Tag} → IsUnbroken s lim b → FirstFault s lim b p u rule tag → ⊥
 no_fault {p = p} {u = u} {rule = rule} {tag = tag} whole f = whole p u f.rest rule tag f.text f.breaks
 
 -- of the data of one store
-of_one_set : (syntax : Syntax) (lim : Limits) (b : List ℕ) (n m : ℕ) → IsHeldOfSet syntax lim b n → IsHeldOfSet syntax lim b m → n ≡ m
+of_one_set : (syntax : Coding) (lim : Limits) (b : List ℕ) (n m : ℕ) → IsHeldOfSet syntax lim b n → IsHeldOfSet syntax lim b m → n ≡ m
 of_one_set syntax lim b n m (unbroken {es = es} {path = path} {last = last} {tail = tail} whole front) (unbroken {es = es2} {path = path2} {last = last2} {tail = tail2} whole2 front2) =
     let same = one_path syntax b es es2 path path2 last last2 tail tail2 front front2 in
     λ i. held_of lim.wanted (same.0 i) (same.1 i) (same.3 i)
@@ -42,13 +43,13 @@ same_some x y e = cc
 
 -- the message is of one store alone
 of_one_store : (rooms : Rooms) (s : Settings) (request : Requested) (come : Begun) (n m : ℕ) (a b : InStore request come)
-    → IsHeldOfSet a.context.syntax (limits rooms.depth s.max_data) a.set n → IsHeldOfSet b.context.syntax (limits rooms.depth s.max_data) b.set m → n ≡ m
+    → IsHeldOfSet (coding_of a.context.syntax) (limits rooms.depth s.max_data) a.set n → IsHeldOfSet (coding_of b.context.syntax) (limits rooms.depth s.max_data) b.set m → n ≡ m
 of_one_store rooms s request come n m a b h k =
     let same = in_set a.id b.id a.command b.command a.set b.set (sym a.begun ∙ b.begun) in
     let accepted = same_some a.context b.context (sym a.accepted ∙ ap (λ (id : ℕ). context_of (request_record request) id) same.0 ∙ b.accepted) in
-    of_one_set a.context.syntax (limits rooms.depth s.max_data) a.set n m h
-    (subst (λ (x : Context). IsHeldOfSet x.syntax (limits rooms.depth s.max_data) a.set m) (sym accepted)
-    (subst (λ (x : List ℕ). IsHeldOfSet b.context.syntax (limits rooms.depth s.max_data) x m) (sym same.1) k))
+    of_one_set (coding_of a.context.syntax) (limits rooms.depth s.max_data) a.set n m h
+    (subst (λ (x : Context). IsHeldOfSet (coding_of x.syntax) (limits rooms.depth s.max_data) a.set m) (sym accepted)
+    (subst (λ (x : List ℕ). IsHeldOfSet (coding_of b.context.syntax) (limits rooms.depth s.max_data) x m) (sym same.1) k))
 
 of_one_message : (rooms : Rooms) (s : Settings) (request : Requested) (come : Begun) (n m : ℕ) → IsHeldOfMessage rooms s request come n → IsHeldOfMessage rooms s request come m → n ≡ m
 of_one_message rooms s request come n m (walked a h) (walked b k) = of_one_store rooms s request come n m a b h k

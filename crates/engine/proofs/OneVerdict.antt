@@ -1,6 +1,7 @@
 -- There is one verdict on each store.
 use Rattle.std.proofs.Common.{◌≡◌, inl, inr, ℕ, Bool, List, [], ◌∷◌, sym, ap, subst, ◌∙◌}
-use Rattle.element.specs.declared.syntax.Syntax.{Syntax}
+use Rattle.sequence.specs.Coding.{coding_of}
+use Rattle.sequence.specs.declared.coding.Coding.{Coding}
 use Rattle.sequence.specs.declared.fault.Fault.{Fault}
 use Rattle.sequence.specs.Rules.{Limits}
 use Rattle.sequence.specs.Tree.{Elements}
@@ -17,7 +18,7 @@ use Rattle.engine.proofs.OneHeld.{no_fault}
 
 -- ---- one check
 
-faults_alike : (s : Syntax) (lim : Limits) (b : List ℕ) (one other : Fault) → Fails s lim b one → Fails s lim b other → of_fault one ≡ of_fault other
+faults_alike : (s : Coding) (lim : Limits) (b : List ℕ) (one other : Fault) → Fails s lim b one → Fails s lim b other → of_fault one ≡ of_fault other
 faults_alike s lim b one other (breaks_rule {p = p} {u = u} {rule = rule} {tag = tag} f) (breaks_rule {p = p2} {u = u2} {rule = rule2} {tag = tag2} g) =
     let k = one_fault s lim b p p2 u u2 rule rule2 tag tag2 f g in λ i. of_fault (record { number = k.2 i; place = 0; tag = k.3 i })
 faults_alike s lim b one other (breaks_rule f) (ends_early g) = absurd (no_fault g.unbroken f)
@@ -26,13 +27,13 @@ faults_alike s lim b one other (ends_early f) (ends_early g) =
     let same = one_path s b f.elements g.elements f.path g.path f.last g.last f.tail g.tail f.front g.front in
     ap (cause cannot_understand 20) (f.tagged ∙ ap tag_of_tail same.3 ∙ sym g.tagged)
 
-whole_or_faulty : {s : Syntax} {lim : Limits} {b : List ℕ} {es : Elements} (fault : Fault) → Fails s lim b fault → HasNoFault s lim b es → ⊥
+whole_or_faulty : {s : Coding} {lim : Limits} {b : List ℕ} {es : Elements} (fault : Fault) → Fails s lim b fault → HasNoFault s lim b es → ⊥
 whole_or_faulty fault (breaks_rule f) h = no_fault h.unbroken f
 whole_or_faulty {es = es} fault (ends_early f) h = f.unfinished es h.whole
 
 one_finding : (x : Submitted) (check : Check) (one other : Finding) → FailsWith x check one → FailsWith x check other → one ≡ other
 one_finding x OfContext one other a b = a.1 ∙ sym b.1
-one_finding x WholeSet one other a b = a.2 ∙ faults_alike x.context.syntax x.limits x.data_set a.0 b.0 a.1 b.1 ∙ sym b.2
+one_finding x WholeSet one other a b = a.2 ∙ faults_alike (coding_of x.context.syntax) x.limits x.data_set a.0 b.0 a.1 b.1 ∙ sym b.2
 one_finding x OwnClass one other a b = a.1 ∙ sym b.1
 one_finding x OwnInstance one other a b = a.1 ∙ sym b.1
 one_finding x Filed one other a b = a.1 ∙ sym b.1
@@ -68,7 +69,7 @@ same_finding depth most context command set failed one other v w = by v.first w.
     by (inr (p, inl a)) (inr (q, inr b)) = absurd (whole_or_faulty a.0 a.1 b.0)
     by (inr (p, inr a)) (inr (q, inl b)) = absurd (whole_or_faulty b.0 b.1 a.0)
     by (inr (p, inr a)) (inr (q, inr b)) =
-        let same : w.elements ≡ v.elements = one_tree context.syntax 0 w.elements v.elements set b.0.whole a.0.whole in
+        let same : w.elements ≡ v.elements = one_tree (coding_of context.syntax) 0 w.elements v.elements set b.0.whole a.0.whole in
         one_first (x v.elements) (OwnClass ∷ OwnInstance ∷ Filed ∷ []) one other a.1 (subst (λ es. FirstFinding (x es) (OwnClass ∷ OwnInstance ∷ Filed ∷ []) other) same b.1)
 
 pub a_verdict_is_one : AVerdictIsOne

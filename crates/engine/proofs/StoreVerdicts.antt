@@ -1,6 +1,7 @@
 -- The verdict on one CT store, and its file.
 use Rattle.std.proofs.Common.{◌≡◌, ℕ, ◌^◌, List, [], ◌∷◌, take, drop, get_or, Option, Some, None, refl, sym, ap, subst, codes, arith, lit<, inl, inr}
-use Rattle.element.specs.declared.syntax.Syntax.{Syntax}
+use Rattle.sequence.specs.declared.coding.Coding.{Coding}
+use Rattle.sequence.specs.declared.coding.Coding.TheVariants as codings
 use Rattle.element.specs.declared.syntax.Syntax.TheVariants.{Explicit}
 use Rattle.element.specs.declared.header.Header.{Header}
 use Rattle.element.specs.Header.{number, short}
@@ -41,7 +42,7 @@ instance_value = drop 42 data_set
 abbrev both : Elements
 both = value (identifier 0x16 26) class_value (value (identifier 0x18 6) instance_value no_elements)
 
-class_header : IsElement Explicit 0 (identifier 0x16 26) (take 8 data_set)
+class_header : IsElement codings.Explicit 0 (identifier 0x16 26) (take 8 data_set)
 unfolding is_short
 class_header = record {
   spelled = short (record { 0 = 8; 1 = 0x16 }) 85 73 26 (lit< tt, lit< tt) refl refl refl (lit< tt);
@@ -51,7 +52,7 @@ class_header = record {
   no_file = λ e. omega (arith, e);
 }
 
-instance_header : IsElement Explicit (number class_tag) (identifier 0x18 6) (take 8 (drop 34 data_set))
+instance_header : IsElement codings.Explicit (number class_tag) (identifier 0x18 6) (take 8 (drop 34 data_set))
 unfolding is_short
 instance_header = record {
   spelled = short (record { 0 = 8; 1 = 0x18 }) 85 73 6 (lit< tt, lit< tt) refl refl refl (lit< tt);
@@ -61,20 +62,20 @@ instance_header = record {
   no_file = λ e. omega (arith, e);
 }
 
-is_data_set : DataSet Explicit 0 both data_set
+is_data_set : DataSet codings.Explicit 0 both data_set
 unfolding row_of
 is_data_set = value_then class_header refl (record { even = refl; size = refl })
     (value_then instance_header refl (record { even = refl; size = refl }) nothing)
 
 -- where no fault is reported, there is none
-unbroken_told : (s : Syntax) (lim : Limits) (b : List ℕ) (told : Told) → Tells s lim b told → told.fault ≡ None → IsUnbroken s lim b
+unbroken_told : (s : Coding) (lim : Limits) (b : List ℕ) (told : Told) → Tells s lim b told → told.fault ≡ None → IsUnbroken s lim b
 unbroken_told s lim b told (going ok o) e = ok
 unbroken_told s lim b told (refused f o) e = absurd cc
 
-is_unbroken : IsUnbroken Explicit (limits 64 (2 ^ 40)) data_set
-is_unbroken = unbroken_told Explicit (limits 64 (2 ^ 40)) data_set _ one_store refl
+is_unbroken : IsUnbroken codings.Explicit (limits 64 (2 ^ 40)) data_set
+is_unbroken = unbroken_told codings.Explicit (limits 64 (2 ^ 40)) data_set _ one_store refl
 
-no_fault : HasNoFault Explicit (limits 64 (2 ^ 40)) data_set both
+no_fault : HasNoFault codings.Explicit (limits 64 (2 ^ 40)) data_set both
 no_fault = record { whole = is_data_set; unbroken = is_unbroken }
 
 abbrev values : Values

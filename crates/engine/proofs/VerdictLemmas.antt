@@ -2,7 +2,8 @@
 use Rattle.std.proofs.Common.{◌≡◌, ◌≢◌, ◌⊎◌, inl, inr, ℕ, Bool, true, false, List, [], ◌∷◌, ◌++◌, Option, Some, None, refl, sym, ap, subst, ◌∙◌, append-nil, nat_eq, arith}
 use Rattle.std.proofs.lemmas.Grind.{common_steps}
 use Rattle.std.proofs.lemmas.Bool.Decides.{eqb_tells}
-use Rattle.element.specs.declared.syntax.Syntax.{Syntax}
+use Rattle.sequence.specs.Coding.{coding_of}
+use Rattle.sequence.specs.declared.coding.Coding.{Coding}
 use Rattle.element.specs.declared.tag.Tag.{Tag}
 use Rattle.element.specs.Header.{number}
 use Rattle.element.specs.Uid.{uid_of}
@@ -102,32 +103,32 @@ of_context_or_not context command = by (service_of command.class) refl
 
 -- ---- how a text ends
 
-data Ends (s : Syntax) (lim : Limits) (b : List ℕ) : Type 0 where
+data Ends (s : Coding) (lim : Limits) (b : List ℕ) : Type 0 where
   faulty : (fault : Fault) → Fails s lim b fault → Ends s lim b
   fine : (elements : Elements) → HasNoFault s lim b elements → Ends s lim b
 
 -- a whole data set is a front of itself with nothing open
-pub whole_front : (s : Syntax) (es : Elements) (b : List ℕ) → DataSet s 0 es b → Open s b es [] (last_of 0 es) (in_header [])
+pub whole_front : (s : Coding) (es : Elements) (b : List ℕ) → DataSet s 0 es b → Open s b es [] (last_of 0 es) (in_header [])
 whole_front s es b set = record {
   nested = subst (λ z. Nested s z es [] (last_of 0 es) (in_header [])) (append-nil b) (at_elements set (header_tail (no_header s)));
   left = tt;
   innermost = tt;
 }
 
-none_left : (s : Syntax) (last : ℕ) (tail : Tail) (t : List ℕ) → IsTail s last tail t → tail ≡ in_header [] → t ≡ []
+none_left : (s : Coding) (last : ℕ) (tail : Tail) (t : List ℕ) → IsTail s last tail t → tail ≡ in_header [] → t ≡ []
 none_left s last tail t h k = grind (arith, common_steps)
 
 some_path : (a : List PathEntry) (x y : PathEntry) → a ++ (x ∷ y ∷ []) ≡ [] → ⊥
 some_path [] x y e = cc
 some_path (z ∷ a) x y e = cc
 
-front_whole : (s : Syntax) (b : List ℕ) (es : Elements) (path : List PathEntry) (last : ℕ) (tail : Tail) → Nested s b es path last tail → path ≡ [] → tail ≡ in_header [] → DataSet s 0 es b
+front_whole : (s : Coding) (b : List ℕ) (es : Elements) (path : List PathEntry) (last : ℕ) (tail : Tail) → Nested s b es path last tail → path ≡ [] → tail ≡ in_header [] → DataSet s 0 es b
 front_whole s b es path last tail (at_elements {b = before} {t = t} set is_tail) e k =
     subst (DataSet s 0 es) (sym (ap (λ z. before ++ z) (none_left s last tail t is_tail k) ∙ append-nil before)) set
 front_whole s b es path last tail (in_sequence_of q level part) e k = absurd cc
 front_whole s b es path last tail (in_item_of q {path = inside} level item level2 deeper) e k = absurd (some_path inside _ _ e)
 
-short_of : (s : Syntax) (lim : Limits) (b : List ℕ) (es : Elements) (path : List PathEntry) (last : ℕ) (tail : Tail) → IsUnbroken s lim b → Open s b es path last tail → (path ≡ [] → tail ≡ in_header [] → ⊥) → Ends s lim b
+short_of : (s : Coding) (lim : Limits) (b : List ℕ) (es : Elements) (path : List PathEntry) (last : ℕ) (tail : Tail) → IsUnbroken s lim b → Open s b es path last tail → (path ≡ [] → tail ≡ in_header [] → ⊥) → Ends s lim b
 short_of s lim b es path last tail unbroken o open_still = faulty _ (ends_early {tag = tag_of_tail tail} (record {
   unbroken = unbroken;
   elements = es;
@@ -139,13 +140,13 @@ short_of s lim b es path last tail unbroken o open_still = faulty _ (ends_early 
   tagged = refl;
 }))
 
-ends_at : (s : Syntax) (lim : Limits) (b : List ℕ) (es : Elements) (path : List PathEntry) (last : ℕ) (tail : Tail) → IsUnbroken s lim b → Open s b es path last tail → Ends s lim b
+ends_at : (s : Coding) (lim : Limits) (b : List ℕ) (es : Elements) (path : List PathEntry) (last : ℕ) (tail : Tail) → IsUnbroken s lim b → Open s b es path last tail → Ends s lim b
 ends_at s lim b es [] last (in_header []) unbroken o = fine es (record { whole = front_whole s b es [] last (in_header []) o.nested refl refl; unbroken = unbroken })
 ends_at s lim b es [] last (in_header (x ∷ t)) unbroken o = short_of s lim b es [] last (in_header (x ∷ t)) unbroken o (λ e k. cc)
 ends_at s lim b es [] last (in_value h v) unbroken o = short_of s lim b es [] last (in_value h v) unbroken o (λ e k. cc)
 ends_at s lim b es (e ∷ path) last tail unbroken o = short_of s lim b es (e ∷ path) last tail unbroken o (λ e k. cc)
 
-ends_told : (s : Syntax) (lim : Limits) (b : List ℕ) (told : Told) → Tells s lim b told → Ends s lim b
+ends_told : (s : Coding) (lim : Limits) (b : List ℕ) (told : Told) → Tells s lim b told → Ends s lim b
 ends_told s lim b told (going {es = es} {path = path} {last = last} {tail = tail} unbroken o) = ends_at s lim b es path last tail unbroken o
 ends_told s lim b told (refused f o) = faulty _ (breaks_rule f)
 
@@ -162,7 +163,7 @@ named x (inl class) (inl instance) false e = (good, inr (class, inr (instance, i
 pub a_verdict_is_there : AVerdictIsThere
 a_verdict_is_there depth most context command set failed bytes = by (of_context_or_not context command)
   where
-    ending : IsOfContext context command → Ends context.syntax (limits depth most) set → (finding : Finding) × Verdict depth most context command set failed finding
+    ending : IsOfContext context command → Ends (coding_of context.syntax) (limits depth most) set → (finding : Finding) × Verdict depth most context command set failed finding
     ending of (faulty fault f) = (of_fault fault, record { elements = no_elements; first = inr (of, inl (fault, f, refl)) })
     ending of (fine es whole) =
         let x : Submitted = record { context = context; command = command; data_set = set; limits = limits depth most; elements = es; failed = failed } in
@@ -170,5 +171,5 @@ a_verdict_is_there depth most context command set failed bytes = by (of_context_
         (found.0, record { elements = es; first = inr (of, inr (whole, found.1)) })
 
     by : IsOfContext context command ⊎ (IsOfContext context command → ⊥) → (finding : Finding) × Verdict depth most context command set failed finding
-    by (inl of) = let k = some_telling context.syntax (limits depth most) set bytes in ending of (ends_told context.syntax (limits depth most) set k.0 k.1)
+    by (inl of) = let k = some_telling (coding_of context.syntax) (limits depth most) set bytes in ending of (ends_told (coding_of context.syntax) (limits depth most) set k.0 k.1)
     by (inr other) = (failure class_not_supported, record { elements = no_elements; first = inl (other, refl) })

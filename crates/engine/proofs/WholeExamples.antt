@@ -1,6 +1,6 @@
 -- The associations of which the whole is shown.
 use Rattle.std.proofs.Common.{◌≡◌, ℕ, ◌+◌, ◌^◌, Bool, List, [], ◌∷◌, ◌++◌, length, drop, eqb, false, Option, Some, None, Result, Ok, refl, ap, subst, arith, codes, inl, inr}
-use Rattle.element.specs.declared.syntax.Syntax.TheVariants.{Explicit}
+use Rattle.sequence.specs.declared.coding.Coding.TheVariants as codings
 use Rattle.element.specs.Vr.{is_short}
 use Rattle.dictionary.specs.declared.class.Class.TheVariants.{Ct, Mr}
 use Rattle.dictionary.specs.Classes.{class_named}
@@ -129,8 +129,8 @@ mr_is_no_ct : IsOfContext ct_context (store_of (codes "1.2.840.10008.5.1.4.1.1.4
 unfolding class_named
 mr_is_no_ct of = let e : ◌≡◌ {A = Option Service} (Some (Known Mr)) (Some (Known Ct)) = of.named in cc
 
-nothing_breaks : IsUnbroken Explicit (limits 64 (2 ^ 40)) []
-nothing_breaks = nothing_unbroken Explicit (limits 64 (2 ^ 40))
+nothing_breaks : IsUnbroken codings.Explicit (limits 64 (2 ^ 40)) []
+nothing_breaks = nothing_unbroken codings.Explicit (limits 64 (2 ^ 40))
 
 pub verdicts_on_stores : VerdictsOnStores
 unfolding class_named

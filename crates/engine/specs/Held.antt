@@ -2,7 +2,8 @@
 use Rattle.std.specs.Prelude.{◌≡◌, ℕ, ◌+◌, ◌-◌, ◌*◌, Bool, true, false, not, ◌&&◌, List, [], length, nat_eq, nat_lt, if◌then◌else◌}
 use Rattle.acceptor.specs.declared.state.State.{State}
 use Rattle.acceptor.specs.declared.state.State.TheVariants.{Sta1}
-use Rattle.element.specs.declared.syntax.Syntax.{Syntax}
+use Rattle.sequence.specs.Coding.{coding_of}
+use Rattle.sequence.specs.declared.coding.Coding.{Coding}
 use Rattle.element.specs.declared.tag.Tag.{Tag}
 use Rattle.pdu.specs.Types.{associate_rq}
 use Rattle.pdu.specs.Sizes.{head_size, title_size}
@@ -80,7 +81,7 @@ held_before_data r =
 -- What a walk holds of the bytes of a data set that have come: where no rule is broken, the unfinished header, the wanted
 -- values with what has come of a begun one, and the open levels; else the values and the levels at the fault's
 -- place.
-pub data IsHeldOfSet (syntax : Syntax) (lim : Limits) (bytes : List ℕ) : ℕ → Type 0 where
+pub data IsHeldOfSet (syntax : Coding) (lim : Limits) (bytes : List ℕ) : ℕ → Type 0 where
   unbroken : {es : Elements} {path : List PathEntry} {last : ℕ} {tail : Tail} → IsUnbroken syntax lim bytes → Open syntax bytes es path last tail
       → IsHeldOfSet syntax lim bytes (held_of lim.wanted es path tail)
   faulty : {p u : List ℕ} {rule : ℕ} {tag : Tag} {es : Elements} {path : List PathEntry} {last : ℕ} → FirstFault syntax lim bytes p u rule tag
@@ -89,7 +90,7 @@ pub data IsHeldOfSet (syntax : Syntax) (lim : Limits) (bytes : List ℕ) : ℕ �
 -- the data of a message in the association of this request: those of a store whose class is its context's are walked,
 -- and of others nothing is held
 pub data IsHeldOfMessage (rooms : Rooms) (s : Settings) (request : Requested) (message : Begun) : ℕ → Type 0 where
-  walked : {n : ℕ} → (store : InStore request message) → IsHeldOfSet store.context.syntax (limits rooms.depth s.max_data) store.set n → IsHeldOfMessage rooms s request message n
+  walked : {n : ℕ} → (store : InStore request message) → IsHeldOfSet (coding_of store.context.syntax) (limits rooms.depth s.max_data) store.set n → IsHeldOfMessage rooms s request message n
   not_walked : (InStore request message → ⊥) → IsHeldOfMessage rooms s request message 0
 
 -- so many bytes are held: the sum of these parts and of that of the data set

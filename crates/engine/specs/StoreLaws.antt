@@ -4,6 +4,7 @@ use Rattle.std.specs.Prelude.{◌≡◌, ℕ, Bool, false, List, [], ◌∷◌, 
 use Rattle.element.specs.Numbers.{IsBytes}
 use Rattle.element.specs.declared.syntax.Syntax.{Syntax}
 use Rattle.part10.specs.Store.{or_nothing}
+use Rattle.sequence.specs.Coding.{coding_of}
 use Rattle.engine.specs.Requested.{request_record}
 use Rattle.dimse.specs.Command.{CommandRecord, c_store}
 use Rattle.dimse.specs.Messages.{Message}
@@ -46,7 +47,7 @@ pub record EndsAt (p : Progress) (h : Happened) (m : Message) (command : Command
 -- within the limits.
 pub record IsGoodImage (depth most : ℕ) (context : Context) (command : CommandRecord) (data_set : List ℕ) : Type 0 where
   pub of_context : IsOfContext context command
-  pub whole : IsWholeDataSet context.syntax (limits depth most) data_set
+  pub whole : IsWholeDataSet (coding_of context.syntax) (limits depth most) data_set
   pub own_class : NamesUid (kept_of wanted whole.elements) class_tag command.class
   pub own_instance : NamesInstance (kept_of wanted whole.elements) command
 

@@ -1,6 +1,7 @@
 -- What an association keeps of the data of a message.
 use Rattle.std.specs.Prelude.{◌≡◌, ℕ, Bool, false, List}
-use Rattle.element.specs.declared.syntax.Syntax.{Syntax}
+use Rattle.sequence.specs.Coding.{coding_of}
+use Rattle.sequence.specs.declared.coding.Coding.{Coding}
 use Rattle.sequence.specs.declared.walker.Walker.{Walker}
 use Rattle.sequence.specs.Rules.{Limits}
 use Rattle.sequence.specs.Taken.{StandsAt, walker_syntax, limits_of, told_by}
@@ -30,7 +31,7 @@ held_in Nothing = 0
 held_in (Walking walker drafting) = (told_by walker).held
 
 -- a walker of a data set in this syntax, held to these limits, took these bytes of it
-pub record HasWalked {V D : ℕ} (walker : Walker V D) (syntax : Syntax) (lim : Limits) (set : List ℕ) : Type 0 where
+pub record HasWalked {V D : ℕ} (walker : Walker V D) (syntax : Coding) (lim : Limits) (set : List ℕ) : Type 0 where
   pub stands : StandsAt walker set
   pub syntax_is : walker_syntax walker ≡ syntax
   pub limits_are : limits_of walker ≡ lim
@@ -40,4 +41,4 @@ pub record HasWalked {V D : ℕ} (walker : Walker V D) (syntax : Syntax) (lim : 
 pub data Walks (depth most : ℕ) (request : Requested) (message : Begun) : Stored → Type 0 where
   not_walked : (InStore request message → ⊥) → Walks depth most request message Nothing
   walked : {V D : ℕ} {walker : Walker V D} {drafting : Bool} → (store : InStore request message)
-      → HasWalked walker store.context.syntax (limits depth most) store.set → Walks depth most request message (Walking walker drafting)
+      → HasWalked walker (coding_of store.context.syntax) (limits depth most) store.set → Walks depth most request message (Walking walker drafting)

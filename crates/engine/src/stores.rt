@@ -1,6 +1,6 @@
 //! The data of a C-STORE: they are walked as they come, and go to the draft of a file.
 ghost use Rattle.std.specs.Prelude.{◌≡◌, ◌≤◌, ◌+◌, ◌*◌, ◌^◌, ◌++◌, List, ℕ, true, false, Some, None};
-ghost use Rattle.element.specs.declared.syntax.Syntax.{Syntax};
+ghost use Rattle.sequence.specs.declared.coding.Coding.{Coding};
 ghost use Rattle.sequence.specs.Rules.{Limits};
 ghost use Rattle.sequence.specs.Taken.{told_by};
 ghost use Rattle.sequence.specs.Stored.{wanted_tags};
@@ -174,7 +174,7 @@ pub(crate) fn begin_store<const V: usize, const D: usize, F: Filing>(
 
 /// Walks the part to its end, or to a refusal. A step takes nothing only after one.
 fn walk<const V: usize, const D: usize>(walker: &mut Walker<V, D>, part: &[u8])
-    ensures { (syntax : Syntax) (lim : Limits) (set : List ℕ) → HasWalked walker.old syntax lim set → HasWalked walker.new syntax lim (set ++ part.now) }
+    ensures { (syntax : Coding) (lim : Limits) (set : List ℕ) → HasWalked walker.old syntax lim set → HasWalked walker.new syntax lim (set ++ part.now) }
 {
     let mut rest = part;
     while !rest.is_empty() {

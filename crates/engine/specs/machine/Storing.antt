@@ -1,6 +1,8 @@
 -- What the calls on the data of a message do.
 use Rattle.std.specs.Prelude.{◌≡◌, ℕ, Bool, true, false, not, ◌||◌, List, [], ◌++◌}
 use Rattle.element.specs.declared.syntax.Syntax.{Syntax}
+use Rattle.sequence.specs.declared.coding.Coding.{Coding}
+use Rattle.sequence.specs.Coding.{coding_of}
 use Rattle.element.specs.declared.title.AeTitle.{AeTitle}
 use Rattle.sequence.specs.Rules.{Limits}
 use Rattle.dimse.specs.Command.{CommandRecord}
@@ -28,13 +30,13 @@ Begins header true old new = new ≡ stepped (λ shelf. record { files = shelf.f
 Begins header false old new = new ≡ failed old
 
 -- a walk with its draft begins
-abbrev pub BeginsStore : Syntax → Limits → List ℕ → Stored → Store → Store → Type 0
+abbrev pub BeginsStore : Coding → Limits → List ℕ → Stored → Store → Store → Type 0
 BeginsStore syntax lim header Nothing old new = ⊥
 BeginsStore syntax lim header (Walking walker drafting) old new = HasWalked walker syntax lim [] × Begins header drafting old new
 
 -- where the command announces a data set
 abbrev pub BeginsAnnounced : CommandRecord → AeTitle → Syntax → Limits → Stored → Store → Store → Type 0
-BeginsAnnounced command caller syntax lim stored old new = command.with_data ≡ true → BeginsStore syntax lim (header_of command syntax caller) stored old new
+BeginsAnnounced command caller syntax lim stored old new = command.with_data ≡ true → BeginsStore (coding_of syntax) lim (header_of command syntax caller) stored old new
 
 -- a draft gets these bytes more, or the filing fails in it; without a draft the filing stays as it is
 abbrev pub Grows : List ℕ → Bool → Bool → Store → Store → Type 0
@@ -47,7 +49,7 @@ abbrev pub GoesOn : List ℕ → Stored → Stored → Store → Store → Type 
 GoesOn part Nothing now old new = (now ≡ Nothing) × (new ≡ old)
 GoesOn part (Walking before drafting) Nothing old new = ⊥
 GoesOn part (Walking before drafting) (Walking after drafting_new) old new =
-    ((syntax : Syntax) (lim : Limits) (set : List ℕ) → HasWalked before syntax lim set → HasWalked after syntax lim (set ++ part))
+    ((coding : Coding) (lim : Limits) (set : List ℕ) → HasWalked before coding lim set → HasWalked after coding lim (set ++ part))
     × Grows part drafting drafting_new old new
 
 -- the draft is dropped, if there is one
