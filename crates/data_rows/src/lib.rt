@@ -38,6 +38,8 @@ mod part10_rows;
 #[cfg(test)]
 mod sequence_faults;
 #[cfg(test)]
+mod sequence_fragments;
+#[cfg(test)]
 mod sequence_rows;
 #[cfg(test)]
 mod value_rows;
