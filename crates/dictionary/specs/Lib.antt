@@ -4,4 +4,5 @@ pub mod StorageClasses
 pub mod StorageTable
 pub mod Syntaxes
 pub mod Tags
+pub mod Transfers
 pub mod machine

@@ -9,9 +9,11 @@ mod storage;
 mod storage_table;
 mod syntaxes;
 mod tags;
+mod transfer;
 
 pub use class::{Class, class_of};
 pub use implementation::{IMPLEMENTATION_CLASS_UID, IMPLEMENTATION_VERSION_NAME};
 pub use storage::{StorageClass, storage_class};
 pub use syntaxes::{APPLICATION_CONTEXT, syntax_of, syntax_uid};
 pub use tags::{name_of, vr_of};
+pub use transfer::Transfer;
