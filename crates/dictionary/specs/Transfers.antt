@@ -103,6 +103,10 @@ transfer_named text = find (is_text_of text) all_transfers
 abbrev pub transfer_of : List ℕ → Option Transfer
 transfer_of bytes = transfer_named (without_trailing is_padding bytes)
 
+-- the default of the standard (PS3.5 section 10.1)
+abbrev pub default_transfer : Transfer
+default_transfer = Implicit
+
 -- how elements are laid out
 abbrev pub syntax_in : Transfer → Syntax
 syntax_in Implicit = layout.Implicit

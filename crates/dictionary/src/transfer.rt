@@ -197,6 +197,15 @@ impl Transfer {
     }
 }
 
+impl Default for Transfer {
+    ghost is_default = { λ transfer. transfer ≡ table.default_transfer };
+
+    /// The default transfer syntax (PS3.5 section 10.1).
+    fn default() -> Transfer {
+        Transfer::Implicit
+    }
+}
+
 fn first_named(transfers: &[Transfer], text: &[u8]) -> Option<Transfer>
     ensures { result ≡ find (table.is_text_of text.now) transfers.now }
 {

@@ -1,11 +1,9 @@
 -- How long an A-ASSOCIATE-AC is.
-use Rattle.std.proofs.Common.{◌≡◌, ℕ, ◌+◌, ◌*◌, ◌≤◌, List, [], ◌∷◌, ◌++◌, length, take, drop, Option, None, arith, ap}
+use Rattle.std.proofs.Common.{◌≡◌, ℕ, ◌+◌, ◌*◌, ◌≤◌, List, [], ◌∷◌, ◌++◌, length, drop, None, arith}
 use Rattle.std.specs.List.{flat_map}
 use Rattle.std.proofs.lemmas.List.{length-append, length-map, length-take}
 use Rattle.element.specs.Numbers.{IsBytes}
-use Rattle.element.specs.declared.syntax.Syntax.{Syntax}
-use Rattle.element.specs.declared.syntax.Syntax.TheVariants.{Implicit, Explicit}
-use Rattle.dictionary.specs.Syntaxes.{syntax_uid}
+use Rattle.dictionary.proofs.Public.{transfer_short}
 use Rattle.pdu.specs.Record.{Proposal, RequestRecord}
 use Rattle.pdu.specs.Items.{request_record}
 use Rattle.pdu.specs.Refusal.{request_fault}
@@ -15,14 +13,10 @@ use Rattle.negotiate.specs.Accept.{item_text, context_text, user_text, before_co
 use Rattle.negotiate.specs.Contexts.{carried, offered, seen}
 use Rattle.negotiate.specs.Settings.{Settings}
 
-syntax_short : (x : Syntax) → length (syntax_uid x) ≤ 19
-syntax_short Implicit = omega arith
-syntax_short Explicit = omega arith
+context_short : (p : Proposal) → length (context_text p) ≤ 35
+context_short p = omega (arith, transfer_short (carried p))
 
-context_short : (p : Proposal) → length (context_text p) ≤ 31
-context_short p = omega (arith, syntax_short (carried p))
-
-contexts_short : (ps : List Proposal) → length (flat_map context_text ps) ≤ 31 * length ps
+contexts_short : (ps : List Proposal) → length (flat_map context_text ps) ≤ 35 * length ps
 contexts_short [] = omega arith
 contexts_short (p ∷ ps) = omega (arith, length-append (context_text p) (flat_map context_text ps), context_short p, contexts_short ps)
 
@@ -34,7 +28,7 @@ front_short r called calling reserved =
 three_lengths : (a b c : List ℕ) → length (a ++ b ++ c) ≡ length a + length b + length c
 three_lengths a b c = omega (arith, length-append (a ++ b) c, length-append a b)
 
-accept_short : (s : Settings) (r : RequestRecord) → length r.called ≤ 16 → length r.calling ≤ 16 → length r.reserved ≤ 32 → length (accept_text s r) ≤ 140 + 31 * length r.contexts
+accept_short : (s : Settings) (r : RequestRecord) → length r.called ≤ 16 → length r.calling ≤ 16 → length r.reserved ≤ 32 → length (accept_text s r) ≤ 140 + 35 * length r.contexts
 accept_short s r called calling reserved =
     let offers = (offered s.further r).contexts in
     omega (arith, three_lengths (before_contexts r) (flat_map context_text offers) (user_text s.max_pdu), front_short r called calling reserved, contexts_short offers, length-map r.contexts (seen s.further))
@@ -45,7 +39,7 @@ few_contexts body bytes none =
     let kept = request_kept r body bytes (request_text body none) in
     omega (arith, few_ids _ kept.ids_odd kept.ids_distinct, length-map r.contexts (λ (p : Proposal). p.id))
 
-pub accepts_short : (s : Settings) (body : List ℕ) → IsBytes body → request_fault body ≡ None → length (accept_text s (request_record body)) ≤ 4108
+pub accepts_short : (s : Settings) (body : List ℕ) → IsBytes body → request_fault body ≡ None → length (accept_text s (request_record body)) ≤ 4620
 accepts_short s body bytes none =
     let short = accept_short s (request_record body) (omega (arith, length-take 16 (drop 4 body))) (omega (arith, length-take 16 (drop 20 body))) (omega (arith, length-take 32 (drop 36 body))) in
     omega (arith, short, few_contexts body bytes none)

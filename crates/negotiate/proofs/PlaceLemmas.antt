@@ -1,5 +1,5 @@
 -- The places of further storage classes.
-use Rattle.std.proofs.Common.{◌≡◌, ℕ, zero, suc, ◌+◌, ◌≤◌, Bool, true, false, cond, List, [], ◌∷◌, ◌++◌, length, map, drop, Option, Some, None, slice_get, refl, ap, sym, subst, ◌∙◌, arith}
+use Rattle.std.proofs.Common.{◌≡◌, ℕ, suc, ◌+◌, ◌≤◌, Bool, true, false, cond, List, [], ◌∷◌, ◌++◌, length, map, drop, Some, None, slice_get, refl, ap, sym, subst, ◌∙◌, arith}
 use Rattle.std.specs.List.{position_from}
 use Rattle.dictionary.specs.StorageClasses.{storage_classes}
 use Rattle.dictionary.proofs.Public.{length-storage_classes}
@@ -31,9 +31,9 @@ few_registered : (all : Bool) → length (registered all) ≤ 157
 few_registered true = subst (λ n. n ≤ 157) (sym (length-mapped (λ row. row.uid) storage_classes ∙ length-storage_classes)) (omega arith)
 few_registered false = omega arith
 
-pub none_left : (t : List ℕ → Bool) (c : Config) (n : ℕ) → length c.named.items ≤ 16 → 173 ≤ n → position_from t n (drop n (settings_of c).further) ≡ None
+pub none_left : (t : List ℕ → Bool) (c : Config) (n : ℕ) → length c.named.items ≤ 16 → 173 ≤ n → position_from t n (drop n (settings_of c).further.classes) ≡ None
 none_left t c n named h =
     let both = length-append (map (λ u. u.items) c.named.items) (registered c.all_storage) in
     let first = length-mapped (λ u. u.items) c.named.items in
     let last = few_registered c.all_storage in
-    none_here t (settings_of c).further n (past_end (settings_of c).further n (omega (arith, both, first, last, named, h)))
+    none_here t (settings_of c).further.classes n (past_end (settings_of c).further.classes n (omega (arith, both, first, last, named, h)))

@@ -1,32 +1,51 @@
 -- What the crates above cite of this crate's lemmas: the laws of `negotiate::laws`, which are their contracts, in the words of
 -- the definitions alone.
-use Rattle.std.proofs.Common.{◌≡◌, ℕ, ◌≤◌, eqb, List, [], length, nat_eq, None, option_map, option_and_then}
+use Rattle.std.proofs.Common.{◌≡◌, ℕ, ◌≤◌, eqb, List, [], length, nat_eq, Some, None, option_map, option_and_then}
 use Rattle.std.specs.List.{IsDistinct, find}
 use Rattle.element.specs.Numbers.{IsBytes}
+use Rattle.element.specs.declared.syntax.Syntax.{Syntax}
 use Rattle.pdu.specs.Record.{Proposal, RequestRecord, ids}
 use Rattle.pdu.specs.Items.{request_record}
 use Rattle.pdu.specs.Refusal.{request_fault}
 use Rattle.negotiate.specs.Accept.{accept_text}
 use Rattle.negotiate.specs.ContextRows.{context_in, context_rows}
 use Rattle.negotiate.specs.Settings.{Settings}
+use Rattle.negotiate.specs.Taken.{Taken, nothing_further}
 use Rattle.negotiate.proofs.LengthLemmas as length_of
-use Rattle.negotiate.specs.Contexts.{accepted_by, chosen, context_of, offered, result_by, result_of, seen}
+use Rattle.negotiate.specs.Contexts.{accepted, accepted_by, agreed, carried, carried_by, chosen, context_of, offered, result_by, result_of, seen, service_of, taken_syntax}
 use Rattle.dictionary.specs.Classes.{class_of}
+use Rattle.dictionary.specs.Transfers.{native}
 use Rattle.negotiate.specs.declared.proposals.Service.TheVariants.{Known}
 use Rattle.negotiate.proofs.ServiceLemmas as services
 use Rattle.negotiate.proofs.TableLemmas as table
+use Rattle.negotiate.proofs.TransferLemmas as transfers
 
-pub context_in-context_rows : (further : List (List ℕ)) (r : RequestRecord) → IsDistinct eqb (ids r.contexts) → (id : ℕ) →
+pub context_in-context_rows : (further : Taken) (r : RequestRecord) → IsDistinct eqb (ids r.contexts) → (id : ℕ) →
     context_in further (context_rows further (offered further r)) id ≡ context_of (offered further r) id
 context_in-context_rows = table.context_in-context_rows
 
-pub accepts_short : (s : Settings) (body : List ℕ) → IsBytes body → request_fault body ≡ None → length (accept_text s (request_record body)) ≤ 4108
+pub accepts_short : (s : Settings) (body : List ℕ) → IsBytes body → request_fault body ≡ None → length (accept_text s (request_record body)) ≤ 4620
 accepts_short = length_of.accepts_short
 
-pub default_result : (p : Proposal) → result_of (seen [] p) ≡ result_by (class_of p.abstract_syntax) (chosen p.transfer_syntaxes)
+pub default_result : (p : Proposal) → result_of (seen nothing_further p) ≡ result_by (class_of p.abstract_syntax) (chosen p.transfer_syntaxes)
 default_result = services.default_result
 
 pub default_context : (r : RequestRecord) (id : ℕ) →
-    context_of (offered [] r) id
-    ≡ option_and_then (λ p. accepted_by (option_map Known (class_of p.abstract_syntax)) (chosen p.transfer_syntaxes)) (find (λ p. nat_eq p.id id) r.contexts)
+    context_of (offered nothing_further r) id
+    ≡ option_and_then (λ p. accepted_by (option_map Known (class_of p.abstract_syntax)) (option_map native (chosen p.transfer_syntaxes))) (find (λ p. nat_eq p.id id) r.contexts)
 default_context = services.default_context
+
+pub native_result : (further : Taken) (p : Proposal) → further.transfers ≡ [] →
+    result_of (seen further p) ≡ result_by (service_of (taken_syntax further.classes p.abstract_syntax)) (chosen p.transfer_syntaxes)
+native_result = transfers.native_result
+
+pub native_context : (further : Taken) (p : Proposal) → further.transfers ≡ [] →
+    accepted (seen further p) ≡ accepted_by (service_of (taken_syntax further.classes p.abstract_syntax)) (option_map native (chosen p.transfer_syntaxes))
+native_context = transfers.native_context
+
+pub native_carried : (further : Taken) (p : Proposal) → further.transfers ≡ [] →
+    carried (seen further p) ≡ carried_by (service_of (taken_syntax further.classes p.abstract_syntax)) (option_map native (chosen p.transfer_syntaxes))
+native_carried = transfers.native_carried
+
+pub native_first : (further : Taken) (p : Proposal) (s : Syntax) → chosen p.transfer_syntaxes ≡ Some s → agreed (seen further p).transfer_syntaxes ≡ Some (native s)
+native_first = transfers.native_first

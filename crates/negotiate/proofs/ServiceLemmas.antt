@@ -1,18 +1,22 @@
 -- Which services are taken, and how they stand in a table's rows.
-use Rattle.std.proofs.Common.{◌≡◌, ℕ, zero, suc, ◌+◌, ◌<◌, ◌≤◌, Bool, true, false, ◌&&◌, ◌||◌, cond, List, [], ◌∷◌, length, drop, map, nat_eq, Option, Some, None, option_map, option_and_then, slice_get, if◌then◌else◌, arith, refl, ap, sym, subst, ◌∙◌}
+use Rattle.std.proofs.Common.{◌≡◌, ℕ, zero, suc, ◌+◌, ◌≤◌, Bool, true, false, ◌&&◌, ◌||◌, cond, List, [], ◌∷◌, length, drop, map, nat_eq, Option, Some, None, option_map, option_and_then, slice_get, if◌then◌else◌, arith, refl, ap, sym, subst, ◌∙◌}
 use Rattle.std.proofs.lemmas.Bool.Decides.{nat_tests}
 use Rattle.std.specs.Cmp.Lexicographic.{pointwise}
 use Rattle.std.specs.List.{find, list_any, position_from}
 use Rattle.element.specs.Padding.{is_empty, is_padding, kept_before, without_trailing}
 use Rattle.element.specs.Uid.{if_uid, is_uid, uid_of}
 use Rattle.element.specs.declared.syntax.Syntax.{Syntax}
+use Rattle.dictionary.specs.declared.transfer.Transfer.{Transfer}
+use Rattle.dictionary.specs.Transfers.{native}
 use Rattle.dictionary.specs.declared.class.Class.{Class}
 use Rattle.dictionary.specs.Classes.{class_named, class_of}
 use Rattle.pdu.specs.Record.{Proposal, RequestRecord}
 use Rattle.negotiate.specs.declared.proposals.Context.{Context}
 use Rattle.negotiate.specs.declared.proposals.Service.{Service}
 use Rattle.negotiate.specs.declared.proposals.Service.TheVariants.{Known, Further}
-use Rattle.negotiate.specs.Contexts.{accepted, accepted_by, chosen, context_of, further_by, is_among_further, is_text, offered, result_by, result_of, seen, service_by, service_of, taken_by, taken_syntax}
+use Rattle.negotiate.specs.Contexts.{accepted, accepted_by, agreed, chosen, context_of, further_by, is_among_further, is_text, offered, result_by, result_of, seen, service_by, service_of, taken_by, taken_syntax}
+use Rattle.negotiate.specs.Taken.{Taken, nothing_further}
+use Rattle.negotiate.proofs.TransferLemmas.{default_transfer}
 use Rattle.negotiate.specs.ContextRows.{class_in_row, context_by, or_first, place_of, row_with, service_at, service_in}
 
 -- ---- an identifier is read as itself
@@ -139,53 +143,57 @@ default_service bytes = by (class_of bytes) refl where
   by (Some class) e = known_service [] bytes class e
   by None e = other_service [] bytes (uid_of bytes) false e refl (among (uid_of bytes))
 
-pub default_result : (p : Proposal) → result_of (seen [] p) ≡ result_by (class_of p.abstract_syntax) (chosen p.transfer_syntaxes)
-default_result p = ap (λ s. result_by s (chosen p.transfer_syntaxes)) (default_service p.abstract_syntax) ∙ of_class (class_of p.abstract_syntax) (chosen p.transfer_syntaxes) where
-  of_class : (class : Option Class) (syntax : Option Syntax) → result_by (option_map Known class) syntax ≡ result_by class syntax
-  of_class None syntax = refl
-  of_class (Some class) None = refl
-  of_class (Some class) (Some syntax) = refl
+pub default_result : (p : Proposal) → result_of (seen nothing_further p) ≡ result_by (class_of p.abstract_syntax) (chosen p.transfer_syntaxes)
+default_result p =
+    ap (λ s. result_by s (agreed (seen nothing_further p).transfer_syntaxes)) (default_service p.abstract_syntax)
+    ∙ ap (λ t. result_by (option_map Known (class_of p.abstract_syntax)) t) (default_transfer nothing_further p refl)
+    ∙ of_class (class_of p.abstract_syntax) (chosen p.transfer_syntaxes) where
+      of_class : (class : Option Class) (syntax : Option Syntax) → result_by (option_map Known class) (option_map native syntax) ≡ result_by class syntax
+      of_class None syntax = refl
+      of_class (Some class) None = refl
+      of_class (Some class) (Some syntax) = refl
 
 abbrev by_class : Proposal → Option Context
-by_class p = accepted_by (option_map Known (class_of p.abstract_syntax)) (chosen p.transfer_syntaxes)
+by_class p = accepted_by (option_map Known (class_of p.abstract_syntax)) (option_map native (chosen p.transfer_syntaxes))
 
-pub default_context : (r : RequestRecord) (id : ℕ) → context_of (offered [] r) id ≡ option_and_then by_class (find (λ p. nat_eq p.id id) r.contexts)
+pub default_context : (r : RequestRecord) (id : ℕ) → context_of (offered nothing_further r) id ≡ option_and_then by_class (find (λ p. nat_eq p.id id) r.contexts)
 default_context r id = go r.contexts where
-  go : (ps : List Proposal) → option_and_then accepted (find (λ p. nat_eq p.id id) (map (seen []) ps)) ≡ option_and_then by_class (find (λ p. nat_eq p.id id) ps)
+  go : (ps : List Proposal) → option_and_then accepted (find (λ p. nat_eq p.id id) (map (seen nothing_further) ps)) ≡ option_and_then by_class (find (λ p. nat_eq p.id id) ps)
   go [] = refl
   go (p ∷ ps) = by (nat_eq p.id id) refl (go ps) where
     by : (t : Bool) → nat_eq p.id id ≡ t →
-        option_and_then accepted (find (λ q. nat_eq q.id id) (map (seen []) ps)) ≡ option_and_then by_class (find (λ q. nat_eq q.id id) ps) →
-        option_and_then accepted (find (λ q. nat_eq q.id id) (map (seen []) (p ∷ ps))) ≡ option_and_then by_class (find (λ q. nat_eq q.id id) (p ∷ ps))
-    by true e later = rw e (ap (λ s. accepted_by s (chosen p.transfer_syntaxes)) (default_service p.abstract_syntax))
+        option_and_then accepted (find (λ q. nat_eq q.id id) (map (seen nothing_further) ps)) ≡ option_and_then by_class (find (λ q. nat_eq q.id id) ps) →
+        option_and_then accepted (find (λ q. nat_eq q.id id) (map (seen nothing_further) (p ∷ ps))) ≡ option_and_then by_class (find (λ q. nat_eq q.id id) (p ∷ ps))
+    by true e later = rw e (ap (λ s. accepted_by s (agreed (seen nothing_further p).transfer_syntaxes)) (default_service p.abstract_syntax)
+        ∙ ap (λ t. accepted_by (option_map Known (class_of p.abstract_syntax)) t) (default_transfer nothing_further p refl))
     by false e later = rw e later
 
 -- ---- what stands in a row
 
-further_kept : (further : List (List ℕ)) (uid : List ℕ) → uid_of uid ≡ Some uid → list_any (is_text uid) further ≡ true → service_in further (class_in_row further (Further uid)) ≡ Some (Further uid)
+further_kept : (further : Taken) (uid : List ℕ) → uid_of uid ≡ Some uid → list_any (is_text uid) further.classes ≡ true → service_in further (class_in_row further (Further uid)) ≡ Some (Further uid)
 further_kept further uid read any =
-    let at = is_at (is_text uid) further 0 any in
+    let at = is_at (is_text uid) further.classes 0 any in
     let same : at.item ≡ uid = same_text at.item uid at.passes in
     let plain : 0 + at.place ≡ at.place = omega arith in
-    ap (λ o. service_at (slice_get further (or_first o))) at.found ∙ ap (λ n. service_at (slice_get further n)) plain ∙ ap service_at (at.there ∙ ap (λ u. Some u) same) ∙ ap further_by read
+    ap (λ o. service_at (slice_get further.classes (or_first o))) at.found ∙ ap (λ n. service_at (slice_get further.classes n)) plain ∙ ap service_at (at.there ∙ ap (λ u. Some u) same) ∙ ap further_by read
 
-service_kept : (further : List (List ℕ)) (bytes : List ℕ) (service : Service) → service_of (taken_syntax further bytes) ≡ Some service → service_in further (class_in_row further service) ≡ Some service
+service_kept : (further : Taken) (bytes : List ℕ) (service : Service) → service_of (taken_syntax further.classes bytes) ≡ Some service → service_in further (class_in_row further service) ≡ Some service
 service_kept further bytes service is = by (class_of bytes) refl (uid_of bytes) refl where
   by : (o : Option Class) → class_of bytes ≡ o → (u : Option (List ℕ)) → uid_of bytes ≡ u → service_in further (class_in_row further service) ≡ Some service
   by (Some class) e u read =
-      let both : ◌≡◌ {A = Option Service} (Some service) (Some (Known class)) = sym is ∙ known_service further bytes class e in
+      let both : ◌≡◌ {A = Option Service} (Some service) (Some (Known class)) = sym is ∙ known_service further.classes bytes class e in
       let same : service ≡ Known class = cc in
       subst (λ s. service_in further (class_in_row further s) ≡ Some s) (sym same) refl
-  by None e None read = let both : ◌≡◌ {A = Option Service} (Some service) None = sym is ∙ unread_service further bytes e read in absurd cc
-  by None e (Some uid) read = taken (list_any (is_text uid) further) refl where
-    taken : (t : Bool) → list_any (is_text uid) further ≡ t → service_in further (class_in_row further service) ≡ Some service
+  by None e None read = let both : ◌≡◌ {A = Option Service} (Some service) None = sym is ∙ unread_service further.classes bytes e read in absurd cc
+  by None e (Some uid) read = taken (list_any (is_text uid) further.classes) refl where
+    taken : (t : Bool) → list_any (is_text uid) further.classes ≡ t → service_in further (class_in_row further service) ≡ Some service
     taken true any =
-        let both : ◌≡◌ {A = Option Service} (Some service) (Some (Further uid)) = sym is ∙ other_service further bytes (Some uid) true e read any in
+        let both : ◌≡◌ {A = Option Service} (Some service) (Some (Further uid)) = sym is ∙ other_service further.classes bytes (Some uid) true e read any in
         let same : service ≡ Further uid = cc in
         subst (λ s. service_in further (class_in_row further s) ≡ Some s) (sym same) (further_kept further uid (uid_again bytes uid read) any)
-    taken false any = let both : ◌≡◌ {A = Option Service} (Some service) None = sym is ∙ other_service further bytes (Some uid) false e read any in absurd cc
+    taken false any = let both : ◌≡◌ {A = Option Service} (Some service) None = sym is ∙ other_service further.classes bytes (Some uid) false e read any in absurd cc
 
-kept_by : (further : List (List ℕ)) (id : ℕ) (service : Option Service) (syntax : Option Syntax) (c : Context) → ((s : Service) → service ≡ Some s → service_in further (class_in_row further s) ≡ Some s) →
+kept_by : (further : Taken) (id : ℕ) (service : Option Service) (syntax : Option Transfer) (c : Context) → ((s : Service) → service ≡ Some s → service_in further (class_in_row further s) ≡ Some s) →
     accepted_by service syntax ≡ Some c → context_by further (row_with further id c) ≡ Some c
 kept_by further id None syntax c kept e = absurd cc
 kept_by further id (Some s) None c kept e = absurd cc
@@ -194,6 +202,6 @@ kept_by further id (Some s) (Some syntax) c kept e =
     subst (λ (x : Context). context_by further (row_with further id x) ≡ Some x) same (rw (kept s refl) refl)
 
 -- an accepted context is what its row says
-pub context_kept : (further : List (List ℕ)) (p : Proposal) (id : ℕ) (c : Context) → accepted (seen further p) ≡ Some c → context_by further (row_with further id c) ≡ Some c
+pub context_kept : (further : Taken) (p : Proposal) (id : ℕ) (c : Context) → accepted (seen further p) ≡ Some c → context_by further (row_with further id c) ≡ Some c
 context_kept further p id c e =
-    kept_by further id (service_of (taken_syntax further p.abstract_syntax)) (chosen p.transfer_syntaxes) c (service_kept further p.abstract_syntax) e
+    kept_by further id (service_of (taken_syntax further.classes p.abstract_syntax)) (agreed (seen further p).transfer_syntaxes) c (service_kept further p.abstract_syntax) e

@@ -4,7 +4,8 @@ use Rattle.std.specs.Prelude.{ℕ, List, ◌∷◌, ◌++◌, length}
 use Rattle.std.specs.List.{flat_map}
 use Rattle.element.specs.Numbers.{be}
 use Rattle.dictionary.specs.Implementation.{implementation_class_uid, implementation_version_name}
-use Rattle.dictionary.specs.Syntaxes.{application_context, syntax_uid}
+use Rattle.dictionary.specs.Syntaxes.{application_context}
+use Rattle.dictionary.specs.Transfers.{transfer_uid}
 use Rattle.pdu.specs.Record.{RequestRecord, Proposal}
 use Rattle.pdu.specs.Texts.{pdu_text, reject_text}
 use Rattle.pdu.specs.Types.{associate_ac, application_context_item, answered_context_item, transfer_syntax_item, user_information_item, maximum_length_item, implementation_class_item, implementation_version_item}
@@ -20,7 +21,7 @@ item_text kind content = kind ∷ 0 ∷ (be (length content) 2 ++ content)
 
 -- 21H: id, reserved byte, result, reserved byte, and 40H with the transfer syntax
 abbrev pub context_text : Proposal → List ℕ
-context_text p = item_text answered_context_item (p.id ∷ 0 ∷ result_of p ∷ 0 ∷ item_text transfer_syntax_item (syntax_uid (carried p)))
+context_text p = item_text answered_context_item (p.id ∷ 0 ∷ result_of p ∷ 0 ∷ item_text transfer_syntax_item (transfer_uid (carried p)))
 
 -- 50H: 51H the greatest P-DATA length that is accepted; 52H and 55H the implementation's class and version name (this
 -- product's own)

@@ -1,9 +1,9 @@
 -- The table of the accepted presentation contexts, which is kept when the request is given up (this product's own profile).
 use Rattle.std.specs.Prelude.{ℕ, List, Option, Some, None, nat_eq, option_map, option_and_then, slice_get}
 use Rattle.std.specs.List.{count_by, filter_map, find, position_from}
-use Rattle.element.specs.declared.syntax.Syntax.TheVariants.{Implicit}
 use Rattle.element.specs.Uid.{uid_of}
 use Rattle.dictionary.specs.declared.class.Class.TheVariants.{Verification}
+use Rattle.dictionary.specs.declared.transfer.Transfer.TheVariants.{Implicit}
 use Rattle.pdu.specs.Record.{RequestRecord, Proposal}
 use Rattle.negotiate.specs.declared.proposals.Context.{Context}
 use Rattle.negotiate.specs.declared.proposals.Service.{Service}
@@ -12,6 +12,7 @@ use Rattle.negotiate.specs.declared.table.ContextRow.{ContextRow}
 use Rattle.negotiate.specs.declared.table.RowClass.{RowClass}
 use Rattle.negotiate.specs.declared.table.RowClass.TheVariants as row
 use Rattle.negotiate.specs.Contexts.{acceptance, accepted, further_by, is_text, result_of}
+use Rattle.negotiate.specs.Taken.{Taken}
 
 abbrev pub or_first : Option ℕ → ℕ
 or_first None = 0
@@ -21,19 +22,19 @@ or_first (Some place) = place
 abbrev pub place_of : List (List ℕ) → List ℕ → Option ℕ
 place_of further uid = position_from (is_text uid) 0 further
 
-abbrev pub class_in_row : List (List ℕ) → Service → RowClass
+abbrev pub class_in_row : Taken → Service → RowClass
 class_in_row further (service.Known class) = row.Known class
-class_in_row further (service.Further uid) = row.Further (or_first (place_of further uid))
+class_in_row further (service.Further uid) = row.Further (or_first (place_of further.classes uid))
 
-abbrev pub row_with : List (List ℕ) → ℕ → Context → ContextRow
+abbrev pub row_with : Taken → ℕ → Context → ContextRow
 row_with further id context = record { id = id; class = class_in_row further context.class; syntax = context.syntax }
 
 -- the row of a proposed context, where it is accepted
-abbrev pub row_of : List (List ℕ) → Proposal → Option ContextRow
+abbrev pub row_of : Taken → Proposal → Option ContextRow
 row_of further p = option_map (row_with further p.id) (accepted p)
 
 -- the table: a row for each accepted context, in the request's order
-abbrev pub context_rows : List (List ℕ) → RequestRecord → List ContextRow
+abbrev pub context_rows : Taken → RequestRecord → List ContextRow
 context_rows further r = filter_map (row_of further) r.contexts
 
 -- how many of the proposed contexts are accepted
@@ -44,19 +45,19 @@ abbrev pub service_at : Option (List ℕ) → Option Service
 service_at None = None
 service_at (Some text) = further_by (uid_of text)
 
-abbrev pub service_in : List (List ℕ) → RowClass → Option Service
+abbrev pub service_in : Taken → RowClass → Option Service
 service_in further (row.Known class) = Some (service.Known class)
-service_in further (row.Further place) = service_at (slice_get further place)
+service_in further (row.Further place) = service_at (slice_get further.classes place)
 
 abbrev pub context_with : ContextRow → Option Service → Option Context
 context_with row None = None
 context_with row (Some class) = Some (record { class = class; syntax = row.syntax })
 
-abbrev pub context_by : List (List ℕ) → ContextRow → Option Context
+abbrev pub context_by : Taken → ContextRow → Option Context
 context_by further row = context_with row (service_in further row.class)
 
 -- the context of this id in a table
-abbrev pub context_in : List (List ℕ) → List ContextRow → ℕ → Option Context
+abbrev pub context_in : Taken → List ContextRow → ℕ → Option Context
 context_in further rows id = option_and_then (context_by further) (find (λ row. nat_eq row.id id) rows)
 
 -- what the room of a table has where no row is

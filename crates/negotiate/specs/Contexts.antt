@@ -1,17 +1,20 @@
 -- The result of each proposed presentation context (PS3.8 sections 7.1.1.14 and 9.3.3.2).
-use Rattle.std.specs.Prelude.{ℕ, Bool, true, false, List, [], map, Option, Some, None, nat_eq, if◌then◌else◌, option_and_then}
-use Rattle.std.specs.List.{list_any, find}
+use Rattle.std.specs.Prelude.{ℕ, Bool, true, false, not, ◌||◌, List, [], ◌∷◌, map, Option, Some, None, nat_eq, if◌then◌else◌, option_and_then}
+use Rattle.std.specs.List.{list_any, filter, find}
 use Rattle.std.specs.Cmp.Lexicographic.{pointwise}
 use Rattle.element.specs.Uid.{uid_of}
 use Rattle.element.specs.declared.syntax.Syntax.{Syntax}
 use Rattle.element.specs.declared.syntax.Syntax.TheVariants.{Implicit, Explicit}
 use Rattle.dictionary.specs.declared.class.Class.{Class}
+use Rattle.dictionary.specs.declared.transfer.Transfer.{Transfer}
 use Rattle.dictionary.specs.Classes.{class_of}
 use Rattle.dictionary.specs.Syntaxes.{syntax_of}
+use Rattle.dictionary.specs.Transfers.{is_encapsulated, is_text_of, native, transfer_of, transfer_uid}
 use Rattle.pdu.specs.Record.{RequestRecord, Proposal}
 use Rattle.negotiate.specs.declared.proposals.Context.{Context}
 use Rattle.negotiate.specs.declared.proposals.Service.{Service}
 use Rattle.negotiate.specs.declared.proposals.Service.TheVariants.{Known, Further}
+use Rattle.negotiate.specs.Taken.{Taken}
 
 abbrev pub is_explicit : Option Syntax → Bool
 is_explicit (Some Explicit) = true
@@ -27,10 +30,36 @@ proposes_explicit uids = list_any (λ uid. is_explicit (syntax_of uid)) uids
 abbrev pub proposes_implicit : List (List ℕ) → Bool
 proposes_implicit uids = list_any (λ uid. is_implicit (syntax_of uid)) uids
 
--- the transfer syntax that is chosen from those proposed: Explicit VR Little Endian before Implicit VR Little Endian, and
--- no other (this product's own profile)
+-- the native transfer syntax that is chosen from those proposed: Explicit VR Little Endian before Implicit VR Little Endian,
+-- and no other (this product's own profile)
 abbrev pub chosen : List (List ℕ) → Option Syntax
 chosen uids = if proposes_explicit uids then Some Explicit else (if proposes_implicit uids then Some Implicit else None)
+
+-- a transfer syntax that is known is taken where Pixel Data is native in it, or where it is one of the further ones
+abbrev pub is_taken : List Transfer → Option Transfer → Bool
+is_taken transfers None = false
+is_taken transfers (Some transfer) = not (is_encapsulated transfer) || list_any (is_text_of (transfer_uid transfer)) transfers
+
+-- a proposed transfer syntax that is not taken counts as none
+abbrev pub taken_transfers : List Transfer → List (List ℕ) → List (List ℕ)
+taken_transfers transfers uids = filter (λ uid. is_taken transfers (transfer_of uid)) uids
+
+abbrev pub or_later : Option Transfer → Option Transfer → Option Transfer
+or_later None later = later
+or_later (Some transfer) later = Some transfer
+
+abbrev pub first_known : List (List ℕ) → Option Transfer
+first_known [] = None
+first_known (uid ∷ uids) = or_later (transfer_of uid) (first_known uids)
+
+abbrev pub agreed_by : Option Syntax → List (List ℕ) → Option Transfer
+agreed_by (Some syntax) uids = Some (native syntax)
+agreed_by None uids = first_known uids
+
+-- the transfer syntax that is chosen from those proposed: a native one before any other, and then the first of the
+-- proposal's list (this product's own profile)
+abbrev pub agreed : List (List ℕ) → Option Transfer
+agreed uids = agreed_by (chosen uids) uids
 
 -- ---- services
 
@@ -63,11 +92,15 @@ taken_by None further bytes = if is_among_further further (uid_of bytes) then by
 abbrev pub taken_syntax : List (List ℕ) → List ℕ → List ℕ
 taken_syntax further bytes = taken_by (class_of bytes) further bytes
 
-abbrev pub seen : List (List ℕ) → Proposal → Proposal
-seen further p = record { id = p.id; abstract_syntax = taken_syntax further p.abstract_syntax; transfer_syntaxes = p.transfer_syntaxes }
+abbrev pub seen : Taken → Proposal → Proposal
+seen further p = record {
+  id = p.id;
+  abstract_syntax = taken_syntax further.classes p.abstract_syntax;
+  transfer_syntaxes = taken_transfers further.transfers p.transfer_syntaxes;
+}
 
--- what a request offers to a receiver that takes these further storage classes
-abbrev pub offered : List (List ℕ) → RequestRecord → RequestRecord
+-- what a request offers to a receiver that takes these further storage classes and transfer syntaxes
+abbrev pub offered : Taken → RequestRecord → RequestRecord
 offered further r = record {
   version = r.version;
   called = r.called;
@@ -89,28 +122,28 @@ abstract_syntax_not_supported = 3
 abbrev pub transfer_syntaxes_not_supported : ℕ
 transfer_syntaxes_not_supported = 4
 
-abbrev pub result_by : {A : Type 0} → Option A → Option Syntax → ℕ
+abbrev pub result_by : {A B : Type 0} → Option A → Option B → ℕ
 result_by None syntax = abstract_syntax_not_supported
 result_by (Some class) None = transfer_syntaxes_not_supported
 result_by (Some class) (Some syntax) = acceptance
 
 -- a rejected context carries Implicit VR Little Endian in its answer, which the peer ignores
-abbrev pub carried_by : Option Service → Option Syntax → Syntax
+abbrev pub carried_by : Option Service → Option Transfer → Transfer
 carried_by (Some class) (Some syntax) = syntax
-carried_by class syntax = Implicit
+carried_by class syntax = native Implicit
 
-abbrev pub accepted_by : Option Service → Option Syntax → Option Context
+abbrev pub accepted_by : Option Service → Option Transfer → Option Context
 accepted_by (Some class) (Some syntax) = Some (record { class = class; syntax = syntax })
 accepted_by class syntax = None
 
 abbrev pub result_of : Proposal → ℕ
-result_of p = result_by (service_of p.abstract_syntax) (chosen p.transfer_syntaxes)
+result_of p = result_by (service_of p.abstract_syntax) (agreed p.transfer_syntaxes)
 
-abbrev pub carried : Proposal → Syntax
-carried p = carried_by (service_of p.abstract_syntax) (chosen p.transfer_syntaxes)
+abbrev pub carried : Proposal → Transfer
+carried p = carried_by (service_of p.abstract_syntax) (agreed p.transfer_syntaxes)
 
 abbrev pub accepted : Proposal → Option Context
-accepted p = accepted_by (service_of p.abstract_syntax) (chosen p.transfer_syntaxes)
+accepted p = accepted_by (service_of p.abstract_syntax) (agreed p.transfer_syntaxes)
 
 -- the accepted context of this id
 abbrev pub context_of : RequestRecord → ℕ → Option Context

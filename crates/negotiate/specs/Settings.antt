@@ -2,15 +2,16 @@
 use Rattle.std.specs.Prelude.{ℕ, ◌^◌, Bool, true, false, List, [], ◌++◌, map}
 use Rattle.dictionary.specs.StorageClasses.{storage_classes}
 use Rattle.negotiate.specs.declared.config.Config.{Config}
+use Rattle.negotiate.specs.Taken.{Taken}
 
 -- the receiver's own title and those that may call, each of 16 bytes; the greatest P-DATA length that it announces; the
--- greatest data set that it takes; and the storage classes that it takes beside the dictionary's own, by their identifiers
+-- greatest data set that it takes; and what it takes further
 pub record Settings : Type 0 where
   pub ae : List ℕ
   pub callers : List (List ℕ)
   pub max_pdu : ℕ
   pub max_data : ℕ
-  pub further : List (List ℕ)
+  pub further : Taken
 
 -- all storage classes of the standard, or none of them
 abbrev pub registered : Bool → List (List ℕ)
@@ -18,7 +19,7 @@ registered true = map (λ row. row.uid) storage_classes
 registered false = []
 
 abbrev pub settings_of : Config → Settings
-settings_of c = record { ae = c.ae.0; callers = map (λ t. t.0) c.callers.items; max_pdu = c.max_pdu; max_data = c.max_data; further = map (λ t. t.items) c.named.items ++ registered c.all_storage }
+settings_of c = record { ae = c.ae.0; callers = map (λ t. t.0) c.callers.items; max_pdu = c.max_pdu; max_data = c.max_data; further = record { classes = map (λ t. t.items) c.named.items ++ registered c.all_storage; transfers = c.transfers.items } }
 
 -- the defaults
 abbrev pub default_max_pdu : ℕ

@@ -12,7 +12,7 @@ use crate::items::{context_item, extend, extend_by_item, user_item};
 use crate::proposals::carried;
 use arrayvec::ArrayVec;
 use byteorder::{BigEndian, ByteOrder};
-use dictionary::{APPLICATION_CONTEXT, syntax_uid};
+use dictionary::APPLICATION_CONTEXT;
 use pdu::{Request, item_type, pdu_type};
 
 /// The bytes of an A-ASSOCIATE-AC without the titles and reserved bytes that it repeats, and without
@@ -22,21 +22,21 @@ const BARE: usize = 76;
 /// The bytes of a context in it, without the transfer syntax.
 const CONTEXT: usize = 12;
 
-/// The bytes of the longest A-ASSOCIATE-AC: 140, and 31 for each of 128 contexts.
-const LONGEST: usize = 4108;
+/// The bytes of the longest A-ASSOCIATE-AC: 140, and 35 for each of 128 contexts.
+const LONGEST: usize = 4620;
 
 /// Returns the size of the A-ASSOCIATE-AC that answers the request.
 pub(crate) fn accept_size(config: &Config, request: &Request) -> usize
     ensures value { result ≡ length (accept_text (settings_of config.now) request.now) }
     ensures least { 6 ≤ result }
-    ensures most { result ≤ 4108 }
+    ensures most { result ≤ 4620 }
 {
     let mut size = BARE
         + request.called().0.len()
         + request.calling().0.len()
         + request.reserved().len();
     for proposal in request.contexts() {
-        size += CONTEXT + syntax_uid(carried(config, &proposal)).len();
+        size += CONTEXT + carried(config, &proposal).uid().len();
     }
     size
 }
@@ -74,9 +74,9 @@ fn with_contexts(
     mut pdu: ArrayVec<u8, LONGEST>,
     request: &Request,
 ) -> ArrayVec<u8, LONGEST>
-    requires { array_vec_len pdu + 31 * length request.now.contexts ≤ 4067 }
+    requires { array_vec_len pdu + 35 * length request.now.contexts ≤ 4579 }
     ensures items { result.items ≡ pdu.items ++ flat_map context_text (offered (settings_of config.now).further request.now).contexts }
-    ensures room { array_vec_len result ≤ 4067 }
+    ensures room { array_vec_len result ≤ 4579 }
 {
     for proposal in request.contexts() {
         extend(&mut pdu, context_item(config, &proposal).as_slice());

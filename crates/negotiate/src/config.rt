@@ -1,13 +1,18 @@
 //! The settings of the receiver.
 ghost use Rattle.std.specs.Prelude.{◌≡◌, ◌^◌, ◌≤◌, [], false, length, map, option_map, slice_get};
+ghost use Rattle.std.specs.List.{list_any};
 ghost use Rattle.arrayvec.specs.ArrayVec.{array_vec_len};
+ghost use Rattle.dictionary.specs.Transfers.{is_text_of, transfer_uid};
 
 use arrayvec::ArrayVec;
-use dictionary::storage_class;
+use dictionary::{Transfer, storage_class};
 use element::{AeTitle, Uid};
 
 /// How many further storage classes can be taken: 16 that are named, and the 157 of the standard.
 const MOST_FURTHER: usize = 173;
+
+/// How many further transfer syntaxes can be taken: those of the dictionary in which Pixel Data is encapsulated.
+const MOST_TRANSFERS: usize = 23;
 
 /// The settings of the receiver: who may associate with it, and how much it accepts.
 #[derive(Drop)]
@@ -26,10 +31,13 @@ pub struct Config {
     pub all_storage: bool,
     /// Further storage classes that are taken, by the text of their unique identifiers.
     pub named: ArrayVec<ArrayVec<u8, 64>, 16>,
+    /// Further transfer syntaxes that are taken, beside Explicit and Implicit VR Little Endian.
+    pub transfers: ArrayVec<Transfer, MOST_TRANSFERS>,
     pub ghost least_pdu: { 1024 ≤ max_pdu },
     pub ghost least_data: { 1024 ≤ max_data },
     pub ghost most_data: { max_data ≤ 2 ^ 48 },
     pub ghost few_named: { array_vec_len named ≤ 16 },
+    pub ghost few_transfers: { array_vec_len transfers ≤ 23 },
 }
 
 /// A copy of a text.
@@ -69,8 +77,28 @@ fn copied_texts(texts: &[ArrayVec<u8, 64>]) -> ArrayVec<ArrayVec<u8, 64>, 16>
     copies
 }
 
+/// A copy of a list of transfer syntaxes.
+fn copied_transfers(transfers: &[Transfer]) -> ArrayVec<Transfer, MOST_TRANSFERS>
+    requires few { length transfers.now ≤ 23 }
+    ensures transfers { result.items ≡ transfers.now }
+    ensures few { array_vec_len result ≤ 23 }
+{
+    let mut copies = ArrayVec::new();
+    let _ = copies.try_extend_from_slice(transfers);
+    copies
+}
+
+/// Whether the list has this transfer syntax.
+fn is_among(transfers: &[Transfer], transfer: Transfer) -> bool
+    ensures { result ≡ list_any (is_text_of (transfer_uid transfer)) transfers.now }
+{
+    transfers.iter().any(|other| other.uid() == transfer.uid())
+}
+
 impl Config {
-    ghost use Rattle.std.specs.Prelude.{◌++◌};
+    ghost use Rattle.std.specs.Prelude.{◌++◌, Some};
+    ghost use Rattle.negotiate.specs.Contexts.{is_taken};
+    ghost use Rattle.negotiate.specs.Taken.{nothing_further};
     ghost use Rattle.negotiate.specs.ContextRows.{place_of};
     ghost use Rattle.negotiate.specs.Settings.{registered, settings_of};
 
@@ -89,7 +117,7 @@ impl Config {
         ensures callers { result.callers ≡ callers }
         ensures max_pdu { result.max_pdu ≡ max_pdu }
         ensures max_data { result.max_data ≡ max_data }
-        ensures further { (settings_of result).further ≡ [] }
+        ensures further { (settings_of result).further ≡ nothing_further }
     {
         Config {
             ae,
@@ -98,6 +126,7 @@ impl Config {
             max_data,
             all_storage: false,
             named: ArrayVec::new(),
+            transfers: ArrayVec::new(),
         }
     }
 
@@ -109,7 +138,8 @@ impl Config {
         ensures callers { result.callers ≡ self.callers }
         ensures max_pdu { result.max_pdu ≡ self.max_pdu }
         ensures max_data { result.max_data ≡ self.max_data }
-        ensures further { (settings_of result).further ≡ named.now ++ registered all_storage }
+        ensures further { (settings_of result).further.classes ≡ named.now ++ registered all_storage }
+        ensures transfers { result.transfers ≡ self.transfers }
     {
         Config {
             ae: self.ae,
@@ -118,12 +148,41 @@ impl Config {
             max_data: self.max_data,
             all_storage,
             named: texts_of(named),
+            transfers: self.transfers,
         }
+    }
+
+    /// Returns the settings with these transfer syntaxes taken beside Explicit and Implicit VR Little Endian.
+    pub fn with_transfers(self, transfers: &[Transfer]) -> Config
+        requires few { length transfers.now ≤ 23 }
+        ensures ae { result.ae ≡ self.ae }
+        ensures callers { result.callers ≡ self.callers }
+        ensures max_pdu { result.max_pdu ≡ self.max_pdu }
+        ensures max_data { result.max_data ≡ self.max_data }
+        ensures classes { (settings_of result).further.classes ≡ (settings_of self).further.classes }
+        ensures transfers { (settings_of result).further.transfers ≡ transfers.now }
+    {
+        Config {
+            ae: self.ae,
+            callers: self.callers,
+            max_pdu: self.max_pdu,
+            max_data: self.max_data,
+            all_storage: self.all_storage,
+            named: self.named,
+            transfers: copied_transfers(transfers),
+        }
+    }
+
+    /// Returns whether a transfer syntax is taken.
+    pub(crate) fn takes(&self, transfer: Transfer) -> bool
+        ensures { result ≡ is_taken (settings_of self.now).further.transfers (Some transfer) }
+    {
+        !transfer.is_encapsulated() || is_among(self.transfers.as_slice(), transfer)
     }
 
     /// Returns the text of the further storage class of this place, first those that are named.
     pub(crate) fn further(&self, place: usize) -> Option<&[u8]>
-        ensures { option_map (λ u. u.now) result ≡ slice_get (settings_of self.now).further place }
+        ensures { option_map (λ u. u.now) result ≡ slice_get (settings_of self.now).further.classes place }
     {
         let named = self.named.as_slice();
         if place < named.len() {
@@ -140,7 +199,7 @@ impl Config {
 
     /// Returns the place of a further storage class that is taken.
     pub(crate) fn place(&self, uid: &Uid) -> Option<u8>
-        ensures { result ≡ place_of (settings_of self.now).further uid.now }
+        ensures { result ≡ place_of (settings_of self.now).further.classes uid.now }
     {
         for place in 0..MOST_FURTHER {
             match self.further(place) {
@@ -170,6 +229,7 @@ impl Config {
             max_data: self.max_data,
             all_storage: self.all_storage,
             named: copied_texts(self.named.as_slice()),
+            transfers: copied_transfers(self.transfers.as_slice()),
         }
     }
 }

@@ -9,7 +9,7 @@ use crate::config::Config;
 use crate::proposals::{carried, result_of};
 use arrayvec::ArrayVec;
 use byteorder::{BigEndian, ByteOrder};
-use dictionary::{IMPLEMENTATION_CLASS_UID, IMPLEMENTATION_VERSION_NAME, syntax_uid};
+use dictionary::{IMPLEMENTATION_CLASS_UID, IMPLEMENTATION_VERSION_NAME};
 use pdu::{Proposal, item_type};
 
 /// Appends bytes to a room in which they fit.
@@ -35,7 +35,7 @@ pub(crate) fn extend_by_item<const N: usize>(room: &mut ArrayVec<u8, N>, kind: u
 /// The answer to a proposed presentation context (PS3.8 section 9.3.3.2).
 pub(crate) fn context_item(config: &Config, proposal: &Proposal) -> ArrayVec<u8, 64>
     ensures items { result.items ≡ context_text (seen (settings_of config.now).further proposal.now) }
-    ensures short { array_vec_len result ≤ 31 }
+    ensures short { array_vec_len result ≤ 35 }
 {
     let mut content = ArrayVec::<u8, 64>::new();
     extend(
@@ -45,7 +45,7 @@ pub(crate) fn context_item(config: &Config, proposal: &Proposal) -> ArrayVec<u8,
     extend_by_item(
         &mut content,
         item_type::TRANSFER_SYNTAX,
-        syntax_uid(carried(config, proposal)),
+        carried(config, proposal).uid(),
     );
     let mut item = ArrayVec::<u8, 64>::new();
     extend_by_item(&mut item, item_type::ANSWERED_CONTEXT, content.as_slice());

@@ -1,15 +1,18 @@
 //! Laws of the definitions, each the contract of a function that does nothing.
-ghost use Rattle.std.specs.Prelude.{◌≡◌, ◌≤◌, ◌⊎◌, ℕ, List, None, [], eqb, length, nat_eq, option_map, option_and_then};
+ghost use Rattle.std.specs.Prelude.{◌≡◌, ◌≤◌, ◌⊎◌, ℕ, List, Some, None, [], eqb, length, nat_eq, option_map, option_and_then};
 ghost use Rattle.std.specs.List.{IsDistinct, find};
 ghost use Rattle.dictionary.specs.Classes.{class_of};
+ghost use Rattle.dictionary.specs.Transfers.{native};
 ghost use Rattle.element.specs.Numbers.{IsBytes};
+ghost use Rattle.element.specs.declared.syntax.Syntax.{Syntax};
 ghost use Rattle.pdu.specs.Items.{request_record};
 ghost use Rattle.pdu.specs.Record.{Proposal, RequestRecord, ids};
 ghost use Rattle.pdu.specs.Refusal.{request_fault};
 ghost use Rattle.negotiate.specs.Accept.{accept_text};
 ghost use Rattle.negotiate.specs.ContextRows.{accepted_count, context_in, context_rows};
-ghost use Rattle.negotiate.specs.Contexts.{accepted_by, chosen, context_of, offered, result_by, result_of, seen};
+ghost use Rattle.negotiate.specs.Contexts.{accepted, accepted_by, agreed, carried, carried_by, chosen, context_of, offered, result_by, result_of, seen, service_of, taken_syntax};
 ghost use Rattle.negotiate.specs.Rejections as spelling;
+ghost use Rattle.negotiate.specs.Taken.{Taken, nothing_further};
 ghost use Rattle.negotiate.specs.Settings.{Settings, default_max_data, default_max_pdu};
 ghost use Rattle.negotiate.specs.Answer.{judged};
 ghost use Rattle.negotiate.specs.declared.answer.Answer.TheVariants.{Accept};
@@ -26,17 +29,32 @@ use crate::rejection::{
 /// The table of a request has its accepted contexts, and nothing else: a row for each of them, and
 /// under each presentation context ID what the request has there.
 pub fn table_has_the_accepted_contexts()
-    ensures contexts { (further : List (List ℕ)) (r : RequestRecord) → IsDistinct eqb (ids r.contexts) → (id : ℕ) → context_in further (context_rows further (offered further r)) id ≡ context_of (offered further r) id }
-    ensures count { (further : List (List ℕ)) (r : RequestRecord) → length (context_rows further r) ≡ accepted_count r }
+    ensures contexts { (further : Taken) (r : RequestRecord) → IsDistinct eqb (ids r.contexts) → (id : ℕ) → context_in further (context_rows further (offered further r)) id ≡ context_of (offered further r) id }
+    ensures count { (further : Taken) (r : RequestRecord) → length (context_rows further r) ≡ accepted_count r }
 {}
 
-/// Where no further storage class is taken, the dictionary's classes alone decide: on the result of each
+/// Where nothing further is taken, the dictionary's classes alone decide: on the result of each
 /// proposed context, and on the context that is accepted under an ID.
 pub fn by_default_the_dictionary_decides()
-    ensures result { (p : Proposal) → result_of (seen [] p) ≡ result_by (class_of p.abstract_syntax) (chosen p.transfer_syntaxes) }
+    ensures result { (p : Proposal) → result_of (seen nothing_further p) ≡ result_by (class_of p.abstract_syntax) (chosen p.transfer_syntaxes) }
     ensures context { (r : RequestRecord) (id : ℕ) →
-        context_of (offered [] r) id
-        ≡ option_and_then (λ p. accepted_by (option_map Known (class_of p.abstract_syntax)) (chosen p.transfer_syntaxes)) (find (λ p. nat_eq p.id id) r.contexts) }
+        context_of (offered nothing_further r) id
+        ≡ option_and_then (λ p. accepted_by (option_map Known (class_of p.abstract_syntax)) (option_map native (chosen p.transfer_syntaxes))) (find (λ p. nat_eq p.id id) r.contexts) }
+{}
+
+/// Where no further transfer syntax is taken, the two native ones alone decide, whatever a request proposes: on the result
+/// of each context, on the context that is accepted, and on the transfer syntax that the answer carries.
+pub fn by_default_the_native_syntaxes_decide()
+    ensures result { (further : Taken) (p : Proposal) → further.transfers ≡ [] → result_of (seen further p) ≡ result_by (service_of (taken_syntax further.classes p.abstract_syntax)) (chosen p.transfer_syntaxes) }
+    ensures context { (further : Taken) (p : Proposal) → further.transfers ≡ [] →
+        accepted (seen further p) ≡ accepted_by (service_of (taken_syntax further.classes p.abstract_syntax)) (option_map native (chosen p.transfer_syntaxes)) }
+    ensures carried { (further : Taken) (p : Proposal) → further.transfers ≡ [] →
+        carried (seen further p) ≡ carried_by (service_of (taken_syntax further.classes p.abstract_syntax)) (option_map native (chosen p.transfer_syntaxes)) }
+{}
+
+/// Where a context proposes a native transfer syntax, none of the further ones is chosen, whatever is taken.
+pub fn native_syntaxes_are_preferred()
+    ensures { (further : Taken) (p : Proposal) (s : Syntax) → chosen p.transfer_syntaxes ≡ Some s → agreed (seen further p).transfer_syntaxes ≡ Some (native s) }
 {}
 
 /// A peer whose request is accepted takes fragments: its maximum length is 0, for none, or at least 8.
@@ -44,9 +62,9 @@ pub fn accepted_peers_take_fragments()
     ensures { (s : Settings) (r : RequestRecord) → judged s r ≡ Accept → (r.maximum ≡ 0) ⊎ (8 ≤ r.maximum) }
 {}
 
-/// An A-ASSOCIATE-AC has 4,108 bytes at most: 140, and 31 for each of at most 128 contexts.
+/// An A-ASSOCIATE-AC has 4,620 bytes at most: 140, and 35 for each of at most 128 contexts.
 pub fn acceptances_are_short()
-    ensures { (s : Settings) (body : List ℕ) → IsBytes body → request_fault body ≡ None → length (accept_text s (request_record body)) ≤ 4108 }
+    ensures { (s : Settings) (body : List ℕ) → IsBytes body → request_fault body ≡ None → length (accept_text s (request_record body)) ≤ 4620 }
 {}
 
 /// The default settings are those of the definitions.

@@ -4,7 +4,7 @@ ghost use Rattle.negotiate.specs.Contexts as spelling;
 ghost use Rattle.negotiate.specs.Settings.{settings_of};
 
 use crate::config::Config;
-use dictionary::{Class, class_of, syntax_of};
+use dictionary::{Class, Transfer, class_of, syntax_of};
 use element::{Syntax, Uid};
 use pdu::Proposal;
 
@@ -23,7 +23,7 @@ pub struct Context {
     /// The service, by its abstract syntax.
     pub class: Service,
     /// The transfer syntax of its data sets.
-    pub syntax: Syntax,
+    pub syntax: Transfer,
 }
 
 /// Result of a proposed context: acceptance (PS3.8 Table 9-18).
@@ -35,7 +35,7 @@ const ABSTRACT_SYNTAX_NOT_SUPPORTED: u8 = 3;
 /// Result: transfer-syntaxes-not-supported.
 const TRANSFER_SYNTAXES_NOT_SUPPORTED: u8 = 4;
 
-/// Returns the transfer syntax that is chosen from those that a context proposes: Explicit before
+/// Returns the native transfer syntax that is chosen from those that a context proposes: Explicit before
 /// Implicit VR Little Endian, and no other.
 fn chosen_syntax(proposal: &Proposal) -> Option<Syntax>
     ensures { result ≡ spelling.chosen proposal.now.transfer_syntaxes }
@@ -55,9 +55,34 @@ fn chosen_syntax(proposal: &Proposal) -> Option<Syntax>
     }
 }
 
+/// Returns the first transfer syntax that a context proposes and that is taken.
+fn first_taken(config: &Config, proposal: &Proposal) -> Option<Transfer>
+    ensures { result ≡ spelling.first_known (spelling.taken_transfers (settings_of config.now).further.transfers proposal.now.transfer_syntaxes) }
+{
+    for uid in proposal.transfer_syntaxes() {
+        if let Some(transfer) = Transfer::of(uid) {
+            if config.takes(transfer) {
+                return Some(transfer);
+            }
+        }
+    }
+    None
+}
+
+/// Returns the transfer syntax that is chosen from those that a context proposes: a native one before any
+/// other, and then the first of its list that is taken.
+fn agreed_transfer(config: &Config, proposal: &Proposal) -> Option<Transfer>
+    ensures { result ≡ spelling.agreed (spelling.taken_transfers (settings_of config.now).further.transfers proposal.now.transfer_syntaxes) }
+{
+    match chosen_syntax(proposal) {
+        Some(syntax) => Some(Transfer::native(syntax)),
+        None => first_taken(config, proposal),
+    }
+}
+
 /// Returns the service that an abstract syntax names, if it is taken.
 fn taken_service(config: &Config, bytes: &[u8]) -> Option<Service>
-    ensures { result ≡ spelling.service_of (spelling.taken_syntax (settings_of config.now).further bytes.now) }
+    ensures { result ≡ spelling.service_of (spelling.taken_syntax (settings_of config.now).further.classes bytes.now) }
 {
     match class_of(bytes) {
         Some(class) => Some(Service::Known(class)),
@@ -77,7 +102,7 @@ pub(crate) fn accepted(config: &Config, proposal: &Proposal) -> Option<Context>
 {
     match (
         taken_service(config, proposal.abstract_syntax()),
-        chosen_syntax(proposal),
+        agreed_transfer(config, proposal),
     ) {
         (Some(class), Some(syntax)) => Some(Context { class, syntax }),
         (_, _) => None,
@@ -90,7 +115,7 @@ pub(crate) fn result_of(config: &Config, proposal: &Proposal) -> u8
 {
     match (
         taken_service(config, proposal.abstract_syntax()),
-        chosen_syntax(proposal),
+        agreed_transfer(config, proposal),
     ) {
         (None, _) => ABSTRACT_SYNTAX_NOT_SUPPORTED,
         (Some(_), None) => TRANSFER_SYNTAXES_NOT_SUPPORTED,
@@ -99,11 +124,11 @@ pub(crate) fn result_of(config: &Config, proposal: &Proposal) -> u8
 }
 
 /// Returns the transfer syntax that the answer to a proposed context carries.
-pub(crate) fn carried(config: &Config, proposal: &Proposal) -> Syntax
+pub(crate) fn carried(config: &Config, proposal: &Proposal) -> Transfer
     ensures { result ≡ spelling.carried (spelling.seen (settings_of config.now).further proposal.now) }
 {
     match accepted(config, proposal) {
         Some(context) => context.syntax,
-        None => Syntax::Implicit,
+        None => Transfer::Implicit,
     }
 }

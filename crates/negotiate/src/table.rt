@@ -9,8 +9,8 @@ ghost use Rattle.negotiate.specs.Settings.{settings_of};
 use crate::config::Config;
 use crate::proposals::{Context, Service, accepted};
 use arrayvec::ArrayVec;
-use dictionary::Class;
-use element::{Syntax, Uid};
+use dictionary::{Class, Transfer};
+use element::Uid;
 use pdu::Request;
 
 /// The service of a row, in two bytes.
@@ -31,7 +31,7 @@ pub struct ContextRow {
     /// The service, by its abstract syntax.
     pub class: RowClass,
     /// The transfer syntax of its data sets.
-    pub syntax: Syntax,
+    pub syntax: Transfer,
 }
 
 impl Default for ContextRow {
@@ -44,7 +44,7 @@ impl Default for ContextRow {
         ContextRow {
             id: 0,
             class: RowClass::Known(Class::Verification),
-            syntax: Syntax::Implicit,
+            syntax: Transfer::Implicit,
         }
     }
 }

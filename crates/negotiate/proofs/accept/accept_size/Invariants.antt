@@ -12,5 +12,5 @@ invariant-loop-proposal l = record {
   is_finite : (goal.iterator-loop-proposal).is_finite l.proposal-iterator;
   size : l.size + length (flat_map context_text (map (seen (settings_of l.config).further) (proposals_left l.proposal-iterator))) ≡ 76 + (16 + 16 + 32) + length (flat_map context_text (map (seen (settings_of l.config).further) l.request.contexts));
   least : 76 ≤ l.size;
-  most : l.size + 31 * length (proposals_left l.proposal-iterator) ≤ 4108;
+  most : l.size + 35 * length (proposals_left l.proposal-iterator) ≤ 4620;
 }

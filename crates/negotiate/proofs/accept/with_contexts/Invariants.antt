@@ -11,5 +11,5 @@ invariant-loop-proposal l = record {
   can_next : (goal.iterator-loop-proposal).can_next l.proposal-iterator;
   is_finite : (goal.iterator-loop-proposal).is_finite l.proposal-iterator;
   items : l.pdu.items ++ flat_map context_text (map (seen (settings_of l.config).further) (proposals_left l.proposal-iterator)) ≡ l.fn.pdu.items ++ flat_map context_text (map (seen (settings_of l.config).further) l.request.contexts);
-  room : length l.pdu.items + 31 * length (proposals_left l.proposal-iterator) ≤ 4067;
+  room : length l.pdu.items + 35 * length (proposals_left l.proposal-iterator) ≤ 4579;
 }

@@ -1,0 +1,11 @@
+use Rattle.std.proofs.Common.{◌≡◌}
+use Rattle.pdu.specs.Left.{syntaxes_left}
+use Rattle.negotiate.specs.Contexts.{first_known, taken_transfers}
+use Rattle.negotiate.specs.Settings.{settings_of}
+use Rattle.negotiate.proofs.proposals.first_taken.Given as goal
+
+abbrev pub invariant-loop-uid : goal.invariant-loop-uid
+invariant-loop-uid l =
+    (goal.iterator-loop-uid).can_next l.uid-iterator ×
+    (goal.iterator-loop-uid).is_finite l.uid-iterator ×
+    (first_known (taken_transfers (settings_of l.config).further.transfers l.proposal.transfer_syntaxes) ≡ first_known (taken_transfers (settings_of l.config).further.transfers (syntaxes_left l.uid-iterator)))

@@ -1,0 +1,11 @@
+-- What is taken beside the dictionary's own classes and the two native transfer syntaxes (this product's own profile).
+use Rattle.std.specs.Prelude.{ℕ, List, []}
+use Rattle.dictionary.specs.declared.transfer.Transfer.{Transfer}
+
+-- the identifiers of storage classes, and transfer syntaxes
+pub record Taken : Type 0 where
+  pub classes : List (List ℕ)
+  pub transfers : List Transfer
+
+abbrev pub nothing_further : Taken
+nothing_further = record { classes = []; transfers = [] }
