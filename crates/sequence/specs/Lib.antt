@@ -1,4 +1,5 @@
 pub mod Coding
+pub mod Transfer
 pub mod Shape
 pub mod Tree
 pub mod Open

@@ -16,6 +16,7 @@ mod shape;
 mod spot;
 mod stage;
 mod step;
+mod transfer;
 mod walker;
 mod wanted;
 
