@@ -1,10 +1,10 @@
 -- How long the texts in a file header can be.
 use Rattle.std.proofs.Common.{ℕ, suc, ◌≤◌, Bool, true, false, ◌&&◌, List, [], ◌∷◌, length, arith, if◌then◌else◌}
-use Rattle.element.specs.declared.syntax.Syntax.{Syntax}
-use Rattle.element.specs.declared.syntax.Syntax.TheVariants.{Implicit, Explicit}
+use Rattle.dictionary.specs.declared.transfer.Transfer.{Transfer}
 use Rattle.element.specs.Padding.{is_space, is_empty, without_trailing, without_leading}
 use Rattle.element.specs.Title.{title_text}
-use Rattle.dictionary.specs.Syntaxes.{syntax_uid}
+use Rattle.dictionary.specs.Transfers.{transfer_uid}
+use Rattle.dictionary.proofs.Public.{transfer_short}
 
 onto_short : (b : Bool) (x n : ℕ) (rest : List ℕ) → length rest ≤ n → length (if b then [] else x ∷ rest) ≤ suc n
 onto_short true x n rest e = omega arith
@@ -29,6 +29,5 @@ title_text_short bytes =
     let before : length (without_leading is_space bytes) ≤ length bytes = leading_short is_space bytes in
     omega arith
 
-pub syntax_uid_short : (s : Syntax) → length (syntax_uid s) ≤ 64
-syntax_uid_short Implicit = omega arith
-syntax_uid_short Explicit = omega arith
+pub transfer_uid_short : (t : Transfer) → length (transfer_uid t) ≤ 64
+transfer_uid_short t = omega (arith, transfer_short t)

@@ -12,4 +12,5 @@ pub mod PrefixLemmas
 pub mod ElementLemmas
 pub mod GroupLemmas
 pub mod WholeLemmas
+pub mod NativeLemmas
 pub mod Verdicts

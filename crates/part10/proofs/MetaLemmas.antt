@@ -4,8 +4,9 @@ use Rattle.std.specs.List.{list_all}
 use Rattle.std.proofs.lemmas.Bool.{and_parts}
 use Rattle.std.proofs.lemmas.List.{append-nil}
 use Rattle.std.proofs.lemmas.Bool.Decides.{nat_tests}
-use Rattle.element.specs.declared.syntax.Syntax.{Syntax}
-use Rattle.element.specs.declared.syntax.Syntax.TheVariants.{Implicit, Explicit}
+use Rattle.element.specs.declared.syntax.Syntax.TheVariants.{Explicit}
+use Rattle.dictionary.specs.declared.transfer.Transfer.{Transfer}
+use Rattle.dictionary.specs.declared.transfer.Transfer.TheVariants as transfers
 use Rattle.element.specs.Vr.{is_capital, is_short}
 use Rattle.element.specs.Header.{SpellsHeader, header_bytes}
 use Rattle.element.specs.Padding.{is_padding, is_empty, kept_before, without_trailing}
@@ -13,7 +14,7 @@ use Rattle.element.specs.Title.{title_text}
 use Rattle.element.specs.Uid.{is_uid_character, is_uid, uid_of}
 use Rattle.element.proofs.Public.{written_spells}
 use Rattle.dictionary.specs.Implementation.{implementation_class_uid, implementation_version_name}
-use Rattle.dictionary.specs.Syntaxes.{syntax_uid}
+use Rattle.dictionary.specs.Transfers.{transfer_uid}
 use Rattle.part10.specs.declared.meta.Meta.{Meta}
 use Rattle.element.specs.Padding.{padded}
 use Rattle.part10.specs.File.{meta_element, uid_element, identity_elements, implementation_elements, title_element, meta_group, head}
@@ -68,9 +69,9 @@ uid_back text e = by (nat_eq (length text % 2) 0)
     by true = rw (text_kept text characters, e) refl
     by false = rw (zero_dropped text characters, e) refl
 
-syntax_is_uid : (s : Syntax) → is_uid (syntax_uid s) ≡ true
-syntax_is_uid Implicit = refl
-syntax_is_uid Explicit = refl
+syntax_is_uid : (t : Transfer) → is_uid (transfer_uid t) ≡ true
+syntax_is_uid transfers.Implicit = refl
+syntax_is_uid _ = refl
 
 -- elements
 
@@ -124,7 +125,7 @@ uid_elements meta after =
     record { number = 0x0001; value = 0 ∷ 1 ∷ [] }
     ∷ record { number = 0x0002; value = padded 0 meta.class }
     ∷ record { number = 0x0003; value = padded 0 meta.instance }
-    ∷ record { number = 0x0010; value = padded 0 (syntax_uid meta.syntax) }
+    ∷ record { number = 0x0010; value = padded 0 (transfer_uid meta.syntax) }
     ∷ after
 
 implementation : List MetaElement → List MetaElement
@@ -157,12 +158,12 @@ instance_read : (meta : Meta) (es : List MetaElement) (rest : List ℕ) → is_u
     → MetaElements 0x0010 es rest → MetaElements 0 (uid_elements meta es) (identity_elements meta ++ rest)
 unfolding uid_elements identity_elements
 instance_read meta es rest class instance more =
-    let syntax = uid_then 0x0003 0x0010 (syntax_uid meta.syntax) es rest (omega arith) (omega arith) (syntax_is_uid meta.syntax) more in
-    let named = uid_then 0x0002 0x0003 meta.instance (record { number = 0x0010; value = padded 0 (syntax_uid meta.syntax) } ∷ es) (uid_element 0x0010 (syntax_uid meta.syntax) ++ rest) (omega arith) (omega arith) instance syntax in
-    let classed = uid_then 0x0001 0x0002 meta.class (record { number = 0x0003; value = padded 0 meta.instance } ∷ record { number = 0x0010; value = padded 0 (syntax_uid meta.syntax) } ∷ es) (uid_element 0x0003 meta.instance ++ (uid_element 0x0010 (syntax_uid meta.syntax) ++ rest)) (omega arith) (omega arith) class named in
-    let all = meta_then 0 0x0001 79 66 (0 ∷ 1 ∷ []) (record { number = 0x0002; value = padded 0 meta.class } ∷ record { number = 0x0003; value = padded 0 meta.instance } ∷ record { number = 0x0010; value = padded 0 (syntax_uid meta.syntax) } ∷ es) (uid_element 0x0002 meta.class ++ (uid_element 0x0003 meta.instance ++ (uid_element 0x0010 (syntax_uid meta.syntax) ++ rest))) (omega arith) (omega arith) refl (omega arith) refl classed in
+    let syntax = uid_then 0x0003 0x0010 (transfer_uid meta.syntax) es rest (omega arith) (omega arith) (syntax_is_uid meta.syntax) more in
+    let named = uid_then 0x0002 0x0003 meta.instance (record { number = 0x0010; value = padded 0 (transfer_uid meta.syntax) } ∷ es) (uid_element 0x0010 (transfer_uid meta.syntax) ++ rest) (omega arith) (omega arith) instance syntax in
+    let classed = uid_then 0x0001 0x0002 meta.class (record { number = 0x0003; value = padded 0 meta.instance } ∷ record { number = 0x0010; value = padded 0 (transfer_uid meta.syntax) } ∷ es) (uid_element 0x0003 meta.instance ++ (uid_element 0x0010 (transfer_uid meta.syntax) ++ rest)) (omega arith) (omega arith) class named in
+    let all = meta_then 0 0x0001 79 66 (0 ∷ 1 ∷ []) (record { number = 0x0002; value = padded 0 meta.class } ∷ record { number = 0x0003; value = padded 0 meta.instance } ∷ record { number = 0x0010; value = padded 0 (transfer_uid meta.syntax) } ∷ es) (uid_element 0x0002 meta.class ++ (uid_element 0x0003 meta.instance ++ (uid_element 0x0010 (transfer_uid meta.syntax) ++ rest))) (omega arith) (omega arith) refl (omega arith) refl classed in
     let P : List ℕ → Type 0 = λ text. MetaElements 0 (uid_elements meta es) text in
-    subst P (regroup (meta_element 0x0001 (codes "OB") (0 ∷ 1 ∷ [])) (uid_element 0x0002 meta.class) (uid_element 0x0003 meta.instance) (uid_element 0x0010 (syntax_uid meta.syntax)) rest) all
+    subst P (regroup (meta_element 0x0001 (codes "OB") (0 ∷ 1 ∷ [])) (uid_element 0x0002 meta.class) (uid_element 0x0003 meta.instance) (uid_element 0x0010 (transfer_uid meta.syntax)) rest) all
 
 -- what is written is read
 pub head_is_read : (meta : Meta) → is_uid meta.class ≡ true → is_uid meta.instance ≡ true → length meta.calling.0 ≡ 16 → length (meta_group meta) ≤ 360
@@ -184,5 +185,5 @@ head_is_read meta class instance sixteen few =
       spelled = subst P (sym (append_assoc (identity_elements meta) implementation_elements (title_element (title_text meta.calling.0)))) read;
       class = uid_back meta.class class;
       instance = uid_back meta.instance instance;
-      syntax = uid_back (syntax_uid meta.syntax) (syntax_is_uid meta.syntax);
+      syntax = uid_back (transfer_uid meta.syntax) (syntax_is_uid meta.syntax);
     }

@@ -1,34 +1,32 @@
 -- The whole header: the prefix, the length of the group, and the group.
-use Rattle.std.proofs.Common.{◌≡◌, ◌≢◌, ℕ, ◌^◌, ◌<◌, Bool, true, false, List, [], ◌∷◌, ◌++◌, length, take, drop, Option, Some, None, Result, Ok, Err, IfOk, IfErr, refl, sym, ap, subst, ◌∙◌, arith, append_assoc, codes, ◌&&◌, nat_eq, nat_le, if◌then◌else◌}
+use Rattle.std.proofs.Common.{◌≡◌, ℕ, ◌^◌, ◌<◌, Bool, true, false, List, [], ◌∷◌, ◌++◌, length, take, drop, Option, Some, None, Result, Ok, Err, IfOk, IfErr, refl, sym, ap, subst, ◌∙◌, arith, append_assoc, codes, ◌&&◌, nat_eq, nat_le, if◌then◌else◌}
 use Rattle.std.proofs.lemmas.List.{drop_at}
-use Rattle.std.proofs.lemmas.Slice.Eq.{bytes_eq-Decides}
 use Rattle.std.proofs.lemmas.Bool.{and_parts}
 use Rattle.std.specs.List.{list_all}
 use Rattle.std.specs.Io.KnownBytes.{Consumes}
-use Rattle.element.specs.declared.syntax.Syntax.{Syntax}
-use Rattle.element.specs.declared.syntax.Syntax.TheVariants.{Implicit, Explicit}
 use Rattle.element.specs.Padding.{is_padding, without_trailing}
 use Rattle.element.specs.Uid.{is_uid_character, is_uid, uid_of}
-use Rattle.dictionary.specs.Syntaxes.{syntax_uid, syntax_named, is_named}
+use Rattle.dictionary.specs.Transfers.{transfer_named, transfer_uid}
+use Rattle.dictionary.proofs.Public.{named_text, not_named}
 use Rattle.part10.specs.declared.meta.Meta.{Meta}
 use Rattle.part10.specs.declared.meta_fault.MetaFault.{MetaFault}
 use Rattle.part10.specs.declared.meta_fault.MetaFault.TheVariants.{NotPart10, BadMeta, OtherSyntax, ReadFailed}
 use Rattle.part10.specs.declared.reading.Found.{Found}
 use Rattle.part10.specs.File.{length_element}
-use Rattle.part10.specs.MetaText.{Said, said_of, SpellsMeta, HasMeta, HasLetters, MetaFaultOf, MetaElement, MetaElements, uid_at, TakesMeta, NamesOther, FailsToRead}
+use Rattle.part10.specs.MetaText.{Said, said_of, SpellsMeta, HasMeta, HasLetters, MetaFaultOf, MetaElement, MetaElements, uid_at, TakesMeta, NamesNone, NamesUnknown, FailsToReadAny}
 use Rattle.part10.specs.machine.Reading.{Breaks, NoLetters, NoSize, NoGroup, IsFound, IsMeta}
 use Rattle.part10.proofs.FaultLemmas.{bad_after}
 use Rattle.part10.proofs.MetaLemmas.{text_kept}
 use Rattle.part10.proofs.OneHeader.{same_front, one_elements, parted, length_size, same_length}
 
-pub letters_refuse : (fault : MetaFault) (old : Option (List ℕ)) → NoLetters fault old → FailsToRead fault old
+pub letters_refuse : (fault : MetaFault) (old : Option (List ℕ)) → NoLetters fault old → FailsToReadAny fault old
 letters_refuse ReadFailed old none = tt
 letters_refuse NotPart10 None none = tt
 letters_refuse NotPart10 (Some file) none = none
 letters_refuse BadMeta old none = absurd none
 letters_refuse OtherSyntax old none = absurd none
 
-pub breaks_refuse : (fault : MetaFault) (old : Option (List ℕ)) → Breaks fault old (λ file. MetaFaultOf file BadMeta) → FailsToRead fault old
+pub breaks_refuse : (fault : MetaFault) (old : Option (List ℕ)) → Breaks fault old (λ file. MetaFaultOf file BadMeta) → FailsToReadAny fault old
 breaks_refuse ReadFailed old breaks = tt
 breaks_refuse NotPart10 old breaks = absurd breaks
 breaks_refuse BadMeta old breaks = breaks
@@ -126,25 +124,6 @@ uid_found n (x ∷ es) text e = by (nat_eq x.number n) (uid_found n es text) e
     by true later e = uid_text x.value text e
     by false later e = later e
 
-named_is : (text : List ℕ) (s : Syntax) → syntax_named text ≡ Some s → text ≡ syntax_uid s
-unfolding syntax_named
-named_is text s e = by (is_named text Implicit) refl (is_named text Explicit) refl e
-  where
-    by : (a : Bool) → is_named text Implicit ≡ a → (b : Bool) → is_named text Explicit ≡ b → (if a then Some Implicit else (if b then Some Explicit else None)) ≡ Some s → text ≡ syntax_uid s
-    by true is b other e = let same : Implicit ≡ s = cc in sym ((bytes_eq-Decides (syntax_uid Implicit) text).0 is) ∙ ap syntax_uid same
-    by false is true other e = let same : Explicit ≡ s = cc in sym ((bytes_eq-Decides (syntax_uid Explicit) text).0 other) ∙ ap syntax_uid same
-    by false is false other e = absurd cc
-
-not_named : (text : List ℕ) → syntax_named text ≡ None → (s : Syntax) → text ≢ syntax_uid s
-unfolding syntax_named
-not_named text e s same = by (is_named text Implicit) refl (is_named text Explicit) refl e s same
-  where
-    by : (a : Bool) → is_named text Implicit ≡ a → (b : Bool) → is_named text Explicit ≡ b → (if a then Some Implicit else (if b then Some Explicit else None)) ≡ None → (s : Syntax) → text ≡ syntax_uid s → ⊥
-    by true is b other e s same = absurd cc
-    by false is true other e s same = absurd cc
-    by false is false other e Implicit same = absurd (let both : false ≡ true = sym is ∙ (bytes_eq-Decides (syntax_uid Implicit) text).1 (sym same) in cc)
-    by false is false other e Explicit same = absurd (let both : false ≡ true = sym other ∙ (bytes_eq-Decides (syntax_uid Explicit) text).1 (sym same) in cc)
-
 kept_text : (text : List ℕ) → is_uid text ≡ true → without_trailing is_padding text ≡ text
 kept_text text e = text_kept text (and_parts (nat_le 1 (length text) && nat_le (length text) 64) (list_all is_uid_character text) e).1
 
@@ -154,11 +133,11 @@ pub takes_meta : (n : ℕ) (found : Found) (old new : Option (List ℕ)) → Who
 takes_meta n found old new whole (Err fault) is = tt
 takes_meta n found old new whole (Ok meta) is =
     let text : is_uid is.0 ≡ true = uid_found 0x0010 whole.elements is.0 (sym whole.is.syntax ∙ is.3) in
-    let named : syntax_named is.0 ≡ Some meta.syntax = ap syntax_named (sym (kept_text is.0 text)) ∙ is.4 in
-    let syntax : found.syntax ≡ Some (syntax_uid meta.syntax) = is.3 ∙ ap (λ z. Some z) (named_is is.0 meta.syntax named) in
+    let named : transfer_named is.0 ≡ Some meta.syntax = ap transfer_named (sym (kept_text is.0 text)) ∙ is.4 in
+    let syntax : found.syntax ≡ Some (transfer_uid meta.syntax) = is.3 ∙ ap (λ z. Some z) (named_text is.0 meta.syntax named) in
     (((whole.preamble ++ codes "DICM") ++ length_element n) ++ whole.group, spells_whole n found old new whole (said_of meta) is.1 is.2 syntax, whole.taken)
 
-pub meta_refused : (n : ℕ) (found : Found) (old new : Option (List ℕ)) → Whole n found old new → (r : Result Meta MetaFault) → IsMeta found r → IfErr r (λ fault. FailsToRead fault old)
+pub meta_refused : (n : ℕ) (found : Found) (old new : Option (List ℕ)) → Whole n found old new → (r : Result Meta MetaFault) → IsMeta found r → IfErr r (λ fault. FailsToReadAny fault old)
 meta_refused n found old new whole (Ok meta) is = tt
 meta_refused n found old new whole (Err ReadFailed) is = tt
 meta_refused n found old new whole (Err NotPart10) is = absurd is
@@ -170,13 +149,13 @@ meta_refused n found old new whole (Err BadMeta) none =
           none (said.class, said.instance, said.syntax, whole.is.class ∙ (ap (uid_at 0x0002) (sym same) ∙ has.spelled.class), whole.is.instance ∙ (ap (uid_at 0x0003) (sym same) ∙ has.spelled.instance), whole.is.syntax ∙ (ap (uid_at 0x0010) (sym same) ∙ has.spelled.syntax)),
     ))
 meta_refused n found old new whole (Err OtherSyntax) is =
-    bad_after old new _ (λ file. MetaFaultOf file OtherSyntax) whole.taken (λ rest.
+    bad_after old new _ NamesNone whole.taken (λ rest.
     let said : Said = record { class = is.0; instance = is.1; syntax = is.2 } in
     let text : is_uid is.2 ≡ true = uid_found 0x0010 whole.elements is.2 (sym whole.is.syntax ∙ is.5) in
-    let unnamed : syntax_named is.2 ≡ None = ap syntax_named (sym (kept_text is.2 text)) ∙ is.6 in
+    let unnamed : transfer_named is.2 ≡ None = ap transfer_named (sym (kept_text is.2 text)) ∙ is.6 in
     (said, record { front = _; back = rest; whole = refl; spelled = spells_whole n found old new whole said is.3 is.4 is.5 }, not_named is.2 unnamed))
 
-pub names_other : (n : ℕ) (found : Found) (old new : Option (List ℕ)) → Whole n found old new → (r : Result Meta MetaFault) → IsMeta found r → IfErr r (λ fault. fault ≡ OtherSyntax → NamesOther old new)
+pub names_other : (n : ℕ) (found : Found) (old new : Option (List ℕ)) → Whole n found old new → (r : Result Meta MetaFault) → IsMeta found r → IfErr r (λ fault. fault ≡ OtherSyntax → NamesUnknown old new)
 names_other n found old new whole (Ok meta) is = tt
 names_other n found old new whole (Err ReadFailed) is = λ same. absurd is
 names_other n found old new whole (Err NotPart10) is = λ same. absurd is
@@ -184,17 +163,17 @@ names_other n found old new whole (Err BadMeta) none = λ same. absurd cc
 names_other n found old new whole (Err OtherSyntax) is =
     let said : Said = record { class = is.0; instance = is.1; syntax = is.2 } in
     let text : is_uid is.2 ≡ true = uid_found 0x0010 whole.elements is.2 (sym whole.is.syntax ∙ is.5) in
-    let unnamed : syntax_named is.2 ≡ None = ap syntax_named (sym (kept_text is.2 text)) ∙ is.6 in
+    let unnamed : transfer_named is.2 ≡ None = ap transfer_named (sym (kept_text is.2 text)) ∙ is.6 in
     λ same. (said, (_, spells_whole n found old new whole said is.3 is.4 is.5, whole.taken), not_named is.2 unnamed)
 
 -- no other fault is that of another syntax
-pub not_other : (fault : MetaFault) (mid old new : Option (List ℕ)) (P : List ℕ → Type 0) → Breaks fault mid P → fault ≡ OtherSyntax → NamesOther old new
+pub not_other : (fault : MetaFault) (mid old new : Option (List ℕ)) (P : List ℕ → Type 0) → Breaks fault mid P → fault ≡ OtherSyntax → NamesUnknown old new
 not_other ReadFailed mid old new P breaks same = absurd cc
 not_other NotPart10 mid old new P breaks same = absurd breaks
 not_other BadMeta mid old new P breaks same = absurd cc
 not_other OtherSyntax mid old new P breaks same = absurd breaks
 
-pub letters_not_other : (fault : MetaFault) (old new : Option (List ℕ)) → NoLetters fault old → fault ≡ OtherSyntax → NamesOther old new
+pub letters_not_other : (fault : MetaFault) (old new : Option (List ℕ)) → NoLetters fault old → fault ≡ OtherSyntax → NamesUnknown old new
 letters_not_other ReadFailed old new none same = absurd cc
 letters_not_other NotPart10 old new none same = absurd cc
 letters_not_other BadMeta old new none same = absurd none

@@ -7,7 +7,7 @@ use Rattle.element.specs.Padding.{is_empty, padded}
 use Rattle.element.specs.Title.{title_text}
 use Rattle.element.specs.Uid.{even_uid}
 use Rattle.dictionary.specs.Implementation.{implementation_class_uid, implementation_version_name}
-use Rattle.dictionary.specs.Syntaxes.{syntax_uid}
+use Rattle.dictionary.specs.Transfers.{transfer_uid}
 use Rattle.part10.specs.declared.meta.Meta.{Meta}
 
 -- 128 zero bytes and the four letters
@@ -27,7 +27,7 @@ identity_elements meta =
     meta_element 0x0001 (codes "OB") (0 ∷ 1 ∷ [])
     ++ uid_element 0x0002 meta.class
     ++ uid_element 0x0003 meta.instance
-    ++ uid_element 0x0010 (syntax_uid meta.syntax)
+    ++ uid_element 0x0010 (transfer_uid meta.syntax)
 
 -- Implementation Class UID and Implementation Version Name
 unfoldable pub implementation_elements : List ℕ

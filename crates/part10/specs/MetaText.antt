@@ -8,7 +8,9 @@ use Rattle.element.specs.declared.header.Header.{Header}
 use Rattle.element.specs.Header.{SpellsHeader}
 use Rattle.element.specs.Numbers.{IsBytes}
 use Rattle.element.specs.Uid.{uid_of}
+use Rattle.dictionary.specs.declared.transfer.Transfer.{Transfer}
 use Rattle.dictionary.specs.Syntaxes.{syntax_uid}
+use Rattle.dictionary.specs.Transfers.{transfer_uid}
 use Rattle.part10.specs.declared.meta.Meta.{Meta}
 use Rattle.part10.specs.declared.meta_fault.MetaFault.{MetaFault}
 use Rattle.part10.specs.declared.meta_fault.MetaFault.TheVariants.{NotPart10, BadMeta, OtherSyntax, ReadFailed}
@@ -44,7 +46,7 @@ pub record Said : Type 0 where
 
 -- what is written for an instance
 abbrev pub said_of : Meta → Said
-said_of meta = record { class = meta.class; instance = meta.instance; syntax = syntax_uid meta.syntax }
+said_of meta = record { class = meta.class; instance = meta.instance; syntax = transfer_uid meta.syntax }
 
 -- b is a file header: any preamble, the letters, and group 0002, which begins with the count of its bytes and
 -- says the class, the instance and the transfer syntax
@@ -106,6 +108,21 @@ FailsToRead ReadFailed old = ⊤
 FailsToRead NotPart10 old = IfSome old (λ file. MetaFaultOf file NotPart10)
 FailsToRead BadMeta old = IfSome old (λ file. MetaFaultOf file BadMeta)
 FailsToRead OtherSyntax old = IfSome old (λ file. MetaFaultOf file OtherSyntax)
+
+-- the same where each transfer syntax of the dictionary is taken
+
+-- a file header names a transfer syntax that the dictionary does not have
+abbrev pub NamesNone : List ℕ → Type 0
+NamesNone file = (said : Said) × HasMeta said file × ((t : Transfer) → said.syntax ≢ transfer_uid t)
+
+abbrev pub NamesUnknown : Option (List ℕ) → Option (List ℕ) → Type 0
+NamesUnknown old new = (said : Said) × TakesMeta said old new × ((t : Transfer) → said.syntax ≢ transfer_uid t)
+
+abbrev pub FailsToReadAny : MetaFault → Option (List ℕ) → Type 0
+FailsToReadAny ReadFailed old = ⊤
+FailsToReadAny NotPart10 old = IfSome old (λ file. MetaFaultOf file NotPart10)
+FailsToReadAny BadMeta old = IfSome old (λ file. MetaFaultOf file BadMeta)
+FailsToReadAny OtherSyntax old = IfSome old NamesNone
 
 -- the file has a file header with a transfer syntax that is taken
 abbrev pub IsTaken : List ℕ → Type 0

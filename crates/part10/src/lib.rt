@@ -29,6 +29,6 @@ pub use meta_fault::MetaFault;
 pub use names::{EntryKind, EntryName};
 pub use notes::DraftNotes;
 pub use place::Place;
-pub use reading::read_meta;
+pub use reading::{read_any_meta, read_meta};
 pub use stored_file::StoredFile;
 pub use writing::meta_bytes;

@@ -1,5 +1,6 @@
 //! The contents of a file header.
-use element::{AeTitle, Syntax, Uid};
+use dictionary::Transfer;
+use element::{AeTitle, Uid};
 
 /// The part of a file header that describes its instance (PS3.10 section 7.1).
 #[derive(Debug, Drop)]
@@ -9,7 +10,7 @@ pub struct Meta {
     /// The SOP instance.
     pub instance: Uid,
     /// The transfer syntax of the data set.
-    pub syntax: Syntax,
+    pub syntax: Transfer,
     /// The title of the sender; not written if it is all spaces.
     pub calling: AeTitle,
 }

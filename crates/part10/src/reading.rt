@@ -4,7 +4,8 @@ ghost use Rattle.std.specs.Io.KnownBytes.{Consumes, IsAtEnd};
 ghost use Rattle.std.specs.Str.{bytes_eq};
 ghost use Rattle.element.specs.Padding as padding;
 ghost use Rattle.element.specs.Numbers.{le};
-ghost use Rattle.part10.specs.MetaText.{said_of, TakesMeta, NamesOther, FailsToRead};
+ghost use Rattle.dictionary.specs.Transfers.{native, syntax_in};
+ghost use Rattle.part10.specs.MetaText.{said_of, TakesMeta, NamesOther, NamesUnknown, FailsToRead, FailsToReadAny};
 ghost use Rattle.part10.specs.File.{length_element};
 ghost use Rattle.part10.specs.declared.meta_fault.MetaFault.TheVariants.{ReadFailed, OtherSyntax};
 ghost use Rattle.part10.specs.machine.Reading as part;
@@ -13,7 +14,7 @@ use crate::meta::Meta;
 use crate::meta_fault::MetaFault;
 use arrayvec::ArrayVec;
 use byteorder::{ByteOrder, LittleEndian};
-use dictionary::syntax_of;
+use dictionary::Transfer;
 use element::again::read_again;
 use element::{AeTitle, Header, Need, Syntax, Tag, Uid, need, read_header, unpadded};
 use std::io::Read;
@@ -247,7 +248,7 @@ impl Found {
         let class = self.class.ok_or(MetaFault::BadMeta)?;
         let instance = self.instance.ok_or(MetaFault::BadMeta)?;
         let syntax = self.syntax.ok_or(MetaFault::BadMeta)?;
-        let syntax = syntax_of(syntax.as_bytes()).ok_or(MetaFault::OtherSyntax)?;
+        let syntax = Transfer::of(syntax.as_bytes()).ok_or(MetaFault::OtherSyntax)?;
         Ok(Meta {
             class,
             instance,
@@ -277,19 +278,39 @@ fn read_group<R: Read>(input: &mut R, size: u32) -> Result<Found, MetaFault>
 /// Reads the file header that the reader begins with (PS3.10 section 7.1), and no byte after it.
 ///
 /// Any preamble is accepted. Group 0002 must begin with its length, end where that says, have rising
-/// tags and even, defined lengths, and name the class, the instance and one of the two transfer
-/// syntaxes; other elements are skipped. The calling title is not read: it is all spaces. The room
+/// tags and even, defined lengths, and name the class, the instance and one of the transfer
+/// syntaxes of the dictionary; other elements are skipped. The calling title is not read: it is all spaces. The room
 /// that this takes is fixed, whatever a length says.
 ///
 /// After `OtherSyntax` just the header was read, too; after any other error the reader's position is
 /// not determined.
-pub fn read_meta<R: Read>(input: &mut R) -> Result<Meta, MetaFault>
+pub fn read_any_meta<R: Read>(input: &mut R) -> Result<Meta, MetaFault>
     ensures header { IfOk result (λ meta. TakesMeta (said_of meta) (R.remaining input.old) (R.remaining input.new)) }
     ensures calling { IfOk result (λ meta. meta.calling.0 ≡ replicate 16 32) }
-    ensures fault { IfErr result (λ fault. FailsToRead fault (R.remaining input.old)) }
-    ensures other_syntax { IfErr result (λ fault. fault ≡ OtherSyntax → NamesOther (R.remaining input.old) (R.remaining input.new)) }
+    ensures fault { IfErr result (λ fault. FailsToReadAny fault (R.remaining input.old)) }
+    ensures other_syntax { IfErr result (λ fault. fault ≡ OtherSyntax → NamesUnknown (R.remaining input.old) (R.remaining input.new)) }
 {
     read_letters(input)?;
     let size = read_group_size(input)?;
     read_group(input, size)?.meta()
+}
+
+/// Reads the file header that the reader begins with as `read_any_meta` does, and takes the two native transfer
+/// syntaxes alone: any other one is `OtherSyntax`, after which just the header was read.
+pub fn read_meta<R: Read>(input: &mut R) -> Result<Meta, MetaFault>
+    ensures header { IfOk result (λ meta. TakesMeta (said_of meta) (R.remaining input.old) (R.remaining input.new)) }
+    ensures native { IfOk result (λ meta. meta.syntax ≡ native (syntax_in meta.syntax)) }
+    ensures calling { IfOk result (λ meta. meta.calling.0 ≡ replicate 16 32) }
+    ensures fault { IfErr result (λ fault. FailsToRead fault (R.remaining input.old)) }
+    ensures other_syntax { IfErr result (λ fault. fault ≡ OtherSyntax → NamesOther (R.remaining input.old) (R.remaining input.new)) }
+{
+    match read_any_meta(input) {
+        Ok(meta) => {
+            if meta.syntax.is_encapsulated() {
+                return Err(MetaFault::OtherSyntax);
+            }
+            Ok(meta)
+        }
+        Err(fault) => Err(fault),
+    }
 }

@@ -12,7 +12,7 @@ ghost use Rattle.element.specs.Padding.{padded};
 use crate::Meta;
 use arrayvec::ArrayVec;
 use byteorder::{ByteOrder, LittleEndian};
-use dictionary::{IMPLEMENTATION_CLASS_UID, IMPLEMENTATION_VERSION_NAME, syntax_uid};
+use dictionary::{IMPLEMENTATION_CLASS_UID, IMPLEMENTATION_VERSION_NAME};
 use element::{AeTitle, Header, Syntax, Tag, Vr, write_header};
 
 type Head = ArrayVec<u8, 512>;
@@ -69,7 +69,7 @@ fn put_uid(head: &mut Head, number: u16, text: &[u8])
 }
 
 /// Returns the elements with the version of the header, the class, the instance and the syntax.
-#[tactic(auto, using(crate::proofs::Bounds::syntax_uid_short), unfolding(element::specs::Vr::is_short, crate::specs::File::identity_elements))]
+#[tactic(auto, using(crate::proofs::Bounds::transfer_uid_short), unfolding(element::specs::Vr::is_short, crate::specs::File::identity_elements))]
 fn identity_elements(meta: &Meta) -> Head
     ensures items { result.items ≡ file.identity_elements meta.now }
     ensures class { is_uid meta.now.class ≡ true }
@@ -84,7 +84,7 @@ fn identity_elements(meta: &Meta) -> Head
     put_uid(&mut group, 0x0002, meta.class.as_bytes());
     meta.instance.len();
     put_uid(&mut group, 0x0003, meta.instance.as_bytes());
-    put_uid(&mut group, 0x0010, syntax_uid(meta.syntax));
+    put_uid(&mut group, 0x0010, meta.syntax.uid());
     group
 }
 

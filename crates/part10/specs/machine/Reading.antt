@@ -7,7 +7,7 @@ use Rattle.element.specs.declared.header.Header.{Header}
 use Rattle.element.specs.Header.{SpellsHeader}
 use Rattle.element.specs.Padding.{is_padding, is_empty, without_trailing}
 use Rattle.element.specs.Uid.{uid_of}
-use Rattle.dictionary.specs.Syntaxes.{syntax_of}
+use Rattle.dictionary.specs.Transfers.{transfer_of}
 use Rattle.part10.specs.declared.meta_fault.MetaFault.{MetaFault}
 use Rattle.part10.specs.declared.meta_fault.MetaFault.TheVariants.{NotPart10, BadMeta, OtherSyntax, ReadFailed}
 use Rattle.part10.specs.declared.meta.Meta.{Meta}
@@ -114,10 +114,10 @@ NoGroup size rest = (elements : List MetaElement) (group back : List ℕ) → re
 abbrev pub IsMeta : Found → Result Meta MetaFault → Type 0
 IsMeta found (Ok meta) =
     (syntax : List ℕ) × (found.class ≡ Some meta.class) × (found.instance ≡ Some meta.instance)
-    × (found.syntax ≡ Some syntax) × (syntax_of syntax ≡ Some meta.syntax) × (meta.calling.0 ≡ replicate 16 32)
+    × (found.syntax ≡ Some syntax) × (transfer_of syntax ≡ Some meta.syntax) × (meta.calling.0 ≡ replicate 16 32)
 IsMeta found (Err ReadFailed) = ⊥
 IsMeta found (Err NotPart10) = ⊥
 IsMeta found (Err BadMeta) = ¬ ((class instance syntax : List ℕ) × (found.class ≡ Some class) × (found.instance ≡ Some instance) × (found.syntax ≡ Some syntax))
 IsMeta found (Err OtherSyntax) =
     (class instance syntax : List ℕ) × (found.class ≡ Some class) × (found.instance ≡ Some instance)
-    × (found.syntax ≡ Some syntax) × (syntax_of syntax ≡ None)
+    × (found.syntax ≡ Some syntax) × (transfer_of syntax ≡ None)

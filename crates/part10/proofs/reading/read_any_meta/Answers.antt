@@ -6,8 +6,8 @@ use Rattle.part10.specs.declared.meta_fault.MetaFault.TheVariants.{BadMeta}
 use Rattle.part10.specs.MetaText.{MetaFaultOf}
 use Rattle.part10.proofs.FaultLemmas.{breaks_after}
 use Rattle.part10.proofs.WholeLemmas.{Whole, breaks_refuse, no_size, no_group_at, takes_meta, meta_refused, names_other, not_other, letters_not_other}
-use Rattle.part10.proofs.reading.read_meta.Given.{Over}
-use Rattle.part10.proofs.reading.read_meta.Goals as goal
+use Rattle.part10.proofs.reading.read_any_meta.Given.{Over}
+use Rattle.part10.proofs.reading.read_any_meta.Goals as goal
 
 pub returns-in_err-size-clause-fault : goal.returns-in_err-size-clause-fault
 returns-in_err-size-clause-fault g c =
