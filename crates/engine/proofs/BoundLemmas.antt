@@ -4,7 +4,7 @@ use Rattle.std.proofs.lemmas.Bool.{lt-ltb, le-ltb}
 use Rattle.acceptor.specs.declared.state.State.TheVariants.{Sta6}
 use Rattle.byteorder.specs.Endian.{big_number}
 use Rattle.element.specs.Numbers.{IsBytes}
-use Rattle.sequence.specs.Coding.{coding_of}
+use Rattle.sequence.specs.Transfer.{coding_in}
 use Rattle.sequence.specs.declared.coding.Coding.{Coding}
 use Rattle.pdu.specs.Frames.{IsRest, rest_of}
 use Rattle.pdu.specs.Marks.{frame_kind, frame_length}
@@ -131,7 +131,7 @@ data_within : (limit : Rooms) (s : Settings) (request : Requested) (come : Begun
 data_within limit s request come n least bytes (walked store held) =
     let own : IsBytes store.set = subst (λ (b : Begun). IsBytes (set_of b)) store.begun bytes in
     let all : rooms wanted ≡ 128 = refl in
-    omega (arith, least, all, set_within (coding_of store.context.syntax) (limits limit.depth s.max_data) store.set n own held)
+    omega (arith, least, all, set_within (coding_in store.context.syntax) (limits limit.depth s.max_data) store.set n own held)
 data_within limit s request come n least bytes (not_walked none) = omega arith
 
 -- ---- all of it

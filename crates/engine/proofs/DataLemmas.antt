@@ -3,7 +3,7 @@ use Rattle.std.proofs.Common.{◌≡◌, ◌⊎◌, ℕ, ◌≤◌, Bool, true, 
 use Rattle.std.proofs.lemmas.Grind.{common_steps}
 use Rattle.std.proofs.lemmas.List.{append-nil}
 use Rattle.acceptor.specs.declared.state.State.TheVariants.{Sta6}
-use Rattle.sequence.specs.Coding.{coding_of}
+use Rattle.sequence.specs.Transfer.{coding_in}
 use Rattle.sequence.specs.declared.coding.Coding.{Coding}
 use Rattle.pdu.specs.Sent.{Line}
 use Rattle.engine.specs.Requested.{Requested, request_record}
@@ -92,14 +92,14 @@ idle_proceeds depth most request m stored store e none =
     record { failed = false; may = λ x. absurd cc; walks = c.0; draft = c.1; files = refl; count = omega arith }
 
 pub begun_proceeds : (depth most : ℕ) (request : Requested) (m : Begun) (s : InStore request m) (bytes : List ℕ) (stored : Stored) (old new : Store) → s.set ≡ [] → bytes ≡ head (meta_by request s.context s.asked)
-    → BeginsStore (coding_of s.context.syntax) (limits depth most) bytes stored old new → Proceeds depth most request m false stored old new
+    → BeginsStore (coding_in s.context.syntax) (limits depth most) bytes stored old new → Proceeds depth most request m false stored old new
 begun_proceeds depth most request m s bytes Nothing old new none is h = absurd h
 begun_proceeds depth most request m s bytes (Walking walker true) old new none is (takes, step) =
     let file : bytes ≡ File (meta_by request s.context s.asked) s.set = is ∙ sym (append-nil (head (meta_by request s.context s.asked))) ∙ ap (λ (xs : List ℕ). head (meta_by request s.context s.asked) ++ xs) (sym none) in
     record {
       failed = false;
       may = λ x. absurd cc;
-      walks = walked s (subst (λ (xs : List ℕ). HasWalked walker (coding_of s.context.syntax) (limits depth most) xs) (sym none) takes);
+      walks = walked s (subst (λ (xs : List ℕ). HasWalked walker (coding_in s.context.syntax) (limits depth most) xs) (sym none) takes);
       draft = draft_due (due_file request m false s refl)
           (subst (λ (x : Store). HasDraft x (File (meta_by request s.context s.asked) s.set)) (sym step) (record { there = refl; bytes = told_begun old.told bytes _ file }));
       files = ap files_in step ∙ told_files old.told bytes;
@@ -109,7 +109,7 @@ begun_proceeds depth most request m s bytes (Walking walker false) old new none 
     record {
       failed = true;
       may = λ x. (refl, s);
-      walks = walked s (subst (λ (xs : List ℕ). HasWalked walker (coding_of s.context.syntax) (limits depth most) xs) (sym none) takes);
+      walks = walked s (subst (λ (xs : List ℕ). HasWalked walker (coding_in s.context.syntax) (limits depth most) xs) (sym none) takes);
       draft = none_due (λ file due. let x : true ≡ false = due.unfailed in absurd cc);
       files = ap files_in step ∙ files_kept old.told;
       count = ap (λ (x : Store). x.failures) step;

@@ -3,6 +3,7 @@ use Rattle.std.proofs.Common.{refl}
 use Rattle.element.specs.Vr.{is_short}
 use Rattle.dictionary.specs.Classes.{class_named}
 use Rattle.dictionary.specs.Syntaxes.{syntax_named}
+use Rattle.dictionary.specs.Transfers.{transfer_named}
 use Rattle.dimse.specs.Command.{command_element_bytes, store_command, command_of}
 use Rattle.dimse.specs.Reading.{element_at, elements_in, elements_of, set_of, command_in}
 use Rattle.dimse.specs.Reply.{reply_command, fragments, reply_bytes}
@@ -34,13 +35,13 @@ unfolding frames_of rest_of pieces_of marks new_marks pdv_marks items_of left_ov
 another_called_title = (refl, refl)
 
 pub recorded_echo : RecordedEcho
-unfolding frames_of rest_of pieces_of marks new_marks pdv_marks items_of left_over item_fault items_fault class_named syntax_named is_short command_element_bytes store_command command_of element_at elements_in elements_of set_of command_in reply_command fragments reply_bytes
+unfolding frames_of rest_of pieces_of marks new_marks pdv_marks items_of left_over item_fault items_fault class_named syntax_named transfer_named is_short command_element_bytes store_command command_of element_at elements_in elements_of set_of command_in reply_command fragments reply_bytes
 recorded_echo = ((refl, refl), (refl, refl))
 
 pub held_while_the_echo_comes : HeldWhileTheEchoComes
-unfolding frames_of rest_of pieces_of marks new_marks pdv_marks spot data_spot items_of left_over item_fault items_fault class_named syntax_named is_short command_element_bytes store_command command_of element_at elements_in elements_of set_of command_in reply_command fragments reply_bytes
+unfolding frames_of rest_of pieces_of marks new_marks pdv_marks spot data_spot items_of left_over item_fault items_fault class_named syntax_named transfer_named is_short command_element_bytes store_command command_of element_at elements_in elements_of set_of command_in reply_command fragments reply_bytes
 held_while_the_echo_comes = (refl, refl, refl, refl, refl)
 
 pub a_good_pdv_before_a_bad_one : AGoodPdvBeforeABadOne
-unfolding frames_of rest_of pieces_of marks new_marks pdv_marks items_of left_over item_fault items_fault class_named syntax_named is_short command_element_bytes store_command command_of element_at elements_in elements_of set_of command_in reply_command fragments reply_bytes
+unfolding frames_of rest_of pieces_of marks new_marks pdv_marks items_of left_over item_fault items_fault class_named syntax_named transfer_named is_short command_element_bytes store_command command_of element_at elements_in elements_of set_of command_in reply_command fragments reply_bytes
 a_good_pdv_before_a_bad_one = ((refl, refl), (refl, refl))

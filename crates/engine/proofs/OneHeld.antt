@@ -1,6 +1,6 @@
 -- The number of held bytes is one.
 use Rattle.std.proofs.Common.{◌≡◌, ℕ, List, [], Option, Some, refl, sym, ap, subst, ◌∙◌, arith}
-use Rattle.sequence.specs.Coding.{coding_of}
+use Rattle.sequence.specs.Transfer.{coding_in}
 use Rattle.sequence.specs.declared.coding.Coding.{Coding}
 use Rattle.element.specs.declared.tag.Tag.{Tag}
 use Rattle.sequence.specs.Open.{in_header, Open}
@@ -43,13 +43,13 @@ same_some x y e = cc
 
 -- the message is of one store alone
 of_one_store : (rooms : Rooms) (s : Settings) (request : Requested) (come : Begun) (n m : ℕ) (a b : InStore request come)
-    → IsHeldOfSet (coding_of a.context.syntax) (limits rooms.depth s.max_data) a.set n → IsHeldOfSet (coding_of b.context.syntax) (limits rooms.depth s.max_data) b.set m → n ≡ m
+    → IsHeldOfSet (coding_in a.context.syntax) (limits rooms.depth s.max_data) a.set n → IsHeldOfSet (coding_in b.context.syntax) (limits rooms.depth s.max_data) b.set m → n ≡ m
 of_one_store rooms s request come n m a b h k =
     let same = in_set a.id b.id a.command b.command a.set b.set (sym a.begun ∙ b.begun) in
     let accepted = same_some a.context b.context (sym a.accepted ∙ ap (λ (id : ℕ). context_of (request_record request) id) same.0 ∙ b.accepted) in
-    of_one_set (coding_of a.context.syntax) (limits rooms.depth s.max_data) a.set n m h
-    (subst (λ (x : Context). IsHeldOfSet (coding_of x.syntax) (limits rooms.depth s.max_data) a.set m) (sym accepted)
-    (subst (λ (x : List ℕ). IsHeldOfSet (coding_of b.context.syntax) (limits rooms.depth s.max_data) x m) (sym same.1) k))
+    of_one_set (coding_in a.context.syntax) (limits rooms.depth s.max_data) a.set n m h
+    (subst (λ (x : Context). IsHeldOfSet (coding_in x.syntax) (limits rooms.depth s.max_data) a.set m) (sym accepted)
+    (subst (λ (x : List ℕ). IsHeldOfSet (coding_in b.context.syntax) (limits rooms.depth s.max_data) x m) (sym same.1) k))
 
 of_one_message : (rooms : Rooms) (s : Settings) (request : Requested) (come : Begun) (n m : ℕ) → IsHeldOfMessage rooms s request come n → IsHeldOfMessage rooms s request come m → n ≡ m
 of_one_message rooms s request come n m (walked a h) (walked b k) = of_one_store rooms s request come n m a b h k

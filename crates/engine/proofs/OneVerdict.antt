@@ -1,6 +1,6 @@
 -- There is one verdict on each store.
 use Rattle.std.proofs.Common.{◌≡◌, inl, inr, ℕ, Bool, List, [], ◌∷◌, sym, ap, subst, ◌∙◌}
-use Rattle.sequence.specs.Coding.{coding_of}
+use Rattle.sequence.specs.Transfer.{coding_in}
 use Rattle.sequence.specs.declared.coding.Coding.{Coding}
 use Rattle.sequence.specs.declared.fault.Fault.{Fault}
 use Rattle.sequence.specs.Rules.{Limits}
@@ -33,7 +33,7 @@ whole_or_faulty {es = es} fault (ends_early f) h = f.unfinished es h.whole
 
 one_finding : (x : Submitted) (check : Check) (one other : Finding) → FailsWith x check one → FailsWith x check other → one ≡ other
 one_finding x OfContext one other a b = a.1 ∙ sym b.1
-one_finding x WholeSet one other a b = a.2 ∙ faults_alike (coding_of x.context.syntax) x.limits x.data_set a.0 b.0 a.1 b.1 ∙ sym b.2
+one_finding x WholeSet one other a b = a.2 ∙ faults_alike (coding_in x.context.syntax) x.limits x.data_set a.0 b.0 a.1 b.1 ∙ sym b.2
 one_finding x OwnClass one other a b = a.1 ∙ sym b.1
 one_finding x OwnInstance one other a b = a.1 ∙ sym b.1
 one_finding x Filed one other a b = a.1 ∙ sym b.1
@@ -69,7 +69,7 @@ same_finding depth most context command set failed one other v w = by v.first w.
     by (inr (p, inl a)) (inr (q, inr b)) = absurd (whole_or_faulty a.0 a.1 b.0)
     by (inr (p, inr a)) (inr (q, inl b)) = absurd (whole_or_faulty b.0 b.1 a.0)
     by (inr (p, inr a)) (inr (q, inr b)) =
-        let same : w.elements ≡ v.elements = one_tree (coding_of context.syntax) 0 w.elements v.elements set b.0.whole a.0.whole in
+        let same : w.elements ≡ v.elements = one_tree (coding_in context.syntax) 0 w.elements v.elements set b.0.whole a.0.whole in
         one_first (x v.elements) (OwnClass ∷ OwnInstance ∷ Filed ∷ []) one other a.1 (subst (λ es. FirstFinding (x es) (OwnClass ∷ OwnInstance ∷ Filed ∷ []) other) same b.1)
 
 pub a_verdict_is_one : AVerdictIsOne

@@ -271,18 +271,18 @@ bounded_output rooms s p story before piece most told each =
 
 -- ---- answers are short
 
-requested_short : (s : Settings) (body : List ℕ) (fault : Option PduFault) → request_fault body ≡ fault → IsBytes body → (elim fault [ None ↦ length (accept_text s (request_record body)) | Some f ↦ 0 ]) ≤ 4108
+requested_short : (s : Settings) (body : List ℕ) (fault : Option PduFault) → request_fault body ≡ fault → IsBytes body → (elim fault [ None ↦ length (accept_text s (request_record body)) | Some f ↦ 0 ]) ≤ 4620
 requested_short s body None e bytes = accepts_short s body bytes e
 requested_short s body (Some f) e bytes = omega arith
 
-replied_short : (p : Progress) (finding : Finding) (m : Message) (read : Result CommandRecord DimseFault) → command_in m.command ≡ read → length (replied p finding m read).sent ≤ 4108
+replied_short : (p : Progress) (finding : Finding) (m : Message) (read : Result CommandRecord DimseFault) → command_in m.command ≡ read → length (replied p finding m read).sent ≤ 4620
 replied_short p finding m (Err fault) e = omega arith
 replied_short p finding m (Ok command) e =
     let r = requested.request_record p.request in
     let f = finding_on (context_of r m.context) command finding in
     omega (arith, reply_bounded m.command command f.status f.detail m.context r.maximum e)
 
-brought_short : (p : Progress) (finding : Finding) (b : Brought) → (elim b [ Goes begun ↦ 0 | Ends m ↦ length (replied p finding m (command_in m.command)).sent | Refuses fault ↦ 0 ]) ≤ 4108
+brought_short : (p : Progress) (finding : Finding) (b : Brought) → (elim b [ Goes begun ↦ 0 | Ends m ↦ length (replied p finding m (command_in m.command)).sent | Refuses fault ↦ 0 ]) ≤ 4620
 brought_short p finding (Goes begun) = omega arith
 brought_short p finding (Ends m) = replied_short p finding m (command_in m.command) refl
 brought_short p finding (Refuses fault) = omega arith
@@ -305,4 +305,4 @@ stories_answer_shortly rooms s p (h ∷ story) each =
 
 pub output_of_a_piece : OutputOfAPiece
 output_of_a_piece rooms s p story before piece told each =
-    omega (arith, bounded_output rooms s p story before piece 4108 told (stories_answer_shortly rooms s p story each))
+    omega (arith, bounded_output rooms s p story before piece 4620 told (stories_answer_shortly rooms s p story each))

@@ -136,11 +136,11 @@ module _ (rooms : Rooms) (s : Settings) where
   still_uncounted wire p q h = grind (arith, common_steps)
 
   -- what comes after them is all that is sent
-  past_inner : (ms : List Mark) (es : List Entry) (p : Progress) (story : List Happened) → AreInner ms → takes_pdvs p ≡ false → entries_of story ≡ map timeline.At ms ++ es → AnswersHave rooms s 4108 p story
-      → length (sent_of rooms s p story) ≤ length es * 4138
+  past_inner : (ms : List Mark) (es : List Entry) (p : Progress) (story : List Happened) → AreInner ms → takes_pdvs p ≡ false → entries_of story ≡ map timeline.At ms ++ es → AnswersHave rooms s 4620 p story
+      → length (sent_of rooms s p story) ≤ length es * 4650
   past_inner [] es p story i t told short =
       let number : length story ≡ length es = sym (length-map story (λ (h : Happened). h.0)) ∙ ap length told in
-      subst (λ (n : ℕ). length (sent_of rooms s p story) ≤ n * 4138) number (sent_few rooms s 4108 p story short)
+      subst (λ (n : ℕ). length (sent_of rooms s p story) ≤ n * 4650) number (sent_few rooms s 4620 p story short)
   past_inner (m ∷ ms) es p [] i t told short = absurd cc
   past_inner (m ∷ ms) es p (h ∷ story) i t told short =
       let at : h.0 ≡ timeline.At m = cc in
@@ -149,16 +149,16 @@ module _ (rooms : Rooms) (s : Settings) where
       let next : takes_pdvs (gives rooms s p h).next ≡ false = subst (λ (x : Advance). takes_pdvs (cut h.1.wire p x).next ≡ false) (sym g) (still_uncounted h.1.wire p q t) in
       let others : entries_of story ≡ map timeline.At ms ++ es = cc in
       let none : (gives rooms s p h).sent ≡ [] = cut_nothing h.1.wire p (at_entry rooms s q h.1.finding h.0) (ap (λ (x : Advance). x.sent) g) in
-      subst (λ (xs : List ℕ). length (xs ++ sent_of rooms s (gives rooms s p h).next story) ≤ length es * 4138) (sym none)
+      subst (λ (xs : List ℕ). length (xs ++ sent_of rooms s (gives rooms s p h).next story) ≤ length es * 4650) (sym none)
       (past_inner ms es (gives rooms s p h).next story i.1 next others short.1)
 
   -- ---- what a portion has an association send
 
-  few_marked : (p : Progress) (story : List Happened) (ms : List Mark) → entries_of story ≡ map timeline.At ms → length ms ≤ 4 → AnswersHave rooms s 4108 p story → length (sent_of rooms s p story) ≤ 16552
-  few_marked p story ms told few short = omega (arith, sent_few rooms s 4108 p story short, length-map story (λ (h : Happened). h.0), ap length told, length-map ms timeline.At, few)
+  few_marked : (p : Progress) (story : List Happened) (ms : List Mark) → entries_of story ≡ map timeline.At ms → length ms ≤ 4 → AnswersHave rooms s 4620 p story → length (sent_of rooms s p story) ≤ 18600
+  few_marked p story ms told few short = omega (arith, sent_few rooms s 4620 p story short, length-map story (λ (h : Happened). h.0), ap length told, length-map ms timeline.At, few)
 
   skipped_few : (q : Position) (r c : List ℕ) (p : Progress) (story : List Happened) → SkipsAt q r → takes_pdvs p ≡ false → length c ≤ bytes_due q → entries_of story ≡ map timeline.At (new_marks r c)
-      → AnswersHave rooms s 4108 p story → length (sent_of rooms s p story) ≤ 16552
+      → AnswersHave rooms s 4620 p story → length (sent_of rooms s p story) ≤ 18600
   skipped_few (position.Head bytes) r c p story a t le told short = absurd a
   skipped_few (position.Body kind left) r c p story a t le told short = absurd a
   skipped_few (position.PdvHead left bytes) r c p story a t le told short = absurd a
@@ -179,7 +179,7 @@ module _ (rooms : Rooms) (s : Settings) where
       ]
 
   stands_few : (f : Fields) (r c : List ℕ) (p : Progress) (story : List Happened) → StandsAt f.position f.kept r [] → takes_pdvs_in f.kept ≡ takes_pdvs p → length c ≤ bytes_due f.position
-      → entries_of story ≡ map timeline.At (new_marks r c) → AnswersHave rooms s 4108 p story → length (sent_of rooms s p story) ≤ 16552
+      → entries_of story ≡ map timeline.At (new_marks r c) → AnswersHave rooms s 4620 p story → length (sent_of rooms s p story) ≤ 18600
   stands_few f r c p story (reads a) same le told short = few_marked p story (new_marks r c) told (few_of_part f.position r c a le) short
   stands_few f r c p story (skips a u none) same le told short = skipped_few f.position r c p story a (sym same ∙ u.pdvs) le told short
 
@@ -192,13 +192,13 @@ module _ (rooms : Rooms) (s : Settings) where
     p : Progress
     p = progress_of rooms s at_start story
 
-    short : AnswersHave rooms s 4108 p after
+    short : AnswersHave rooms s 4620 p after
     short = stories_answer_shortly rooms s p after (subst (AllByRecursion IsOfBytes) (sym told) (piece_of_bytes inputs piece bytes))
 
     marked : entries_of after ≡ map timeline.At (new_marks stream piece)
     marked = told ∙ entries_of_piece stream piece
 
-    by : (most ≡ 1) ⊎ ((is_ended f.kept.state ≡ false) × (most ≡ bytes_due f.position)) → length (sent_of rooms s p after) ≤ 16552
+    by : (most ≡ 1) ⊎ ((is_ended f.kept.state ≡ false) × (most ≡ bytes_due f.position)) → length (sent_of rooms s p after) ≤ 18600
     by (inl one) = few_marked p after (new_marks stream piece) marked (omega (arith, few_marks stream piece, le, one)) short
     by (inr due) =
         let pends = h.shows.frame.pends in

@@ -36,6 +36,7 @@ use Rattle.engine.proofs.StoreLemmas.{so_far, none_carried}
 use Rattle.engine.proofs.PendsLemmas.{pends_left, settled_failed}
 use Rattle.engine.proofs.DueLemmas.{none_counted_pdv, if_nothing}
 use Rattle.engine.proofs.ShownLemmas.{no_store}
+use Rattle.negotiate.specs.Taken.{Taken}
 
 -- ---- which of them it is
 
@@ -100,11 +101,11 @@ module _ (s : Settings) (body : List ℕ) (st : State) (due : st ≡ Sta2) (none
 -- ---- in any progress that awaits a request
 
 -- a request to a receiver that takes these further storage classes
-abbrev pub asked : List (List ℕ) → List ℕ → Requested
+abbrev pub asked : Taken → List ℕ → Requested
 asked further body = record { further = further; body = body }
 
 -- the association is left, or established with this request
-abbrev pub LeavesOrStands : List (List ℕ) → List ℕ → Progress → Advance → Advance → Type 0
+abbrev pub LeavesOrStands : Taken → List ℕ → Progress → Advance → Advance → Type 0
 LeavesOrStands further body p g first =
     (g.sent ≡ first.sent) × (g.files ≡ []) × (((first.next.state ≡ Sta13) × (g.next ≡ left Sta13 p)) ⊎ ((first.next.state ≡ Sta6) × (g.next ≡ record p { state = Sta6; request = asked further body })))
 
@@ -142,7 +143,7 @@ pends_due p old store body h due r =
 quiet_between : (p : Progress) → p.message ≡ NoMessage → so_far p [] ≡ NoMessage
 quiet_between p none = ap (λ (xs : List ℕ). with_pdv xs p.message) (none_counted_pdv p) ∙ none
 
-stood : (further : List (List ℕ)) (p : Progress) (body : List ℕ) (old given new : Kept) (store : Store) → Pends old store p body [] → old.state ≡ Sta2 → given.refused ≡ old.refused
+stood : (further : Taken) (p : Progress) (body : List ℕ) (old given new : Kept) (store : Store) → Pends old store p body [] → old.state ≡ Sta2 → given.refused ≡ old.refused
     → new ≡ record given { state = Sta6 } → IsEstablishedBy given (requested.request_record (asked further body)) → Pends new store (record p { state = Sta6; request = asked further body }) body []
 stood further p body old given new store h due same is fresh =
     let q = record p { state = Sta6; request = asked further body } in
@@ -164,7 +165,7 @@ stood further p body old given new store h due same is fresh =
     })
 
 -- the request that is whole was answered, or the wire failed
-module _ (further : List (List ℕ)) (p : Progress) (g first : Advance) (body : List ℕ) (n : State) (old given new : Kept) (lo ln : Line) (so sn : Store) where
+module _ (further : Taken) (p : Progress) (g first : Advance) (body : List ℕ) (n : State) (old given new : Kept) (lo ln : Line) (so sn : Store) where
   pends_answered : Pends old so p body [] → old.state ≡ Sta2 → given.refused ≡ old.refused → LeavesOrStands further body p g first → n ≡ first.next.state → ComesTo n (Ok tt) given new so sn
       → (n ≡ Sta6 → IsEstablishedBy given (requested.request_record (asked further body))) → Pends new sn g.next body []
   pends_answered h due same (sent, files, inl (st, is)) e settles fresh =

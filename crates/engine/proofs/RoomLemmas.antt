@@ -50,6 +50,7 @@ use Rattle.engine.proofs.PendsLemmas.{moved_left, moved_stays}
 use Rattle.engine.proofs.RowsLemmas.{few_rows}
 use Rattle.engine.proofs.PhaseLemmas.{never_both}
 use Rattle.engine.proofs.StateLemmas.{established_is, due_is, by_left}
+use Rattle.negotiate.specs.Taken.{Taken}
 
 -- the bytes of a data set that have come
 abbrev pub set_of : Begun → List ℕ
@@ -80,7 +81,7 @@ no_bytes i = lit< tt
 -- ---- requests
 
 -- of one that is read: it has more bytes than its rows, and at most 128 contexts
-small_request : (rooms : Rooms) (further : List (List ℕ)) (body : List ℕ) → IsBytes body → request_fault body ≡ None → length body ≤ rooms.request - 12
+small_request : (rooms : Rooms) (further : Taken) (body : List ℕ) → IsBytes body → request_fault body ≡ None → length body ≤ rooms.request - 12
     → IsSmall rooms (offered further (items.request_record body))
 small_request rooms further body bytes none le =
     let r = items.request_record body in

@@ -12,6 +12,7 @@ use Rattle.pdu.specs.Request.{ContextTexts, RequestText}
 use Rattle.negotiate.specs.ContextRows.{accepted_count}
 use Rattle.negotiate.specs.Contexts.{offered, result_of, seen}
 use Rattle.std.proofs.Common.{nat_eq}
+use Rattle.negotiate.specs.Taken.{Taken}
 
 -- an item has four bytes at least
 items_size : (items : List (List ℕ)) → AllByRecursion (IsWholePiece item) items → 4 * length items ≤ length (joined items)
@@ -25,10 +26,10 @@ contexts_items [] (i ∷ is) h = absurd h
 contexts_items (p ∷ ps) [] h = absurd h
 contexts_items (p ∷ ps) (i ∷ is) h = omega (arith, contexts_items ps is h.1)
 
-seen_length : (further : List (List ℕ)) (ps : List Proposal) → length (map (seen further) ps) ≡ length ps
+seen_length : (further : Taken) (ps : List Proposal) → length (map (seen further) ps) ≡ length ps
 seen_length further ps = grind (arith, common_steps)
 
-pub few_rows : (further : List (List ℕ)) (r : RequestRecord) (b : List ℕ) → RequestText r b → 68 + 4 * accepted_count (offered further r) ≤ length b
+pub few_rows : (further : Taken) (r : RequestRecord) (b : List ℕ) → RequestText r b → 68 + 4 * accepted_count (offered further r) ≤ length b
 few_rows further r b h =
     let rest = joined h.items in
     let size = ap length h.whole in

@@ -2,7 +2,7 @@
 use Rattle.std.proofs.Common.{◌≡◌, ℕ, Bool, true, false, not, ◌&&◌, ◌||◌, List, [], ◌∷◌, Option, Some, None, Result, Ok, refl, sym, ap, subst, ◌∙◌, nat_eq, if◌then◌else◌, inr, arith}
 use Rattle.std.proofs.lemmas.Grind.{common_steps}
 use Rattle.pdu.specs.Marks.{Head, PdvHead, Pdv, BadPdv, Leftover, End}
-use Rattle.sequence.specs.Coding.{coding_of}
+use Rattle.sequence.specs.Transfer.{coding_in}
 use Rattle.engine.specs.Requested.{request_record}
 use Rattle.pdu.specs.Record.{RequestRecord}
 use Rattle.negotiate.specs.declared.proposals.Context.{Context}
@@ -99,7 +99,7 @@ good_verdict : (depth most : ℕ) (context : Context) (command : CommandRecord) 
 good_verdict depth most context command set g = let w = g.whole in
     record {
       elements = w.elements;
-      first = inr (g.of_context, inr (record { whole = w.text; unbroken = whole_breaks_no_rule (coding_of context.syntax) (limits depth most) set w }, inr (g.own_class, inr (g.own_instance, inr (refl, refl)))));
+      first = inr (g.of_context, inr (record { whole = w.text; unbroken = whole_breaks_no_rule (coding_in context.syntax) (limits depth most) set w }, inr (g.own_class, inr (g.own_instance, inr (refl, refl)))));
     }
 
 -- no verdict but success stands beside it

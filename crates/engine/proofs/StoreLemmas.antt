@@ -3,7 +3,7 @@ use Rattle.std.proofs.Common.{◌≡◌, ℕ, ◌+◌, ◌≤◌, nat_lt, Bool, 
 use Rattle.std.proofs.lemmas.Grind.{common_steps}
 use Rattle.std.proofs.lemmas.Bool.Decides.{nat_tests}
 use Rattle.std.proofs.lemmas.List.{append-nil, length-append, drop_all, drop-append-le, get_or_append_left}
-use Rattle.sequence.specs.Coding.{coding_of}
+use Rattle.sequence.specs.Transfer.{coding_in}
 use Rattle.engine.specs.Requested.{Requested, request_record}
 use Rattle.negotiate.specs.declared.proposals.Context.{Context}
 use Rattle.negotiate.specs.Contexts.{context_of}
@@ -245,4 +245,4 @@ module _ (depth most : ℕ) (request : Requested) (m : Begun) (before : Bool) (c
   goes_on_so (Walking walker d) (Walking after e) (walked s takes, h) (keeps, g) =
       let more = store_fragment request context part m s in
       let r = grows d e h s g in
-      record { failed = r.0; may = λ x. (r.1 x, more); walks = walked more (keeps (coding_of s.context.syntax) (limits depth most) s.set takes); draft = r.2; files = r.3; count = r.4 }
+      record { failed = r.0; may = λ x. (r.1 x, more); walks = walked more (keeps (coding_in s.context.syntax) (limits depth most) s.set takes); draft = r.2; files = r.3; count = r.4 }

@@ -2,7 +2,7 @@
 use Rattle.std.proofs.Common.{◌≡◌, ℕ, ◌^◌, List, [], ◌∷◌, take, drop, get_or, Option, Some, None, refl, sym, ap, subst, codes, arith, lit<, inl, inr}
 use Rattle.sequence.specs.declared.coding.Coding.{Coding}
 use Rattle.sequence.specs.declared.coding.Coding.TheVariants as codings
-use Rattle.element.specs.declared.syntax.Syntax.TheVariants.{Explicit}
+use Rattle.dictionary.specs.declared.transfer.Transfer.TheVariants.{Explicit}
 use Rattle.element.specs.declared.header.Header.{Header}
 use Rattle.element.specs.Header.{number, short}
 use Rattle.element.specs.Uid.{uid_of}
@@ -10,6 +10,7 @@ use Rattle.element.specs.Vr.{is_short}
 use Rattle.dictionary.specs.Tags.{row_of}
 use Rattle.dictionary.specs.Classes.{class_named}
 use Rattle.dictionary.specs.Syntaxes.{syntax_named}
+use Rattle.dictionary.specs.Transfers.{transfer_named}
 use Rattle.dimse.specs.Command.{command_element_bytes, store_command, command_of}
 use Rattle.dimse.specs.Reading.{element_at, elements_in, elements_of, set_of, command_in}
 use Rattle.dimse.specs.Reply.{reply_command, fragments, reply_bytes}
@@ -109,5 +110,5 @@ verdicts_on_one_image = (
 )
 
 pub the_file_of_a_store : TheFileOfAStore
-unfolding pieces_of items_of left_over item_fault items_fault class_named syntax_named is_short command_element_bytes store_command command_of element_at elements_in elements_of set_of command_in reply_command fragments reply_bytes identity_elements implementation_elements title_element
+unfolding pieces_of items_of left_over item_fault items_fault class_named syntax_named transfer_named is_short command_element_bytes store_command command_of element_at elements_in elements_of set_of command_in reply_command fragments reply_bytes identity_elements implementation_elements title_element
 the_file_of_a_store = refl

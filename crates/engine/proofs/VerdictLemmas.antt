@@ -2,7 +2,7 @@
 use Rattle.std.proofs.Common.{◌≡◌, ◌≢◌, ◌⊎◌, inl, inr, ℕ, Bool, true, false, List, [], ◌∷◌, ◌++◌, Option, Some, None, refl, sym, ap, subst, ◌∙◌, append-nil, nat_eq, arith}
 use Rattle.std.proofs.lemmas.Grind.{common_steps}
 use Rattle.std.proofs.lemmas.Bool.Decides.{eqb_tells}
-use Rattle.sequence.specs.Coding.{coding_of}
+use Rattle.sequence.specs.Transfer.{coding_in}
 use Rattle.sequence.specs.declared.coding.Coding.{Coding}
 use Rattle.element.specs.declared.tag.Tag.{Tag}
 use Rattle.element.specs.Header.{number}
@@ -163,7 +163,7 @@ named x (inl class) (inl instance) false e = (good, inr (class, inr (instance, i
 pub a_verdict_is_there : AVerdictIsThere
 a_verdict_is_there depth most context command set failed bytes = by (of_context_or_not context command)
   where
-    ending : IsOfContext context command → Ends (coding_of context.syntax) (limits depth most) set → (finding : Finding) × Verdict depth most context command set failed finding
+    ending : IsOfContext context command → Ends (coding_in context.syntax) (limits depth most) set → (finding : Finding) × Verdict depth most context command set failed finding
     ending of (faulty fault f) = (of_fault fault, record { elements = no_elements; first = inr (of, inl (fault, f, refl)) })
     ending of (fine es whole) =
         let x : Submitted = record { context = context; command = command; data_set = set; limits = limits depth most; elements = es; failed = failed } in
@@ -171,5 +171,5 @@ a_verdict_is_there depth most context command set failed bytes = by (of_context_
         (found.0, record { elements = es; first = inr (of, inr (whole, found.1)) })
 
     by : IsOfContext context command ⊎ (IsOfContext context command → ⊥) → (finding : Finding) × Verdict depth most context command set failed finding
-    by (inl of) = let k = some_telling (coding_of context.syntax) (limits depth most) set bytes in ending of (ends_told (coding_of context.syntax) (limits depth most) set k.0 k.1)
+    by (inl of) = let k = some_telling (coding_in context.syntax) (limits depth most) set bytes in ending of (ends_told (coding_in context.syntax) (limits depth most) set k.0 k.1)
     by (inr other) = (failure class_not_supported, record { elements = no_elements; first = inl (other, refl) })

@@ -1,7 +1,7 @@
 -- What judging a data set finds, from what its walker reports; and what comes of its draft.
 use Rattle.std.proofs.Common.{◌≡◌, inl, inr, ℕ, Bool, true, false, ◌||◌, List, [], ◌∷◌, Result, Ok, Err, nat_eq, refl, sym, ap, subst, ◌∙◌, arith}
 use Rattle.std.proofs.lemmas.Grind.{common_steps}
-use Rattle.sequence.specs.Coding.{coding_of}
+use Rattle.sequence.specs.Transfer.{coding_in}
 use Rattle.sequence.specs.declared.coding.Coding.{Coding}
 use Rattle.sequence.specs.declared.fault.Fault.{Fault}
 use Rattle.sequence.specs.declared.walker.Walker.{Walker}
@@ -36,24 +36,24 @@ kept_told h (refused {p = p} {u = u} {rule = rule} {tag = tag} f o) = absurd (h.
 -- the walker's data set is whole, and it kept what is wanted of its elements
 pub record IsRead {V D : ℕ} (w : Walker V D) (context : Context) (depth most : ℕ) (set : List ℕ) : Type 0 where
   pub elements : Elements
-  pub fault_free : HasNoFault (coding_of context.syntax) (limits depth most) set elements
+  pub fault_free : HasNoFault (coding_in context.syntax) (limits depth most) set elements
   pub kept : (told_by w).kept ≡ kept_of wanted elements
 
 pub is_read : {V D : ℕ} (w : Walker V D) → ((b : List ℕ) → StandsAt w b → IsWholeDataSet (walker_syntax w) (limits_of w) b)
-    → (context : Context) (depth most : ℕ) (set : List ℕ) → HasWalked w (coding_of context.syntax) (limits depth most) set → IsRead w context depth most set
+    → (context : Context) (depth most : ℕ) (set : List ℕ) → HasWalked w (coding_in context.syntax) (limits depth most) set → IsRead w context depth most set
 is_read w whole context depth most set k =
     let lim = limits depth most in
-    let here : IsWholeDataSet (coding_of context.syntax) lim set = subst (λ z. IsWholeDataSet z lim set) k.syntax_is (subst (λ z. IsWholeDataSet (walker_syntax w) z set) k.limits_are (whole set k.stands)) in
-    let tells : Tells (coding_of context.syntax) lim set (told_by w) = subst (λ z. Tells z lim set (told_by w)) k.syntax_is (subst (λ z. Tells (walker_syntax w) z set (told_by w)) k.limits_are k.stands.tells) in
-    let h : HasNoFault (coding_of context.syntax) lim set here.elements = record { whole = here.text; unbroken = whole_breaks_no_rule (coding_of context.syntax) lim set here } in
+    let here : IsWholeDataSet (coding_in context.syntax) lim set = subst (λ z. IsWholeDataSet z lim set) k.syntax_is (subst (λ z. IsWholeDataSet (walker_syntax w) z set) k.limits_are (whole set k.stands)) in
+    let tells : Tells (coding_in context.syntax) lim set (told_by w) = subst (λ z. Tells z lim set (told_by w)) k.syntax_is (subst (λ z. Tells (walker_syntax w) z set (told_by w)) k.limits_are k.stands.tells) in
+    let h : HasNoFault (coding_in context.syntax) lim set here.elements = record { whole = here.text; unbroken = whole_breaks_no_rule (coding_in context.syntax) lim set here } in
     record { elements = here.elements; fault_free = h; kept = kept_told h tells }
 
 -- ---- the verdicts
 
 pub fault_fails : {V D : ℕ} (w : Walker V D) (command : CommandRecord) (fault : Fault) (s : StoreStatus) → finding_of s ≡ of_fault fault → ((b : List ℕ) → StandsAt w b → Fails (walker_syntax w) (limits_of w) b fault)
-    → (context : Context) (depth most : ℕ) (set : List ℕ) → HasWalked w (coding_of context.syntax) (limits depth most) set → FailsAs depth most context command set (finding_of s)
+    → (context : Context) (depth most : ℕ) (set : List ℕ) → HasWalked w (coding_in context.syntax) (limits depth most) set → FailsAs depth most context command set (finding_of s)
 fault_fails w command fault s e fails context depth most set k of filing =
-    let found : Fails (coding_of context.syntax) (limits depth most) set fault = subst (λ z. Fails z (limits depth most) set fault) k.syntax_is (subst (λ z. Fails (walker_syntax w) z set fault) k.limits_are (fails set k.stands)) in
+    let found : Fails (coding_in context.syntax) (limits depth most) set fault = subst (λ z. Fails z (limits depth most) set fault) k.syntax_is (subst (λ z. Fails (walker_syntax w) z set fault) k.limits_are (fails set k.stands)) in
     record { elements = no_elements; first = inr (of, inl (fault, found, e)) }
 
 pub fault_is_failure : (fault : Fault) → (of_fault fault).status ≡ success → ⊥
@@ -68,7 +68,7 @@ differs_first x values finding e (other_class other) = inl ((λ n. other (subst 
 differs_first x values finding e (other_instance class other) = inr (subst (λ z. NamesUid z class_tag x.command.class) e class, inl ((λ n. other (subst (λ z. NamesInstance z x.command) (sym e) n)), refl))
 
 pub differs_fails : {V D : ℕ} (w : Walker V D) (command : CommandRecord) (finding : Finding) → ((b : List ℕ) → StandsAt w b → IsWholeDataSet (walker_syntax w) (limits_of w) b) → Differs (told_by w).kept command finding
-    → (context : Context) (depth most : ℕ) (set : List ℕ) → HasWalked w (coding_of context.syntax) (limits depth most) set → FailsAs depth most context command set finding
+    → (context : Context) (depth most : ℕ) (set : List ℕ) → HasWalked w (coding_in context.syntax) (limits depth most) set → FailsAs depth most context command set finding
 differs_fails w command finding whole differs context depth most set k of filing =
     let r = is_read w whole context depth most set k in
     let x : Submitted = record { context = context; command = command; data_set = set; limits = limits depth most; elements = r.elements; failed = filing } in

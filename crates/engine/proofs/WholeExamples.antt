@@ -8,6 +8,7 @@ use Rattle.sequence.specs.Tree.{no_elements, nothing}
 use Rattle.sequence.specs.FirstFault.{IsUnbroken}
 use Rattle.sequence.proofs.Public.{nothing_unbroken}
 use Rattle.dictionary.specs.Syntaxes.{syntax_named}
+use Rattle.dictionary.specs.Transfers.{transfer_named}
 use Rattle.dimse.specs.declared.fault.DimseFault.{DimseFault}
 use Rattle.dimse.specs.Command.{CommandRecord, command_element_bytes, store_command, command_of}
 use Rattle.dimse.specs.Reading.{element_at, elements_in, elements_of, set_of, command_in}
@@ -39,6 +40,7 @@ use Rattle.engine.specs.Examples.{rooms, settings, calm}
 use Rattle.engine.specs.WholeExamples.{unsupported, echo_inputs, request_inputs, TheEchoRuns, TheRequestIsHeld, ItStandsEstablished, VerdictsOnStores, ct_context, store_of}
 use Rattle.negotiate.specs.Settings.{Settings}
 use Rattle.engine.specs.FrameFields.{reads}
+use Rattle.negotiate.specs.Taken.{nothing_further}
 
 calm_entries : (es : List Entry) → entries_of (calm es) ≡ es
 calm_entries [] = refl
@@ -56,7 +58,7 @@ calm_fair : {p : Progress} {e : Entry} → IsVerdict rooms settings (absorb fals
 calm_fair v = record { verdict = v; wire = tt; filing = λ f. absurd cc }
 
 pub the_echo_runs : TheEchoRuns
-unfolding frames_of rest_of pieces_of marks new_marks pdv_marks items_of left_over item_fault items_fault class_named syntax_named is_short command_element_bytes store_command command_of element_at elements_in elements_of set_of command_in reply_command fragments reply_bytes
+unfolding frames_of rest_of pieces_of marks new_marks pdv_marks items_of left_over item_fault items_fault class_named syntax_named transfer_named is_short command_element_bytes store_command command_of element_at elements_in elements_of set_of command_in reply_command fragments reply_bytes
 the_echo_runs = (
   record {
     story_is = record {
@@ -82,7 +84,7 @@ none_held {request = request} (walked store set) e = absurd (no_store_in request
 none_held (not_walked none) e = refl
 
 pub the_request_is_held : TheRequestIsHeld
-unfolding frames_of rest_of pieces_of marks new_marks pdv_marks spot items_of left_over item_fault items_fault class_named syntax_named is_short
+unfolding frames_of rest_of pieces_of marks new_marks pdv_marks spot items_of left_over item_fault items_fault class_named syntax_named transfer_named is_short
 the_request_is_held = (
   record { of_set = 0; walked = not_walked (no_store_in _); sum = refl },
   λ n held. let sum : n ≡ 24 + held.of_set = held.sum in let none : held.of_set ≡ 0 = none_held held.walked refl in omega (arith, sum, none),
@@ -93,7 +95,7 @@ unfolding IsDistinct
 one_distinct id = (tt, tt)
 
 pub it_stands_established : ItStandsEstablished
-unfolding frames_of rest_of pieces_of marks new_marks pdv_marks spot items_of left_over item_fault items_fault class_named syntax_named is_short
+unfolding frames_of rest_of pieces_of marks new_marks pdv_marks spot items_of left_over item_fault items_fault class_named syntax_named transfer_named is_short
 it_stands_established = (
   λ store. record {
     story_is = record { told = calm_entries (entries [] request_inputs); fair = (calm_fair tt, (calm_fair tt, tt)); last = λ e. absurd cc };
@@ -105,7 +107,7 @@ it_stands_established = (
           refused_is = λ e. refl;
           body_is = refl;
           join_is = record { shows = refl; accepted = λ le. absurd (omega (arith, le)) };
-          agreed = λ e. record { caller = refl; maximum = refl; rows = refl; contexts = context_in-context_rows [] (items.request_record (drop 6 request)) (one_distinct 1); count = refl };
+          agreed = λ e. record { caller = refl; maximum = refl; rows = refl; contexts = context_in-context_rows nothing_further (items.request_record (drop 6 request)) (one_distinct 1); count = refl };
           none_left = λ e. absurd cc;
           unagreed = λ e. absurd cc;
           failed_in = λ still failed. absurd cc;

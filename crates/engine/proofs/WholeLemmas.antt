@@ -25,6 +25,7 @@ use Rattle.engine.proofs.ShownLemmas.{pends_ended}
 use Rattle.engine.proofs.DueLemmas.{does_by, none_counted_body}
 use Rattle.engine.proofs.RequestLemmas.{LeavesOrStands, request_comes}
 use Rattle.engine.proofs.StateLemmas.{due_is}
+use Rattle.negotiate.specs.Taken.{Taken}
 
 -- by which type it is
 abbrev by_kind : Settings → Progress → List ℕ → (seven one five : Bool) → Advance
@@ -92,7 +93,7 @@ whole_other s p kind body a b c =
 
 -- ---- bytes of a body that do not count
 
-came_to : (further : List (List ℕ)) (body : List ℕ) (p : Progress) (g first : Advance) (xs : List ℕ) → LeavesOrStands further body p g first → counted_body g.next xs ≡ []
+came_to : (further : Taken) (body : List ℕ) (p : Progress) (g first : Advance) (xs : List ℕ) → LeavesOrStands further body p g first → counted_body g.next xs ≡ []
 came_to further body p g first xs (a, b, inl (x, is)) = ap (λ (q : Progress). counted_body q xs) is
 came_to further body p g first xs (a, b, inr (x, is)) = ap (λ (q : Progress). counted_body q xs) is
 

@@ -2,7 +2,7 @@
 use Rattle.std.specs.Prelude.{◌≡◌, ℕ, ◌+◌, ◌-◌, ◌*◌, Bool, true, false, not, ◌&&◌, List, [], length, nat_eq, nat_lt, if◌then◌else◌}
 use Rattle.acceptor.specs.declared.state.State.{State}
 use Rattle.acceptor.specs.declared.state.State.TheVariants.{Sta1}
-use Rattle.sequence.specs.Coding.{coding_of}
+use Rattle.sequence.specs.Transfer.{coding_in}
 use Rattle.sequence.specs.declared.coding.Coding.{Coding}
 use Rattle.element.specs.declared.tag.Tag.{Tag}
 use Rattle.pdu.specs.Types.{associate_rq}
@@ -90,7 +90,7 @@ pub data IsHeldOfSet (syntax : Coding) (lim : Limits) (bytes : List ℕ) : ℕ �
 -- the data of a message in the association of this request: those of a store whose class is its context's are walked,
 -- and of others nothing is held
 pub data IsHeldOfMessage (rooms : Rooms) (s : Settings) (request : Requested) (message : Begun) : ℕ → Type 0 where
-  walked : {n : ℕ} → (store : InStore request message) → IsHeldOfSet (coding_of store.context.syntax) (limits rooms.depth s.max_data) store.set n → IsHeldOfMessage rooms s request message n
+  walked : {n : ℕ} → (store : InStore request message) → IsHeldOfSet (coding_in store.context.syntax) (limits rooms.depth s.max_data) store.set n → IsHeldOfMessage rooms s request message n
   not_walked : (InStore request message → ⊥) → IsHeldOfMessage rooms s request message 0
 
 -- so many bytes are held: the sum of these parts and of that of the data set

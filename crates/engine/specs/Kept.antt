@@ -23,6 +23,7 @@ use Rattle.engine.specs.Reached.{takes_pdvs}
 use Rattle.engine.specs.Drafts.{IsDraft}
 use Rattle.engine.specs.Fair.{InStore}
 use Rattle.engine.specs.StoredData.{Stored, Walks, drafting_in, held_in}
+use Rattle.negotiate.specs.Taken.{Taken}
 
 -- what contracts see of the fields
 pub record Kept : Type 0 where
@@ -38,7 +39,7 @@ pub record Kept : Type 0 where
   pub peer_max : ℕ
   pub table : List ContextRow
   -- the further storage classes that are taken
-  pub further : List (List ℕ)
+  pub further : Taken
   -- what has come of a request's body
   pub body : List ℕ
   pub join : Joining
@@ -57,7 +58,7 @@ abbrev pub settings_in : {A C V D : ℕ} → Provider A C V D → Settings
 settings_in p = settings_of p.config
 
 -- what an accepted request leaves of itself, where these further storage classes are taken
-pub record Agreed (calling : List ℕ) (most : ℕ) (table : List ContextRow) (further : List (List ℕ)) (r : RequestRecord) : Type 0 where
+pub record Agreed (calling : List ℕ) (most : ℕ) (table : List ContextRow) (further : Taken) (r : RequestRecord) : Type 0 where
   pub caller : calling ≡ r.calling
   pub maximum : most ≡ r.maximum
   pub rows : table ≡ context_rows further r

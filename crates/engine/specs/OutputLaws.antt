@@ -51,26 +51,26 @@ abbrev pub IsOfBytes : Entry → Type 0
 IsOfBytes (At (End kind body)) = IsBytes body
 IsOfBytes e = Unit {0}
 
--- an A-ASSOCIATE-AC and a reply have 4,108 bytes at most
+-- an A-ASSOCIATE-AC and a reply have 4,620 bytes at most
 abbrev pub AnswersAreShort : Type 0
-AnswersAreShort = (s : Settings) (p : Progress) (finding : Finding) (e : Entry) → IsOfBytes e → answer_length s p finding e ≤ 4108
+AnswersAreShort = (s : Settings) (p : Progress) (finding : Finding) (e : Entry) → IsOfBytes e → answer_length s p finding e ≤ 4620
 
 -- so have all of them along a story
 abbrev pub StoriesAnswerShortly : Type 0
-StoriesAnswerShortly = (rooms : Rooms) (s : Settings) (p : Progress) (story : List Happened) → AllByRecursion IsOfBytes (entries_of story) → AnswersHave rooms s 4108 p story
+StoriesAnswerShortly = (rooms : Rooms) (s : Settings) (p : Progress) (story : List Happened) → AllByRecursion IsOfBytes (entries_of story) → AnswersHave rooms s 4620 p story
 
 -- what a piece has an association send
 abbrev pub OutputOfAPiece : Type 0
 OutputOfAPiece =
     (rooms : Rooms) (s : Settings) (p : Progress) (story : List Happened) (before piece : List ℕ)
     → entries_of story ≡ entries before (Bytes piece ∷ []) → AllByRecursion IsOfBytes (entries_of story)
-    → length (sent_of rooms s p story) ≤ 16552 * length piece
+    → length (sent_of rooms s p story) ≤ 18600 * length piece
 
 -- wherever these inputs have led, a piece of at most so many bytes has the association send 16,552 at most
 abbrev pub SendsFew : Rooms → Settings → List Received → List Happened → ℕ → Type 0
 SendsFew rooms s inputs story most =
     (piece : List ℕ) (more : List Happened) → length piece ≤ most → IsBytes (stream_of inputs ++ piece) → entries_of more ≡ entries (stream_of inputs) (Bytes piece ∷ [])
-    → length (sent_of rooms s (progress_of rooms s at_start story) more) ≤ 16552
+    → length (sent_of rooms s (progress_of rooms s at_start story) more) ≤ 18600
 
 -- the entries of one input more
 abbrev pub EntriesOfMore : Type 0

@@ -4,14 +4,15 @@ use Rattle.std.specs.Prelude.{ℕ, List, []}
 use Rattle.pdu.specs.Record.{RequestRecord}
 use Rattle.pdu.specs.Items as items
 use Rattle.negotiate.specs.Contexts.{offered}
+use Rattle.negotiate.specs.Taken.{Taken, nothing_further}
 
 -- the identifiers of the further storage classes, and the body of the A-ASSOCIATE-RQ
 pub record Requested : Type 0 where
-  pub further : List (List ℕ)
+  pub further : Taken
   pub body : List ℕ
 
 abbrev pub no_request : Requested
-no_request = record { further = []; body = [] }
+no_request = record { further = nothing_further; body = [] }
 
 -- what the request says to this receiver: an abstract syntax that is not taken counts as none
 abbrev pub request_record : Requested → RequestRecord

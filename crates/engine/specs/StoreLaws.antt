@@ -2,9 +2,9 @@
 -- on nothing but itself and its sender's title.
 use Rattle.std.specs.Prelude.{◌≡◌, ℕ, Bool, false, List, [], ◌∷◌, Some, None, Ok}
 use Rattle.element.specs.Numbers.{IsBytes}
-use Rattle.element.specs.declared.syntax.Syntax.{Syntax}
+use Rattle.dictionary.specs.declared.transfer.Transfer.{Transfer}
 use Rattle.part10.specs.Store.{or_nothing}
-use Rattle.sequence.specs.Coding.{coding_of}
+use Rattle.sequence.specs.Transfer.{coding_in}
 use Rattle.engine.specs.Requested.{request_record}
 use Rattle.dimse.specs.Command.{CommandRecord, c_store}
 use Rattle.dimse.specs.Messages.{Message}
@@ -47,7 +47,7 @@ pub record EndsAt (p : Progress) (h : Happened) (m : Message) (command : Command
 -- within the limits.
 pub record IsGoodImage (depth most : ℕ) (context : Context) (command : CommandRecord) (data_set : List ℕ) : Type 0 where
   pub of_context : IsOfContext context command
-  pub whole : IsWholeDataSet (coding_of context.syntax) (limits depth most) data_set
+  pub whole : IsWholeDataSet (coding_in context.syntax) (limits depth most) data_set
   pub own_class : NamesUid (kept_of wanted whole.elements) class_tag command.class
   pub own_instance : NamesInstance (kept_of wanted whole.elements) command
 
@@ -58,7 +58,7 @@ pub record IsCalm (p : Progress) (h : Happened) : Type 0 where
   pub wire : h.1.wire ≡ None
 
 -- the file of a store with these bytes, from a sender with this title
-abbrev pub file_of : CommandRecord → Syntax → List ℕ → List ℕ → List ℕ
+abbrev pub file_of : CommandRecord → Transfer → List ℕ → List ℕ → List ℕ
 file_of command syntax title data_set = File (record { class = command.class; instance = or_nothing command.instance; syntax = syntax; calling = record { 0 = title } }) data_set
 
 -- A good image is answered by success, and its file is put, in any association, wherever its last byte comes: no verdict

@@ -1,6 +1,6 @@
 -- The verdict on one CT store, and its file, byte for byte (PS3.10 section 7.1).
 use Rattle.std.specs.Prelude.{◌≡◌, ℕ, ◌^◌, Bool, true, false, List, [], ◌∷◌, ◌++◌, length, replicate, Some, None, codes}
-use Rattle.element.specs.declared.syntax.Syntax.TheVariants.{Explicit}
+use Rattle.dictionary.specs.declared.transfer.Transfer.TheVariants.{Explicit}
 use Rattle.dimse.specs.Command.{CommandRecord}
 use Rattle.dimse.specs.Status.{data_set_mismatch}
 use Rattle.engine.specs.Timeline.{Finding, good}

@@ -1,6 +1,6 @@
 -- What an association keeps of the data of a message.
 use Rattle.std.specs.Prelude.{◌≡◌, ℕ, Bool, false, List}
-use Rattle.sequence.specs.Coding.{coding_of}
+use Rattle.sequence.specs.Transfer.{coding_in}
 use Rattle.sequence.specs.declared.coding.Coding.{Coding}
 use Rattle.sequence.specs.declared.walker.Walker.{Walker}
 use Rattle.sequence.specs.Rules.{Limits}
@@ -41,4 +41,4 @@ pub record HasWalked {V D : ℕ} (walker : Walker V D) (syntax : Coding) (lim : 
 pub data Walks (depth most : ℕ) (request : Requested) (message : Begun) : Stored → Type 0 where
   not_walked : (InStore request message → ⊥) → Walks depth most request message Nothing
   walked : {V D : ℕ} {walker : Walker V D} {drafting : Bool} → (store : InStore request message)
-      → HasWalked walker (coding_of store.context.syntax) (limits depth most) store.set → Walks depth most request message (Walking walker drafting)
+      → HasWalked walker (coding_in store.context.syntax) (limits depth most) store.set → Walks depth most request message (Walking walker drafting)

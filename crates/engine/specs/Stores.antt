@@ -1,7 +1,7 @@
 -- C-STORE (PS3.7 section 9.1.1, PS3.4 annex B): the file of a stored instance, and the status of its reply. Which fault
 -- has which status is this product's own profile.
 use Rattle.std.specs.Prelude.{◌≡◌, ◌⊎◌, ℕ, Bool, true, false, ◌||◌, List, [], ◌∷◌, Some, None, nat_eq, if◌then◌else◌}
-use Rattle.sequence.specs.Coding.{coding_of}
+use Rattle.sequence.specs.Transfer.{coding_in}
 use Rattle.sequence.specs.declared.coding.Coding.{Coding}
 use Rattle.element.specs.declared.tag.Tag.{Tag}
 use Rattle.element.specs.Header.{number}
@@ -88,7 +88,7 @@ checks = OfContext ∷ WholeSet ∷ OwnClass ∷ OwnInstance ∷ Filed ∷ []
 -- what a store has to be to pass a check
 abbrev pub Passes : Submitted → Check → Type 0
 Passes x OfContext = IsOfContext x.context x.command
-Passes x WholeSet = HasNoFault (coding_of x.context.syntax) x.limits x.data_set x.elements
+Passes x WholeSet = HasNoFault (coding_in x.context.syntax) x.limits x.data_set x.elements
 Passes x OwnClass = NamesUid (kept_of wanted x.elements) class_tag x.command.class
 Passes x OwnInstance = NamesInstance (kept_of wanted x.elements) x.command
 Passes x Filed = x.failed ≡ false
@@ -110,7 +110,7 @@ of_fault fault = if nat_eq fault.number too_deep || nat_eq fault.number too_long
 -- the finding on a store that fails a check
 abbrev pub FailsWith : Submitted → Check → Finding → Type 0
 FailsWith x OfContext finding = (Passes x OfContext → ⊥) × (finding ≡ failure class_not_supported)
-FailsWith x WholeSet finding = (fault : Fault) × Fails (coding_of x.context.syntax) x.limits x.data_set fault × (finding ≡ of_fault fault)
+FailsWith x WholeSet finding = (fault : Fault) × Fails (coding_in x.context.syntax) x.limits x.data_set fault × (finding ≡ of_fault fault)
 FailsWith x OwnClass finding = (Passes x OwnClass → ⊥) × (finding ≡ cause data_set_mismatch class_mismatch class_tag)
 FailsWith x OwnInstance finding = (Passes x OwnInstance → ⊥) × (finding ≡ cause data_set_mismatch instance_mismatch instance_tag)
 FailsWith x Filed finding = (Passes x Filed → ⊥) × (finding ≡ failure out_of_resources)

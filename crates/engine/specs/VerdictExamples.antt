@@ -1,7 +1,7 @@
 -- Verdicts on stores of CT images whose data sets break a rule.
 use Rattle.std.specs.Prelude.{ℕ, ◌^◌, Bool, true, List, Some, None, codes}
-use Rattle.element.specs.declared.syntax.Syntax.{Syntax}
-use Rattle.element.specs.declared.syntax.Syntax.TheVariants.{Implicit, Explicit}
+use Rattle.dictionary.specs.declared.transfer.Transfer.{Transfer}
+use Rattle.dictionary.specs.declared.transfer.Transfer.TheVariants.{Implicit, Explicit}
 use Rattle.dictionary.specs.declared.class.Class.TheVariants.{Ct}
 use Rattle.negotiate.specs.declared.proposals.Service.TheVariants.{Known}
 use Rattle.negotiate.specs.declared.proposals.Context.{Context}
@@ -12,14 +12,14 @@ use Rattle.sequence.specs.Examples.{past_item, level_past_item, third_level, pix
 use Rattle.engine.specs.Timeline.{Finding}
 use Rattle.engine.specs.Stores.{Verdict, cause}
 
-abbrev pub ct_in : Syntax → Context
+abbrev pub ct_in : Transfer → Context
 ct_in syntax = record { class = Known Ct; syntax = syntax }
 
 abbrev pub ct_store : CommandRecord
 ct_store = record { class = codes "1.2.840.10008.5.1.4.1.1.2"; field = 1; message = 7; with_data = true; instance = Some (codes "1.2.3") }
 
 -- with so many levels, this is the verdict, whether or not the filing failed
-abbrev pub Comes : ℕ → Syntax → List ℕ → Finding → Type 0
+abbrev pub Comes : ℕ → Transfer → List ℕ → Finding → Type 0
 Comes depth syntax set finding = (failed : Bool) → Verdict depth (2 ^ 40) (ct_in syntax) ct_store set failed finding
 
 -- An item in which no further header fits; a sequence of undefined length that fills its item; a third level where two may be open;

@@ -3,7 +3,7 @@
 use Rattle.std.specs.Prelude.{◌≡◌, ℕ, ◌^◌, Bool, true, false, List, [], ◌∷◌, ◌++◌, drop, Some, None, codes}
 use Rattle.acceptor.specs.declared.state.State.{State}
 use Rattle.acceptor.specs.declared.state.State.TheVariants.{Sta1, Sta6}
-use Rattle.element.specs.declared.syntax.Syntax.TheVariants.{Explicit}
+use Rattle.dictionary.specs.declared.transfer.Transfer.TheVariants.{Explicit}
 use Rattle.dictionary.specs.declared.class.Class.TheVariants.{Ct}
 use Rattle.negotiate.specs.declared.proposals.Context.{Context}
 use Rattle.negotiate.specs.declared.proposals.Service.TheVariants.{Known}
@@ -28,6 +28,7 @@ use Rattle.dimse.specs.Detail.{class_mismatch}
 use Rattle.engine.specs.Stores.{Verdict, cause, class_tag}
 use Rattle.engine.specs.Recording.{request, accept, reply, released}
 use Rattle.engine.specs.Examples.{rooms, settings, calm, recording}
+use Rattle.negotiate.specs.Taken.{nothing_further}
 
 abbrev pub calmly : List Received → List Happened
 calmly inputs = calm (entries [] inputs)
@@ -54,13 +55,13 @@ TheRequestIsHeld =
 abbrev pub established : List ContextRow → Fields
 established table = record {
   position = position.Head (record { items = [] });
-  kept = record { room = 4096; depth = 64; most = 2 ^ 40; state = Sta6; refused = false; caller = codes "SCANNER1        "; peer_max = 16384; table = table; further = []; body = []; join = shown NoMessage []; storing = Nothing };
+  kept = record { room = 4096; depth = 64; most = 2 ^ 40; state = Sta6; refused = false; caller = codes "SCANNER1        "; peer_max = 16384; table = table; further = nothing_further; body = []; join = shown NoMessage []; storing = Nothing };
 }
 
 -- it stands established with the accepted context, whatever the filing shows, and not without it
 abbrev pub ItStandsEstablished : Type 0
 ItStandsEstablished =
-    ((store : Store) → Stands rooms settings request_inputs (calmly request_inputs) false (established (context_rows [] (request_record (record { further = []; body = drop 6 request })))) store)
+    ((store : Store) → Stands rooms settings request_inputs (calmly request_inputs) false (established (context_rows nothing_further (request_record (record { further = nothing_further; body = drop 6 request })))) store)
     × ((store : Store) → Stands rooms settings request_inputs (calmly request_inputs) false (established []) store → ⊥)
 
 abbrev pub ct_context : Context

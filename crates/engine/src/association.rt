@@ -113,7 +113,7 @@ impl<const A: usize, const C: usize, const V: usize, const D: usize> Association
         self.deframer.held() + self.provider.held()
     }
 
-    /// Returns how many bytes may be fed at once so that 16,552 are sent at most: those that are to come
+    /// Returns how many bytes may be fed at once so that 18,600 are sent at most: those that are to come
     /// of the part of a PDU that has begun, its head, its body, the head of a presentation data value or
     /// its fragment, or of a PDU that goes by; and at least one.
     pub fn portion(&self) -> usize

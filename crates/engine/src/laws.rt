@@ -73,8 +73,8 @@ pub fn few_bytes_but_answers()
     ensures { FewBytesButAnswers }
 {}
 
-/// An A-ASSOCIATE-AC and a reply have 4,108 bytes at most, at each entry and along each story; so for each
-/// byte of a piece an association sends 16,552 bytes at most.
+/// An A-ASSOCIATE-AC and a reply have 4,620 bytes at most, at each entry and along each story; so for each
+/// byte of a piece an association sends 18,600 bytes at most.
 pub fn answers_are_short()
     ensures entry { AnswersAreShort }
     ensures story { StoriesAnswerShortly }

@@ -71,7 +71,7 @@ impl<const A: usize, const C: usize, const V: usize, const D: usize> Running<A, 
         self.association.is_ended()
     }
 
-    /// Returns how many bytes a piece may have so that 16,552 are sent at most for it: those that are to
+    /// Returns how many bytes a piece may have so that 18,600 are sent at most for it: those that are to
     /// come of the part of a PDU that has begun, its head, its body, the head of a presentation data
     /// value or its fragment, or of a PDU that goes by; and at least one.
     pub fn portion(&self) -> usize

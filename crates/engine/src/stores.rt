@@ -168,7 +168,7 @@ pub(crate) fn begin_store<const V: usize, const D: usize, F: Filing>(
     let drafting = begin_draft(header.as_slice(), filing);
     Storing::DataSet {
         drafting,
-        walker: Walker::new(context.syntax, wanted(), max_data),
+        walker: Walker::in_transfer(context.syntax, wanted(), max_data),
     }
 }
 

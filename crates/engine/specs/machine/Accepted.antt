@@ -3,7 +3,8 @@ use Rattle.std.specs.Prelude.{List, ℕ}
 use Rattle.pdu.specs.Record.{RequestRecord}
 use Rattle.engine.specs.declared.phase.Peer.{Peer}
 use Rattle.engine.specs.Kept.{Agreed}
+use Rattle.negotiate.specs.Taken.{Taken}
 
 -- the peer is that of this request, where these further storage classes are taken
-abbrev pub IsPeerOf : Peer → List (List ℕ) → RequestRecord → Type 0
+abbrev pub IsPeerOf : Peer → Taken → RequestRecord → Type 0
 IsPeerOf peer further r = Agreed peer.caller peer.max_length peer.contexts.items further r

@@ -1,8 +1,8 @@
 -- What the calls on the data of a message do.
 use Rattle.std.specs.Prelude.{◌≡◌, ℕ, Bool, true, false, not, ◌||◌, List, [], ◌++◌}
-use Rattle.element.specs.declared.syntax.Syntax.{Syntax}
+use Rattle.dictionary.specs.declared.transfer.Transfer.{Transfer}
 use Rattle.sequence.specs.declared.coding.Coding.{Coding}
-use Rattle.sequence.specs.Coding.{coding_of}
+use Rattle.sequence.specs.Transfer.{coding_in}
 use Rattle.element.specs.declared.title.AeTitle.{AeTitle}
 use Rattle.sequence.specs.Rules.{Limits}
 use Rattle.dimse.specs.Command.{CommandRecord}
@@ -19,7 +19,7 @@ abbrev pub finding_of : StoreStatus → Finding
 finding_of s = record { status = s.status; detail = s.detail }
 
 -- the file header of the instance that a store sends, from this caller
-abbrev pub header_of : CommandRecord → Syntax → AeTitle → List ℕ
+abbrev pub header_of : CommandRecord → Transfer → AeTitle → List ℕ
 header_of command syntax caller = head (record { class = command.class; instance = or_nothing command.instance; syntax = syntax; calling = caller })
 
 -- ---- calls
@@ -35,8 +35,8 @@ BeginsStore syntax lim header Nothing old new = ⊥
 BeginsStore syntax lim header (Walking walker drafting) old new = HasWalked walker syntax lim [] × Begins header drafting old new
 
 -- where the command announces a data set
-abbrev pub BeginsAnnounced : CommandRecord → AeTitle → Syntax → Limits → Stored → Store → Store → Type 0
-BeginsAnnounced command caller syntax lim stored old new = command.with_data ≡ true → BeginsStore (coding_of syntax) lim (header_of command syntax caller) stored old new
+abbrev pub BeginsAnnounced : CommandRecord → AeTitle → Transfer → Limits → Stored → Store → Store → Type 0
+BeginsAnnounced command caller syntax lim stored old new = command.with_data ≡ true → BeginsStore (coding_in syntax) lim (header_of command syntax caller) stored old new
 
 -- a draft gets these bytes more, or the filing fails in it; without a draft the filing stays as it is
 abbrev pub Grows : List ℕ → Bool → Bool → Store → Store → Type 0

@@ -1,6 +1,6 @@
 -- What judging a whole data set finds, and what comes of its draft.
 use Rattle.std.specs.Prelude.{◌≡◌, ℕ, Bool, false, List, Result, Ok, Err, None}
-use Rattle.sequence.specs.Coding.{coding_of}
+use Rattle.sequence.specs.Transfer.{coding_in}
 use Rattle.sequence.specs.declared.walker.Walker.{Walker}
 use Rattle.sequence.specs.Tree.{Elements}
 use Rattle.sequence.specs.Wanted.{Values, kept_of}
@@ -19,7 +19,7 @@ use Rattle.engine.specs.machine.Storing.{EndsStore, finding_of}
 -- the data set is whole and within its limits, and names what the command names
 pub record IsGood (depth most : ℕ) (context : Context) (command : CommandRecord) (set : List ℕ) : Type 0 where
   pub elements : Elements
-  pub fault_free : HasNoFault (coding_of context.syntax) (limits depth most) set elements
+  pub fault_free : HasNoFault (coding_in context.syntax) (limits depth most) set elements
   pub class : NamesUid (kept_of wanted elements) class_tag command.class
   pub instance : NamesInstance (kept_of wanted elements) command
 
@@ -39,10 +39,10 @@ FailsAs depth most context command set finding = IsOfContext context command →
 -- the data set that a walker took is good, or fails
 abbrev pub WalkHasVerdict : {V D : ℕ} → Walker V D → CommandRecord → Result (Unit {0}) StoreStatus → Type 0
 WalkHasVerdict walker command (Ok u) =
-    (context : Context) (depth most : ℕ) (set : List ℕ) → HasWalked walker (coding_of context.syntax) (limits depth most) set → IsGood depth most context command set
+    (context : Context) (depth most : ℕ) (set : List ℕ) → HasWalked walker (coding_in context.syntax) (limits depth most) set → IsGood depth most context command set
 WalkHasVerdict walker command (Err s) =
     (s.status ≡ success → ⊥)
-    × ((context : Context) (depth most : ℕ) (set : List ℕ) → HasWalked walker (coding_of context.syntax) (limits depth most) set → FailsAs depth most context command set (finding_of s))
+    × ((context : Context) (depth most : ℕ) (set : List ℕ) → HasWalked walker (coding_in context.syntax) (limits depth most) set → FailsAs depth most context command set (finding_of s))
 
 abbrev pub HasVerdict : CommandRecord → Stored → Result (Unit {0}) StoreStatus → Type 0
 HasVerdict command Nothing result = result ≡ Err (record { status = class_not_supported; detail = None })
@@ -57,5 +57,5 @@ pub data Commits (finding : Finding) (old new : Store) : Type 0 where
 abbrev pub EndsAs : CommandRecord → Finding → Store → Store → Stored → Type 0
 EndsAs command finding old new Nothing = Unit {0}
 EndsAs command finding old new (Walking walker drafting) =
-    (context : Context) (depth most : ℕ) (set : List ℕ) → HasWalked walker (coding_of context.syntax) (limits depth most) set
+    (context : Context) (depth most : ℕ) (set : List ℕ) → HasWalked walker (coding_in context.syntax) (limits depth most) set
     → EndsStore depth most context command set drafting finding old new
