@@ -1,11 +1,11 @@
 //! Laws of the tables, each the contract of a function that does nothing.
-ghost use Rattle.std.specs.Prelude.{◌≡◌, ◌≤◌, ℕ, List, Some, length, option_and_then};
+ghost use Rattle.std.specs.Prelude.{◌≡◌, ◌≢◌, ◌≤◌, ℕ, List, Some, None, length, option_and_then};
 ghost use Rattle.element.specs.declared.syntax.Syntax as element;
 ghost use Rattle.dictionary.specs.Classes.{class_of, class_uid};
 ghost use Rattle.dictionary.specs.Implementation.{implementation_class_uid, implementation_version_name};
 ghost use Rattle.dictionary.specs.StorageClasses.{storage_classes};
 ghost use Rattle.dictionary.specs.Syntaxes.{application_context, syntax_of, syntax_uid};
-ghost use Rattle.dictionary.specs.Transfers.{all_transfers, native, native_of, syntax_in, transfer_of, transfer_uid};
+ghost use Rattle.dictionary.specs.Transfers.{all_transfers, native, native_of, syntax_in, transfer_named, transfer_of, transfer_uid};
 ghost use Rattle.dictionary.specs.declared.class.Class as class;
 ghost use Rattle.dictionary.specs.declared.transfer.Transfer.{Transfer};
 
@@ -33,10 +33,12 @@ pub fn storage_classes_are_few()
     ensures { length storage_classes ≡ 157 }
 {}
 
-/// Each transfer syntax is the one that its unique identifier names. Those in which Pixel Data is native are the two
+/// Each transfer syntax is the one that its unique identifier names, and no other text names one. Those in which Pixel Data is native are the two
 /// of `syntax_of`, under their identifiers and in their layout.
 pub fn transfers_name_one()
     ensures names { (t : Transfer) → transfer_of (transfer_uid t) ≡ Some t }
+    ensures texts { (text : List ℕ) (t : Transfer) → transfer_named text ≡ Some t → text ≡ transfer_uid t }
+    ensures others { (text : List ℕ) → transfer_named text ≡ None → (t : Transfer) → text ≢ transfer_uid t }
     ensures native { (bytes : List ℕ) → option_and_then native_of (transfer_of bytes) ≡ syntax_of bytes }
     ensures uids { (s : element.Syntax) → transfer_uid (native s) ≡ syntax_uid s }
     ensures layouts { (s : element.Syntax) → syntax_in (native s) ≡ s }
