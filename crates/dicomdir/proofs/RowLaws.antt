@@ -17,10 +17,12 @@ use Rattle.std.proofs.lemmas.Grind.{common_steps}
 use Rattle.std.proofs.lemmas.List.{append_cancel_left, drop_at}
 use Rattle.element.specs.declared.syntax.Syntax.{Syntax}
 use Rattle.dictionary.specs.Syntaxes.{syntax_uid}
+use Rattle.dictionary.specs.Transfers.{transfer_uid}
+use Rattle.dictionary.proofs.Public.{native_uid}
 use Rattle.part10.specs.File.{length_element, File, head}
 use Rattle.part10.specs.declared.meta_fault.MetaFault.{MetaFault}
 use Rattle.part10.specs.declared.meta_fault.MetaFault.TheVariants.{NotPart10, BadMeta, OtherSyntax, ReadFailed}
-use Rattle.part10.specs.MetaText.{Said, HasMeta, HasLetters, MetaFaultOf, fault_number}
+use Rattle.part10.specs.MetaText.{Said, SpellsMeta, HasMeta, HasLetters, MetaFaultOf, fault_number}
 use Rattle.part10.proofs.Public.{one_header, head_is_read}
 use Rattle.sequence.specs.declared.fault.Fault.{Fault}
 use Rattle.sequence.specs.declared.wanted.Want.{Want}
@@ -217,14 +219,14 @@ keys_fit file_id class instance s es fit = rooms_fit row_wants es key_table key_
 -- ---- the row of a file that was filed
 
 pub filed_has_row : FiledHasRow
-filed_has_row meta file_id rest elements class instance title few set within =
+filed_has_row meta syntax file_id rest elements native_is class instance title few set within =
     let is : IsInstance (File meta rest) = record {
       class = meta.class;
       instance = meta.instance;
-      syntax = meta.syntax;
+      syntax = syntax;
       front = head meta;
       back = rest;
       whole = refl;
-      header = head_is_read meta class instance title few;
+      header = subst (λ u. SpellsMeta (record { class = meta.class; instance = meta.instance; syntax = u }) (head meta)) (ap transfer_uid native_is ∙ native_uid syntax) (head_is_read meta class instance title few);
     } in
     of_values is elements set within refl

@@ -24,7 +24,10 @@ use Rattle.sequence.specs.declared.coding.Coding.{Coding}
 use Rattle.part10.specs.declared.meta.Meta.{Meta}
 use Rattle.part10.specs.declared.meta_fault.MetaFault.{MetaFault}
 use Rattle.part10.specs.declared.meta_fault.MetaFault.TheVariants.{NotPart10, BadMeta, OtherSyntax, ReadFailed}
-use Rattle.part10.specs.MetaText.{said_of, TakesMeta, FailsToRead, fault_number}
+use Rattle.dictionary.specs.Syntaxes.{syntax_uid}
+use Rattle.dictionary.specs.Transfers.{native, syntax_in, transfer_uid}
+use Rattle.dictionary.proofs.Public.{native_uid}
+use Rattle.part10.specs.MetaText.{Said, said_of, TakesMeta, FailsToRead, fault_number}
 use Rattle.sequence.specs.Tree.{Elements, DataSet}
 use Rattle.sequence.specs.Open.{header_tail, in_header, last_of, Nested, at_elements, Open}
 use Rattle.sequence.specs.Walk.{Told, Tells, going, refused}
@@ -169,32 +172,40 @@ refused_header BadMeta (Some file) file_id r = λ _. has_row (header_fault BadMe
 refused_header OtherSyntax (Some file) file_id r = λ _. has_row (header_fault OtherSyntax r refl)
 refused_header ReadFailed (Some file) file_id r = λ _. read_failed refl
 
-instance_of : (meta : Meta) (file back : List ℕ) → TakesMeta (said_of meta) (Some file) (Some back) → IsInstance file
+-- what a header in a native transfer syntax says
+abbrev pub native_said : Meta → Said
+native_said meta = record { class = meta.class; instance = meta.instance; syntax = syntax_uid (syntax_in meta.syntax) }
+
+pub takes_native : (meta : Meta) (old new : Option (List ℕ)) → meta.syntax ≡ native (syntax_in meta.syntax) → TakesMeta (said_of meta) old new → TakesMeta (native_said meta) old new
+takes_native meta old new e takes =
+    subst (λ u. TakesMeta (record { class = meta.class; instance = meta.instance; syntax = u }) old new) (ap transfer_uid e ∙ native_uid (syntax_in meta.syntax)) takes
+
+instance_of : (meta : Meta) (file back : List ℕ) → TakesMeta (native_said meta) (Some file) (Some back) → IsInstance file
 instance_of meta file back takes = grind (arith, common_steps)
 
-pub refused_data_set : {V D : ℕ} (w : Walker V D) (meta : Meta) (old mid : Option (List ℕ)) (file_id : List ℕ) (reason : Skip) → TakesMeta (said_of meta) old mid
-    → walker_syntax w ≡ (coding_of meta.syntax) → limits_of w ≡ row_limits → WalkFails w mid reason → Read old file_id (Err reason)
+pub refused_data_set : {V D : ℕ} (w : Walker V D) (meta : Meta) (old mid : Option (List ℕ)) (file_id : List ℕ) (reason : Skip) → TakesMeta (native_said meta) old mid
+    → walker_syntax w ≡ (coding_of (syntax_in meta.syntax)) → limits_of w ≡ row_limits → WalkFails w mid reason → Read old file_id (Err reason)
 unfolding instance_of
 refused_data_set w meta None mid file_id reason takes syntax limits fails = tt
 refused_data_set w meta (Some file) None file_id reason takes syntax limits fails = absurd takes.2
 refused_data_set w meta (Some file) (Some back) file_id reason takes syntax limits (walking.read_failed e) = λ _. read_failed (ap (λ z. Err z) e)
 refused_data_set w meta (Some file) (Some back) file_id reason takes syntax limits (walking.text_fails f) = λ bytes.
     let told = f (bytes_behind takes.0 back (subst (λ z. IsBytes z) takes.2 bytes)) in
-    let fails : Fails (coding_of meta.syntax) row_limits back told.0 = subst (λ z. Fails z row_limits back told.0) syntax (subst (λ z. Fails (walker_syntax w) z back told.0) limits told.1) in
+    let fails : Fails (coding_of (syntax_in meta.syntax)) row_limits back told.0 = subst (λ z. Fails z row_limits back told.0) syntax (subst (λ z. Fails (walker_syntax w) z back told.0) limits told.1) in
     has_row (in_data_set (instance_of meta file back takes) told.0 fails (ap (λ z. Err z) told.2))
 
 pub out_of_memory : (old : Option (List ℕ)) (file_id : List ℕ) (reason : Skip) → reason ≡ skip.OutOfMemory → Read old file_id (Err reason)
 out_of_memory v1 file_id reason e = grind (arith, nat_tests)
 
-pub whole_file : {V D : ℕ} (w : Walker V D) (meta : Meta) (old mid : Option (List ℕ)) (file_id : List ℕ) (result : Result Row Skip) → TakesMeta (said_of meta) old mid
-    → walker_syntax w ≡ (coding_of meta.syntax) → limits_of w ≡ row_limits → TookWhole w mid
-    → result ≡ checked_row (row_from file_id meta.class meta.instance meta.syntax (told_by w).kept) → Read old file_id result
+pub whole_file : {V D : ℕ} (w : Walker V D) (meta : Meta) (old mid : Option (List ℕ)) (file_id : List ℕ) (result : Result Row Skip) → TakesMeta (native_said meta) old mid
+    → walker_syntax w ≡ (coding_of (syntax_in meta.syntax)) → limits_of w ≡ row_limits → TookWhole w mid
+    → result ≡ checked_row (row_from file_id meta.class meta.instance (syntax_in meta.syntax) (told_by w).kept) → Read old file_id result
 unfolding instance_of
 whole_file w meta None mid file_id result takes syntax limits took is = tt
 whole_file w meta (Some file) None file_id result takes syntax limits took is = absurd takes.2
 whole_file w meta (Some file) (Some back) file_id result takes syntax limits took is = λ _.
-    let whole : IsWholeDataSet (coding_of meta.syntax) row_limits back = subst (λ z. IsWholeDataSet z row_limits back) syntax (subst (λ z. IsWholeDataSet (walker_syntax w) z back) limits took.1) in
-    let tells : Tells (coding_of meta.syntax) row_limits back (told_by w) = subst (λ z. Tells z row_limits back (told_by w)) syntax (subst (λ z. Tells (walker_syntax w) z back (told_by w)) limits took.0.tells) in
+    let whole : IsWholeDataSet (coding_of (syntax_in meta.syntax)) row_limits back = subst (λ z. IsWholeDataSet z row_limits back) syntax (subst (λ z. IsWholeDataSet (walker_syntax w) z back) limits took.1) in
+    let tells : Tells (coding_of (syntax_in meta.syntax)) row_limits back (told_by w) = subst (λ z. Tells z row_limits back (told_by w)) syntax (subst (λ z. Tells (walker_syntax w) z back (told_by w)) limits took.0.tells) in
     let kept : (told_by w).kept ≡ kept_of row_wants whole.elements = kept_at_end whole tells in
     has_row (of_values (instance_of meta file back takes) whole.elements whole.text whole.within
-    (is ∙ ap (λ z. checked_row (row_from file_id meta.class meta.instance meta.syntax z)) kept))
+    (is ∙ ap (λ z. checked_row (row_from file_id meta.class meta.instance (syntax_in meta.syntax) z)) kept))

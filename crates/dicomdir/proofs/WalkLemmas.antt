@@ -1,6 +1,7 @@
 -- What a file header and a walk over a whole text mean for a check.
 use Rattle.std.proofs.Common.{◌≡◌, ℕ, ◌≤◌, Bool, Some, None, arith, if◌then◌else◌, List, ◌≢◌, ◌+◌, ◌-◌, length, refl, ap, subst, ◌∙◌, zero, suc, [], ◌∷◌, ◌++◌, take, drop, sym, not, ◌&&◌, nat_eq, nat_lt, nat_le, ◌%◌}
 use Rattle.element.specs.declared.size.Need.{Need}
+use Rattle.element.specs.declared.syntax.Syntax.{Syntax}
 use Rattle.element.specs.declared.syntax.Syntax.TheVariants as syntaxes
 use Rattle.sequence.specs.Shape.{is_undefined, shape}
 use Rattle.sequence.specs.Coding.{layout}
@@ -15,8 +16,10 @@ use Rattle.sequence.specs.Rules.{Limits, Broken, broken_tag, broken_need, broken
 use Rattle.std.proofs.lemmas.Bool.Decides.{nat_tests}
 use Rattle.std.proofs.lemmas.Grind.{common_steps}
 use Rattle.std.proofs.lemmas.List.{length-append, append-nil, length-drop, drop-drop, take-append-drop}
-use Rattle.sequence.specs.declared.coding.Coding.TheVariants.{Implicit, Explicit}
+use Rattle.sequence.specs.declared.coding.Coding.TheVariants.{Explicit}
 use Rattle.dictionary.specs.Syntaxes.{syntax_uid}
+use Rattle.dictionary.specs.Transfers.{native, syntax_in, transfer_uid}
+use Rattle.dictionary.proofs.Public.{native_uid}
 use Rattle.part10.specs.declared.meta.Meta.{Meta}
 use Rattle.part10.specs.declared.meta_fault.MetaFault.{MetaFault}
 use Rattle.part10.specs.declared.meta_fault.MetaFault.TheVariants.{NotPart10, BadMeta, OtherSyntax, ReadFailed}
@@ -92,12 +95,18 @@ header_check file ReadFailed r some = absurd (some refl)
 pub header_at_none : (fault : MetaFault) (f : DirFault) → f ≡ header_fault_of fault → IsAtNone f
 header_at_none v1 f is e = grind (arith, nat_tests)
 
-pub implicit_check : (file rest : List ℕ) (meta : Meta) → TakesMeta (said_of meta) (Some file) (Some rest) → meta.syntax ≡ syntaxes.Implicit → CheckFault file 53 132 no_tag
-implicit_check file rest meta takes is =
-    in_syntax (record { front = takes.0; back = rest; whole = takes.2; spelled = takes.1 }) (ap (λ s. syntax_uid s) is)
+-- the identifier of a native transfer syntax
+said_native : (meta : Meta) (s : Syntax) → meta.syntax ≡ native (syntax_in meta.syntax) → syntax_in meta.syntax ≡ s → transfer_uid meta.syntax ≡ syntax_uid s
+said_native meta s native_is is = ap transfer_uid native_is ∙ native_uid (syntax_in meta.syntax) ∙ ap syntax_uid is
 
-pub explicit_check : (file rest : List ℕ) (meta : Meta) → TakesMeta (said_of meta) (Some file) (Some rest) → meta.syntax ≡ syntaxes.Explicit → HasHeader file rest
-explicit_check file rest meta takes is = grind (arith, common_steps)
+pub implicit_check : (file rest : List ℕ) (meta : Meta) → TakesMeta (said_of meta) (Some file) (Some rest) → meta.syntax ≡ native (syntax_in meta.syntax) → syntax_in meta.syntax ≡ syntaxes.Implicit
+    → CheckFault file 53 132 no_tag
+implicit_check file rest meta takes native_is is =
+    in_syntax (record { front = takes.0; back = rest; whole = takes.2; spelled = takes.1 }) (said_native meta syntaxes.Implicit native_is is)
+
+pub explicit_check : (file rest : List ℕ) (meta : Meta) → TakesMeta (said_of meta) (Some file) (Some rest) → meta.syntax ≡ native (syntax_in meta.syntax) → syntax_in meta.syntax ≡ syntaxes.Explicit
+    → HasHeader file rest
+explicit_check file rest meta takes native_is is = grind (arith, common_steps, said_native meta syntaxes.Explicit native_is is)
 
 pub header_before : {file back : List ℕ} → HasHeader file back → length back ≤ length file
 header_before {file = file} {back = back} h = grind (arith, common_steps, length-append h.front back)

@@ -1,6 +1,6 @@
 -- The directory file that this product builds of rows, and why it builds none (PS3.10 sections 7.1 and 8.6).
 use Rattle.std.specs.Prelude.{◌≡◌, ℕ, Bool, true, List, length, replicate, codes, Option, take}
-use Rattle.element.specs.declared.syntax.Syntax.TheVariants.{Explicit}
+use Rattle.dictionary.specs.declared.transfer.Transfer.TheVariants.{Explicit}
 use Rattle.part10.specs.declared.meta.Meta.{Meta}
 use Rattle.part10.specs.File.{head}
 use Rattle.sequence.specs.Rules.{no_tag}

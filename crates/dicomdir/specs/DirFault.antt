@@ -7,7 +7,7 @@ use Rattle.dicomdir.specs.Directory.{Found, missing, value_at, items_at, found, 
 use Rattle.dicomdir.specs.Linked.{fits, is_one_of, record_at, elements_at}
 use Rattle.dicomdir.specs.Paths.{Links, Turn, named_by, told_at, level_of, makes_cycle, paths_of, reached_by, root_records, last_from}
 use Rattle.sequence.specs.declared.coding.Coding.TheVariants as codings
-use Rattle.element.specs.declared.syntax.Syntax.TheVariants.{Implicit, Explicit}
+use Rattle.element.specs.declared.syntax.Syntax.TheVariants.{Implicit}
 use Rattle.element.specs.declared.tag.Tag.{Tag}
 use Rattle.dictionary.specs.Syntaxes.{syntax_uid}
 use Rattle.part10.specs.declared.meta_fault.MetaFault.{MetaFault}

@@ -2,6 +2,7 @@
 use Rattle.std.specs.Prelude.{◌≡◌, ℕ, true, List, Result, ◌≤◌, length, false, None, suc, ◌+◌, [], ◌∷◌, map, unwrap_or}
 use Rattle.element.specs.declared.syntax.Syntax.{Syntax}
 use Rattle.sequence.specs.Coding.{coding_of}
+use Rattle.dictionary.specs.Transfers.{native}
 use Rattle.sequence.specs.Tree.{Elements, DataSet, no_items}
 use Rattle.sequence.specs.Within.{FitRooms, Within}
 use Rattle.sequence.specs.Wanted.{kept_of}
@@ -35,14 +36,14 @@ KeysFit = (file_id class instance : List ℕ) (s : Syntax) (elements : Elements)
 
 -- ---- what a directory has of a file that was filed (PS3.10 section 7.1)
 
--- the file of an instance whose data set is whole and within the limits of a row gives the row of that class, instance
+-- the file of an instance in a native syntax whose data set is whole and within the limits of a row gives the row of that class, instance
 -- and syntax and of the data set's values, or the first key that is missing there
 abbrev pub FiledHasRow : Type 0
 FiledHasRow =
-    (meta : Meta) (file_id back : List ℕ) (elements : Elements)
-    → is_uid meta.class ≡ true → is_uid meta.instance ≡ true → length meta.calling.0 ≡ 16 → length (meta_group meta) ≤ 360
-    → DataSet (coding_of meta.syntax) 0 elements back → Within (coding_of meta.syntax) row_limits elements back
-    → RowOf (File meta back) file_id (checked_row (row_from file_id meta.class meta.instance meta.syntax (kept_of row_wants elements)))
+    (meta : Meta) (syntax : Syntax) (file_id back : List ℕ) (elements : Elements)
+    → meta.syntax ≡ native syntax → is_uid meta.class ≡ true → is_uid meta.instance ≡ true → length meta.calling.0 ≡ 16 → length (meta_group meta) ≤ 360
+    → DataSet (coding_of syntax) 0 elements back → Within (coding_of syntax) row_limits elements back
+    → RowOf (File meta back) file_id (checked_row (row_from file_id meta.class meta.instance syntax (kept_of row_wants elements)))
 
 -- ---- what a check finds is determined by the file
 

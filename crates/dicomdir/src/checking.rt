@@ -43,7 +43,7 @@ fn after_header(bytes: &[u8]) -> Result<&[u8], DirFault>
     let mut rest = bytes;
     match read_meta(&mut rest) {
         Err(fault) => Err(header_fault(fault)),
-        Ok(meta) => match meta.syntax {
+        Ok(meta) => match meta.syntax.syntax() {
             Syntax::Explicit => Ok(rest),
             Syntax::Implicit => Err(DirFault::at(53, 132)),
         },

@@ -6,6 +6,7 @@ ghost use Rattle.dicomdir.specs.machine.Building.{root_text};
 
 use crate::record_bytes::{RecordBytes, put_element, put_header, put_offset};
 use arrayvec::ArrayVec;
+use dictionary::Transfer;
 use element::{AeTitle, Header, Syntax, Tag, Uid, Vr};
 use part10::{Meta, meta_bytes};
 
@@ -26,7 +27,7 @@ pub(crate) fn file_header(uid: &Uid) -> ArrayVec<u8, 512>
     let meta = Meta {
         class: Uid::read(DIRECTORY_CLASS).unwrap(),
         instance: uid.copied(),
-        syntax: Syntax::Explicit,
+        syntax: Transfer::Explicit,
         calling: AeTitle([b' '; 16]),
     };
     meta_bytes(&meta)

@@ -146,8 +146,9 @@ pub fn rows_of<A: Allocator + Copy, R: Read>(
         Ok(meta) => meta,
         Err(fault) => return Err(Skip::Fault(fault.number())),
     };
-    let mut walker = RowWalker::new(meta.syntax, wanted(), 1 << 48);
+    let syntax = meta.syntax.syntax();
+    let mut walker = RowWalker::new(syntax, wanted(), 1 << 48);
     walk(&mut walker, reader)?;
     let keys = keys_of(alloc, &walker, key_table())?;
-    Row::new(*file_id, meta.class, meta.instance, meta.syntax, keys)
+    Row::new(*file_id, meta.class, meta.instance, syntax, keys)
 }

@@ -1,9 +1,10 @@
 use Rattle.std.proofs.Common.{◌≡◌, ◌∙◌, ◌^◌, ap}
 use Rattle.std.proofs.lemmas.Result.{err_from_is_err_and}
 use Rattle.sequence.specs.Taken.{limits_of, told_by}
-use Rattle.dicomdir.specs.RowOf.{row_limits, values_for}
+use Rattle.sequence.specs.Coding.{coding_of}
+use Rattle.dicomdir.specs.RowOf.{row_from, row_limits, values_for}
 use Rattle.dicomdir.specs.Keys.{checked_row}
-use Rattle.dicomdir.proofs.RowWalking.{refused_header, refused_data_set, whole_file}
+use Rattle.dicomdir.proofs.RowWalking.{refused_header, refused_data_set, takes_native, whole_file}
 use Rattle.dicomdir.proofs.row_reading.rows_of.Goals as goal
 
 pub returns-in-Err : goal.returns-in-Err
@@ -14,15 +15,16 @@ returns-in_err-walk g c =
     let p = err_from_is_err_and c.from_residual.result c.from_residual.ensures.1 in
     let limits : limits_of c.new-walker.result ≡ row_limits = c.new-walker.ensures.limits ∙ ap (λ w. record { wanted = w; depth = 64; bytes = 2 ^ 48 }) c.wanted.ensures in
     rw (p.1, p.2) (record {
-      row = refused_data_set c.new-walker.result c.in-Ok.meta (g.R.Read.remaining c.args.reader.now) _ c.args.file_id.now c.in_err-walk.field-0.0 c.in-Ok.ensures.header
-          c.new-walker.ensures.syntax limits c.in_err-walk.ensures.fails;
+      row = refused_data_set c.new-walker.result c.in-Ok.meta (g.R.Read.remaining c.args.reader.now) _ c.args.file_id.now c.in_err-walk.field-0.0 (takes_native c.in-Ok.meta _ _ c.in-Ok.ensures.native c.in-Ok.ensures.header)
+          (c.new-walker.ensures.syntax ∙ ap coding_of c.syntax-syntax.ensures) limits c.in_err-walk.ensures.fails;
     })
 
 pub returns : goal.returns
 returns g c =
     let limits : limits_of c.new-walker.result ≡ row_limits = c.new-walker.ensures.limits ∙ ap (λ w. record { wanted = w; depth = 64; bytes = 2 ^ 48 }) c.wanted.ensures in
     record {
-      row = whole_file c.walk.new.walker c.in-Ok.meta (g.R.Read.remaining c.args.reader.now) _ c.args.file_id.now c.new.result c.in-Ok.ensures.header
-          (c.in_ok-walk.ensures.same.0 ∙ c.new-walker.ensures.syntax) (c.in_ok-walk.ensures.same.1 ∙ limits) c.in_ok-walk.ensures.whole
-          (c.new.ensures ∙ ap (λ values. checked_row (record { file_id = c.args.file_id.now; class = c.in-Ok.meta.class; instance = c.in-Ok.meta.instance; syntax = c.in-Ok.meta.syntax; values = values })) (c.in_ok-keys.ensures.values ∙ ap (λ rules. values_for rules (told_by c.walk.new.walker).kept) c.key_table.ensures));
+      row = whole_file c.walk.new.walker c.in-Ok.meta (g.R.Read.remaining c.args.reader.now) _ c.args.file_id.now c.new.result (takes_native c.in-Ok.meta _ _ c.in-Ok.ensures.native c.in-Ok.ensures.header)
+          (c.in_ok-walk.ensures.same.0 ∙ c.new-walker.ensures.syntax ∙ ap coding_of c.syntax-syntax.ensures) (c.in_ok-walk.ensures.same.1 ∙ limits) c.in_ok-walk.ensures.whole
+          (c.new.ensures ∙ ap (λ values. checked_row (record { file_id = c.args.file_id.now; class = c.in-Ok.meta.class; instance = c.in-Ok.meta.instance; syntax = c.syntax-syntax.result; values = values })) (c.in_ok-keys.ensures.values ∙ ap (λ rules. values_for rules (told_by c.walk.new.walker).kept) c.key_table.ensures)
+          ∙ ap (λ s. checked_row (row_from c.args.file_id.now c.in-Ok.meta.class c.in-Ok.meta.instance s (told_by c.walk.new.walker).kept)) c.syntax-syntax.ensures);
     }
