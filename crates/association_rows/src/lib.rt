@@ -3,6 +3,8 @@
 #![tactic(auto)]
 
 #[cfg(test)]
+mod compressed_rows;
+#[cfg(test)]
 mod draft_rows;
 #[cfg(test)]
 mod folder_rows;

@@ -1,5 +1,6 @@
 //! Files that the tests inspect, and settings of an association.
 use arrayvec::ArrayVec;
+use dictionary::Transfer;
 use element::{AeTitle, Syntax, Uid};
 use negotiate::Config;
 use part10::{Meta, meta_bytes};
@@ -11,7 +12,7 @@ pub fn header(alloc: Global, syntax: Syntax, instance: &[u8]) -> Result<Vec<u8>,
     let meta = Meta {
         class: Uid::read(b"1.2.840.10008.5.1.4.1.1.2").ok_or("no class")?,
         instance: Uid::read(instance).ok_or("no instance")?,
-        syntax,
+        syntax: Transfer::native(syntax),
         calling: AeTitle(*b"SCANNER1        "),
     };
     Ok(Vec::from_slice(alloc, meta_bytes(&meta).as_slice())?)

@@ -1,5 +1,5 @@
 //! The worked rows of `dictionary`, by its public calls alone.
-use dictionary::{APPLICATION_CONTEXT, Class, class_of, name_of, syntax_of, vr_of};
+use dictionary::{APPLICATION_CONTEXT, Class, Transfer, class_of, name_of, syntax_of, vr_of};
 use element::{Syntax, Tag, Vr};
 
 /// Group, element, VR and keyword.
@@ -166,4 +166,15 @@ fn other_syntaxes(rt: HostRuntime) {
     ] {
         assert!(rt; syntax_of(text).is_none());
     }
+}
+
+#[test]
+fn transfer_syntaxes(rt: HostRuntime) {
+    assert!(rt; Transfer::of(b"1.2.840.10008.1.2.4.70\0\0") == Some(Transfer::JpegLosslessSv1));
+    assert!(rt; Transfer::of(b"1.2.840.10008.1.2.5 ") == Some(Transfer::RleLossless));
+    assert!(rt; Transfer::of(b"1.2.840.10008.1.2") == Some(Transfer::Implicit));
+    assert!(rt; Transfer::of(b"1.2.840.10008.1.2.2").is_none());
+    assert!(rt; Transfer::of(b"1.2.840.10008.1.2.4.94").is_none());
+    assert!(rt; Transfer::Htj2k.uid() == b"1.2.840.10008.1.2.4.203".as_slice());
+    assert!(rt; Transfer::JpegBaseline8Bit.keyword() == "JPEGBaseline8Bit");
 }

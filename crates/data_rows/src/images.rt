@@ -1,5 +1,6 @@
 //! Files of an image, and the rows that are read from them.
 use dicomdir::{FileId, Row, Skip, rows_of};
+use dictionary::Transfer;
 use element::{AeTitle, Syntax, Tag, Uid};
 use part10::{Meta, meta_bytes};
 use std::alloc::{Allocator, Global};
@@ -57,7 +58,7 @@ pub(crate) fn header(alloc: Global, syntax: Syntax, instance: &[u8]) -> Result<V
     let meta = Meta {
         class: Uid::read(b"1.2.840.10008.5.1.4.1.1.2").ok_or("a class")?,
         instance: Uid::read(instance).ok_or("an instance")?,
-        syntax,
+        syntax: Transfer::native(syntax),
         calling: AeTitle(*b"SCANNER1        "),
     };
     Ok(Vec::from_slice(alloc, meta_bytes(&meta).as_slice())?)

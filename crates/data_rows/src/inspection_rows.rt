@@ -1,5 +1,6 @@
 //! What a strict check finds, what values are shown, and both as JSON.
-use element::{AeTitle, Syntax, Tag, Uid};
+use dictionary::Transfer;
+use element::{AeTitle, Tag, Uid};
 use inspection::{
     CheckOptions, FileFront, OutputForm, ShowOptions, check_with, other_syntax_of, show_with,
     tag_named,
@@ -58,7 +59,7 @@ fn file(alloc: Global, data: &[u8]) -> Result<Vec<u8>, Fail> {
     let meta = Meta {
         class: Uid::read(b"1.2.840.10008.5.1.4.1.1.2").ok_or("no class")?,
         instance: Uid::read(b"1.2.3").ok_or("no instance")?,
-        syntax: Syntax::Explicit,
+        syntax: Transfer::Explicit,
         calling: AeTitle(*b"SCANNER1        "),
     };
     let mut file = Vec::from_slice(alloc, meta_bytes(&meta).as_slice())?;

@@ -1,10 +1,11 @@
 //! The worked rows of `part10`, by its public calls alone: file headers, and a filing over memory.
 
 use arrayvec::ArrayVec;
-use element::{AeTitle, Syntax, Uid};
+use dictionary::Transfer;
+use element::{AeTitle, Uid};
 use fixtures::bytes::joined;
 use fixtures::folders::is_filed;
-use part10::{Filing, MemoryFiling, Meta, MetaFault, meta_bytes, read_meta};
+use part10::{Filing, MemoryFiling, Meta, MetaFault, meta_bytes, read_any_meta, read_meta};
 use std::alloc::{AllocError, Global};
 
 /// Group 0002 of a CT image `1.2.3` in Explicit VR Little Endian, from `SCANNER1`, after its length, but for the title.
@@ -30,7 +31,7 @@ pub fn header(calling: &[u8; 16]) -> Option<ArrayVec<u8, 512>> {
     Some(meta_bytes(&Meta {
         class: Uid::read(b"1.2.840.10008.5.1.4.1.1.2")?,
         instance: Uid::read(b"1.2.3")?,
-        syntax: Syntax::Explicit,
+        syntax: Transfer::Explicit,
         calling: AeTitle(*calling),
     }))
 }
@@ -129,7 +130,7 @@ fn is_stored(file: &[u8], rest: usize) -> bool {
             left == rest
                 && meta.class.as_bytes() == b"1.2.840.10008.5.1.4.1.1.2".as_slice()
                 && meta.instance.as_bytes() == b"1.2.3".as_slice()
-                && meta.syntax == Syntax::Explicit
+                && meta.syntax == Transfer::Explicit
                 && meta.calling.0 == [b' '; 16]
         }
         Err(_) => false,
@@ -228,7 +229,7 @@ fn reads_long(file: &[u8]) -> bool {
         Ok((meta, left)) => {
             left == 4
                 && meta.instance.as_bytes() == b"1.2.3".as_slice()
-                && meta.syntax == Syntax::Implicit
+                && meta.syntax == Transfer::Implicit
         }
         Err(_) => false,
     }
@@ -265,4 +266,32 @@ fn faults_have_numbers_and_names(rt: HostRuntime) -> Result<(), AllocError> {
         assert!(rt; fault.number() == *number && is_shown(rt.alloc(), *fault, shown)?);
     }
     Ok(())
+}
+
+/// The header of a CT image in JPEG Lossless.
+fn compressed() -> Option<ArrayVec<u8, 512>> {
+    Some(meta_bytes(&Meta {
+        class: Uid::read(b"1.2.840.10008.5.1.4.1.1.2")?,
+        instance: Uid::read(b"1.2.3")?,
+        syntax: Transfer::JpegLosslessSv1,
+        calling: AeTitle([b' '; 16]),
+    }))
+}
+
+/// Whether a header is read in this transfer syntax where any is taken.
+fn is_read_in(file: &[u8], syntax: Transfer) -> bool {
+    let mut rest = file;
+    match read_any_meta(&mut rest) {
+        Ok(meta) => meta.syntax == syntax && rest.is_empty(),
+        Err(_) => false,
+    }
+}
+
+#[test]
+fn headers_in_a_compressed_syntax(rt: HostRuntime) {
+    let file = compressed().expect(&rt, "a header");
+    assert!(rt; is_fault(file.as_slice(), 53));
+    assert!(rt; is_read_in(file.as_slice(), Transfer::JpegLosslessSv1));
+    let native = header(&[b' '; 16]).expect(&rt, "a header");
+    assert!(rt; is_read_in(native.as_slice(), Transfer::Explicit));
 }

@@ -4,8 +4,8 @@ use crate::negotiate_rows::{
     APPLICATION, CT, EXPLICIT, IMPLICIT, JPEG, OURS, accepts, begun, config, explicit_ct, filled,
     push_context, push_user,
 };
-use dictionary::{Class, storage_class};
-use element::{Syntax, Uid};
+use dictionary::{Class, Transfer, storage_class};
+use element::Uid;
 use negotiate::{Config, Context, ContextRow, RowClass, Service};
 use pdu::PduFault;
 use std::alloc::Global;
@@ -36,7 +36,7 @@ fn uid(text: &[u8]) -> Result<Uid, Fail> {
 fn further(text: &[u8]) -> Result<Context, Fail> {
     Ok(Context {
         class: Service::Further(uid(text)?),
-        syntax: Syntax::Explicit,
+        syntax: Transfer::Explicit,
     })
 }
 
@@ -103,7 +103,7 @@ fn a_class_by_its_name(rt: HostRuntime) -> Result<(), Fail> {
 
 /// The rows of a table for a CT, a report at this place and the private class at the first one.
 fn rows_with(place: u8) -> [ContextRow; 3] {
-    let syntax = Syntax::Explicit;
+    let syntax = Transfer::Explicit;
     [
         ContextRow {
             id: 1,
@@ -186,5 +186,39 @@ fn as_many_classes_as_contexts(rt: HostRuntime) -> Result<(), Fail> {
     let body = first_classes(rt.alloc())?;
     assert!(rt; accepted(&taking(true, &[])?, body.as_slice())? == 128);
     assert!(rt; accepted(&taking(false, &[])?, body.as_slice())? == 11);
+    Ok(())
+}
+
+/// The CT contexts of a peer: JPEG alone, JPEG before Implicit, and a syntax that is not taken before JPEG.
+fn compressed(alloc: Global) -> Result<Vec<u8>, Fail> {
+    let mut body = begun(alloc, 1, OURS, APPLICATION)?;
+    push_context(alloc, &mut body, 1, CT, &[JPEG])?;
+    push_context(alloc, &mut body, 3, CT, &[JPEG, IMPLICIT])?;
+    push_context(alloc, &mut body, 5, CT, &[b"1.2.840.10008.1.2.4.70", JPEG])?;
+    push_user(&mut body, [0, 0, 0x40, 0])?;
+    Ok(body)
+}
+
+/// A context of CT images in this transfer syntax.
+fn ct_in(syntax: Transfer) -> Context {
+    let class = Service::Known(Class::Ct);
+    Context { class, syntax }
+}
+
+#[test]
+fn a_compressed_syntax_by_its_name(rt: HostRuntime) -> Result<(), Fail> {
+    let body = compressed(rt.alloc())?;
+    let native = ct_in(Transfer::Implicit);
+    let rows = [(1, None), (3, Some(native)), (5, None)];
+    assert!(rt; accepts(&config("SCANNER1")?, body.as_slice(), &rows)?);
+    let jpeg = [Transfer::JpegBaseline8Bit];
+    let taking = config("SCANNER1")?.with_transfers(&jpeg);
+    let rows = [
+        (1, Some(ct_in(Transfer::JpegBaseline8Bit))),
+        (3, Some(ct_in(Transfer::Implicit))),
+        (5, Some(ct_in(Transfer::JpegBaseline8Bit))),
+    ];
+    assert!(rt; accepts(&taking, body.as_slice(), &rows)?);
+    assert!(rt; accepts(&taking.copied(), body.as_slice(), &rows)?);
     Ok(())
 }

@@ -1,7 +1,7 @@
 //! The worked rows of `negotiate`, by its public calls alone: how requests are judged, and which contexts are accepted.
 use arrayvec::ArrayVec;
-use dictionary::Class;
-use element::{AeTitle, Syntax};
+use dictionary::{Class, Transfer};
+use element::AeTitle;
 use negotiate::{
     Answer, Config, Context, ContextRow, RowClass, Service, compact, context, context_of, judge,
 };
@@ -126,7 +126,7 @@ fn contexts_of_the_recorded_echo(rt: HostRuntime) -> Result<(), Fail> {
     let body = echo(rt.alloc(), 1, OURS, APPLICATION, [0, 0, 0x40, 0])?;
     let verification = Context {
         class: Service::Known(Class::Verification),
-        syntax: Syntax::Implicit,
+        syntax: Transfer::Implicit,
     };
     let rows = [(1, Some(verification)), (3, None)];
     assert!(rt; accepts(&config("SCANNER1")?, body.as_slice(), &rows)?);
@@ -137,7 +137,7 @@ fn contexts_of_the_recorded_echo(rt: HostRuntime) -> Result<(), Fail> {
 pub(crate) fn explicit_ct() -> Context {
     Context {
         class: Service::Known(Class::Ct),
-        syntax: Syntax::Explicit,
+        syntax: Transfer::Explicit,
     }
 }
 
@@ -266,7 +266,7 @@ fn table_of_one_context(rt: HostRuntime) -> Result<(), Fail> {
     let row = ContextRow {
         id: 5,
         class: RowClass::Known(Class::Ct),
-        syntax: Syntax::Explicit,
+        syntax: Transfer::Explicit,
     };
     assert!(rt; table.as_slice() == [row].as_slice());
     assert!(rt; accepts_only(&config, table.as_slice(), 5, &explicit_ct()));
