@@ -6,7 +6,7 @@ use crate::options::ShowOptions;
 use crate::shown_value::{ShownText, ShownValue};
 use crate::texts::{Printable, TagText, VrText};
 use crate::walk::Listing;
-use dictionary::{syntax_uid, vr_of};
+use dictionary::vr_of;
 use element::{Header, Vr};
 use part10::Meta;
 use std::io::Write;
@@ -136,7 +136,7 @@ impl<O: Write> Listing<O> for ElementsJson<'_> {
         self.written = Written::Begun;
         let class = Printable(meta.class.as_bytes());
         let instance = Printable(meta.instance.as_bytes());
-        let syntax = Printable(syntax_uid(meta.syntax));
+        let syntax = Printable(meta.syntax.uid());
         write!(
             out,
             "\"class\":\"{class}\",\"instance\":\"{instance}\",\"syntax\":\"{syntax}\",\"elements\":["

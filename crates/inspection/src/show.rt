@@ -8,7 +8,7 @@ use crate::outcome::{Inspected, Outcome};
 use crate::shown_value::ShownValue;
 use crate::texts::{Indent, Printable, TagText, VrText};
 use crate::walk::{Listing, list};
-use dictionary::{syntax_uid, vr_of};
+use dictionary::vr_of;
 use element::Header;
 use part10::Meta;
 use std::io::{Read, Write};
@@ -70,7 +70,7 @@ impl<O: Write> Listing<O> for Elements<'_> {
         }
         let class = Printable(meta.class.as_bytes());
         let instance = Printable(meta.instance.as_bytes());
-        let syntax = Printable(syntax_uid(meta.syntax));
+        let syntax = Printable(meta.syntax.uid());
         writeln!(out, "class {class}\ninstance {instance}\nsyntax {syntax}")
     }
 

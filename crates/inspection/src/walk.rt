@@ -4,7 +4,8 @@ use crate::error::InspectionError;
 use crate::judgement::Judgement;
 use crate::limits::{DEPTH, MOST_DATA, PIECE, VALUES};
 use crate::outcome::Outcome;
-use element::{Header, Syntax};
+use dictionary::Transfer;
+use element::Header;
 use part10::{Meta, MetaFault, read_meta};
 use sequence::{Fault, Step, Walker, Wanted};
 use std::io;
@@ -86,12 +87,12 @@ fn walk_piece<L: Listing<O>, O: Write>(
 /// Walks the data set that the reader goes on with; returns its first fault.
 fn walk_data_set<R: Read, L: Listing<O>, O: Write>(
     input: &mut Counted<'_, R>,
-    syntax: Syntax,
+    transfer: Transfer,
     listing: &mut L,
     out: &mut O,
 ) -> Result<Option<Fault>, InspectionError> {
     let start = input.count();
-    let mut walker = Walker::<VALUES, DEPTH>::new(syntax, Wanted::none(), MOST_DATA);
+    let mut walker = Walker::<VALUES, DEPTH>::in_transfer(transfer, Wanted::none(), MOST_DATA);
     let mut room = [0; PIECE];
     for _ in 0..u64::MAX {
         let len = input.read_some(&mut room)?;
