@@ -121,12 +121,12 @@ module _ (s : Settings) (named : List (Input × List ℕ)) (kind : Input) (bytes
   -- ---- nothing is sent for which there is no room
 
   -- where an outbox that has refused a send is full
-  pub unfailed : (0 < n → length pending_new ≡ 16583) → length pending_new < 16583 → n ≡ 0
+  pub unfailed : (0 < n → length pending_new ≡ 18631) → length pending_new < 18631 → n ≡ 0
   unfailed full few = elim (cases_lt 0 n) [ inl lt ↦ absurd (let e = full lt in omega (arith, e, few)) | inr none ↦ omega (arith, none) ]
 
   pub piece_fits : (most : ℕ) → kind ≡ Piece → pending ≡ [] → length bytes ≤ most → IsBytes (stream_of (inputs_of named) ++ bytes)
       → ((inputs : List Received) (story : List Happened) (failed : Bool) → Stands served_rooms s inputs story failed seen old → SendsFew served_rooms s inputs story most)
-      → HasTaken s named seen (socket ++ pending) opened old → length pending_new < 16583
+      → HasTaken s named seen (socket ++ pending) opened old → length pending_new < 18631
   piece_fits most is none few are portion h =
       let g = grew h in
       let input : input_of kind bytes ≡ Bytes bytes = ap (λ (k : Input). input_of k bytes) is in
@@ -134,13 +134,13 @@ module _ (s : Settings) (named : List (Input × List ℕ)) (kind : Input) (bytes
       let sent = portion g.inputs g.story g.failed g.stands bytes g.more few (subst (λ (xs : List Received). IsBytes (stream_of xs ++ bytes)) (sym g.inputs_are) are) told in
       omega (arith, ap length g.waits, length-append pending (sent_of served_rooms s (progress_of served_rooms s at_start g.story) g.more), ap length none, sent)
 
-  pub silent_fits : IsSilent (input_of kind bytes) → length pending < 16583 → HasTaken s named seen (socket ++ pending) opened old → length pending_new < 16583
+  pub silent_fits : IsSilent (input_of kind bytes) → length pending < 18631 → HasTaken s named seen (socket ++ pending) opened old → length pending_new < 18631
   silent_fits silent few h =
       let g = grew h in
       let nothing = silent_sends_nothing served_rooms s (progress_of served_rooms s at_start g.story) (stream_of g.inputs) (input_of kind bytes) g.more silent g.told in
       omega (arith, ap length g.waits, length-append pending (sent_of served_rooms s (progress_of served_rooms s at_start g.story) g.more), ap length nothing, few)
 
-  pub abort_fits : input_of kind bytes ≡ UserAbort → length pending + 30 < 16583 → HasTaken s named seen (socket ++ pending) opened old → length pending_new < 16583
+  pub abort_fits : input_of kind bytes ≡ UserAbort → length pending + 30 < 18631 → HasTaken s named seen (socket ++ pending) opened old → length pending_new < 18631
   abort_fits is few h =
       let g = grew h in
       let told : entries_of g.more ≡ entries (stream_of g.inputs) (UserAbort ∷ []) = g.told ∙ ap (λ (x : Received). entries (stream_of g.inputs) (x ∷ [])) is in
@@ -149,8 +149,8 @@ module _ (s : Settings) (named : List (Input × List ℕ)) (kind : Input) (bytes
 
 -- an input that has no bytes
 pub other_fits : (s : Settings) (named : List (Input × List ℕ)) (kind : Input) (bytes : List ℕ) (seen seen_new : Fields) (socket pending pending_new : List ℕ) (m n : ℕ) (opened old new : Store)
-    → m ≡ 0 → OnInput s kind bytes seen seen_new (devices (line pending m) old) (devices (line pending_new n) new) → kind ≢ Piece → (kind ≡ LocalAbort → length pending + 30 < 16583) → length pending < 16583
-    → HasTaken s named seen (socket ++ pending) opened old → length pending_new < 16583
+    → m ≡ 0 → OnInput s kind bytes seen seen_new (devices (line pending m) old) (devices (line pending_new n) new) → kind ≢ Piece → (kind ≡ LocalAbort → length pending + 30 < 18631) → length pending < 18631
+    → HasTaken s named seen (socket ++ pending) opened old → length pending_new < 18631
 other_fits s named Piece bytes seen seen_new socket pending pending_new m n opened old new never moved no_piece room few h = absurd (no_piece refl)
 other_fits s named Closed bytes seen seen_new socket pending pending_new m n opened old new never moved no_piece room few h = silent_fits s named Closed bytes seen seen_new socket pending pending_new m n opened old new never moved tt few h
 other_fits s named Expired bytes seen seen_new socket pending pending_new m n opened old new never moved no_piece room few h = silent_fits s named Expired bytes seen seen_new socket pending pending_new m n opened old new never moved tt few h
@@ -162,7 +162,7 @@ other_fits s named LocalAbort bytes seen seen_new socket pending pending_new m n
 -- it has taken these inputs, whose pieces are what was read; no send failed, and there is room for one byte more
 pub record Keeps (s : Settings) (named : List (Input × List ℕ)) (seen : Fields) (read socket pending : List ℕ) (failures : ℕ) (opened now : Store) : Type 0 where
   pub never : failures ≡ 0
-  pub fits : length pending < 16583
+  pub fits : length pending < 18631
   pub whole : stream_of (inputs_of named) ≡ read
   pub taken : ∥ HasTaken s named seen (socket ++ pending) opened now ∥₁
 
@@ -189,9 +189,9 @@ pub more_bytes : (read read_new bytes : List ℕ) → read_new ≡ read ++ bytes
 more_bytes read read_new bytes e h k = subst IsBytes (sym e) (both_bytes read bytes h k)
 
 module _ (s set : Settings) (named named_new : List (Input × List ℕ)) (kind : Input) (bytes : List ℕ) (seen seen_new : Fields) (read socket pending pending_new : List ℕ) (m n : ℕ) (opened old new : Store)
-    (settings : set ≡ s) (pushed : named_new ≡ named ++ (kind, bytes) ∷ []) (open_still : is_ended seen.kept.state ≡ false) (full : 0 < n → length pending_new ≡ 16583)
+    (settings : set ≡ s) (pushed : named_new ≡ named ++ (kind, bytes) ∷ []) (open_still : is_ended seen.kept.state ≡ false) (full : 0 < n → length pending_new ≡ 18631)
     (moved : OnInput s kind bytes seen seen_new (devices (line pending m) old) (devices (line pending_new n) new)) (was : Keeps s named seen read socket pending m opened old) where
-  keeps_on : length pending_new < 16583 → (read_new : List ℕ) → stream_of (inputs_of (named ++ (kind, bytes) ∷ [])) ≡ read_new → Keeps set named_new seen_new read_new socket pending_new n opened new
+  keeps_on : length pending_new < 18631 → (read_new : List ℕ) → stream_of (inputs_of (named ++ (kind, bytes) ∷ [])) ≡ read_new → Keeps set named_new seen_new read_new socket pending_new n opened new
   keeps_on fits read_new whole =
       let none : n ≡ 0 = unfailed s named kind bytes seen seen_new socket pending pending_new m n opened old new was.never moved full fits in
       record {
@@ -202,7 +202,7 @@ module _ (s set : Settings) (named named_new : List (Input × List ℕ)) (kind :
       }
 
   -- with an input that has no bytes
-  pub keeps_other : kind ≢ Piece → (kind ≡ LocalAbort → length pending + 30 < 16583) → Keeps set named_new seen_new read socket pending_new n opened new
+  pub keeps_other : kind ≢ Piece → (kind ≡ LocalAbort → length pending + 30 < 18631) → Keeps set named_new seen_new read socket pending_new n opened new
   keeps_other no_piece room =
       keeps_on (∥∥₁_elim was.taken le_prop (λ h. other_fits s named kind bytes seen seen_new socket pending pending_new m n opened old new was.never moved no_piece room was.fits h)) read
       (still_whole named kind bytes read no_piece was.whole)

@@ -42,7 +42,7 @@ pub struct Connection<S, F: Filing> {
     ghost there: { IsThere (drafting_of (association_in running)) (F.store filing) },
     /// No send has failed.
     ghost never: { link.outbox.failures.total ≡ 0 },
-    ghost fits: { length link.outbox.bytes.items < 16583 },
+    ghost fits: { length link.outbox.bytes.items < 18631 },
     ghost bytes: { IsBytes (stream_of (inputs_of given.named)) },
     /// The ARTIM timer follows the state of the association.
     ghost followed: { waiting.state ≡ state_of (association_in running) },

@@ -6,10 +6,10 @@ use arrayvec::ArrayVec;
 use element::count::Count;
 use pdu::{Wire, WireFailed};
 
-/// How many bytes may wait for a peer to take them: the 16,552 that an association sends at most for a
+/// How many bytes may wait for a peer to take them: the 18,600 that an association sends at most for a
 /// portion of what it receives (`engine::Running::portion`), then an A-ABORT, and one more, so that an
 /// outbox that is full is known to have refused a send.
-pub const OUTBOX: usize = 16_583;
+pub const OUTBOX: usize = 18_631;
 
 /// Keeps what an association sends until its socket takes it.
 ///
@@ -18,7 +18,7 @@ pub const OUTBOX: usize = 16_583;
 pub struct Outbox {
     bytes: ArrayVec<u8, OUTBOX>,
     failures: Count,
-    ghost full: { 0 < failures.total → array_vec_len bytes ≡ 16583 },
+    ghost full: { 0 < failures.total → array_vec_len bytes ≡ 18631 },
 }
 
 impl Outbox {
@@ -44,7 +44,7 @@ impl Outbox {
 
     /// Returns how many more bytes may wait.
     pub fn room(&self) -> usize
-        ensures { result + length (pending_in self.now) ≡ 16583 }
+        ensures { result + length (pending_in self.now) ≡ 18631 }
     {
         self.bytes.remaining_capacity()
     }

@@ -52,7 +52,7 @@ impl<S, F: Filing> Connection<S, F> {
     fn give(&mut self, input: Input, now: Instant)
         requires open { is_ended (state_at self.old) ≡ false }
         requires no_piece { input ≢ kind.Piece }
-        requires room { input ≡ kind.LocalAbort → length (waiting_at self.old) + 30 < 16583 }
+        requires room { input ≡ kind.LocalAbort → length (waiting_at self.old) + 30 < 18631 }
         ensures settings { settings_at self.new ≡ settings_at self.old }
         ensures opening { opening_of self.new ≡ opening_of self.old }
     {
