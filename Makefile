@@ -51,6 +51,7 @@ test:
 	tests/booklet.py
 	tests/tables.py
 	tools/storage-classes --check
+	tools/transfer-syntaxes --check
 	tools/keywords --check
 	tests/names.py
 	tests/claims.py

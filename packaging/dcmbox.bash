@@ -25,8 +25,8 @@ _dcmbox() {
       ;;
   esac
   case ${COMP_WORDS[1]} in
-    serve) options='--port --out --bind --ae --caller --timeout --idle --max-pdu --max-data --verbose --quiet --log --per --no-sync --once --at-once --per-peer --longest --stop-file --grace --all-storage --storage-class --help' ;;
-    replay) options='--out --ae --cut --per --all-storage --storage-class --help' ;;
+    serve) options='--port --out --bind --ae --caller --timeout --idle --max-pdu --max-data --verbose --quiet --log --per --no-sync --once --at-once --per-peer --longest --stop-file --grace --all-storage --storage-class --all-syntaxes --help' ;;
+    replay) options='--out --ae --cut --per --all-storage --storage-class --all-syntaxes --help' ;;
     show) options='--recursive --values --tag --json --help' ;;
     check) options='--recursive --strict --json --help' ;;
     index) options='--uid --new-uid --keep --replace --help' ;;

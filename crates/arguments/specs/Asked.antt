@@ -1,5 +1,5 @@
 -- What the settings of `serve`, `replay` and `index` are for their arguments (this product's own profile).
-use Rattle.std.specs.Prelude.{◌≡◌, ℕ, ◌*◌, ◌^◌, ◌≤◌, ⊤, Bool, not, true, false, List, [], ◌++◌, map, Option, Some, None, codes, option_map, unwrap_or}
+use Rattle.std.specs.Prelude.{◌≡◌, ℕ, ◌*◌, ◌^◌, ◌≤◌, ⊤, Bool, not, true, false, List, [], ◌++◌, drop, map, Option, Some, None, codes, option_map, unwrap_or}
 use Rattle.std.specs.Duration.{as_nanos}
 use Rattle.std.specs.Str.Parse.{IsNumeral, digits_value, without_leading_plus}
 use Rattle.std.specs.declared.time.Duration.{Duration}
@@ -7,6 +7,8 @@ use Rattle.log.specs.declared.level.Level.{Level}
 use Rattle.log.specs.declared.level.Level.TheVariants.{Warn, Info, Debug}
 use Rattle.element.specs.Title.{title_of_text}
 use Rattle.element.specs.Uid.{uid_of}
+use Rattle.dictionary.specs.declared.transfer.Transfer.{Transfer}
+use Rattle.dictionary.specs.Transfers.{all_transfers}
 use Rattle.negotiate.specs.Settings.{registered, settings_of, default_max_pdu, default_max_data}
 use Rattle.arguments.specs.declared.values.IndexArguments.{IndexArguments}
 use Rattle.arguments.specs.declared.values.ReplayArguments.{ReplayArguments}
@@ -54,6 +56,11 @@ IsDirectoryUid (Some uid) (Some text) false = uid_of text ≡ Some uid
 IsDirectoryUid None None true = ⊤
 IsDirectoryUid uid text is_new = ⊥
 
+-- the further transfer syntaxes: all of the dictionary that are not native, or none
+abbrev pub asked_transfers : Bool → List Transfer
+asked_transfers true = drop 2 all_transfers
+asked_transfers false = []
+
 -- what `serve` does is what its arguments say
 pub record IsServed (serve : Serve) (a : ServeArguments) : Type 0 where
   pub bind : serve.bind.now ≡ a.bind.now
@@ -63,7 +70,8 @@ pub record IsServed (serve : Serve) (a : ServeArguments) : Type 0 where
   pub callers : map (λ t. title_of_text t.now) a.callers.items ≡ map Some (settings_of serve.config).callers
   pub max_pdu : Spells 1024 131_072 a.max_pdu.now (settings_of serve.config).max_pdu
   pub max_data : Spells 1024 (2 ^ 48) a.max_data.now (settings_of serve.config).max_data
-  pub classes : map Some (settings_of serve.config).further ≡ map (λ t. uid_of t.now) a.storage_classes.items ++ map Some (registered a.all_storage)
+  pub classes : map Some (settings_of serve.config).further.classes ≡ map (λ t. uid_of t.now) a.storage_classes.items ++ map Some (registered a.all_storage)
+  pub transfers : (settings_of serve.config).further.transfers ≡ asked_transfers a.all_syntaxes
   pub artim : SpellsTime a.timeout.now serve.timeouts.artim
   pub idle : SpellsTime a.idle.now serve.timeouts.idle
   pub level : IsLevel a.verbose a.quiet serve.level
@@ -80,7 +88,8 @@ pub record IsReplayed (replay : Replay) (a : ReplayArguments) : Type 0 where
   pub callers : (settings_of replay.config).callers ≡ []
   pub max_pdu : (settings_of replay.config).max_pdu ≡ default_max_pdu
   pub max_data : (settings_of replay.config).max_data ≡ default_max_data
-  pub classes : map Some (settings_of replay.config).further ≡ map (λ t. uid_of t.now) a.storage_classes.items ++ map Some (registered a.all_storage)
+  pub classes : map Some (settings_of replay.config).further.classes ≡ map (λ t. uid_of t.now) a.storage_classes.items ++ map Some (registered a.all_storage)
+  pub transfers : (settings_of replay.config).further.transfers ≡ asked_transfers a.all_syntaxes
   pub cut : Spells 1 65536 a.cut.now replay.cut
   pub layout : IsLayout replay.layout (option_map (λ t. t.now) a.per)
 

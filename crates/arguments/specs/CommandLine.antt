@@ -53,7 +53,8 @@ with_rules app (rule ∷ rules) = with_rules (with_rule app rule) rules
 abbrev pub replay_app : App
 replay_app = with_rules (new_app (codes "replay"))
     (positional (codes "FILE") ∷ needed (codes "out") ∷ optional (codes "ae") (codes "DCMBOX") ∷ optional (codes "cut") (codes "4096") ∷ free (codes "per")
-    ∷ flag_rule (codes "all-storage") ∷ repeated (codes "storage-class") ∷ [])
+    ∷ flag_rule (codes "all-storage") ∷ repeated (codes "storage-class")
+    ∷ flag_rule (codes "all-syntaxes") ∷ [])
 
 -- `serve`: who is served where, the timeouts and limits, how much is logged and how, how files are kept, and of which classes
 abbrev pub listening_app : App
@@ -76,7 +77,8 @@ filing_app = with_rules logging_app (free (codes "per") ∷ flag_rule (codes "no
 -- and how many are served at once, how long, and how that is ended
 abbrev pub serve_app : App
 serve_app = with_rules filing_app (optional (codes "at-once") (codes "1") ∷ free (codes "per-peer") ∷ free (codes "longest")
-    ∷ free (codes "stop-file") ∷ optional (codes "grace") (codes "10") ∷ flag_rule (codes "all-storage") ∷ repeated (codes "storage-class") ∷ [])
+    ∷ free (codes "stop-file") ∷ optional (codes "grace") (codes "10") ∷ flag_rule (codes "all-storage") ∷ repeated (codes "storage-class")
+    ∷ flag_rule (codes "all-syntaxes") ∷ [])
 
 -- a command that takes one file
 abbrev pub file_app : Text → App
@@ -140,6 +142,7 @@ pub record IsReplay (a : ReplayArguments) (rows : List Row) : Type 0 where
   pub per : first_of (codes "per") rows ≡ option_map (λ w. w.now) a.per
   pub all_storage : IsFlag rows (codes "all-storage") a.all_storage
   pub storage_classes : map (λ w. w.now) a.storage_classes.items ≡ values_of rows (codes "storage-class")
+  pub all_syntaxes : IsFlag rows (codes "all-syntaxes") a.all_syntaxes
 
 pub record IsIndex (a : IndexArguments) (rows : List Row) : Type 0 where
   pub dir : first_of (codes "DIR") rows ≡ Some a.dir.now
@@ -171,6 +174,7 @@ pub record IsServe (a : ServeArguments) (rows : List Row) : Type 0 where
   pub grace : first_of (codes "grace") rows ≡ Some a.grace.now
   pub all_storage : IsFlag rows (codes "all-storage") a.all_storage
   pub storage_classes : map (λ w. w.now) a.storage_classes.items ≡ values_of rows (codes "storage-class")
+  pub all_syntaxes : IsFlag rows (codes "all-syntaxes") a.all_syntaxes
 
 -- the job is that of the subcommand, with its arguments
 abbrev pub Names : Job → Option (Text × List Row) → Type 0

@@ -114,6 +114,10 @@ const SERVE: Subcommand<'static> = Subcommand {
             "UID",
             "A further storage class that is taken, up to 16 times",
         ),
+        Argument::Flag(
+            "all-syntaxes",
+            "Takes compressed transfer syntaxes, too, and files what comes in them as it came",
+        ),
     ],
 };
 
@@ -146,6 +150,10 @@ const REPLAY: Subcommand<'static> = Subcommand {
             "storage-class",
             "UID",
             "A further storage class that is taken, up to 16 times",
+        ),
+        Argument::Flag(
+            "all-syntaxes",
+            "Takes compressed transfer syntaxes, too, and files what comes in them as it came",
         ),
     ],
 };

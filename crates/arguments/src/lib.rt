@@ -6,6 +6,7 @@ mod at_once;
 mod command;
 mod options;
 mod settings;
+mod transfers;
 mod values;
 mod words;
 

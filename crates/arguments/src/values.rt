@@ -48,6 +48,7 @@ pub struct ReplayArguments<'a> {
     pub all_storage: bool,
     /// At most 16 of them count.
     pub storage_classes: ArrayVec<&'a str, MOST_VALUES>,
+    pub all_syntaxes: bool,
 }
 
 /// The arguments of `index`.
@@ -87,6 +88,7 @@ pub struct ServeArguments<'a> {
     pub all_storage: bool,
     /// At most 16 of them count.
     pub storage_classes: ArrayVec<&'a str, MOST_VALUES>,
+    pub all_syntaxes: bool,
 }
 
 /// The values of up to ten arguments, in order.
@@ -184,6 +186,7 @@ pub fn replay_arguments<'a>(matches: &ArgMatches<'a>) -> Option<ReplayArguments<
         per,
         all_storage: matches.get_flag("all-storage"),
         storage_classes,
+        all_syntaxes: matches.get_flag("all-syntaxes"),
     })
 }
 
@@ -277,5 +280,6 @@ pub fn serve_arguments<'a>(matches: &ArgMatches<'a>) -> Option<ServeArguments<'a
         all_storage: matches.get_flag("all-storage"),
         callers,
         storage_classes,
+        all_syntaxes: matches.get_flag("all-syntaxes"),
     })
 }

@@ -21,4 +21,9 @@ returns-clause-some c =
         off = λ e. c.get_flag.ensures.other (one_text-rows found (codes "all-storage") ∙ e);
       };
       storage_classes = c.in_ok-storage_classes.ensures.some;
+      all_syntaxes = record {
+        none = λ e. c.get_flag-2.ensures.none (one_text-rows found (codes "all-syntaxes") ∙ e);
+        on = λ e. c.get_flag-2.ensures.value (one_text-rows found (codes "all-syntaxes") ∙ e);
+        off = λ e. c.get_flag-2.ensures.other (one_text-rows found (codes "all-syntaxes") ∙ e);
+      };
     }

@@ -52,4 +52,9 @@ returns-clause-some c =
         off = λ e. c.get_flag-3.ensures.other (one_text-rows found (codes "all-storage") ∙ e);
       };
       storage_classes = c.in_ok-storage_classes.ensures.some;
+      all_syntaxes = record {
+        none = λ e. c.get_flag-4.ensures.none (one_text-rows found (codes "all-syntaxes") ∙ e);
+        on = λ e. c.get_flag-4.ensures.value (one_text-rows found (codes "all-syntaxes") ∙ e);
+        off = λ e. c.get_flag-4.ensures.other (one_text-rows found (codes "all-syntaxes") ∙ e);
+      };
     }
