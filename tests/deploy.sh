@@ -10,7 +10,7 @@ source=$PWD
 . tests/ports.sh
 . tests/units.sh
 
-for tool in storescu storescp echoscu dump2dcm haproxy stunnel4 systemd-analyze openssl; do
+for tool in storescu storescp dcmsend echoscu dump2dcm haproxy stunnel4 systemd-analyze openssl; do
   if ! command -v "$tool" >/dev/null; then
     echo 'installing dcmtk, haproxy, stunnel4, systemd'
     { apt-get update && apt-get install -y --no-install-recommends dcmtk haproxy stunnel4 systemd openssl; } \
@@ -72,6 +72,13 @@ cat >image.txt <<'END'
 (0020,000d) UI [2.25.2.1]
 (0020,000e) UI [2.25.3.1]
 END
+# Classes that a sender's defaults leave out, for the importer.
+rare=()
+for class in SegmentationStorage VLWholeSlideMicroscopyImageStorage BreastTomosynthesisImageStorage; do
+  sed "s/=CTImageStorage/=$class/; s/2.25.1.1/2.25.1.9${#rare[@]}/" image.txt >one.txt
+  dump2dcm -q +te one.txt "$class.dcm" || exit 1
+  rare+=("$class.dcm")
+done
 images=()
 for n in 1 2 3 4 5 6 7 8; do
   sed "s/2.25.1.1/2.25.1.$n/" image.txt >one.txt
@@ -144,19 +151,34 @@ kill "$balancer" "$second"
 # ---- the importer sends what came, and removes what the archive took
 
 check 'images for the importer' storescu -aec DCMBOX 127.0.0.1 "$box_port" "${images[@]}"
-mkdir archive
+check 'images of other classes' storescu -R -aec DCMBOX 127.0.0.1 "$box_port" "${rare[@]}"
+mkdir archive "$received/S0000001"
+mv "$received/I0000001" "$received/S0000001"
 (cd archive && exec storescp -aet ARCHIVE "$archive_port" >/dev/null 2>&1) &
 archive=$!
 check 'an archive' listens "$archive_port"
-block 'import.sh: sends' | sed -e "s,/var/lib,$work/root/var/lib," -e "s/archive.example 104/127.0.0.1 $archive_port/" >import.sh
+block 'import.sh: sends' | sed -e "s,/var/lib,$work/root/var/lib," -e "s,=/run/,=$work/," \
+  -e "s/archive.example 104/127.0.0.1 $archive_port/" >import.sh
 check 'the importer' sh import.sh
-check 'the archive has each image' test "$(find archive -type f | wc -l)" -eq 8
+check 'the archive has each image' test "$(find archive -type f | wc -l)" -eq 11
 check 'and the folder none' test -z "$(find "$received" -name 'I*')"
 kill "$archive"
 wait "$archive" 2>/dev/null
 check 'one image more' storescu -aec DCMBOX 127.0.0.1 "$box_port" image1.dcm
-sh import.sh >/dev/null 2>&1
-check 'which stays while the archive is down' test "$(find "$received" -name 'I*' | wc -l)" -eq 1
+# stays NUMBER : the importer leaves so many images in the folder.
+stays() {
+  sh import.sh >/dev/null 2>&1
+  test "$(find "$received" -name 'I*' | wc -l)" -eq "$1"
+}
+check 'which stays while the archive is down' stays 1
+for answer in a700:1 c000:1 b007:0; do
+  "$source/tests/answering.py" "$archive_port" "${answer%:*}" &
+  archive=$!
+  check 'an archive of one answer' listens "$archive_port"
+  check "which stays by its status, ${answer%:*}" stays "${answer#*:}"
+  kill "$archive"
+  wait "$archive" 2>/dev/null
+done
 
 # ---- TLS: a scanner with a certificate is let through, one without is not
 

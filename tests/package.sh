@@ -39,9 +39,9 @@ package=$(packaging/make-deb "$program" "$work") || exit 1
 # Lintian's status is 0 where it has no error.
 check 'lintian has no error' lintian --allow-root --fail-on error "$package"
 
-# A root with nothing in it but what dpkg itself keeps; the C library is the machine's.
+# A root with nothing in it but what dpkg and the helpers of systemd's units keep; the C library is the machine's.
 root=$work/root
-mkdir -p "$root"/var/lib/dpkg/{info,updates,triggers}
+mkdir -p "$root"/var/lib/{dpkg/{info,updates,triggers},systemd}
 : >"$root/var/lib/dpkg/status"
 : >"$root/var/lib/dpkg/available"
 in_root=(dpkg --root="$root" --force-depends --force-script-chrootless --log=/dev/null)
@@ -95,8 +95,33 @@ kill "${boxes[@]}" 2>/dev/null
 wait "${boxes[@]}" 2>/dev/null
 boxes=()
 
+check 'it is installed again over itself' "${in_root[@]}" --install "$package"
 check 'it is removed' "${in_root[@]}" --purge dcmbox
 check 'without a trace' same "$before"
+
+# What the maintainer scripts ask for, by commands that only note how they are called, where /run is as under systemd.
+mkdir "$work/control" "$work/noting"
+dpkg-deb --control "$package" "$work/control"
+for command in systemctl deb-systemd-helper deb-systemd-invoke; do
+  printf '#!/bin/sh\necho "%s $*" >>%s/asked.txt\n' "$command" "$work" >"$work/noting/$command"
+done
+chmod +x "$work"/noting/*
+# asks EXPECTED SCRIPT ARGUMENT.. : what a script asks, but for the state of deb-systemd-helper.
+asks() {
+  local expected=$1 script=$2
+  shift 2
+  : >"$work/asked.txt"
+  PATH=$work/noting:$PATH unshare --mount sh -c 'mount -t tmpfs none /run && mkdir -p /run/systemd/system && exec "$@"' sh \
+    "$work/control/$script" "$@" || return 1
+  diff <(printf '%s' "$expected") <(grep -v '^deb-systemd-helper [^p]' "$work/asked.txt")
+}
+check 'once installed, it has its units read' asks $'systemctl --system daemon-reload\n' postinst configure ''
+check 'an upgrade lets boxes run' asks '' prerm upgrade 9.9.9
+check 'and then starts those anew that run' asks \
+  $'systemctl --system daemon-reload\ndeb-systemd-invoke try-restart dcmbox.service dcmbox@*.service\n' postinst configure "$version"
+check 'a removal stops boxes' asks $'deb-systemd-invoke stop dcmbox.service dcmbox@*.service\n' prerm remove
+check 'and has the units forgotten' asks $'systemctl --system daemon-reload\n' postrm remove
+check 'a purge forgets that they were enabled' asks $'deb-systemd-helper purge dcmbox.service\n' postrm purge
 
 echo "package: $passed passed, $failed failed, 0 skipped"
 [ "$failed" -eq 0 ]
