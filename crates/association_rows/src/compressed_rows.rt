@@ -50,8 +50,13 @@ fn outcome(
     let mut source = ListSource::new(&inputs);
     let mut wire = MemoryWire::new(alloc);
     let mut filing = MemoryFiling::new(alloc);
-    let report =
-        run::<65536, 1024, 256, 64, _, _, _>(&mut source, config, &mut wire, &mut filing, 2);
+    let report = run::<65536, 1024, 256, 64, _, _, _>(
+        &mut source,
+        config,
+        &mut wire,
+        &mut filing,
+        2,
+    );
     (report, wire, filing)
 }
 
@@ -92,7 +97,10 @@ fn it_is_refused_where_it_is_not_taken(rt: HostRuntime) -> Result<(), Fail> {
     let row = row(rt.alloc(), set.as_slice(), status::SUCCESS)?;
     let stream = row.stream.as_slice();
     let asked = request(rt.alloc(), JPEG_LOSSLESS)?.len();
-    for transfers in [&[] as &[Transfer], &[Transfer::JpegLossless, Transfer::Htj2k]] {
+    for transfers in [
+        &[] as &[Transfer],
+        &[Transfer::JpegLossless, Transfer::Htj2k],
+    ] {
         let (_, wire, filing) = outcome(rt.alloc(), &taking(transfers), stream, asked);
         assert!(rt; result_in(wire.sent()) == [4].as_slice());
         assert!(rt; filing.files().is_empty());
