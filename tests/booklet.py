@@ -51,6 +51,7 @@ TITLES = {
     "part10": "Files",
     "engine": "The association",
     "serving": "The connection",
+    "server": "The server",
     "dicomdir": "Directories",
 }
 PRELUDE = [

@@ -1,7 +1,7 @@
 //! `dcmbox serve`: associations over TCP, one after the other or several at once.
 ghost use Rattle.std.specs.Prelude.{◌≡◌, IfOk, OnErr};
 ghost use Rattle.negotiate.specs.Settings.{settings_of};
-ghost use Rattle.serving.specs.Served.{CameOf};
+ghost use Rattle.server.specs.Alone.{CameOf};
 
 use crate::error::ProgramError;
 use crate::failure::Failure;
@@ -9,8 +9,7 @@ use arguments::Serve;
 use core::mem::replace_with;
 use log::Log;
 use part10::{Filing, FolderFiling, FolderWriter};
-use server::{ServerTerms, Socket, serve_alone, serve_many};
-use serving::Exchange;
+use server::{ServedAlone, ServerTerms, serve_alone, serve_many};
 use std::alloc::Global;
 use std::fs::File;
 use std::io;
@@ -44,22 +43,23 @@ fn serve_accepted<
 >(
     filing: FolderFiling<S>,
     accepted: (&R, (TcpStream, SocketAddr), ServerTerms<'_>),
-) -> (FolderFiling<S>, Option<Exchange<Socket>>)
+) -> (FolderFiling<S>, ServedAlone)
     ensures came { CameOf (settings_of accepted.entry.2.config.now) result.1 (⟦<FolderFiling<S> as Filing>⟧.store filing) (⟦<FolderFiling<S> as Filing>⟧.store result.0) }
 {
     let (rt, connection, terms) = accepted;
     serve_alone(rt, connection, terms, filing)
 }
 
-/// Waits for the next connection and serves its association, alone. Returns what went over it, or `None`
-/// if the connection failed before an association was opened, which is logged.
+/// Waits for the next connection and serves its association, alone, until it has ended. Returns how that
+/// ended, and what went over the connection.
 ///
 /// Fails if no connection could be accepted.
 ///
 /// `came`: of the bytes that were read, without those that the association did not take any more, the
 /// definitions give the bytes that the socket took with those that it did not take any more, the files,
-/// each failure of the filing, how the association stands and what it holds. No draft is left. Without an
-/// association no file is put.
+/// each failure of the filing, how the association stands and what it holds. No draft is left. The
+/// association has ended, unless the system failed, whose error is returned. Without an association no
+/// file is put.
 pub fn serve_one<
     R: Log + Clock + Net + Alloc<A = Global>,
     S: Files<File = File> + Alloc<A = Global> + Clone + Drop,
@@ -68,7 +68,7 @@ pub fn serve_one<
     listener: &TcpListener,
     settings: &Serve,
     filing: &mut FolderFiling<S>,
-) -> io::Result<Option<Exchange<Socket>>>
+) -> io::Result<ServedAlone>
     ensures came { IfOk result (λ e. CameOf (settings_of settings.now.config) e (⟦<FolderFiling<S> as Filing>⟧.store filing.old) (⟦<FolderFiling<S> as Filing>⟧.store filing.new)) }
     ensures failed { OnErr result (⟦<FolderFiling<S> as Filing>⟧.store filing.new ≡ ⟦<FolderFiling<S> as Filing>⟧.store filing.old) }
 {

@@ -4,13 +4,17 @@
 
 mod alone;
 mod seat;
+mod served_alone;
 mod server;
 mod socket;
 mod stopping;
 mod terms;
+mod watch;
 
 pub use alone::serve_alone;
 pub use seat::Seat;
+pub use served_alone::ServedAlone;
 pub use server::serve_many;
 pub use socket::Socket;
 pub use terms::{MOST_AT_ONCE, ServerTerms};
+pub use watch::SystemFailed;

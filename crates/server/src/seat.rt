@@ -3,6 +3,8 @@ ghost use Rattle.std.specs.Prelude.{◌≡◌, ◌≤◌, ◌<◌, ◌-◌, ◌�
 ghost use Rattle.std.specs.Duration.{as_nanos};
 ghost use Rattle.std.specs.Time.{instant_nanos};
 ghost use Rattle.negotiate.specs.Settings.{settings_of};
+ghost use Rattle.engine.specs.Held.{is_ended};
+ghost use Rattle.engine.specs.declared.report.Standing.TheVariants as standing;
 ghost use Rattle.serving.specs.Connections.{settings_at};
 
 use crate::socket::Socket;
@@ -44,7 +46,7 @@ where
 }
 
 impl<'a, R: Log + Clock, S: Files<File = File> + Alloc<A = Global> + Clone + Drop> Seat<'a, R, S> {
-    ghost use Rattle.serving.specs.Connections.{drafting_at, opening_of};
+    ghost use Rattle.serving.specs.Connections.{drafting_at, opening_of, state_at};
     ghost use Rattle.serving.specs.Served.{Leaves};
 
     /// Opens an association over a connection that was accepted at this instant, which the journal is
@@ -78,6 +80,13 @@ impl<'a, R: Log + Clock, S: Files<File = File> + Alloc<A = Global> + Clone + Dro
         ensures opening { opening_of self.new.connection ≡ opening_of self.old.connection }
     {
         self.is_ready = true;
+    }
+
+    /// Returns whether the association has ended.
+    pub(crate) fn has_ended(&self) -> bool
+        ensures { result ≡ is_ended (state_at self.now.connection) }
+    {
+        self.connection.is_over()
     }
 
     /// Returns whether the association has ended, or was left.
@@ -190,9 +199,12 @@ impl<'a, R: Log + Clock, S: Files<File = File> + Alloc<A = Global> + Clone + Dro
     /// definitions give the bytes that the socket took with those that it did not take any more, the files
     /// since the connection was opened, each failure of the filing, how the association stands and what it
     /// holds. No draft is left.
+    ///
+    /// `ended`: where the association has ended, the report says so.
     pub fn end(self, now: Instant) -> ConnectionEnd<Socket, FolderFiling<S>>
         ensures left { ∥ Leaves (settings_of self.entry.terms.config.now) result.exchange
             (⟦<FolderFiling<S> as Filing>⟧.store (opening_of self.entry.connection)) (⟦<FolderFiling<S> as Filing>⟧.store result.filing) ∥₁ }
+        ensures ended { is_ended (state_at self.entry.connection) ≡ true → result.exchange.report.standing ≡ standing.Ended }
     {
         let Seat {
             connection,

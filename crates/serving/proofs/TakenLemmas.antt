@@ -4,7 +4,7 @@ use Rattle.std.proofs.Math.Logic.{∥∥₁_elim, ∥∥₁_map}
 use Rattle.std.specs.Coded.{le_prop}
 use Rattle.std.proofs.lemmas.Bool.{cases_lt}
 use Rattle.acceptor.specs.declared.state.State.{State}
-use Rattle.acceptor.specs.declared.state.State.TheVariants.{Sta1, Sta2}
+use Rattle.acceptor.specs.declared.state.State.TheVariants.{Sta1, Sta2, Sta3, Sta6, Sta8, Sta13}
 use Rattle.element.specs.Numbers.{IsBytes}
 use Rattle.element.specs.declared.trace.Trace.{Trace}
 use Rattle.negotiate.specs.Settings.{Settings}
@@ -13,6 +13,8 @@ use Rattle.part10.specs.Store.{Store, stepped, without_draft}
 use Rattle.engine.specs.declared.source.Input.{Input}
 use Rattle.engine.specs.declared.source.Input.TheVariants.{Piece, Closed, Expired, LocalAbort}
 use Rattle.engine.specs.declared.report.Report.{Report}
+use Rattle.engine.specs.declared.report.Standing.{Standing}
+use Rattle.engine.specs.declared.report.Standing.TheVariants as standing
 use Rattle.engine.specs.Devices.{Devices, devices}
 use Rattle.engine.specs.FrameFields.{Fields}
 use Rattle.engine.specs.Held.{is_ended}
@@ -20,6 +22,7 @@ use Rattle.engine.specs.Inputs.{Received, Bytes, UserAbort, stream_of, input_of,
 use Rattle.engine.specs.Moves.{Moved}
 use Rattle.engine.specs.OutputLaws.{SendsFew, IsSilent}
 use Rattle.engine.specs.Progress.{at_start}
+use Rattle.engine.specs.Ran.{standing_of}
 use Rattle.engine.specs.Run.{progress_of, sent_of, wire_failures}
 use Rattle.engine.specs.Stands.{Stands}
 use Rattle.engine.specs.Timeline.{Happened, entries, entries_of}
@@ -216,6 +219,15 @@ module _ (s set : Settings) (named named_new : List (Input × List ℕ)) (kind :
       (subst (λ (k : Input). stream_of (inputs_of (named ++ (k, bytes) ∷ [])) ≡ read_new) (sym is) (whole_more named bytes read was.whole ∙ sym grown))
 
 -- ---- the end
+
+-- the report of an association that has ended
+pub ended_stands : (state : State) (reported : Standing) → reported ≡ standing_of state → is_ended state ≡ true → reported ≡ standing.Ended
+ended_stands Sta1 reported e over = e
+ended_stands Sta2 reported e over = absurd cc
+ended_stands Sta3 reported e over = absurd cc
+ended_stands Sta6 reported e over = absurd cc
+ended_stands Sta8 reported e over = absurd cc
+ended_stands Sta13 reported e over = absurd cc
 
 pub ends : (s : Settings) (named : List (Input × List ℕ)) (seen : Fields) (report : Report) (read untaken socket unsent : List ℕ) (opened old new : Store) → stream_of (inputs_of named) ++ untaken ≡ read
     → Reports served_rooms s seen old report → new ≡ stepped without_draft false old → HasTaken s named seen (socket ++ unsent) opened old → ExchangedSoFar s report read untaken socket unsent opened new

@@ -1,5 +1,5 @@
 -- What went over a connection so far, and what came of it.
-use Rattle.std.specs.Prelude.{◌≡◌, ℕ, ◌+◌, Bool, false, List, ◌++◌, Option, Some, None}
+use Rattle.std.specs.Prelude.{◌≡◌, ℕ, ◌+◌, Bool, false, List, ◌++◌}
 use Rattle.acceptor.specs.declared.state.State.{State}
 use Rattle.negotiate.specs.Settings.{Settings}
 use Rattle.part10.specs.Store.{Store, told_after}
@@ -37,8 +37,3 @@ pub record ExchangedSoFar (s : Settings) (report : Report) (read untaken sent un
 -- a connection leaves this
 abbrev pub Leaves : {S : Type 0} → Settings → Exchange S → Store → Store → Type 0
 Leaves s exchange old new = ExchangedSoFar s exchange.report exchange.read.trace.bytes (untaken_in exchange.untaken) exchange.sent.trace.bytes (pending_in exchange.unsent) old new
-
--- an association was served, and left this; or there was none, and the filing is as it was
-abbrev pub CameOf : {S : Type 0} → Settings → Option (Exchange S) → Store → Store → Type 0
-CameOf s None old new = new ≡ old
-CameOf s (Some exchange) old new = ∥ Leaves s exchange old new ∥₁

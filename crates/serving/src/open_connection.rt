@@ -128,7 +128,9 @@ impl<S, F: Filing> Connection<S, F> {
 }
 
 impl<S: Drop, F: Filing> Connection<S, F> {
-    ghost use Rattle.serving.specs.Connections.{settings_at, opening_of};
+    ghost use Rattle.engine.specs.Held.{is_ended};
+    ghost use Rattle.engine.specs.declared.report.Standing.TheVariants as standing;
+    ghost use Rattle.serving.specs.Connections.{settings_at, opening_of, state_at};
     ghost use Rattle.serving.specs.Served.{Leaves};
 
     /// Closes the connection, wherever its association stands, and drops the draft that may be there.
@@ -136,8 +138,11 @@ impl<S: Drop, F: Filing> Connection<S, F> {
     /// `left`: of the bytes that were read, without those that the association did not take any more, the
     /// definitions give the bytes that the socket took with those that it did not take any more, the files,
     /// and how the association stands.
+    ///
+    /// `ended`: where the association has ended, the report says so.
     pub fn end(self) -> ConnectionEnd<S, F>
         ensures left { ∥ Leaves (settings_at self) result.exchange (F.store (opening_of self)) (F.store result.filing) ∥₁ }
+        ensures ended { is_ended (state_at self) ≡ true → result.exchange.report.standing ≡ standing.Ended }
     {
         let mut filing = self.filing;
         filing.discard();

@@ -1,5 +1,5 @@
 //! What a connection does when it has its turn, and when its time is up.
-ghost use Rattle.std.specs.Prelude.{◌≡◌, ◌≢◌, ◌<◌, ◌+◌, [], length, true, false};
+ghost use Rattle.std.specs.Prelude.{◌≡◌, ◌≢◌, ◌<◌, ◌+◌, ◌↔◌, [], length, true, false};
 ghost use Rattle.element.specs.Numbers.{IsBytes};
 ghost use Rattle.engine.specs.declared.source.Input.TheVariants as kind;
 
@@ -186,40 +186,54 @@ impl<S: Read + Write, F: Filing> Connection<S, F> {
         arrival
     }
 
+    /// Writes what waits, has the association take what was read and what has come, as many bytes as there
+    /// is room for at most, and writes what it sends for them. Returns whether it then waits for its socket.
+    fn advance<B: Observer>(&mut self, now: Instant, room: &mut [u8], observer: &B) -> bool
+        ensures settings { settings_at self.new ≡ settings_at self.old }
+        ensures opening { opening_of self.new ≡ opening_of self.old }
+        ensures rests { result ≡ true → waiting_at self.new ≡ [] → untaken_at self.new ≡ [] }
+    {
+        let mut left = room.len();
+        for _ in 0..=room.len() {
+            match self.flush(now, observer) {
+                Flush::All => {}
+                Flush::Blocked => return true,
+                Flush::Failed => return false,
+            }
+            if self.is_over() || left == 0 || left < self.running.portion().min(room.len()) {
+                return false;
+            }
+            match self.receive(now, room, observer) {
+                Arrival::Bytes(len) => left = left.saturating_sub(len),
+                Arrival::Nothing => return true,
+                Arrival::End(_) => return false,
+            }
+        }
+        false
+    }
+
     /// Takes a turn at this time: writes what waits, has the association take what was read and what has
     /// come, as many bytes as there is room for at most, and writes what it sends for them. The room is lent
     /// for the turn. A portion for which too little of it is left waits for the next turn, so that no fragment
     /// is cut where a turn ends.
+    ///
+    /// `over`: it is over exactly where its association has ended.
     ///
     /// `rests`: it waits for its socket only where the peer is to take something, or the association has
     /// taken all that was read.
     pub fn turn<B: Observer>(&mut self, now: Instant, room: &mut [u8], observer: &B) -> Turn
         ensures settings { settings_at self.new ≡ settings_at self.old }
         ensures opening { opening_of self.new ≡ opening_of self.old }
+        ensures over { (result ≡ Turn.Over) ↔ (is_ended (state_at self.new) ≡ true) }
         ensures rests { result ≡ Turn.Socket → waiting_at self.new ≡ [] → untaken_at self.new ≡ [] }
     {
         if self.is_over() {
             return Turn::Over;
         }
-        let mut left = room.len();
-        for _ in 0..=room.len() {
-            match self.flush(now, observer) {
-                Flush::All => {}
-                Flush::Blocked if !self.is_over() => return Turn::Socket,
-                Flush::Blocked | Flush::Failed => return Turn::Over,
-            }
-            if self.is_over() {
-                return Turn::Over;
-            }
-            if left == 0 || left < self.running.portion().min(room.len()) {
-                return Turn::Next;
-            }
-            match self.receive(now, room, observer) {
-                Arrival::Bytes(len) => left = left.saturating_sub(len),
-                Arrival::Nothing => return Turn::Socket,
-                Arrival::End(_) => return Turn::Over,
-            }
+        let rests = self.advance(now, room, observer);
+        if self.is_over() {
+            return Turn::Over;
         }
-        Turn::Next
+        if rests { Turn::Socket } else { Turn::Next }
     }
 }
