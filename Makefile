@@ -42,9 +42,10 @@ quick:
 # Looks at what the crates cite of each other, whether the documents that scripts make are fresh and whether what claims
 # and links name is there, tries the scripts that look, proves every crate and its tests from nothing, tries the
 # must-fail edits, runs the tests and the program, and then tries the program from outside: with invalid arguments and
-# missing files, along docs/TOUR.md, under strace, with the tools of DCMTK, by what its log tells, with several peers at
-# once, as a Debian package, and as docs/DEPLOY.md has it. What of pydicom, dicom3tools, DCMTK and its headers, strace,
-# curl, openssl, exFAT's tools, lintian, HAProxy, stunnel and systemd is missing it installs.
+# missing files, along docs/TOUR.md, under strace, with the tools of DCMTK, also on compressed images, by what its log
+# tells, with several peers at once, as a Debian package, and as docs/DEPLOY.md has it. What of pydicom, dicom3tools,
+# DCMTK and its headers, GDCM's tools, strace, curl, openssl, exFAT's tools, lintian, HAProxy, stunnel and systemd is missing
+# it installs.
 test:
 	tests/layers.sh
 	tests/definitions.py
@@ -62,6 +63,7 @@ test:
 	tests/program.sh $(PROGRAM)
 	tests/tour.py $(PROGRAM)
 	tests/interop.sh $(PROGRAM)
+	tests/compressed.sh $(PROGRAM)
 	tests/log.sh $(PROGRAM)
 	tests/several.sh $(PROGRAM)
 	tests/package.sh $(PROGRAM)
@@ -70,6 +72,7 @@ test:
 # The tools of DCMTK against the program that is built.
 interop:
 	tests/interop.sh $(PROGRAM)
+	tests/compressed.sh $(PROGRAM)
 
 # The program beside DCMTK's storescp and a floor that checks nothing: prints tables of ratios.
 bench: dcmbox
