@@ -20,13 +20,13 @@ _dcmbox() {
       mapfile -t COMPREPLY < <(compgen -W 'text json' -- "$current")
       return
       ;;
-    --port | --ae | --caller | --timeout | --idle | --max-pdu | --max-data | --per | --at-once | --per-peer | --longest | --stop-file | --grace | --storage-class | --cut | --tag | --uid)
+    --port | --ae | --caller | --timeout | --idle | --max-pdu | --max-data | --per | --at-once | --per-peer | --longest | --stop-file | --grace | --storage-class | --transfer-syntax | --cut | --tag | --uid)
       return
       ;;
   esac
   case ${COMP_WORDS[1]} in
-    serve) options='--port --out --bind --ae --caller --timeout --idle --max-pdu --max-data --verbose --quiet --log --per --no-sync --once --at-once --per-peer --longest --stop-file --grace --all-storage --storage-class --all-syntaxes --help' ;;
-    replay) options='--out --ae --cut --per --all-storage --storage-class --all-syntaxes --help' ;;
+    serve) options='--port --out --bind --ae --caller --timeout --idle --max-pdu --max-data --verbose --quiet --log --per --no-sync --once --at-once --per-peer --longest --stop-file --grace --all-storage --storage-class --all-syntaxes --transfer-syntax --help' ;;
+    replay) options='--out --ae --cut --per --all-storage --storage-class --all-syntaxes --transfer-syntax --help' ;;
     show) options='--recursive --values --tag --json --help' ;;
     check) options='--recursive --strict --json --help' ;;
     index) options='--uid --new-uid --keep --replace --help' ;;

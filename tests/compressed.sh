@@ -347,7 +347,7 @@ stop
 check 'they are filed bit for bit' test "$(sums $(filed samples))" = "$(sums "${sent[@]}")"
 check 'they are more than twenty' test ${#sent[@]} -gt 20
 
-# ---- without the option they are refused
+# ---- without the option they are refused, and with the name of one that one is taken
 
 start native || exit 1
 for name in "${!proposed[@]}"; do
@@ -357,6 +357,12 @@ check 'the context is refused for its transfer syntax' peer 'result 4' store $jp
 check 'an image without compression is taken' storescu "${to_box[@]}" words.dcm
 stop
 check 'and is filed alone' holds native words.dcm
+
+start one --transfer-syntax 1.2.840.10008.1.2.5 || exit 1
+check 'the one that is named' storescu -xr "${to_box[@]}" rle.dcm
+refused 'and no other' storescu -xs "${to_box[@]}" sv1.dcm
+stop
+check 'it is filed alone' holds one rle.dcm
 
 # storescu proposes the native ones beside a compressed one in one context where it combines them.
 start combined --all-syntaxes || exit 1

@@ -1,3 +1,4 @@
 mod WordsLemmas
 mod TableLemmas
 mod ValuesLemmas
+mod TransferLemmas

@@ -1,5 +1,5 @@
 -- What the settings of `serve`, `replay` and `index` are for their arguments (this product's own profile).
-use Rattle.std.specs.Prelude.{◌≡◌, ℕ, ◌*◌, ◌^◌, ◌≤◌, ⊤, Bool, not, true, false, List, [], ◌++◌, drop, map, Option, Some, None, codes, option_map, unwrap_or}
+use Rattle.std.specs.Prelude.{◌≡◌, ℕ, ◌*◌, ◌^◌, ◌≤◌, ⊤, Bool, not, true, false, List, [], ◌++◌, if◌then◌else◌, map, Option, Some, None, codes, option_map, unwrap_or}
 use Rattle.std.specs.Duration.{as_nanos}
 use Rattle.std.specs.Str.Parse.{IsNumeral, digits_value, without_leading_plus}
 use Rattle.std.specs.declared.time.Duration.{Duration}
@@ -8,7 +8,7 @@ use Rattle.log.specs.declared.level.Level.TheVariants.{Warn, Info, Debug}
 use Rattle.element.specs.Title.{title_of_text}
 use Rattle.element.specs.Uid.{uid_of}
 use Rattle.dictionary.specs.declared.transfer.Transfer.{Transfer}
-use Rattle.dictionary.specs.Transfers.{all_transfers}
+use Rattle.dictionary.specs.Transfers.{encapsulated_transfers, transfer_of}
 use Rattle.negotiate.specs.Settings.{registered, settings_of, default_max_pdu, default_max_data}
 use Rattle.arguments.specs.declared.values.IndexArguments.{IndexArguments}
 use Rattle.arguments.specs.declared.values.ReplayArguments.{ReplayArguments}
@@ -56,10 +56,12 @@ IsDirectoryUid (Some uid) (Some text) false = uid_of text ≡ Some uid
 IsDirectoryUid None None true = ⊤
 IsDirectoryUid uid text is_new = ⊥
 
--- the further transfer syntaxes: all of the dictionary that are not native, or none
-abbrev pub asked_transfers : Bool → List Transfer
-asked_transfers true = drop 2 all_transfers
-asked_transfers false = []
+-- the further transfer syntaxes: all of the dictionary in which Pixel Data may be encapsulated where they are asked for,
+-- else those that the texts name; each text names one
+pub record AsksFor (all : Bool) (texts : List (List ℕ)) (transfers : List Transfer) : Type 0 where
+  pub named : List Transfer
+  pub each : map transfer_of texts ≡ map Some named
+  pub taken : transfers ≡ (if all then encapsulated_transfers else named)
 
 -- what `serve` does is what its arguments say
 pub record IsServed (serve : Serve) (a : ServeArguments) : Type 0 where
@@ -71,7 +73,7 @@ pub record IsServed (serve : Serve) (a : ServeArguments) : Type 0 where
   pub max_pdu : Spells 1024 131_072 a.max_pdu.now (settings_of serve.config).max_pdu
   pub max_data : Spells 1024 (2 ^ 48) a.max_data.now (settings_of serve.config).max_data
   pub classes : map Some (settings_of serve.config).further.classes ≡ map (λ t. uid_of t.now) a.storage_classes.items ++ map Some (registered a.all_storage)
-  pub transfers : (settings_of serve.config).further.transfers ≡ asked_transfers a.all_syntaxes
+  pub transfers : AsksFor a.all_syntaxes (map (λ t. t.now) a.transfer_syntaxes.items) (settings_of serve.config).further.transfers
   pub artim : SpellsTime a.timeout.now serve.timeouts.artim
   pub idle : SpellsTime a.idle.now serve.timeouts.idle
   pub level : IsLevel a.verbose a.quiet serve.level
@@ -89,7 +91,7 @@ pub record IsReplayed (replay : Replay) (a : ReplayArguments) : Type 0 where
   pub max_pdu : (settings_of replay.config).max_pdu ≡ default_max_pdu
   pub max_data : (settings_of replay.config).max_data ≡ default_max_data
   pub classes : map Some (settings_of replay.config).further.classes ≡ map (λ t. uid_of t.now) a.storage_classes.items ++ map Some (registered a.all_storage)
-  pub transfers : (settings_of replay.config).further.transfers ≡ asked_transfers a.all_syntaxes
+  pub transfers : AsksFor a.all_syntaxes (map (λ t. t.now) a.transfer_syntaxes.items) (settings_of replay.config).further.transfers
   pub cut : Spells 1 65536 a.cut.now replay.cut
   pub layout : IsLayout replay.layout (option_map (λ t. t.now) a.per)
 

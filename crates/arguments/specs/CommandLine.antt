@@ -54,7 +54,7 @@ abbrev pub replay_app : App
 replay_app = with_rules (new_app (codes "replay"))
     (positional (codes "FILE") ∷ needed (codes "out") ∷ optional (codes "ae") (codes "DCMBOX") ∷ optional (codes "cut") (codes "4096") ∷ free (codes "per")
     ∷ flag_rule (codes "all-storage") ∷ repeated (codes "storage-class")
-    ∷ flag_rule (codes "all-syntaxes") ∷ [])
+    ∷ flag_rule (codes "all-syntaxes") ∷ repeated (codes "transfer-syntax") ∷ [])
 
 -- `serve`: who is served where, the timeouts and limits, how much is logged and how, how files are kept, and of which classes
 abbrev pub listening_app : App
@@ -78,7 +78,7 @@ filing_app = with_rules logging_app (free (codes "per") ∷ flag_rule (codes "no
 abbrev pub serve_app : App
 serve_app = with_rules filing_app (optional (codes "at-once") (codes "1") ∷ free (codes "per-peer") ∷ free (codes "longest")
     ∷ free (codes "stop-file") ∷ optional (codes "grace") (codes "10") ∷ flag_rule (codes "all-storage") ∷ repeated (codes "storage-class")
-    ∷ flag_rule (codes "all-syntaxes") ∷ [])
+    ∷ flag_rule (codes "all-syntaxes") ∷ repeated (codes "transfer-syntax") ∷ [])
 
 -- a command that takes one file
 abbrev pub file_app : Text → App
@@ -143,6 +143,7 @@ pub record IsReplay (a : ReplayArguments) (rows : List Row) : Type 0 where
   pub all_storage : IsFlag rows (codes "all-storage") a.all_storage
   pub storage_classes : map (λ w. w.now) a.storage_classes.items ≡ values_of rows (codes "storage-class")
   pub all_syntaxes : IsFlag rows (codes "all-syntaxes") a.all_syntaxes
+  pub transfer_syntaxes : map (λ w. w.now) a.transfer_syntaxes.items ≡ values_of rows (codes "transfer-syntax")
 
 pub record IsIndex (a : IndexArguments) (rows : List Row) : Type 0 where
   pub dir : first_of (codes "DIR") rows ≡ Some a.dir.now
@@ -175,6 +176,7 @@ pub record IsServe (a : ServeArguments) (rows : List Row) : Type 0 where
   pub all_storage : IsFlag rows (codes "all-storage") a.all_storage
   pub storage_classes : map (λ w. w.now) a.storage_classes.items ≡ values_of rows (codes "storage-class")
   pub all_syntaxes : IsFlag rows (codes "all-syntaxes") a.all_syntaxes
+  pub transfer_syntaxes : map (λ w. w.now) a.transfer_syntaxes.items ≡ values_of rows (codes "transfer-syntax")
 
 -- the job is that of the subcommand, with its arguments
 abbrev pub Names : Job → Option (Text × List Row) → Type 0

@@ -118,6 +118,11 @@ const SERVE: Subcommand<'static> = Subcommand {
             "all-syntaxes",
             "Takes compressed transfer syntaxes, too, and files what comes in them as it came",
         ),
+        Argument::Repeated(
+            "transfer-syntax",
+            "UID",
+            "A compressed transfer syntax that is taken, up to 16 times",
+        ),
     ],
 };
 
@@ -154,6 +159,11 @@ const REPLAY: Subcommand<'static> = Subcommand {
         Argument::Flag(
             "all-syntaxes",
             "Takes compressed transfer syntaxes, too, and files what comes in them as it came",
+        ),
+        Argument::Repeated(
+            "transfer-syntax",
+            "UID",
+            "A compressed transfer syntax that is taken, up to 16 times",
         ),
     ],
 };

@@ -3,12 +3,12 @@ ghost use Rattle.std.specs.Prelude.{◌≡◌, ◌≤◌, ◌^◌, ◌++◌, IfO
 ghost use Rattle.element.specs.Title.{title_of_text};
 ghost use Rattle.element.specs.Uid.{uid_of};
 ghost use Rattle.negotiate.specs.Settings.{registered, settings_of};
-ghost use Rattle.arguments.specs.Asked.{asked_transfers, Spells, SpellsTime, IsLevel, IsForm, IsLayout, IsDirectoryUid, IsServed, IsReplayed, IsIndexed};
+ghost use Rattle.arguments.specs.Asked.{AsksFor, Spells, SpellsTime, IsLevel, IsForm, IsLayout, IsDirectoryUid, IsServed, IsReplayed, IsIndexed};
 ghost use Rattle.arguments.specs.AskedAtOnce.{IsAtOnce};
 
 use crate::at_once::at_once_of;
 use crate::options::{Index, Layout, Per, Replay, Serve};
-use crate::transfers::asked;
+use crate::transfers::taking_transfers;
 use crate::values::{IndexArguments, MOST_VALUES, ReplayArguments, ServeArguments};
 use crate::words::WordsError;
 use arrayvec::ArrayVec;
@@ -99,17 +99,18 @@ fn with_storage(
     all_storage: bool,
     classes: &ArrayVec<&str, MOST_VALUES>,
     all_syntaxes: bool,
+    syntaxes: &ArrayVec<&str, MOST_VALUES>,
 ) -> Result<Config, WordsError>
     ensures ae { IfOk result (λ c. c.ae ≡ config.ae) }
     ensures callers { IfOk result (λ c. c.callers ≡ config.callers) }
     ensures max_pdu { IfOk result (λ c. c.max_pdu ≡ config.max_pdu) }
     ensures max_data { IfOk result (λ c. c.max_data ≡ config.max_data) }
     ensures classes { IfOk result (λ c. map Some (settings_of c).further.classes ≡ map (λ t. uid_of t.now) classes.now.items ++ map Some (registered all_storage)) }
-    ensures transfers { IfOk result (λ c. (settings_of c).further.transfers ≡ asked_transfers all_syntaxes) }
+    ensures transfers { IfOk result (λ c. AsksFor all_syntaxes (map (λ t. t.now) syntaxes.now.items) (settings_of c).further.transfers) }
 {
     let uids = classes_of(alloc, classes)?;
     let taking = config.with_storage(all_storage, uids.as_slice());
-    Ok(taking.with_transfers(asked(all_syntaxes)))
+    taking_transfers(alloc, taking, all_syntaxes, syntaxes)
 }
 
 /// Returns what `replay` does with these arguments.
@@ -136,6 +137,7 @@ pub fn replay_settings<'a>(
             arguments.all_storage,
             &arguments.storage_classes,
             arguments.all_syntaxes,
+            &arguments.transfer_syntaxes,
         )?,
         cut: cut as usize,
         layout: layout_of(alloc, arguments.per)?,
@@ -165,6 +167,7 @@ pub fn serve_settings<'a>(
             arguments.all_storage,
             &arguments.storage_classes,
             arguments.all_syntaxes,
+            &arguments.transfer_syntaxes,
         )?,
         timeouts: limits.timeouts,
         level: level_of(alloc, arguments)?,

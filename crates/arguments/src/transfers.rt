@@ -1,40 +1,82 @@
-//! The transfer syntaxes that an option takes.
-ghost use Rattle.std.specs.Prelude.{◌≡◌, ◌≤◌, length};
-ghost use Rattle.arguments.specs.Asked.{asked_transfers};
+//! The transfer syntaxes that options take.
+ghost use Rattle.std.specs.Prelude.{◌≡◌, IfOk, Some, map};
+ghost use Rattle.dictionary.specs.Transfers.{transfer_of};
+ghost use Rattle.negotiate.specs.Settings.{settings_of};
+ghost use Rattle.arguments.specs.Asked.{AsksFor};
 
+use crate::values::MOST_VALUES;
+use crate::words::WordsError;
+use arrayvec::ArrayVec;
 use dictionary::Transfer;
+use negotiate::Config;
+use std::alloc::Global;
+use std::fmt;
 
-/// Returns each transfer syntax in which Pixel Data may be encapsulated where all are asked for, else none.
-pub(crate) fn asked(all: bool) -> &'static [Transfer]
-    ensures transfers { result.now ≡ asked_transfers all }
-    ensures few { length result.now ≤ 23 }
-{
-    if !all {
-        return &[];
+/// The transfer syntaxes that are known, a line for each.
+#[derive(Drop)]
+struct Known;
+
+impl fmt::Display for Known {
+    fn fmt<W: fmt::Write>(&self, f: &mut fmt::Formatter<W>) -> fmt::Result {
+        for transfer in &Transfer::ALL {
+            f.write_str("  ")?;
+            for byte in transfer.uid() {
+                f.write_char(char::from(*byte))?;
+            }
+            writeln!(f, " {}", transfer.keyword())?;
+        }
+        Ok(())
     }
-    &[
-        Transfer::JpegBaseline8Bit,
-        Transfer::JpegExtended12Bit,
-        Transfer::JpegLossless,
-        Transfer::JpegLosslessSv1,
-        Transfer::JpegLsLossless,
-        Transfer::JpegLsNearLossless,
-        Transfer::Jpeg2000Lossless,
-        Transfer::Jpeg2000,
-        Transfer::Jpeg2000McLossless,
-        Transfer::Jpeg2000Mc,
-        Transfer::Mpeg2MainLevel,
-        Transfer::Mpeg2HighLevel,
-        Transfer::Mpeg4High41,
-        Transfer::Mpeg4High41Bd,
-        Transfer::Mpeg4High42For2d,
-        Transfer::Mpeg4High42For3d,
-        Transfer::Mpeg4High42Stereo,
-        Transfer::HevcMainLevel51,
-        Transfer::HevcMain10Level51,
-        Transfer::Htj2kLossless,
-        Transfer::Htj2kLosslessRpcl,
-        Transfer::Htj2k,
-        Transfer::RleLossless,
-    ]
+}
+
+/// Reads the unique identifier of a transfer syntax.
+fn transfer(alloc: Global, text: &str) -> Result<Transfer, WordsError>
+    ensures { IfOk result (λ t. transfer_of text.now ≡ Some t) }
+{
+    match Transfer::of(text.as_bytes()) {
+        Some(transfer) => Ok(transfer),
+        None => {
+            let known = Known;
+            let refused = format!(in alloc;
+                "error: --transfer-syntax takes the UID of a known transfer syntax, not '{text}'; these are known:\n{known}"
+            )?;
+            Err(WordsError::Refused(refused))
+        }
+    }
+}
+
+/// Reads the transfer syntaxes that are named.
+fn transfers_of(
+    alloc: Global,
+    syntaxes: &ArrayVec<&str, MOST_VALUES>,
+) -> Result<ArrayVec<Transfer, MOST_VALUES>, WordsError>
+    ensures read { IfOk result (λ transfers. map (λ t. transfer_of t.now) syntaxes.now.items ≡ map Some transfers.items) }
+{
+    let mut transfers = ArrayVec::new();
+    for syntax in syntaxes.as_slice() {
+        transfers.push(transfer(alloc, *syntax)?);
+    }
+    Ok(transfers)
+}
+
+/// Returns the settings with the transfer syntaxes that are asked for: each in which Pixel Data may be encapsulated
+/// where all are, else those that are named.
+pub(crate) fn taking_transfers(
+    alloc: Global,
+    config: Config,
+    all: bool,
+    syntaxes: &ArrayVec<&str, MOST_VALUES>,
+) -> Result<Config, WordsError>
+    ensures ae { IfOk result (λ c. c.ae ≡ config.ae) }
+    ensures callers { IfOk result (λ c. c.callers ≡ config.callers) }
+    ensures max_pdu { IfOk result (λ c. c.max_pdu ≡ config.max_pdu) }
+    ensures max_data { IfOk result (λ c. c.max_data ≡ config.max_data) }
+    ensures classes { IfOk result (λ c. (settings_of c).further.classes ≡ (settings_of config).further.classes) }
+    ensures transfers { IfOk result (λ c. AsksFor all (map (λ t. t.now) syntaxes.now.items) (settings_of c).further.transfers) }
+{
+    let named = transfers_of(alloc, syntaxes)?;
+    if all {
+        return Ok(config.with_transfers(Transfer::encapsulated()));
+    }
+    Ok(config.with_transfers(named.as_slice()))
 }

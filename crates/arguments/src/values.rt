@@ -3,7 +3,7 @@ ghost use Rattle.std.specs.Prelude.{◌≡◌, ◌<◌, ◌≤◌, ◌&&◌, IfS
 ghost use Rattle.clap.specs.Matches.{found_of};
 ghost use Rattle.clap.specs.Walk.{rows_of, first_of};
 ghost use Rattle.arguments.specs.CommandLine.{IsFile, IsShow, IsCheck, IsReplay, IsIndex, IsServe, values_of};
-ghost use Rattle.arguments.specs.machine.Needs.{have_values, file_needs, replay_needs, index_needs, serve_needs, callers_fit, classes_fit};
+ghost use Rattle.arguments.specs.machine.Needs.{have_values, file_needs, replay_needs, index_needs, serve_needs, callers_fit, classes_fit, transfers_fit};
 
 use arrayvec::ArrayVec;
 use clap::ArgMatches;
@@ -49,6 +49,8 @@ pub struct ReplayArguments<'a> {
     /// At most 16 of them count.
     pub storage_classes: ArrayVec<&'a str, MOST_VALUES>,
     pub all_syntaxes: bool,
+    /// At most 16 of them count.
+    pub transfer_syntaxes: ArrayVec<&'a str, MOST_VALUES>,
 }
 
 /// The arguments of `index`.
@@ -89,6 +91,8 @@ pub struct ServeArguments<'a> {
     /// At most 16 of them count.
     pub storage_classes: ArrayVec<&'a str, MOST_VALUES>,
     pub all_syntaxes: bool,
+    /// At most 16 of them count.
+    pub transfer_syntaxes: ArrayVec<&'a str, MOST_VALUES>,
 }
 
 /// The values of up to ten arguments, in order.
@@ -170,14 +174,16 @@ pub fn check_arguments<'a>(
     })
 }
 
-/// Returns the arguments of `replay`, where each has its value and at most 16 storage classes are named.
+/// Returns the arguments of `replay`, where each has its value and at most 16 storage classes and as many transfer
+/// syntaxes are named.
 pub fn replay_arguments<'a>(matches: &ArgMatches<'a>) -> Option<ReplayArguments<'a>>
     ensures some { IfSome result (λ a. IsReplay a (rows_of (found_of matches.now))) }
-    ensures none { IfNone result ((have_values (rows_of (found_of matches.now)) replay_needs && classes_fit (rows_of (found_of matches.now))) ≡ false) }
+    ensures none { IfNone result ((have_values (rows_of (found_of matches.now)) replay_needs && (classes_fit (rows_of (found_of matches.now)) && transfers_fit (rows_of (found_of matches.now)))) ≡ false) }
 {
     let Texts([file, out, ae, cut, ..]) = texts_of(matches, &["FILE", "out", "ae", "cut"])?;
     let per = matches.get_str("per");
     let storage_classes = values(matches, "storage-class")?;
+    let transfer_syntaxes = values(matches, "transfer-syntax")?;
     Some(ReplayArguments {
         file,
         out,
@@ -187,6 +193,7 @@ pub fn replay_arguments<'a>(matches: &ArgMatches<'a>) -> Option<ReplayArguments<
         all_storage: matches.get_flag("all-storage"),
         storage_classes,
         all_syntaxes: matches.get_flag("all-syntaxes"),
+        transfer_syntaxes,
     })
 }
 
@@ -224,10 +231,10 @@ pub(crate) fn values<'a>(
 }
 
 /// Returns the arguments of `serve`, where each has its value, at most 16 titles may call and at most 16
-/// storage classes are named.
+/// storage classes and as many transfer syntaxes are named.
 pub fn serve_arguments<'a>(matches: &ArgMatches<'a>) -> Option<ServeArguments<'a>>
     ensures some { IfSome result (λ a. IsServe a (rows_of (found_of matches.now))) }
-    ensures none { IfNone result ((have_values (rows_of (found_of matches.now)) serve_needs && (callers_fit (rows_of (found_of matches.now)) && classes_fit (rows_of (found_of matches.now)))) ≡ false) }
+    ensures none { IfNone result ((have_values (rows_of (found_of matches.now)) serve_needs && (callers_fit (rows_of (found_of matches.now)) && (classes_fit (rows_of (found_of matches.now)) && transfers_fit (rows_of (found_of matches.now))))) ≡ false) }
 {
     let Texts(
         [
@@ -251,6 +258,7 @@ pub fn serve_arguments<'a>(matches: &ArgMatches<'a>) -> Option<ServeArguments<'a
     )?;
     let callers = values(matches, "caller")?;
     let storage_classes = values(matches, "storage-class")?;
+    let transfer_syntaxes = values(matches, "transfer-syntax")?;
     let verbose = matches.get_flag("verbose");
     let quiet = matches.get_flag("quiet");
     let log = matches.get_str("log");
@@ -281,5 +289,6 @@ pub fn serve_arguments<'a>(matches: &ArgMatches<'a>) -> Option<ServeArguments<'a
         callers,
         storage_classes,
         all_syntaxes: matches.get_flag("all-syntaxes"),
+        transfer_syntaxes,
     })
 }

@@ -61,12 +61,13 @@ fn refusal(alloc: Global, error: Error) -> WordsError {
     }
 }
 
-/// The only arguments that clap takes and this program does not: more titles or storage classes than it
-/// keeps.
+/// The only arguments that clap takes and this program does not: more titles, storage classes or transfer
+/// syntaxes than it keeps.
 fn too_many(alloc: Global, matches: &ArgMatches) -> WordsError {
-    let option = match values(matches, "caller") {
-        Some(_) => "storage-class",
-        None => "caller",
+    let option = match (values(matches, "caller"), values(matches, "storage-class")) {
+        (None, _) => "caller",
+        (Some(_), None) => "storage-class",
+        (Some(_), Some(_)) => "transfer-syntax",
     };
     match format!(in alloc; "error: --{option} may be given {MOST_VALUES} times at most\n") {
         Ok(text) => WordsError::Refused(text),
@@ -74,8 +75,8 @@ fn too_many(alloc: Global, matches: &ArgMatches) -> WordsError {
     }
 }
 
-/// Returns the job of a subcommand that takes no list of files, or `None` for more titles or storage classes
-/// than the program keeps.
+/// Returns the job of a subcommand that takes no list of files, or `None` for more titles, storage classes or
+/// transfer syntaxes than the program keeps.
 fn job_without_files<'a>(name: &str, matches: &ArgMatches<'a>) -> Option<Job<'a>>
     ensures { IfSome result (λ job. Names job (Some (name.now, rows_of (found_of matches.now)))) }
 {
@@ -89,7 +90,8 @@ fn job_without_files<'a>(name: &str, matches: &ArgMatches<'a>) -> Option<Job<'a>
     Some(job)
 }
 
-/// Returns the job of a subcommand, or `None` for more titles or storage classes than the program keeps.
+/// Returns the job of a subcommand, or `None` for more titles, storage classes or transfer syntaxes than the
+/// program keeps.
 fn job_of<'a>(
     alloc: Global,
     name: &str,

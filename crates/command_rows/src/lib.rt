@@ -32,3 +32,5 @@ mod replay_rows;
 mod serve_rows;
 #[cfg(test)]
 mod settings_rows;
+#[cfg(test)]
+mod transfer_rows;

@@ -1,6 +1,6 @@
 -- What the crates above cite of this crate's lemmas: laws of `dictionary::laws`, which are their contracts, in the words of
 -- the definitions alone.
-use Rattle.std.proofs.Common.{◌≡◌, ◌≢◌, ◌≤◌, ℕ, List, Option, Some, None, length, option_and_then}
+use Rattle.std.proofs.Common.{◌≡◌, ◌≢◌, ◌≤◌, ℕ, List, Some, None, length, option_and_then}
 use Rattle.element.specs.declared.syntax.Syntax.{Syntax}
 use Rattle.dictionary.specs.declared.class.Class.{Class}
 use Rattle.dictionary.specs.declared.transfer.Transfer.{Transfer}

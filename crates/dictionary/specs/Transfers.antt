@@ -1,6 +1,6 @@
 -- Transfer syntaxes by their unique identifiers (PS3.5 annex A, PS3.6 table A-1), as `tools/transfer-syntaxes` writes
 -- them: the two in which Pixel Data is native, and those in which it may be encapsulated (PS3.5 section A.4).
-use Rattle.std.specs.Prelude.{ℕ, Bool, true, false, List, [], ◌∷◌, Option, Some, None, nat_eq, codes}
+use Rattle.std.specs.Prelude.{ℕ, Bool, true, false, List, [], ◌∷◌, Option, Some, None, filter, nat_eq, codes}
 use Rattle.std.specs.List.{find}
 use Rattle.std.specs.Cmp.Lexicographic.{pointwise}
 use Rattle.element.specs.Padding.{is_padding, without_trailing}
@@ -116,6 +116,10 @@ abbrev pub is_encapsulated : Transfer → Bool
 is_encapsulated Implicit = false
 is_encapsulated Explicit = false
 is_encapsulated _ = true
+
+-- each of those in which it may be
+abbrev pub encapsulated_transfers : List Transfer
+encapsulated_transfers = filter is_encapsulated all_transfers
 
 -- the transfer syntax of this layout in which Pixel Data is native
 abbrev pub native : Syntax → Transfer

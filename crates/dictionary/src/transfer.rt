@@ -63,7 +63,7 @@ pub enum Transfer {
 
 impl Transfer {
     /// Each transfer syntax, by the numbers of the identifiers.
-    const ALL: [Transfer; 25] = [
+    pub const ALL: [Transfer; 25] = [
         Transfer::Implicit,
         Transfer::Explicit,
         Transfer::JpegBaseline8Bit,
@@ -176,6 +176,13 @@ impl Transfer {
             Transfer::Explicit => false,
             _ => true,
         }
+    }
+
+    /// Returns each transfer syntax in which Pixel Data may be encapsulated.
+    pub fn encapsulated() -> &'static [Transfer]
+        ensures { result.now ≡ table.encapsulated_transfers }
+    {
+        &Transfer::ALL[2..]
     }
 
     /// Returns the transfer syntax in which elements are laid out so and Pixel Data is native.

@@ -28,3 +28,7 @@ callers_fit rows = nat_le (length (values_of rows (codes "caller"))) 16
 -- at most 16 storage classes are named
 abbrev pub classes_fit : List Row → Bool
 classes_fit rows = nat_le (length (values_of rows (codes "storage-class"))) 16
+
+-- at most 16 transfer syntaxes are named
+abbrev pub transfers_fit : List Row → Bool
+transfers_fit rows = nat_le (length (values_of rows (codes "transfer-syntax"))) 16

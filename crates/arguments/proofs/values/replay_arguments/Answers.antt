@@ -26,4 +26,5 @@ returns-clause-some c =
         on = λ e. c.get_flag-2.ensures.value (one_text-rows found (codes "all-syntaxes") ∙ e);
         off = λ e. c.get_flag-2.ensures.other (one_text-rows found (codes "all-syntaxes") ∙ e);
       };
+      transfer_syntaxes = c.in_ok-transfer_syntaxes.ensures.some;
     }
