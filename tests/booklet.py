@@ -32,7 +32,7 @@ SENTENCES = f"{PROSE}/sentences.json"
 # part whose crate isn't there is left out; definitions that an earlier part has are not repeated.
 PARTS = [
     ("An association", "association", [("engine", "run")]),
-    ("A connection", "connection", [("server", "end"), ("commands", "serve_one")]),
+    ("A connection", "connection", [("server", "end"), ("serve_command", "serve_one")]),
     ("Files", "files", [("part10", "meta_bytes"), ("part10", "read_meta")]),
     (
         "Directories",

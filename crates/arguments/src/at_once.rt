@@ -6,7 +6,7 @@ ghost use Rattle.arguments.specs.Asked.{Spells};
 use crate::options::AtOnce;
 use crate::settings::{number, seconds};
 use crate::values::ServeArguments;
-use crate::words::WordsError;
+use failures::WordsError;
 use std::alloc::Global;
 use std::time::Duration;
 

@@ -14,8 +14,8 @@ use crate::values::{
 };
 use clap::error::ErrorKind;
 use clap::{ArgMatches, Error};
+use failures::WordsError;
 use std::alloc::{AllocError, Global};
-use thiserror::Error as ThisError;
 
 /// What the arguments ask for.
 #[derive(Debug, Drop)]
@@ -32,19 +32,6 @@ pub enum Job<'a> {
     Index(IndexArguments<'a>),
     /// Check a directory and list its records.
     CheckDir(FileArguments<'a>),
-}
-
-/// Why there is no job.
-#[derive(Debug, Drop, ThisError)]
-pub enum WordsError {
-    /// Help or the version was asked for: this text.
-    #[error("{0}")]
-    Shown(String),
-    /// The arguments are invalid, as this text says.
-    #[error("{0}")]
-    Refused(String),
-    #[error("out of memory")]
-    Memory(#[from(alloc)] AllocError),
 }
 
 /// Returns clap's error as this program reports it: help and the version are shown, the others are

@@ -1,34 +1,21 @@
 //! Each command of the program.
-use crate::error::ProgramError;
-use crate::folder::{open_writer, try_draft};
-use crate::index::index;
-use crate::inspect::{Inspection, inspect};
-use crate::replay::replay;
-use crate::serve::serve;
-use crate::several::{Files, inspect_files};
 use arguments::{
-    CheckArguments, IndexArguments, Job, ReplayArguments, Serve, ServeArguments, ShowArguments,
-    WordsError, index_settings, replay_settings, serve_settings,
+    CheckArguments, IndexArguments, Job, ReplayArguments, ServeArguments, ShowArguments,
+    index_settings, replay_settings, serve_settings,
 };
 use element::{Tag, Uid, Vr, check_value};
+use failures::{ProgramError, WordsError};
+use file_commands::{Files, Inspection, inspect, inspect_files};
+use index_command::index;
 use inspection::{CheckOptions, Outcome, OutputForm, ShowOptions, tag_named};
-use journal::Output;
-use log::Logged;
+use replay_command::replay;
+use serve_command::serve_into;
 use std::alloc::Global;
-
-/// Serves into the folder until the program is ended, or only one association.
-fn serve_into(rt: &HostRuntime, settings: &Serve) -> Result<Outcome, ProgramError> {
-    let mut writer = open_writer(*rt, settings.out, settings.layout, settings.sync)?;
-    let mut filing = writer.filing().map_err(ProgramError::of_folder)?;
-    try_draft(&mut filing)?;
-    let logged = Logged::new(rt, settings.level, Output::new(rt, settings.form));
-    serve(&logged, settings, rt, (writer, filing))?;
-    Ok(Outcome::Good)
-}
 
 fn perform_serve(rt: &HostRuntime, arguments: &ServeArguments) -> Result<Outcome, ProgramError> {
     let settings = serve_settings(rt.alloc(), arguments)?;
-    serve_into(rt, &settings)
+    serve_into(rt, &settings)?;
+    Ok(Outcome::Good)
 }
 
 fn perform_replay(rt: &HostRuntime, arguments: &ReplayArguments) -> Result<Outcome, ProgramError> {

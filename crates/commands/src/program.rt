@@ -1,8 +1,7 @@
 //! The program: it reads its arguments, does what they say, and reports what went wrong.
-use crate::error::ProgramError;
-use crate::failure::Failure;
 use crate::perform::perform;
-use arguments::{Job, WordsError, read_words};
+use arguments::{Job, read_words};
+use failures::{Failure, ProgramError, WordsError};
 use inspection::Outcome;
 use std::alloc::{AllocError, Global};
 use std::env;

@@ -1,7 +1,6 @@
 //! New unique identifiers.
-use crate::error::ProgramError;
-use crate::failure::Failure;
 use element::Uid;
+use failures::{Failure, ProgramError};
 use std::io::{ErrorKind, Read};
 use std::rt::Files;
 use std::{fs, io};

@@ -1,4 +1,4 @@
-//! The end of an inspection.
+//! The end of an output.
 use crate::error::ProgramError;
 use std::io::Write;
 

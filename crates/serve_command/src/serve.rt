@@ -3,10 +3,9 @@ ghost use Rattle.std.specs.Prelude.{◌≡◌, IfOk, OnErr};
 ghost use Rattle.negotiate.specs.Settings.{settings_of};
 ghost use Rattle.server.specs.Alone.{CameOf};
 
-use crate::error::ProgramError;
-use crate::failure::Failure;
 use arguments::Serve;
 use core::mem::replace_with;
+use failures::{Failure, ProgramError};
 use log::Log;
 use part10::{Filing, FolderFiling, FolderWriter};
 use server::{ServedAlone, ServerTerms, serve_alone, serve_many};

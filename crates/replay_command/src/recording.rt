@@ -1,14 +1,12 @@
 //! `dcmbox replay`: a recorded association runs again.
 ghost use Rattle.std.specs.Prelude.{◌<◌};
 
-use crate::error::ProgramError;
-use crate::failure::Failure;
-use crate::folder::open_folder;
 use crate::hexadecimal;
-use crate::limits::{COMMAND, DEPTH, REQUEST, VALUES};
-use crate::whole::read_whole;
 use arguments::Replay;
+use connection::{COMMAND, DEPTH, REQUEST, VALUES};
 use engine::{ListSource, ListedInput, Report, run};
+use failures::{Failure, ProgramError, read_whole};
+use folders::open_folder;
 use negotiate::Config;
 use part10::{Filing, FolderFiling};
 use pdu::MemoryWire;

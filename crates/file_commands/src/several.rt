@@ -1,11 +1,9 @@
 //! Several files that are inspected, one after the other, and the folders that they are in.
 use crate::counter::Counter;
-use crate::error::ProgramError;
-use crate::failure::Failure;
-use crate::inspect::{Inspection, inspect, inspect_file};
-use crate::outcome::flushed;
+use crate::single::{Inspection, inspect, inspect_file};
 use crate::tally::Tally;
 use crate::tree::Visits;
+use failures::{Failure, ProgramError, flushed};
 use inspection::{Outcome, OutputForm, Printable};
 use std::fs;
 use std::io::{self, BufWriter, Write};

@@ -1,10 +1,8 @@
 //! `dcmbox checkdir`: the records of a directory, or its first fault.
-use crate::error::ProgramError;
-use crate::failure::Failure;
 use crate::faults::write_dir_fault;
 use crate::texts::PathText;
-use crate::whole::read_whole;
 use dicomdir::{DirFault, Tree, TreeRecord, check};
+use failures::{Failure, ProgramError, read_whole};
 use inspection::{Indent, Outcome, Printable};
 use std::alloc::{AllocError, Allocator};
 use std::io;

@@ -1,13 +1,11 @@
 //! The commands that read files and print what is in them.
-use crate::checkdir::checkdir_over;
-use crate::error::ProgramError;
-use crate::failure::Failure;
 use crate::json_text::write_file_name;
-use crate::outcome::flushed;
+use checkdir_command::checkdir_over;
 use element::Uid;
+use failures::{Failure, ProgramError, flushed};
 use inspection::{
-    CheckOptions, FileFront, Inspected, Outcome, OutputForm, Printable, ShowOptions, check_with,
-    other_syntax_of, show_with,
+    CheckOptions, FileFront, Inspected, InspectionError, Outcome, OutputForm, Printable,
+    ShowOptions, check_with, other_syntax_of, show_with,
 };
 use keywords::syntax_keyword;
 use std::alloc::Global;
@@ -58,6 +56,14 @@ impl Inspection<'_> {
     }
 }
 
+/// Returns the error of an inspection that did not come to its end.
+fn failed(error: InspectionError) -> ProgramError {
+    match error {
+        InspectionError::Read(error) => ProgramError::System(Failure::Read, error),
+        InspectionError::Write(error) => ProgramError::of_output(error),
+    }
+}
+
 /// Writes what is asked for of a file that the reader gives.
 fn inspect_over<R: Read, O: Write>(
     alloc: Global,
@@ -66,8 +72,8 @@ fn inspect_over<R: Read, O: Write>(
     out: &mut O,
 ) -> Result<Inspected, ProgramError> {
     match inspection {
-        Inspection::Show(options) => Ok(show_with(input, options, out)?),
-        Inspection::Check(options) => Ok(check_with(input, options, out)?),
+        Inspection::Show(options) => show_with(input, options, out).map_err(failed),
+        Inspection::Check(options) => check_with(input, options, out).map_err(failed),
         Inspection::Directory => Ok(Inspected {
             outcome: checkdir_over(alloc, input, out)?,
             notes: 0,

@@ -1,5 +1,5 @@
 //! The files below a folder, by name: those in the folder itself and those in its folders.
-use crate::error::ProgramError;
+use failures::ProgramError;
 use std::fs;
 use std::rt::Files;
 

@@ -1,7 +1,6 @@
 //! The folder that received files go to.
-use crate::error::ProgramError;
-use crate::failure::Failure;
 use arguments::Layout;
+use failures::{Failure, ProgramError};
 use part10::{Filing, FolderFiling, FolderWriter};
 use std::fs::File;
 use std::io::{Error, ErrorKind};

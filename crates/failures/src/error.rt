@@ -1,7 +1,6 @@
 //! What ends the program early.
 use crate::failure::Failure;
-use arguments::WordsError;
-use inspection::InspectionError;
+use crate::words_error::WordsError;
 use std::alloc::AllocError;
 use std::io::ErrorKind;
 use std::{fmt, io};
@@ -72,15 +71,6 @@ impl ProgramError {
         match self {
             ProgramError::System(failure, _) => Some(*failure),
             _ => None,
-        }
-    }
-}
-
-impl From<InspectionError> for ProgramError {
-    fn from(error: InspectionError) -> ProgramError {
-        match error {
-            InspectionError::Read(error) => ProgramError::System(Failure::Read, error),
-            InspectionError::Write(error) => ProgramError::of_output(error),
         }
     }
 }

@@ -1,5 +1,5 @@
 //! The first member of a file's JSON object.
-use crate::error::ProgramError;
+use failures::ProgramError;
 use serde_json::Value;
 use std::alloc::Global;
 use std::io::Write;

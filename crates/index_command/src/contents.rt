@@ -1,10 +1,10 @@
 //! What `dcmbox index` reads of the files of a folder: their rows, and why a file has none.
-use crate::error::ProgramError;
 use crate::names::path_of;
-use crate::texts::PathText;
+use checkdir_command::PathText;
 use dicomdir::{FileId, Row, Skip, rows_of};
 use dictionary::storage_class;
 use element::Uid;
+use failures::ProgramError;
 use inspection::{Printable, TagText};
 use part10::{MetaFault, read_meta};
 use std::alloc::{AllocError, Allocator};

@@ -1,17 +1,13 @@
 //! `dcmbox index`: the directory of a folder of received files.
-use crate::checkdir::tell_fault;
 use crate::contents::{Contents, Skipped, read_rows, tell_skipped};
-use crate::error::ProgramError;
-use crate::failure::Failure;
 use crate::names::received_files;
 use crate::new_uid::new_uid;
-use crate::outcome::flushed;
-use crate::texts::PathText;
-use crate::whole::read_whole;
 use arguments::Index;
+use checkdir_command::{PathText, tell_fault};
 use dicomdir::{Built, DirFault, FileId, build, check, kept_of, write_dir};
 use dictionary::IMPLEMENTATION_CLASS_UID;
 use element::Uid;
+use failures::{Failure, ProgramError, flushed, read_whole};
 use inspection::{Outcome, implementation_of};
 use std::alloc::Allocator;
 use std::fs::OpenFile;

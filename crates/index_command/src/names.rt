@@ -1,8 +1,8 @@
 //! The received files of a folder: `I` and seven digits, in the folder itself and in folders named
 //! `S` and seven digits.
-use crate::error::ProgramError;
-use crate::texts::PathText;
+use checkdir_command::PathText;
 use dicomdir::FileId;
+use failures::ProgramError;
 use part10::EntryKind;
 use std::alloc::{AllocError, Allocator};
 use std::fs::DirEntry;

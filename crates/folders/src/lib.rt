@@ -1,0 +1,6 @@
+//! The folder that received files go to, as `serve` and `replay` open it.
+#![tactic(auto)]
+
+mod folder;
+
+pub use folder::{open_folder, open_writer, try_draft};

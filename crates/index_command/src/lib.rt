@@ -1,0 +1,9 @@
+//! `dcmbox index`: the directory of a folder of received files.
+#![tactic(auto)]
+
+mod contents;
+mod directory;
+mod names;
+mod new_uid;
+
+pub use directory::{index, index_dir};
