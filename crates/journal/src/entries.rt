@@ -6,7 +6,6 @@ use crate::reply::{Reply, Value};
 use crate::state::{State, Title};
 use crate::text::Text;
 use crate::words::{context_words, rejection_words};
-use engine::{Report, Standing};
 use log::Level;
 use part10::Place;
 use std::fmt::Write;
@@ -315,8 +314,10 @@ impl Entry for Unanswered<'_> {
 /// What an association came to.
 #[derive(Clone, Copy)]
 pub struct Served {
-    /// How it stands, and how many bytes it holds.
-    pub report: Report,
+    /// How it stands.
+    pub standing: &'static str,
+    /// How many bytes it holds.
+    pub held: usize,
     /// How many files it put into the folder.
     pub files: u32,
     /// How many bytes it received.
@@ -329,15 +330,6 @@ pub struct Served {
 pub(crate) struct Ended<'a> {
     pub served: Served,
     pub state: &'a State,
-}
-
-/// Returns how an association stands, as its line shows it.
-fn standing_name(standing: Standing) -> &'static str {
-    match standing {
-        Standing::Open => "Open",
-        Standing::Closing => "Closing",
-        Standing::Ended => "Ended",
-    }
 }
 
 /// Gives how many stores came to what.
@@ -361,14 +353,15 @@ impl Entry for Ended<'_> {
 
     fn fields<F: Fields>(&self, out: &mut F) {
         let Served {
-            report,
+            standing,
+            held,
             files,
             received,
             seconds,
         } = self.served;
         let state = self.state;
-        out.text(Name::new("state", ""), standing_name(report.standing));
-        out.number(Name::new("held", " held "), report.held as u64);
+        out.text(Name::new("state", ""), standing);
+        out.number(Name::new("held", " held "), held as u64);
         out.number(Name::new("files", " files "), u64::from(files));
         out.number(Name::new("dropped", " dropped "), state.counts.dropped());
         out.number(Name::new("received", " received "), received);

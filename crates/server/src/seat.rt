@@ -11,6 +11,7 @@ use crate::socket::Socket;
 use crate::terms::ServerTerms;
 use acceptor::State;
 use connection::ReadEnd;
+use engine::Standing;
 use journal::{Journal, Served};
 use log::Log;
 use part10::{Filing, FolderFiling};
@@ -217,13 +218,24 @@ impl<'a, R: Log + Clock, S: Files<File = File> + Alloc<A = Global> + Clone + Dro
             is_over: _is_over,
         } = self;
         let ended = connection.end();
+        let report = ended.exchange.report;
         journal.end(Served {
-            report: ended.exchange.report,
+            standing: standing_name(report.standing),
+            held: report.held,
             files: ended.filing.committed().saturating_sub(committed),
             received: ended.exchange.received,
             seconds: now.duration_since(begun).as_secs(),
         });
         ended
+    }
+}
+
+/// Returns how an association stands, as its line shows it.
+fn standing_name(standing: Standing) -> &'static str {
+    match standing {
+        Standing::Open => "Open",
+        Standing::Closing => "Closing",
+        Standing::Ended => "Ended",
     }
 }
 

@@ -1,6 +1,5 @@
 //! Shows a journal what goes over a connection, and gathers its lines.
 use connection::{Observer, ReadEnd};
-use engine::{Report, Standing};
 use fixtures::folders::fresh;
 use journal::{Form, Journal, Served, Teller};
 use log::sink::Memory;
@@ -25,10 +24,8 @@ pub enum Step<'a> {
 /// What an association came to, that the journal is told.
 fn served() -> Served {
     Served {
-        report: Report {
-            standing: Standing::Ended,
-            held: 0,
-        },
+        standing: "Ended",
+        held: 0,
         files: 2,
         received: 260,
         seconds: 1,
