@@ -1,6 +1,5 @@
 //! The text of each error of the program: what failed, and what to do about it.
-use arguments::WordsError;
-use commands::{Failure, ProgramError};
+use failures::{Failure, ProgramError, WordsError};
 use std::alloc::{AllocError, Global};
 use std::io;
 use std::io::ErrorKind;

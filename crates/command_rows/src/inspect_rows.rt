@@ -1,7 +1,7 @@
 //! What is printed of a file: worked examples, and every front of one.
-use crate::devices::{Broken, Device, Gives};
-use crate::files::header;
 use element::Syntax;
+use fixtures::devices::{Broken, Device, Gives};
+use fixtures::files::header;
 use inspection::{Inspected, InspectionError, Outcome, check_over, show_over};
 use std::alloc::{AllocError, Global};
 use std::test::Fail;

@@ -1,12 +1,13 @@
 //! What no contract says of a replay: that each failure is told, and as which one.
-use crate::devices::{Broken, Device, Gives};
 use crate::files::config;
-use commands::{Failure, ProgramError, replay_over};
 use engine::Standing;
+use failures::{Failure, ProgramError};
 use fixtures::bytes::joined;
+use fixtures::devices::{Broken, Device, Gives};
 use fixtures::echo;
 use fixtures::refusing::Refusing;
 use part10::MemoryFiling;
+use replay_command::replay_over;
 use std::alloc::Global;
 use std::test::Fail;
 

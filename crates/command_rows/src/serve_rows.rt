@@ -1,14 +1,15 @@
 //! Associations over TCP in one process: the log, and what a peer can't do to the box.
 use crate::files::config;
 use arguments::{AtOnce, Layout, Serve};
-use commands::{open_folder, serve_one};
 use connection::Timeouts;
 use fixtures::bytes::joined;
 use fixtures::echo;
 use fixtures::folders::fresh;
+use folders::open_folder;
 use journal::Form;
 use log::sink::Memory;
 use log::{Level, Logged};
+use serve_command::serve_one;
 use std::alloc::Global;
 use std::fs;
 use std::io::{Read, Write};

@@ -2,9 +2,10 @@
 use crate::index_rows::{FIRST, SECOND, WITHOUT_STUDY_ID, file, put_images, replacing, settings};
 use crate::recorded::{Call, Recorded, Stage, Watched};
 use arguments::Index;
-use commands::{Failure, ProgramError, index_dir};
+use failures::{Failure, ProgramError};
 use fixtures::folders::{count, holds};
 use fixtures::refusing::Refusing;
+use index_command::index_dir;
 use inspection::Outcome;
 use std::cell::Cell;
 use std::fs;

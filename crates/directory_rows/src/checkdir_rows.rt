@@ -1,6 +1,7 @@
 //! What `checkdir` prints of a directory: a worked example, and every front of it.
-use crate::devices::{Device, Gives};
-use commands::{Failure, ProgramError, checkdir_over};
+use checkdir_command::checkdir_over;
+use failures::{Failure, ProgramError};
+use fixtures::devices::{Device, Gives};
 use fixtures::refusing::Refusing;
 use inspection::Outcome;
 use std::alloc::{AllocError, Global};

@@ -1,10 +1,12 @@
 //! What `index` prints of a folder, and the directory that it leaves there.
-use crate::devices::Broken;
-use crate::files::header;
 use arguments::Index;
-use commands::{Failure, ProgramError, checkdir_over, index_dir};
+use checkdir_command::checkdir_over;
 use element::{Syntax, Uid};
+use failures::{Failure, ProgramError};
+use fixtures::devices::Broken;
+use fixtures::files::header;
 use fixtures::folders::{fresh, holds};
+use index_command::index_dir;
 use inspection::Outcome;
 use std::alloc::{AllocError, Global};
 use std::fs;

@@ -1,7 +1,8 @@
 //! `index` over a folder whose directory another implementation wrote, and with a new UID.
 use crate::index_rows::{FIRST, put_images, replacing, settings};
-use commands::{Failure, ProgramError, index_dir};
+use failures::{Failure, ProgramError};
 use fixtures::folders::holds;
+use index_command::index_dir;
 use inspection::Outcome;
 use std::fs;
 use std::test::Fail;

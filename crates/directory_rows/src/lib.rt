@@ -1,0 +1,14 @@
+//! Worked rows of `index` and `checkdir`, tried on the public calls of `index_command` and `checkdir_command`: what is
+//! printed, and what is left in a folder.
+#![tactic(auto)]
+
+#[cfg(test)]
+mod checkdir_rows;
+#[cfg(test)]
+mod index_failures;
+#[cfg(test)]
+mod index_others;
+#[cfg(test)]
+mod index_rows;
+#[cfg(test)]
+mod recorded;
