@@ -1,12 +1,25 @@
 //! The files below a folder, by name: those in the folder itself and those in its folders.
 use failures::ProgramError;
-use std::fs;
+use std::alloc::Allocator;
+use std::fs::DirEntry;
 use std::rt::Files;
+use std::{fs, io};
 
 /// Files and folders that are still to be visited, the next one last.
 #[derive(Drop)]
 pub struct Visits<R: Alloc> {
     paths: Vec<String<R::A>, R::A>,
+}
+
+/// Adds the name of what was read of a folder.
+fn push_name<R: Files + Drop, A: Allocator + Clone>(
+    names: &mut Vec<String<A>, A>,
+    alloc: A,
+    entry: io::Result<DirEntry<R, A>>,
+) -> Result<(), ProgramError> {
+    let entry = entry.map_err(ProgramError::of_folder)?;
+    names.push(String::from_str(alloc, entry.file_name())?)?;
+    Ok(())
 }
 
 /// Returns the names in a folder, rising.
@@ -16,8 +29,7 @@ fn names_in<R: Files + Alloc + Clone + Drop>(
 ) -> Result<Vec<String<R::A>, R::A>, ProgramError> {
     let mut names = Vec::new(rt.alloc());
     for entry in fs::read_dir(rt, dir).map_err(ProgramError::of_folder)? {
-        let entry = entry.map_err(ProgramError::of_folder)?;
-        names.push(String::from_str(rt.alloc(), entry.file_name())?)?;
+        push_name(&mut names, rt.alloc(), entry)?;
     }
     names.sort()?;
     Ok(names)
