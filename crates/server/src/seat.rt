@@ -16,7 +16,7 @@ use journal::{Journal, Served};
 use log::Log;
 use part10::{Filing, FolderFiling};
 use serving::{Connection, ConnectionEnd, Turn, Wait};
-use std::alloc::Global;
+use std::alloc::{AllocError, AllocFailed, Global};
 use std::fs::File;
 use std::rt::Files;
 use std::time::{Clock, Duration, Instant};
@@ -239,6 +239,17 @@ fn standing_name(standing: Standing) -> &'static str {
     }
 }
 
+/// Lets a connection go, if there is one, and returns its filing.
+pub(crate) fn left_by<R: Log + Clock, S: Files<File = File> + Alloc<A = Global> + Clone + Drop>(
+    seat: Option<Seat<'_, R, S>>,
+    now: Instant,
+) -> Option<FolderFiling<S>> {
+    match seat {
+        Some(seat) => Some(seat.end(now).filing),
+        None => None,
+    }
+}
+
 /// Lets a connection go, if there is one.
 pub(crate) fn end<R: Log + Clock, S: Files<File = File> + Alloc<A = Global> + Clone + Drop>(
     seat: Option<Seat<'_, R, S>>,
@@ -257,4 +268,34 @@ pub(crate) fn let_go<R: Log + Clock, S: Files<File = File> + Alloc<A = Global> +
     if let Some(seat) = seat {
         end(Box::into_inner(seat), now);
     }
+}
+
+/// Takes the memory of a place that has none.
+pub(crate) fn make<'a, R: Log + Clock, S: Files<File = File> + Alloc<A = Global> + Clone + Drop>(
+    alloc: Global,
+    seat: &mut Option<Box<Option<Seat<'a, R, S>>>>,
+    now: Instant,
+) -> Result<(), AllocError> {
+    match Box::new(alloc, None) {
+        Ok(empty) => let_go(seat.replace(empty), now),
+        Err(AllocFailed { value }) => {
+            end(value, now);
+            return Err(AllocError);
+        }
+    }
+    Ok(())
+}
+
+/// Gives an association its turn and, once the server was asked to end, ends it in time. Returns whether it has ended.
+pub(crate) fn turned<R: Log + Clock, S: Files<File = File> + Alloc<A = Global> + Clone + Drop>(
+    seat: &mut Seat<'_, R, S>,
+    room: &mut [u8],
+    asked: Option<Instant>,
+    now: Instant,
+) -> bool {
+    seat.turn(room, now);
+    if let Some(asked) = asked {
+        seat.stop(asked, now);
+    }
+    seat.is_over()
 }

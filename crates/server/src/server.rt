@@ -2,8 +2,8 @@
 
 mod opening;
 
-use crate::seat::{Seat, end, let_go};
-use crate::socket::{AcceptedStream, Socket};
+use crate::seat::{Seat, end, left_by, let_go, make, turned};
+use crate::socket::{AcceptedStream, watched};
 use crate::stopping::is_asked;
 use crate::terms::{MOST_AT_ONCE, ServerTerms};
 use admitting::{Admission, Notice, Places, Queue, Waiter, peer_number};
@@ -12,13 +12,14 @@ use journal::{
 };
 use log::Log;
 use mio::net::TcpListener;
-use mio::{Events, Interest, Poll, Token};
+use mio::{Events, Poll, Token};
 pub use opening::serve_many;
 use part10::{Filing, FolderFiling, FolderWriter};
 use std::alloc::{AllocError, AllocFailed, Global};
 use std::fs::File;
 use std::io;
 use std::io::ErrorKind;
+use std::net::SocketAddr;
 use std::rt::Files;
 use std::time::{Clock, Duration, Instant};
 
@@ -89,18 +90,10 @@ impl<'a, R: Log + Clock, S: Files<File = File> + Alloc<A = Global> + Clone + Dro
     /// Takes the memory of a place, unless it has it.
     fn make_seat(&mut self, place: usize) -> Result<(), AllocError> {
         let alloc = *self.seats.allocator();
-        if let Some(seat) = self.seats.get_mut(place) {
-            if seat.is_none() {
-                match Box::new(alloc, None) {
-                    Ok(empty) => let_go(seat.replace(empty), self.now),
-                    Err(AllocFailed { value }) => {
-                        end(value, self.now);
-                        return Err(AllocError);
-                    }
-                }
-            }
+        match self.seats.get_mut(place) {
+            Some(seat) if seat.is_none() => make(alloc, seat, self.now),
+            _ => Ok(()),
         }
-        Ok(())
     }
 
     /// Returns whether a place has a connection.
@@ -140,19 +133,23 @@ impl<'a, R: Log + Clock, S: Files<File = File> + Alloc<A = Global> + Clone + Dro
         self.folder.filing()
     }
 
+    /// Returns the journal of a connection to this peer, whose files go to this filing.
+    fn journal(
+        &self,
+        peer: SocketAddr,
+        filing: &FolderFiling<S>,
+    ) -> Result<Journal<'a, R, Global>, AllocError> {
+        let notes = filing.notes()?;
+        Ok(Journal::new(*self.seats.allocator(), self.teller().about(peer), notes))
+    }
+
     /// Opens an association over a connection, in a place that its peer got.
     fn seat(&mut self, accepted: AcceptedStream, place: usize, now: Instant) -> io::Result<()> {
         let AcceptedStream { stream, peer } = accepted;
-        stream.set_nodelay(true)?;
-        let mut socket = Socket(stream);
-        let both = Interest::READABLE | Interest::WRITABLE;
-        self.poll
-            .registry()
-            .register(&mut socket.0, Token(place), both)?;
+        let socket = watched(&self.poll, stream, place)?;
         self.make_seat(place)?;
         let filing = self.filing(place)?;
-        let alloc = *self.seats.allocator();
-        let journal = Journal::new(alloc, self.teller().about(peer), filing.notes()?);
+        let journal = self.journal(peer, &filing)?;
         if let Some(Some(empty)) = self.seats.get_mut(place) {
             let seat = Seat::open(socket, filing, journal, self.terms, now);
             end(empty.replace(seat), now);
@@ -261,33 +258,38 @@ impl<'a, R: Log + Clock, S: Files<File = File> + Alloc<A = Global> + Clone + Dro
         }
     }
 
+    /// Gives the connection of a place its turn, if it has one, and returns whether its association has ended.
+    fn turn(&mut self, place: usize, now: Instant) -> bool {
+        if let Some(Some(seat)) = self.seats.get_mut(place) {
+            if let Some(seat) = &mut **seat {
+                return turned(seat, self.room.as_mut_slice(), self.asked, now);
+            }
+        }
+        false
+    }
+
     /// Gives each connection its turn, and lets those go whose association has ended.
     fn turn_each(&mut self, now: Instant) {
         for place in 0..self.seats.len() {
-            let mut is_over = false;
-            if let Some(Some(seat)) = self.seats.get_mut(place) {
-                if let Some(seat) = &mut **seat {
-                    seat.turn(self.room.as_mut_slice(), now);
-                    if let Some(asked) = self.asked {
-                        seat.stop(asked, now);
-                    }
-                    is_over = seat.is_over();
-                }
-            }
-            if is_over {
+            if self.turn(place, now) {
                 self.end(place, now);
             }
         }
     }
 
+    /// Lets the connection of a place go, if it has one, and returns its filing.
+    fn left_filing(&mut self, place: usize, now: Instant) -> Option<FolderFiling<S>> {
+        match self.seats.get_mut(place) {
+            Some(Some(seat)) => left_by(seat.take(), now),
+            _ => None,
+        }
+    }
+
     /// Lets the connection of a place go.
     fn end(&mut self, place: usize, now: Instant) {
-        if let Some(Some(seat)) = self.seats.get_mut(place) {
-            if let Some(seat) = seat.take() {
-                let end = seat.end(now);
-                if let Some(empty) = self.filings.get_mut(place) {
-                    *empty = Some(end.filing);
-                }
+        if let Some(filing) = self.left_filing(place, now) {
+            if let Some(empty) = self.filings.get_mut(place) {
+                *empty = Some(filing);
             }
         }
         self.leave(place);

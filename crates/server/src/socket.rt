@@ -1,6 +1,7 @@
 //! The socket of a connection, which doesn't block.
 use connection::acknowledge_at_once;
 use mio::net::TcpStream;
+use mio::{Interest, Poll, Token};
 use std::io;
 use std::io::{ErrorKind, Read, Write};
 use std::net::SocketAddr;
@@ -40,4 +41,13 @@ impl Write for Socket {
     fn flush(&mut self) -> io::Result<()> {
         Ok(())
     }
+}
+
+/// Watches the stream of a connection that has this place, and returns its socket.
+pub(crate) fn watched(poll: &Poll, stream: TcpStream, place: usize) -> io::Result<Socket> {
+    stream.set_nodelay(true)?;
+    let mut socket = Socket(stream);
+    let both = Interest::READABLE | Interest::WRITABLE;
+    poll.registry().register(&mut socket.0, Token(place), both)?;
+    Ok(socket)
 }

@@ -1,5 +1,6 @@
 //! A server from its start to its end.
 use super::{LISTENER, Server};
+use crate::socket::AcceptedStream;
 use crate::stopping::clear;
 use crate::terms::ServerTerms;
 use admitting::{Notice, Places, Queue};
@@ -30,6 +31,33 @@ fn filings_of<S: Files<File = File> + Alloc<A = Global> + Clone + Drop>(
     Ok(filings)
 }
 
+/// Returns what waits for the connections of this listener.
+fn watched<R: Net>(rt: &R, listener: net::TcpListener) -> io::Result<(Poll, TcpListener)> {
+    listener.set_nonblocking(true)?;
+    let mut listener = TcpListener::from_std(listener);
+    let poll = Poll::new(rt)?;
+    poll.registry()
+        .register(&mut listener, Token(LISTENER), Interest::READABLE)?;
+    Ok((poll, listener))
+}
+
+/// Places that are free, and room for those that wait for one.
+#[derive(Drop)]
+struct Vacancies {
+    places: Places<Global>,
+    queue: Queue<AcceptedStream, Global>,
+    room: Vec<u8>,
+}
+
+/// Returns the places of a server that is held to these terms.
+fn vacancies_of(alloc: Global, terms: &ServerTerms<'_>) -> Result<Vacancies, AllocError> {
+    Ok(Vacancies {
+        places: Places::new(alloc, terms.at_once, terms.per_peer)?,
+        queue: Queue::new(alloc, terms.at_once)?,
+        room: Vec::from_elem(alloc, 0, PIECE)?,
+    })
+}
+
 /// Returns a server that accepts the connections of this listener.
 fn server_of<
     'a,
@@ -44,18 +72,17 @@ fn server_of<
 where
     FolderFiling<S>: Filing,
 {
-    let (folder, first) = filings;
     let now = Instant::now(rt)?;
-    listener.set_nonblocking(true)?;
-    let mut listener = TcpListener::from_std(listener);
-    let poll = Poll::new(rt)?;
-    poll.registry()
-        .register(&mut listener, Token(LISTENER), Interest::READABLE)?;
+    let (poll, listener) = watched(rt, listener)?;
     let alloc = rt.alloc();
-    let places = Places::new(alloc, terms.at_once, terms.per_peer)?;
+    let vacancies = vacancies_of(alloc, &terms)?;
+    let (folder, first) = filings;
     let filings = filings_of(alloc, terms.at_once, first)?;
-    let queue = Queue::new(alloc, terms.at_once)?;
-    let room = Vec::from_elem(alloc, 0, PIECE)?;
+    let Vacancies {
+        places,
+        queue,
+        room,
+    } = vacancies;
     Ok(Server {
         rt,
         poll,
@@ -78,6 +105,20 @@ where
     })
 }
 
+/// Removes the file that ends the server, if it is there, logs where the listener listens, and returns room for the
+/// events of as many connections as there are places, and of the listener.
+fn begin<R: Log + Clock + Alloc<A = Global>, S: Files>(
+    rt: &R,
+    listener: &net::TcpListener,
+    terms: &ServerTerms<'_>,
+    files: &S,
+) -> io::Result<Events> {
+    clear(files, terms.stop_file)?;
+    let address = listener.local_addr()?;
+    Teller::new(rt, terms.form).tell(&Listening(address));
+    Ok(Events::with_capacity(rt.alloc(), terms.at_once.saturating_add(1))?)
+}
+
 /// Serves the associations of the connections that this listener accepts, as many at once as there are
 /// places, until the file appears that ends the server, or only one where that was asked for. Logs what
 /// happens. The first place files by the filing that is handed in, each other one by one of the folder.
@@ -93,14 +134,11 @@ pub fn serve_many<
     files: &S,
     folder: (FolderWriter<S>, FolderFiling<S>),
 ) -> io::Result<()> {
-    clear(files, terms.stop_file)?;
-    let teller = Teller::new(rt, terms.form);
-    teller.tell(&Listening(listener.local_addr()?));
-    let mut events = Events::with_capacity(rt.alloc(), terms.at_once.saturating_add(1))?;
+    let mut events = begin(rt, &listener, &terms, files)?;
     let mut server = server_of(rt, listener, terms, folder)?;
     let served = server.serve(files, &mut events);
     server.close();
     served?;
-    teller.tell(&Stopped);
+    Teller::new(rt, terms.form).tell(&Stopped);
     Ok(())
 }
