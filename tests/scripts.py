@@ -5,8 +5,9 @@ scripts.py    fails where a script takes a tree with a fault, refuses it with an
 
 The small tree has three crates: `low`, whose contract cites the definitions `Small`, `◌or_else◌` and `◌>>=◌`, and which
 keeps the word `Loop` in its machine; `high`, which cites `Small`; and `engine`, by which it is seen that no crate is let
-off for its name. The scripts that make documents are tried on a
-copy of this tree's documents, definitions and code, and those that run `rt` with one that prints what a case asks for.
+off for its name. The scripts that make documents are tried on a copy of this tree's documents, definitions and code;
+those that run `rt`, with one that prints what a case asks for; tools/wrong-bodies on a crate of three functions, which it
+checks.
 """
 import os
 import pathlib
@@ -202,6 +203,75 @@ COPY_FAULTS = [
     ("a law that is gone", "booklet.py", [(SENTENCES, "dicomdir::rows_are_grouped", "dicomdir::rows_are_sorted")], "there is no law rows_are_sorted in dicomdir"),
 ]
 
+DIGITS = {
+    "crates.txt": "digits:\n",
+    "crates/digits/src/lib.rt": """//! Digits.
+#![tactic(auto)]
+
+ghost use Rattle.std.specs.Prelude.{◌≡◌, ◌≤◌};
+
+/// Returns three.
+pub fn three() -> u8
+    ensures { result ≡ 3 }
+{
+    3
+}
+
+/// Returns a digit from 1 on.
+pub fn digit() -> u8
+    ensures least { 1 ≤ result }
+    ensures most { result ≤ 9 }
+{
+    5
+}
+
+/// Returns a digit, too.
+pub fn again() -> u8
+    ensures { result ≤ 9 }
+{
+    digit()
+}
+""",
+}
+
+# Wrong bodies of that crate: the old and the new text, what the edit says is refused, and what is wrong with the edit.
+WRONG_BODIES = {
+    "returns_four": ("    3", "    4", "digits::three returns", None),
+    "returns_nine_more": ("    digit()", "    digit() + 9", "digits::again returns", None),
+    "returns_ten": ("    5", "    10", "digits::digit returns-clause-most", None),
+    "returns_zero": ("    5", "    0", "digits::digit returns-clause-most", "digits::digit falls for returns-clause-least, and"),
+    "returns_six": ("    5", "    6", "digits::digit returns-clause-most", "digits::digit is still proved"),
+    "returns_itself": ("    3", "    three", "digits::three returns", "it does not reach the prover: src/lib.rt:10:5: error"),
+    "returns_three": ("    3", "    3", "digits::three returns", "it changes nothing"),
+    "returns_words": ("u8", "u16", "digits::three returns", "its old text stands 3 times in src/lib.rt, and not once"),
+    "of_no_function": ("    3", "    4", "digits::four returns", "the crate has no function digits::four"),
+    "of_no_clause": ("    3", "    4", "", "it names nothing that is refused"),
+}
+
+
+def try_wrong_bodies():
+    """What was tried of tools/wrong-bodies, whether it went well, and what it printed."""
+    with tempfile.TemporaryDirectory() as folder:
+        tree = pathlib.Path(folder)
+        texts = dict(DIGITS)
+        for name, (old, new, refused, _) in WRONG_BODIES.items():
+            lines = ["file: src/lib.rt", f"old: {old}", f"new: {new}"] + [f"refused: {refused}"] * bool(refused)
+            texts[f"crates/digits/wrong-bodies/{name}.edit"] = "\n".join(lines) + "\n"
+        for name, text in texts.items():
+            (tree / name).parent.mkdir(parents=True, exist_ok=True)
+            (tree / name).write_text(text)
+        command = [TESTS.parent / "tools/wrong-bodies", "--anew", "--tree", tree]
+        done = subprocess.run(command, capture_output=True, text=True)
+        said = done.stdout + done.stderr
+        right = [f"digits/{name}" for name, (*_, fault) in WRONG_BODIES.items() if not fault]
+        for name, (*_, fault) in WRONG_BODIES.items():
+            is_named = f"FAILED: digits/{name}: {fault or ''}" in said
+            yield f"wrong-bodies {'refuses' if fault else 'takes'} {name}", is_named == bool(fault), said
+        last = f"{len(WRONG_BODIES)} wrong bodies: {len(right)} refused by the clause that they name, "
+        yield "wrong-bodies fails", done.returncode == 1 and last in said, said
+        done = subprocess.run([*command, right[0]], capture_output=True, text=True)
+        yield "wrong-bodies passes", done.returncode == 0, done.stdout + done.stderr
+
 
 PASSED = "echo 'test result: ok. 2 passed; 0 failed; 0 ignored; 0 filtered out'"
 
@@ -304,6 +374,10 @@ def main():
         else:
             failed += 1
             print(f"FAILED: tools/{tool}, {what}: status {status}\n{text}")
+    for what, is_well, text in try_wrong_bodies():
+        passed, failed = passed + is_well, failed + (not is_well)
+        if not is_well:
+            print(f"FAILED: {what}\n{text}")
     print(f"{passed} passed, {failed} failed")
     return int(failed > 0)
 
