@@ -7,7 +7,7 @@ PROGRAM := crates/cli/out/cli
 PREFIX ?= /usr/local
 DESTDIR ?=
 
-.PHONY: run quick test interop bench probe docs check must-fail fmt gate-table clean install uninstall deb
+.PHONY: run quick test interop bench probe docs check wrong-bodies fmt gate-table clean install uninstall deb
 
 run:
 	@tools/run
@@ -40,12 +40,11 @@ quick:
 	tools/quick
 
 # Looks at what the crates cite of each other, whether the documents that scripts make are fresh and whether what claims
-# and links name is there, tries the scripts that look, proves every crate and its tests from nothing, tries the
-# must-fail edits, runs the tests and the program, and then tries the program from outside: with invalid arguments and
-# missing files, along docs/TOUR.md, under strace, with the tools of DCMTK, also on compressed images, by what its log
-# tells, with several peers at once, as a Debian package, and as docs/DEPLOY.md has it. What of pydicom, dicom3tools,
-# DCMTK and its headers, GDCM's tools, strace, curl, openssl, exFAT's tools, lintian, HAProxy, stunnel and systemd is missing
-# it installs.
+# and links name is there, tries the scripts that look, proves every crate and its tests from nothing, runs the tests and
+# the program, tries the wrong bodies, and then tries the program from outside: with invalid arguments and missing files,
+# along docs/TOUR.md, under strace, with the tools of DCMTK, also on compressed images, by what its log tells, with several
+# peers at once, as a Debian package, and as docs/DEPLOY.md has it. What of pydicom, dicom3tools, DCMTK and its headers,
+# GDCM's tools, strace, curl, openssl, exFAT's tools, lintian, HAProxy, stunnel and systemd is missing it installs.
 test:
 	tests/layers.sh
 	tests/definitions.py
@@ -59,6 +58,7 @@ test:
 	tests/links.py
 	tests/scripts.py
 	rt ci
+	tools/wrong-bodies
 	tests/tables.py --program $(PROGRAM)
 	tests/program.sh $(PROGRAM)
 	tests/tour.py $(PROGRAM)
@@ -95,9 +95,9 @@ docs:
 check:
 	cd crates/$(CRATE) && rt check
 
-# The must-fail edits of one crate: make must-fail CRATE=pdu
-must-fail:
-	rt must-fail $(CRATE)
+# The wrong bodies of one crate: make wrong-bodies CRATE=pdu
+wrong-bodies:
+	tools/wrong-bodies $(CRATE)
 
 # Lays out every .rt and .antt file as the gate wants it.
 fmt:

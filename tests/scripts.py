@@ -133,7 +133,7 @@ pub fn great() -> u8
 What is [only tested](docs/PROVED.md#tested).
 """,
     "tests/numbers.sh": "few\n",
-    "crates/high/must-fail/great.returns_a_few.edit": "file: src/lib.rt\nold: 200\nnew: 3\n",
+    "crates/high/wrong-bodies/great.returns_a_few.edit": "file: src/lib.rt\nold: 200\nnew: 3\n",
 }
 
 LOOP = "ghost use Rattle.low.specs.machine.Loop.{Loop};\n"
@@ -337,7 +337,7 @@ def copy(tree):
     for name in ("crates.txt", "crates", "docs", "tests", "man", "packaging", "README.md", "CHANGELOG.md", "Makefile"):
         source = TESTS.parent / name
         if source.is_dir():
-            shutil.copytree(source, tree / name, ignore=shutil.ignore_patterns("out", "proofs", "data", "must-fail"))
+            shutil.copytree(source, tree / name, ignore=shutil.ignore_patterns("out", "proofs", "data", "wrong-bodies"))
         else:
             shutil.copy(source, tree / name)
 
