@@ -12,14 +12,11 @@ DESTDIR ?=
 run:
 	@tools/run
 
-# Proves every crate that the program stands on, one after the other, compiles it, and puts it here. Where a crate below
-# is not built yet, `rt run` first reads the sources of all, which takes four minutes.
-LIBRARIES := $(shell sed '/^cli:/,$$d; /^\#/d; s/[: ].*//' crates.txt)
-
-# The program is as old as the start of its build, so that a source that changes meanwhile is newer (tools/is-proved).
+# Proves every crate that the program stands on, several side by side, compiles it, and puts it here. The program is as old
+# as the start of its build, so that a source that changes meanwhile is newer (tools/is-proved).
 dcmbox: FORCE
 	@mkdir -p crates/cli/out && touch crates/cli/out/started
-	for crate in $(LIBRARIES); do (cd crates/$$crate && rt lib) || exit 1; done
+	tools/build
 	cd crates/cli && rt run -- --version
 	cp $(PROGRAM) dcmbox
 	@touch -r crates/cli/out/started dcmbox

@@ -5,9 +5,9 @@ ghost use Rattle.negotiate.specs.Settings.{settings_of};
 ghost use Rattle.arguments.specs.Asked.{AsksFor};
 
 use crate::values::MOST_VALUES;
-use crate::words::WordsError;
 use arrayvec::ArrayVec;
 use dictionary::Transfer;
+use failures::WordsError;
 use negotiate::Config;
 use std::alloc::Global;
 use std::fmt;
