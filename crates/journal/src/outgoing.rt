@@ -6,7 +6,7 @@ use pdu::pdu_type::{A_ABORT, A_ASSOCIATE_AC, A_ASSOCIATE_RJ, A_RELEASE_RP};
 use pdu::{Deframer, Event};
 
 /// The room of a body: that of the longest A-ASSOCIATE-AC.
-const BODY: usize = 4102;
+const BODY: usize = 4614;
 
 /// The room of a reply's command set.
 const REPLY: usize = 256;
