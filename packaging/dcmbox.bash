@@ -27,8 +27,8 @@ _dcmbox() {
   case ${COMP_WORDS[1]} in
     serve) options='--port --out --bind --ae --caller --timeout --idle --max-pdu --max-data --verbose --quiet --log --per --no-sync --once --at-once --per-peer --longest --stop-file --grace --all-storage --storage-class --all-syntaxes --transfer-syntax --help' ;;
     replay) options='--out --ae --cut --per --all-storage --storage-class --all-syntaxes --transfer-syntax --help' ;;
-    show) options='--recursive --values --tag --json --help' ;;
-    check) options='--recursive --strict --json --help' ;;
+    show) options='--recursive --values --tag --json --all-syntaxes --help' ;;
+    check) options='--recursive --strict --json --all-syntaxes --help' ;;
     index) options='--uid --new-uid --keep --replace --help' ;;
     checkdir) options='--help' ;;
     help) options='serve replay show check index checkdir' ;;

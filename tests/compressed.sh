@@ -222,13 +222,19 @@ check 'they are filed bit for bit, too' holds together "${compressed[@]}"
 
 # ---- what is filed is decoded to the pixels that were encoded
 
+# like NAME : the filed image that was sent from a file.
+like() {
+  local found want
+  want=$(sums "$1.dcm")
+  for found in $(filed taken); do
+    [ "$(sums "$found")" = "$want" ] && echo "$found"
+  done
+}
+
 # decodes TOOL NAME PIXELS : decodes the filed image that was sent from a file; without loss the pixels are those of PIXELS.
 decodes() {
-  local want found
-  want=$(sums "$2.dcm")
-  for found in $(filed taken); do
-    [ "$(sums "$found")" = "$want" ] && break
-  done
+  local found
+  found=$(like "$2")
   "$1" -q "$found" decoded.dcm && "$1" -q "$2.dcm" again.dcm || return 1
   [ "$(sums decoded.dcm)" = "$(sums again.dcm)" ] || return 1
   [ -z "${3:-}" ] || tail -c "$(stat -c %s "$3")" decoded.dcm | cmp - "$3"
@@ -245,15 +251,34 @@ check 'dcmdrle decodes RLE' decodes dcmdrle rle words.raw
 check 'dcmdrle decodes RLE without an offset table' decodes dcmdrle no_table words.raw
 check 'dcmdrle decodes 200 frames' decodes dcmdrle frames_rle frames.raw
 gdcm_decodes() {
-  local found
-  for found in $(filed taken); do
-    [ "$(sums "$found")" = "$(sums j2k.dcm)" ] || continue
-    gdcmconv --raw "$found" decoded.dcm && tail -c 131072 decoded.dcm | cmp - words.raw
-    return
-  done
-  return 1
+  gdcmconv --raw "$(like j2k)" decoded.dcm && tail -c 131072 decoded.dcm | cmp - words.raw
 }
 check 'gdcmconv decodes JPEG 2000' gdcm_decodes
+
+# ---- show and check of what is filed
+
+all_good() {
+  "$program" check --all-syntaxes --recursive taken >checked.txt && [ "$(grep -c '^good ' checked.txt)" -eq ${#compressed[@]} ]
+}
+check 'check takes each' all_good
+refused 'and none without the option' "$program" check taken/I0000001
+tables_are_right() {
+  local name
+  for name in "${!proposed[@]}"; do
+    "$program" check --strict --all-syntaxes "$(like "$name")" | grep -qE ' (WrongOffset|WrongCount)$' && return 1
+  done
+  return 0
+}
+check 'check finds each offset table right' tables_are_right
+fragments_are_shown() {
+  "$program" show --all-syntaxes --values "$(like frames_rle)" >shown.txt || return 1
+  [ "$(grep -c ' fffe,e000 -- [0-9]* Item$' shown.txt)" -eq 201 ] && grep -q '^ *= 200$' shown.txt && grep -q '^ *= (800 bytes)$' shown.txt
+}
+check 'show lists the offset table and 200 fragments' fragments_are_shown
+offsets_are_shown() {
+  "$program" show --all-syntaxes --values "$(like rle)" | grep -A1 ' fffe,e000 -- 4 Item$' | grep -q '^ *= 0$'
+}
+check 'show has the offset of a frame' offsets_are_shown
 
 # ---- what no tool sends, by a peer of this folder's own
 
@@ -304,6 +329,7 @@ kept() {
   [ "$(find raw -type f | sort)" = $'raw/I0000001\nraw/I0000002' ] && data_set raw/I0000001 | cmp - whole.bin && data_set raw/I0000002 | cmp - whole.bin
 }
 check 'the two whole ones are filed, and nothing else is left' kept
+check 'the log counts the 128 contexts' grep -q 'released contexts 128 of 128 ' raw.log
 
 start limited --all-syntaxes --max-data 1024 || exit 1
 check 'a fragment that claims more than the limit' peer A700 store $jpeg $ct 2.25.1 four.bin

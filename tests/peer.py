@@ -90,3 +90,4 @@ with socket.create_connection(("127.0.0.1", int(port)), timeout=100) as connecti
     if kind != "leave":
         stream.write(pdu(5, bytes(4)))
         stream.flush()
+        received(stream)

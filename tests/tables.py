@@ -24,7 +24,7 @@ TABLES = json.loads((ROOT / "docs/tables.json").read_text())
 OPTIONS = TABLES["options"]
 # How the program's own table calls options with a letter.
 KINDS = {"Letter": "flag", "Switch": "flag"}
-FAULT_CRATES = ("element", "values", "sequence", "dimse", "part10", "dicomdir")
+FAULT_CRATES = ("element", "values", "sequence", "dimse", "part10", "dicomdir", "inspection")
 
 
 # ---- the man page

@@ -1,6 +1,6 @@
 //! Which compressed transfer syntaxes `serve` and `replay` take for a command line.
 use crate::settings_rows::{refuses, replay_for, serve_for};
-use arguments::WordsError;
+use arguments::{Job, WordsError, read_words};
 use dictionary::Transfer;
 use negotiate::Config;
 use std::alloc::Global;
@@ -84,5 +84,25 @@ fn more_than_sixteen_are_refused(rt: HostRuntime) -> Result<(), Fail> {
     words.push(JPEG)?;
     let refusal = "error: --transfer-syntax may be given 16 times at most\n";
     assert!(rt; refuses(&replay_for(alloc, words.as_slice()), refusal));
+    Ok(())
+}
+
+/// Returns whether `show` or `check` takes compressed files for a command line.
+fn reads_all(alloc: Global, words: &[&str]) -> Result<bool, WordsError> {
+    match read_words(alloc, words)? {
+        Job::Show(arguments) => Ok(arguments.all_syntaxes),
+        Job::Check(arguments) => Ok(arguments.all_syntaxes),
+        _ => Ok(false),
+    }
+}
+
+#[test]
+fn compressed_files_are_read_where_that_is_asked_for(rt: HostRuntime) -> Result<(), Fail> {
+    let alloc = rt.alloc();
+    for command in ["show", "check"] {
+        let words = ["dcmbox", command, "FILE", "--json", "--all-syntaxes"];
+        assert!(rt; reads_all(alloc, &words)?);
+        assert!(rt; !reads_all(alloc, &words[..4])?);
+    }
     Ok(())
 }

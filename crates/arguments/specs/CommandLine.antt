@@ -89,10 +89,10 @@ abbrev pub files_app : Text → App
 files_app name = with_rules (new_app name) (several (codes "FILE") ∷ letter_rule (codes "recursive") 114 ∷ [])
 
 abbrev pub show_app : App
-show_app = with_rules (files_app (codes "show")) (flag_rule (codes "values") ∷ repeated (codes "tag") ∷ flag_rule (codes "json") ∷ [])
+show_app = with_rules (files_app (codes "show")) (flag_rule (codes "values") ∷ repeated (codes "tag") ∷ flag_rule (codes "json") ∷ flag_rule (codes "all-syntaxes") ∷ [])
 
 abbrev pub check_app : App
-check_app = with_rules (files_app (codes "check")) (flag_rule (codes "strict") ∷ flag_rule (codes "json") ∷ [])
+check_app = with_rules (files_app (codes "check")) (flag_rule (codes "strict") ∷ flag_rule (codes "json") ∷ flag_rule (codes "all-syntaxes") ∷ [])
 
 abbrev pub index_app : App
 index_app = with_rules (new_app (codes "index"))
@@ -127,12 +127,14 @@ pub record IsShow (a : ShowArguments) (rows : List Row) : Type 0 where
   pub values : IsFlag rows (codes "values") a.values
   pub tags : map (λ w. w.now) a.tags.items ≡ values_of rows (codes "tag")
   pub json : IsFlag rows (codes "json") a.json
+  pub all_syntaxes : IsFlag rows (codes "all-syntaxes") a.all_syntaxes
 
 pub record IsCheck (a : CheckArguments) (rows : List Row) : Type 0 where
   pub files : map (λ w. w.now) a.files.items ≡ values_of rows (codes "FILE")
   pub recursive : IsFlag rows (codes "recursive") a.recursive
   pub strict : IsFlag rows (codes "strict") a.strict
   pub json : IsFlag rows (codes "json") a.json
+  pub all_syntaxes : IsFlag rows (codes "all-syntaxes") a.all_syntaxes
 
 pub record IsReplay (a : ReplayArguments) (rows : List Row) : Type 0 where
   pub file : first_of (codes "FILE") rows ≡ Some a.file.now

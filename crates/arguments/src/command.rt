@@ -114,10 +114,7 @@ const SERVE: Subcommand<'static> = Subcommand {
             "UID",
             "A further storage class that is taken, up to 16 times",
         ),
-        Argument::Flag(
-            "all-syntaxes",
-            "Takes compressed transfer syntaxes, too, and files what comes in them as it came",
-        ),
+        Argument::Flag("all-syntaxes", "Takes compressed transfer syntaxes, too"),
         Argument::Repeated(
             "transfer-syntax",
             "UID",
@@ -156,10 +153,7 @@ const REPLAY: Subcommand<'static> = Subcommand {
             "UID",
             "A further storage class that is taken, up to 16 times",
         ),
-        Argument::Flag(
-            "all-syntaxes",
-            "Takes compressed transfer syntaxes, too, and files what comes in them as it came",
-        ),
+        Argument::Flag("all-syntaxes", "Takes compressed transfer syntaxes, too"),
         Argument::Repeated(
             "transfer-syntax",
             "UID",
@@ -182,6 +176,7 @@ const SHOW: Subcommand<'static> = Subcommand {
             "An element that is shown, as 0010,0020, and no other is but those of further --tag",
         ),
         Argument::Flag("json", "Writes a JSON object for each file"),
+        Argument::Flag("all-syntaxes", "Takes compressed transfer syntaxes, too"),
     ],
 };
 
@@ -197,6 +192,7 @@ const CHECK: Subcommand<'static> = Subcommand {
             "Holds values to the whole table of VRs, and ends with status 1 after a note",
         ),
         Argument::Flag("json", "Writes a JSON object for each file"),
+        Argument::Flag("all-syntaxes", "Takes compressed transfer syntaxes, too"),
     ],
 };
 

@@ -26,6 +26,7 @@ pub struct ShowArguments<'a> {
     pub values: bool,
     pub tags: Vec<&'a str>,
     pub json: bool,
+    pub all_syntaxes: bool,
 }
 
 /// The arguments of `check`.
@@ -35,6 +36,7 @@ pub struct CheckArguments<'a> {
     pub recursive: bool,
     pub strict: bool,
     pub json: bool,
+    pub all_syntaxes: bool,
 }
 
 /// The arguments of `replay`.
@@ -144,6 +146,7 @@ pub fn show_arguments<'a>(
     let recursive = matches.get_flag("recursive");
     let values = matches.get_flag("values");
     let json = matches.get_flag("json");
+    let all_syntaxes = matches.get_flag("all-syntaxes");
     let files = all_values(alloc, matches, "FILE")?;
     let tags = all_values(alloc, matches, "tag")?;
     Ok(ShowArguments {
@@ -152,6 +155,7 @@ pub fn show_arguments<'a>(
         values,
         tags,
         json,
+        all_syntaxes,
     })
 }
 
@@ -165,12 +169,14 @@ pub fn check_arguments<'a>(
     let recursive = matches.get_flag("recursive");
     let strict = matches.get_flag("strict");
     let json = matches.get_flag("json");
+    let all_syntaxes = matches.get_flag("all-syntaxes");
     let files = all_values(alloc, matches, "FILE")?;
     Ok(CheckArguments {
         files,
         recursive,
         strict,
         json,
+        all_syntaxes,
     })
 }
 

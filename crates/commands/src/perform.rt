@@ -7,7 +7,7 @@ use element::{Tag, Uid, Vr, check_value};
 use failures::{ProgramError, WordsError};
 use file_commands::{Files, Inspection, inspect, inspect_files};
 use index_command::index;
-use inspection::{CheckOptions, Outcome, OutputForm, ShowOptions, tag_named};
+use inspection::{CheckOptions, Outcome, OutputForm, ShowOptions, Syntaxes, tag_named};
 use replay_command::replay;
 use serve_command::serve_into;
 use std::alloc::Global;
@@ -50,6 +50,15 @@ fn form_of(json: bool) -> OutputForm {
     }
 }
 
+/// Returns in which transfer syntaxes files may be.
+fn syntaxes_of(all_syntaxes: bool) -> Syntaxes {
+    if all_syntaxes {
+        Syntaxes::All
+    } else {
+        Syntaxes::Native
+    }
+}
+
 /// Reads the tags that are named.
 fn tags_named(alloc: Global, texts: &[&str]) -> Result<Vec<Tag>, WordsError> {
     let mut tags = Vec::new(alloc);
@@ -75,6 +84,7 @@ fn perform_show(rt: &HostRuntime, arguments: &ShowArguments) -> Result<Outcome, 
         values: arguments.values,
         tags: tags.as_slice(),
         form: form_of(arguments.json),
+        syntaxes: syntaxes_of(arguments.all_syntaxes),
     };
     inspect_files(rt, files, Inspection::Show(options))
 }
@@ -87,6 +97,7 @@ fn perform_check(rt: &HostRuntime, arguments: &CheckArguments) -> Result<Outcome
     let options = CheckOptions {
         strict: arguments.strict,
         form: form_of(arguments.json),
+        syntaxes: syntaxes_of(arguments.all_syntaxes),
     };
     inspect_files(rt, files, Inspection::Check(options))
 }

@@ -2,8 +2,8 @@
 use dictionary::Transfer;
 use element::{AeTitle, Tag, Uid};
 use inspection::{
-    CheckOptions, FileFront, OutputForm, ShowOptions, check_with, other_syntax_of, show_with,
-    tag_named,
+    CheckOptions, FileFront, OutputForm, ShowOptions, Syntaxes, check_with, other_syntax_of,
+    show_with, tag_named,
 };
 use part10::{Meta, meta_bytes};
 use std::alloc::Global;
@@ -116,7 +116,11 @@ fn strict_notes(rt: HostRuntime) -> Result<(), Fail> {
             0,
         ),
     ] {
-        let options = CheckOptions { strict, form };
+        let options = CheckOptions {
+            strict,
+            form,
+            syntaxes: Syntaxes::Native,
+        };
         assert!(rt; notes(alloc, options, data.as_slice(), wanted)? == count);
     }
     Ok(())
@@ -135,7 +139,11 @@ fn sets_of_items(rt: HostRuntime) -> Result<(), Fail> {
     add_text(&mut data, *b"\x40\0\x01\x30", 64)?;
     let (strict, form) = (true, OutputForm::Lines);
     let lines = "note 0000000478 0040,3001 LO 5 LongText\ngood 614\n";
-    let options = CheckOptions { strict, form };
+    let options = CheckOptions {
+        strict,
+        form,
+        syntaxes: Syntaxes::Native,
+    };
     assert!(rt; notes(alloc, options, data.as_slice(), lines)? == 1);
     Ok(())
 }
@@ -150,7 +158,11 @@ fn sizes_of_long_values(rt: HostRuntime) -> Result<(), Fail> {
     }
     let (strict, form) = (true, OutputForm::Lines);
     let lines = "note 0000000288 7fe0,0008 OF 2 WrongSize\ngood 65838\n";
-    let options = CheckOptions { strict, form };
+    let options = CheckOptions {
+        strict,
+        form,
+        syntaxes: Syntaxes::Native,
+    };
     assert!(rt; notes(alloc, options, data.as_slice(), lines)? == 1);
     Ok(())
 }
@@ -179,6 +191,7 @@ fn shown_values(rt: HostRuntime) -> Result<(), Fail> {
             values: true,
             tags,
             form,
+            syntaxes: Syntaxes::Native,
         };
         assert!(rt; shows(rt.alloc(), options, wanted)?);
     }
@@ -206,12 +219,12 @@ fn named_tags(rt: HostRuntime) {
 #[test]
 fn named_syntaxes(rt: HostRuntime) -> Result<(), Fail> {
     let mut bytes = file(rt.alloc(), b"")?;
-    assert!(rt; other_syntax_of(bytes.as_slice()).is_none());
+    assert!(rt; other_syntax_of(bytes.as_slice(), Syntaxes::Native).is_none());
     let at = 144 + 14 + 34 + 14 + 8 + 18;
     if let Some(last) = bytes.get_mut(at) {
         *last = b'2';
     }
-    let syntax = other_syntax_of(bytes.as_slice()).ok_or("no syntax")?;
+    let syntax = other_syntax_of(bytes.as_slice(), Syntaxes::Native).ok_or("no syntax")?;
     assert!(rt; syntax.as_bytes() == b"1.2.840.10008.1.2.2".as_slice());
     Ok(())
 }

@@ -28,6 +28,8 @@ mod element_rows;
 #[cfg(test)]
 mod files;
 #[cfg(test)]
+mod fragment_rows;
+#[cfg(test)]
 mod images;
 #[cfg(test)]
 mod inspection_rows;

@@ -5,7 +5,7 @@ use element::Uid;
 use failures::{Failure, ProgramError, flushed};
 use inspection::{
     CheckOptions, FileFront, Inspected, InspectionError, Outcome, OutputForm, Printable,
-    ShowOptions, check_with, other_syntax_of, show_with,
+    ShowOptions, Syntaxes, check_with, other_syntax_of, show_with,
 };
 use keywords::syntax_keyword;
 use std::alloc::Global;
@@ -27,6 +27,15 @@ impl Inspection<'_> {
             Inspection::Show(options) => options.form,
             Inspection::Check(options) => options.form,
             Inspection::Directory => OutputForm::Lines,
+        }
+    }
+
+    /// Returns in which transfer syntaxes files may be.
+    fn syntaxes(&self) -> Syntaxes {
+        match self {
+            Inspection::Show(options) => options.syntaxes,
+            Inspection::Check(options) => options.syntaxes,
+            Inspection::Directory => Syntaxes::Native,
         }
     }
 
@@ -104,7 +113,7 @@ fn inspect_named<R: Read, O: Write>(
     }
     let mut front = FileFront::new(input);
     let inspected = inspect_over(rt.alloc(), inspection, &mut front, out)?;
-    if let Some(syntax) = other_syntax_of(front.kept()) {
+    if let Some(syntax) = other_syntax_of(front.kept(), inspection.syntaxes()) {
         tell_syntax(rt, file, &syntax);
     }
     Ok(inspected)

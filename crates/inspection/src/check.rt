@@ -2,7 +2,7 @@
 use crate::error::InspectionError;
 use crate::judgement::Judgement;
 use crate::notes::Notes;
-use crate::options::{CheckOptions, OutputForm};
+use crate::options::{CheckOptions, OutputForm, Syntaxes};
 use crate::outcome::{Inspected, Outcome};
 use crate::strict::StrictValues;
 use crate::walk::{Listing, list};
@@ -97,6 +97,7 @@ impl<O: Write> Listing<O> for Values {
 /// Checks a file by the usual rules. Returns how many notes were written, too.
 fn check_usual<R: Read, O: Write>(
     input: &mut R,
+    syntaxes: Syntaxes,
     notes: Notes,
     out: &mut O,
 ) -> (Result<Outcome, InspectionError>, Notes) {
@@ -105,18 +106,19 @@ fn check_usual<R: Read, O: Write>(
         value: ArrayVec::new(),
         notes,
     };
-    let outcome = list(input, &mut values, out);
+    let outcome = list(input, syntaxes, &mut values, out);
     (outcome, values.notes)
 }
 
 /// Checks a file by the whole table of VRs. Returns how many notes were written, too.
 fn check_all<R: Read, O: Write>(
     input: &mut R,
+    syntaxes: Syntaxes,
     notes: Notes,
     out: &mut O,
 ) -> (Result<Outcome, InspectionError>, Notes) {
     let mut values = StrictValues::new(notes);
-    let outcome = list(input, &mut values, out);
+    let outcome = list(input, syntaxes, &mut values, out);
     (outcome, values.notes())
 }
 
@@ -142,9 +144,9 @@ pub fn check_with<R: Read, O: Write>(
     let notes = Notes::new(options.form);
     notes.begin(out).map_err(InspectionError::Write)?;
     let (outcome, notes) = if options.strict {
-        check_all(input, notes, out)
+        check_all(input, options.syntaxes, notes, out)
     } else {
-        check_usual(input, notes, out)
+        check_usual(input, options.syntaxes, notes, out)
     };
     match outcome {
         Ok(outcome) => Ok(Inspected {
@@ -163,6 +165,10 @@ pub fn check_over<R: Read, O: Write>(
     input: &mut R,
     out: &mut O,
 ) -> Result<Inspected, InspectionError> {
-    let (strict, form) = (false, OutputForm::Lines);
-    check_with(input, CheckOptions { strict, form }, out)
+    let options = CheckOptions {
+        strict: false,
+        form: OutputForm::Lines,
+        syntaxes: Syntaxes::Native,
+    };
+    check_with(input, options, out)
 }

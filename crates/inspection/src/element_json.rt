@@ -1,13 +1,13 @@
 //! The elements of a file, as members of a JSON object.
-use crate::json::JudgementJson;
+use crate::json::{JudgementJson, VrJson};
 use crate::judgement::Judgement;
 use crate::keyword::{UNDEFINED, known_keyword};
 use crate::options::ShowOptions;
 use crate::shown_value::{ShownText, ShownValue};
-use crate::texts::{Printable, TagText, VrText};
+use crate::texts::{Printable, TagText};
 use crate::walk::Listing;
 use dictionary::vr_of;
-use element::{Header, Vr};
+use element::Header;
 use part10::Meta;
 use std::io::Write;
 use std::{fmt, io};
@@ -22,22 +22,6 @@ impl fmt::Display for LengthJson {
         match length {
             UNDEFINED => f.write_str("null"),
             _ => write!(f, "{length}"),
-        }
-    }
-}
-
-/// The letters of a VR, or none.
-#[derive(Clone, Copy)]
-struct VrJson(Option<Vr>);
-
-impl fmt::Display for VrJson {
-    fn fmt<W: fmt::Write>(&self, f: &mut fmt::Formatter<W>) -> fmt::Result {
-        match self.0 {
-            Some(vr) => {
-                let vr = VrText(Some(vr));
-                write!(f, "\"{vr}\"")
-            }
-            None => f.write_str("null"),
         }
     }
 }
@@ -150,7 +134,7 @@ impl<O: Write> Listing<O> for ElementsJson<'_> {
         header: &Header,
         out: &mut O,
     ) -> io::Result<()> {
-        self.value.forget();
+        self.value.begin(header);
         let tag = header.tag;
         if !self.options.names(tag) {
             return Ok(());

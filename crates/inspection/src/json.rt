@@ -10,15 +10,31 @@ use std::fmt;
 #[derive(Clone, Copy)]
 pub struct JudgementJson<'a>(pub &'a Judgement);
 
+/// The letters of a VR, or none.
+#[derive(Clone, Copy)]
+pub(crate) struct VrJson(pub Option<Vr>);
+
+impl fmt::Display for VrJson {
+    fn fmt<W: fmt::Write>(&self, f: &mut fmt::Formatter<W>) -> fmt::Result {
+        match self.0 {
+            Some(vr) => {
+                let vr = VrText(Some(vr));
+                write!(f, "\"{vr}\"")
+            }
+            None => f.write_str("null"),
+        }
+    }
+}
+
 /// Prints a note as an object.
 fn write_note<W: fmt::Write>(
     f: &mut fmt::Formatter<W>,
     place: u64,
-    (tag, vr): (Tag, Vr),
+    (tag, vr): (Tag, Option<Vr>),
     (number, name): (u8, &str),
 ) -> fmt::Result {
-    let (tag, vr) = (TagText(tag), VrText(Some(vr)));
-    write!(f, "{{\"place\":{place},\"tag\":\"{tag}\",\"vr\":\"{vr}\",")?;
+    let (tag, vr) = (TagText(tag), VrJson(vr));
+    write!(f, "{{\"place\":{place},\"tag\":\"{tag}\",\"vr\":{vr},")?;
     write!(f, "\"number\":{number},\"name\":\"{name}\"}}")
 }
 
@@ -50,10 +66,14 @@ impl fmt::Display for JudgementJson<'_> {
     fn fmt<W: fmt::Write>(&self, f: &mut fmt::Formatter<W>) -> fmt::Result {
         match *self.0 {
             Judgement::Note(place, tag, vr, fault) => {
-                write_note(f, place, (tag, vr), (fault.number(), fault.name()))
+                write_note(f, place, (tag, Some(vr)), (fault.number(), fault.name()))
             }
             Judgement::FormNote(place, tag, vr, fault) => {
-                write_note(f, place, (tag, vr), (fault.number(), fault.name()))
+                write_note(f, place, (tag, Some(vr)), (fault.number(), fault.name()))
+            }
+            Judgement::TableNote(place, fault) => {
+                let rule = (fault.number(), fault.name());
+                write_note(f, place, (Tag::ITEM, None), rule)
             }
             Judgement::BadHeader(fault) => write_bad_header(f, fault),
             Judgement::BadData(start, fault) => write_bad_data(f, start, fault),

@@ -10,12 +10,22 @@ pub enum OutputForm {
     Json,
 }
 
+/// In which transfer syntaxes a file may be.
+#[derive(Clone, Copy, Debug, PartialEq, Eq)]
+pub enum Syntaxes {
+    /// The two in which Pixel Data is native.
+    Native,
+    /// Those in which it may be encapsulated, too.
+    All,
+}
+
 /// What a check holds a file to.
 #[derive(Clone, Copy, Debug)]
 pub struct CheckOptions {
     /// Whether values are held to the whole table of VRs.
     pub strict: bool,
     pub form: OutputForm,
+    pub syntaxes: Syntaxes,
 }
 
 /// What is shown of a file.
@@ -26,6 +36,7 @@ pub struct ShowOptions<'a> {
     /// The elements that are shown; all of them where none is named.
     pub tags: &'a [Tag],
     pub form: OutputForm,
+    pub syntaxes: Syntaxes,
 }
 
 impl ShowOptions<'_> {

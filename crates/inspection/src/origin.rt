@@ -1,6 +1,7 @@
 //! What a file header says of the file: which implementation wrote it, and in which transfer syntax.
+use crate::options::Syntaxes;
 use element::{Header, Need, Syntax, Tag, Uid, need, read_header};
-use part10::{MetaFault, read_meta};
+use part10::MetaFault;
 
 /// The preamble, and the letters after it (PS3.10 section 7.1).
 const PREFIX: usize = 132;
@@ -54,11 +55,11 @@ pub fn implementation_of(file: &[u8]) -> Option<Uid> {
     identifier_of(file, IMPLEMENTATION_CLASS_UID)
 }
 
-/// Returns the transfer syntax that a file header names, where it is one that is not taken. The bytes are the
-/// beginning of the file.
-pub fn other_syntax_of(file: &[u8]) -> Option<Uid> {
+/// Returns the transfer syntax that a file header names, where it is none of these. The bytes are the beginning of
+/// the file.
+pub fn other_syntax_of(file: &[u8], syntaxes: Syntaxes) -> Option<Uid> {
     let mut input = file;
-    match read_meta(&mut input) {
+    match syntaxes.read_meta(&mut input) {
         Err(MetaFault::OtherSyntax) => identifier_of(file, TRANSFER_SYNTAX_UID),
         _ => None,
     }

@@ -3,7 +3,7 @@ use crate::element_json::ElementsJson;
 use crate::error::InspectionError;
 use crate::judgement::Judgement;
 use crate::keyword::{UNDEFINED, keyword, known_keyword};
-use crate::options::{OutputForm, ShowOptions};
+use crate::options::{OutputForm, ShowOptions, Syntaxes};
 use crate::outcome::{Inspected, Outcome};
 use crate::shown_value::ShownValue;
 use crate::texts::{Indent, Printable, TagText, VrText};
@@ -81,7 +81,7 @@ impl<O: Write> Listing<O> for Elements<'_> {
         header: &Header,
         out: &mut O,
     ) -> io::Result<()> {
-        self.value.forget();
+        self.value.begin(header);
         let tag = header.tag;
         if !self.options.names(tag) {
             return Ok(());
@@ -119,7 +119,12 @@ fn show_lines<R: Read, O: Write>(
     out: &mut O,
 ) -> Result<Outcome, InspectionError> {
     let value = ShownValue::new(options.form);
-    list(input, &mut Elements { options, value }, out)
+    list(
+        input,
+        options.syntaxes,
+        &mut Elements { options, value },
+        out,
+    )
 }
 
 /// Lists a file as members of a JSON object.
@@ -129,7 +134,7 @@ fn show_json<R: Read, O: Write>(
     out: &mut O,
 ) -> Result<Outcome, InspectionError> {
     let mut elements = ElementsJson::new(options);
-    match list(input, &mut elements, out) {
+    match list(input, options.syntaxes, &mut elements, out) {
         Err(InspectionError::Read(error)) => match elements.give_up(out) {
             Ok(()) => Err(InspectionError::Read(error)),
             Err(error) => Err(InspectionError::Write(error)),
@@ -166,6 +171,7 @@ pub fn show_over<R: Read, O: Write>(
         values: false,
         tags: &[],
         form: OutputForm::Lines,
+        syntaxes: Syntaxes::Native,
     };
     show_with(input, options, out)
 }

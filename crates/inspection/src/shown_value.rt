@@ -1,5 +1,6 @@
 //! The value that is shown next.
 use crate::keyword::UNDEFINED;
+use crate::offset_table::opens_fragments;
 use crate::options::OutputForm;
 use crate::value_text::ValueText;
 use arrayvec::ArrayVec;
@@ -10,6 +11,30 @@ use std::fmt;
 /// The longest value that is shown.
 const LONGEST_SHOWN: usize = 64;
 
+/// Where the offset table of encapsulated Pixel Data is: its first item (PS3.5 section A.4).
+#[derive(Clone, Copy)]
+enum Table {
+    /// Not next.
+    Elsewhere,
+    /// In the next item.
+    Next,
+    /// In the item whose header came last.
+    Here,
+}
+
+impl Table {
+    /// Returns where the table is after a header.
+    fn after(self, header: &Header) -> Table {
+        if opens_fragments(header) {
+            return Table::Next;
+        }
+        match self {
+            Table::Next if header.tag == Tag::ITEM => Table::Here,
+            _ => Table::Elsewhere,
+        }
+    }
+}
+
 /// A value of which bytes come.
 #[derive(Drop)]
 pub(crate) struct ShownValue {
@@ -19,6 +44,7 @@ pub(crate) struct ShownValue {
     length: Option<u32>,
     bytes: ArrayVec<u8, LONGEST_SHOWN>,
     has_begun: bool,
+    table: Table,
     form: OutputForm,
 }
 
@@ -46,6 +72,7 @@ impl ShownValue {
             length: None,
             bytes: ArrayVec::new(),
             has_begun: false,
+            table: Table::Elsewhere,
             form,
         }
     }
@@ -55,11 +82,26 @@ impl ShownValue {
         self.length = None;
     }
 
-    /// Waits for the value of a header, if it has one.
+    /// Follows a header, and waits for no value.
+    pub(crate) fn begin(&mut self, header: &Header) {
+        self.table = self.table.after(header);
+        self.forget();
+    }
+
+    /// Returns the VR of the value of a header: an offset table has numbers of four bytes.
+    fn vr_of(&self, header: &Header) -> Option<Vr> {
+        match self.table {
+            Table::Here => Some(Vr::UL),
+            _ => header.vr.or(vr_of(header.tag)),
+        }
+    }
+
+    /// Waits for the value of the header that it follows, if that has one.
     pub(crate) fn expect(&mut self, levels: usize, header: &Header) {
-        let Header { tag, length, vr } = *header;
-        let vr = vr.or(vr_of(tag));
-        let is_container = tag == Tag::ITEM || vr == Some(Vr::SQ) || length == UNDEFINED;
+        let Header { tag, length, .. } = *header;
+        let vr = self.vr_of(header);
+        let is_item = tag == Tag::ITEM && vr.is_none();
+        let is_container = is_item || vr == Some(Vr::SQ) || length == UNDEFINED;
         if length == 0 || is_container {
             return;
         }

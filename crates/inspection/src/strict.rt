@@ -2,6 +2,7 @@
 use crate::judgement::Judgement;
 use crate::limits::LONGEST;
 use crate::notes::Notes;
+use crate::offset_table::OffsetTable;
 use crate::sets::Sets;
 use crate::walk::Listing;
 use arrayvec::ArrayVec;
@@ -14,6 +15,9 @@ use values::{CharacterSet, Reading, check_form, number_size};
 
 /// The tag of Specific Character Set.
 const SPECIFIC_CHARACTER_SET: Tag = Tag(0x0008, 0x0005);
+
+/// The tag of Number of Frames.
+const NUMBER_OF_FRAMES: Tag = Tag(0x0028, 0x0008);
 
 /// The length that stands for an undefined one.
 const UNDEFINED: u32 = 0xffff_ffff;
@@ -36,6 +40,7 @@ pub(crate) struct StrictValues {
     value: ArrayVec<u8, LONGEST>,
     text: ArrayVec<u8, LONGEST>,
     sets: Sets,
+    table: OffsetTable,
     notes: Notes,
 }
 
@@ -46,6 +51,7 @@ impl StrictValues {
             value: ArrayVec::new(),
             text: ArrayVec::new(),
             sets: Sets::new(),
+            table: OffsetTable::new(),
             notes,
         }
     }
@@ -73,6 +79,9 @@ impl StrictValues {
         if due.tag == SPECIFIC_CHARACTER_SET {
             let set = CharacterSet::of_value(self.value.as_slice());
             self.sets.name(due.level, set);
+        }
+        if due.tag == NUMBER_OF_FRAMES && due.level == 0 {
+            self.table.set_frames(self.value.as_slice());
         }
         match self.note_of(due) {
             Some(note) => self.notes.add(&note, out),
@@ -107,6 +116,10 @@ impl<O: Write> Listing<O> for StrictValues {
         self.value.clear();
         self.due = None;
         self.sets.hand_down(levels);
+        if let Some(fault) = self.table.on_header(place, levels, header) {
+            let note = Judgement::TableNote(self.table.place(), fault);
+            self.notes.add(&note, out)?;
+        }
         let Some(vr) = vr.or(vr_of(tag)) else {
             return Ok(());
         };
@@ -126,6 +139,7 @@ impl<O: Write> Listing<O> for StrictValues {
     }
 
     fn on_bytes(&mut self, bytes: &[u8], out: &mut O) -> io::Result<()> {
+        self.table.on_bytes(bytes);
         let Some(due) = self.due else {
             return Ok(());
         };

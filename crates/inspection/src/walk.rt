@@ -3,10 +3,11 @@ use crate::counted::Counted;
 use crate::error::InspectionError;
 use crate::judgement::Judgement;
 use crate::limits::{DEPTH, MOST_DATA, PIECE, VALUES};
+use crate::options::Syntaxes;
 use crate::outcome::Outcome;
 use dictionary::Transfer;
 use element::Header;
-use part10::{Meta, MetaFault, read_meta};
+use part10::{Meta, MetaFault};
 use sequence::{Fault, Step, Walker, Wanted};
 use std::io;
 use std::io::{Read, Write};
@@ -141,16 +142,17 @@ fn list_data_set<R: Read, L: Listing<O>, O: Write>(
     tell_end(ending(found, start, input.count()), listing, out)
 }
 
-/// Lists a file that the reader gives, up to its first fault.
+/// Lists a file in one of these transfer syntaxes that the reader gives, up to its first fault.
 ///
 /// Fails if the file can't be read or the output can't be written.
 pub fn list<R: Read, L: Listing<O>, O: Write>(
     input: &mut R,
+    syntaxes: Syntaxes,
     listing: &mut L,
     out: &mut O,
 ) -> Result<Outcome, InspectionError> {
     let mut input = Counted::new(input);
-    match read_meta(&mut input) {
+    match syntaxes.read_meta(&mut input) {
         Ok(meta) => list_data_set(&mut input, &meta, listing, out),
         Err(MetaFault::ReadFailed) => Err(input.into_error()),
         Err(fault) => tell_end((Judgement::BadHeader(fault), Outcome::Faulty), listing, out),

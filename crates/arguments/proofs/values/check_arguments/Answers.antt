@@ -23,4 +23,9 @@ returns c =
         on = λ e. c.get_flag-json.ensures.value (one_text-rows found (codes "json") ∙ e);
         off = λ e. c.get_flag-json.ensures.other (one_text-rows found (codes "json") ∙ e);
       };
+      all_syntaxes = record {
+        none = λ e. c.get_flag-all_syntaxes.ensures.none (one_text-rows found (codes "all-syntaxes") ∙ e);
+        on = λ e. c.get_flag-all_syntaxes.ensures.value (one_text-rows found (codes "all-syntaxes") ∙ e);
+        off = λ e. c.get_flag-all_syntaxes.ensures.other (one_text-rows found (codes "all-syntaxes") ∙ e);
+      };
     }
