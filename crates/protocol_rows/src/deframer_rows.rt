@@ -1,160 +1,123 @@
 //! Streams of PDUs cut into events, by the public calls of `pdu::Deframer` alone.
 
-use pdu::{Deframer, Event, PduHead, PdvHead};
+use cases::{Parts, cases};
+use pdu::{Deframer, Event};
+use std::alloc::{AllocError, Global};
+use std::test::Fail;
 
-/// An event, and how many bytes of the stream have come with it: for a part, its last one.
-type Row<'a> = (usize, Event<'a>);
-
-/// How many rows have come, and of the part that the next one lends, how many bytes.
-#[derive(Clone, Copy)]
-struct Progress {
+/// The events of a stream, each after how many bytes of it have come; for what is lent in parts, the last one.
+#[derive(Drop)]
+struct EventList {
+    alloc: Global,
+    text: String,
     taken: usize,
-    row: usize,
-    lent: usize,
+    /// What is lent, and after how many bytes its last part has come.
+    lent: Option<(&'static str, usize)>,
+    parts: Vec<u8>,
 }
 
-/// Returns whether the part continues the whole one, and how many bytes of that have come then.
-fn continues(whole: &[u8], lent: usize, part: &[u8]) -> Option<usize> {
-    match whole.get(lent..) {
-        Some(rest) if !part.is_empty() && rest.starts_with(part) => lent.checked_add(part.len()),
-        _ => None,
-    }
-}
-
-/// Returns the progress after this event, or `None` where the rows have another.
-fn report(rows: &[Row], progress: Progress, event: Event) -> Option<Progress> {
-    let Some((place, expected)) = rows.get(progress.row) else {
-        return None;
-    };
-    let Some(row) = progress.row.checked_add(1) else {
-        return None;
-    };
-    let next = Progress {
-        row,
-        lent: 0,
-        ..progress
-    };
-    let (whole, lent) = match (expected, event) {
-        (Event::Body(whole), Event::Body(part)) => (whole, continues(whole, progress.lent, part)),
-        (Event::Fragment(whole), Event::Fragment(part)) => {
-            (whole, continues(whole, progress.lent, part))
+impl EventList {
+    fn new(alloc: Global) -> EventList {
+        EventList {
+            alloc,
+            text: String::new(alloc),
+            taken: 0,
+            lent: None,
+            parts: Vec::new(alloc),
         }
-        (expected, event) if *expected == event && *place == progress.taken => return Some(next),
-        _ => return None,
-    };
-    match lent {
-        Some(lent) if lent < whole.len() => Some(Progress { lent, ..progress }),
-        Some(_) if *place == progress.taken => Some(next),
-        _ => None,
     }
-}
 
-/// Hands a piece to the deframer until it is used up, and compares the events with the rows.
-fn hand(deframer: &mut Deframer, piece: &[u8], rows: &[Row], start: Progress) -> Option<Progress> {
-    let mut progress = start;
-    let mut rest = piece;
-    for _ in 0..100 {
-        let (count, event) = deframer.next(rest);
-        rest = &rest[count..];
-        progress.taken = progress.taken.saturating_add(count);
-        let Some(event) = event else {
-            return if rest.is_empty() {
-                Some(progress)
-            } else {
-                None
+    /// Adds an event.
+    fn add(&mut self, what: &str) -> Result<(), AllocError> {
+        if !self.text.is_empty() {
+            self.text.push_str(", ")?;
+        }
+        self.text.push_str(what)
+    }
+
+    /// Adds what was lent until now.
+    fn end(&mut self) -> Result<(), AllocError> {
+        if let Some((what, place)) = self.lent {
+            let lent = format!(in self.alloc; "{place} {what} {:?}", self.parts)?;
+            self.add(lent.as_str())?;
+        }
+        self.lent = None;
+        self.parts.clear();
+        Ok(())
+    }
+
+    /// Takes a part that is lent. An empty one would be seen.
+    fn lend(&mut self, what: &'static str, part: &[u8]) -> Result<(), AllocError> {
+        if part.is_empty() {
+            self.add("nothing is lent")?;
+        }
+        if let Some((before, _)) = self.lent
+            && before != what
+        {
+            self.end()?;
+        }
+        self.lent = Some((what, self.taken));
+        self.parts.extend_from_slice(part)
+    }
+
+    /// Takes an event.
+    fn take(&mut self, event: Event) -> Result<(), AllocError> {
+        match event {
+            Event::Body(part) => self.lend("Body", part),
+            Event::Fragment(part) => self.lend("Fragment", part),
+            event => self.tell(event),
+        }
+    }
+
+    /// Adds an event that lends nothing, after what was lent.
+    fn tell(&mut self, event: Event) -> Result<(), AllocError> {
+        self.end()?;
+        let event = format!(in self.alloc; "{} {event:?}", self.taken)?;
+        self.add(event.as_str())
+    }
+
+    /// Adds that a piece is not used up, if that is so.
+    fn leave(&mut self, rest: &[u8]) -> Result<(), AllocError> {
+        if rest.is_empty() {
+            return Ok(());
+        }
+        self.add("not taken")
+    }
+
+    /// Hands a piece to the deframer until it is used up.
+    fn hand(&mut self, deframer: &mut Deframer, piece: &[u8]) -> Result<(), AllocError> {
+        let mut rest = piece;
+        for _ in 0..100 {
+            let (count, event) = deframer.next(rest);
+            rest = &rest[count..];
+            self.taken = self.taken.saturating_add(count);
+            let Some(event) = event else {
+                return self.leave(rest);
             };
-        };
-        match report(rows, progress, event) {
-            Some(next) => progress = next,
-            None => return None,
+            self.take(event)?;
         }
+        self.add("more than 100 events")
     }
-    None
 }
 
-/// Returns whether a stream in these pieces has just these events.
-fn has_rows(pieces: &[&[u8]], rows: &[Row]) -> bool {
+/// Returns the events of a stream in two pieces, of which the first has so many bytes; if the stream has fewer, byte by
+/// byte.
+fn events(alloc: Global, stream: &[u8], cut: usize) -> Result<String, AllocError> {
     let mut deframer = Deframer::new();
-    let mut progress = Progress {
-        taken: 0,
-        row: 0,
-        lent: 0,
-    };
-    for piece in pieces {
-        match hand(&mut deframer, piece, rows, progress) {
-            Some(next) => progress = next,
-            None => return false,
+    let mut events = EventList::new(alloc);
+    match stream.split_at_checked(cut) {
+        Some((front, back)) => {
+            events.hand(&mut deframer, front)?;
+            events.hand(&mut deframer, back)?;
+        }
+        None => {
+            for byte in stream.chunks(1) {
+                events.hand(&mut deframer, byte)?;
+            }
         }
     }
-    progress.row == rows.len() && progress.lent == 0
-}
-
-/// Returns whether a stream has just these events, cut in two anywhere.
-fn has_rows_in_two(stream: &[u8], rows: &[Row]) -> bool {
-    for cut in 0..=stream.len() {
-        let (front, back) = stream.split_at(cut);
-        if !has_rows(&[front, back], rows) {
-            return false;
-        }
-    }
-    true
-}
-
-/// Returns whether a stream has just these events, byte by byte.
-fn has_rows_by_byte(stream: &[u8], rows: &[Row]) -> bool {
-    let mut deframer = Deframer::new();
-    let mut progress = Progress {
-        taken: 0,
-        row: 0,
-        lent: 0,
-    };
-    for byte in stream.chunks(1) {
-        match hand(&mut deframer, byte, rows, progress) {
-            Some(next) => progress = next,
-            None => return false,
-        }
-    }
-    progress.row == rows.len() && progress.lent == 0
-}
-
-fn is_cut(stream: &[u8], rows: &[Row]) -> bool {
-    has_rows_in_two(stream, rows) && has_rows_by_byte(stream, rows)
-}
-
-fn pdu(kind: u8, length: u32) -> Event<'static> {
-    Event::PduHead(PduHead { kind, length })
-}
-
-fn pdv(length: u32, context: u8, command: bool, last: bool) -> Event<'static> {
-    Event::PdvHead(PdvHead {
-        length,
-        context,
-        command,
-        last,
-    })
-}
-
-/// Each type but P-DATA-TF, of which one is unknown.
-#[test]
-fn each_type_with_and_without_a_body(rt: HostRuntime) {
-    for kind in [1, 2, 3, 5, 6, 7, 0x47] {
-        let body = [kind, 0xFF, 0, 0, 0, 3, 4, 0, 9];
-        let rows = [
-            (6, pdu(kind, 3)),
-            (9, Event::Body(&[4, 0, 9])),
-            (9, Event::PduEnd(kind)),
-        ];
-        let empty = [kind, 0, 0, 0, 0, 0];
-        let empty_rows = [(6, pdu(kind, 0)), (6, Event::PduEnd(kind))];
-        assert!(rt; is_cut(&body, &rows) && is_cut(&empty, &empty_rows));
-    }
-}
-
-/// A length of four bytes, of which the first three bytes of the body have come.
-#[test]
-fn a_long_body(rt: HostRuntime) {
-    let rows = [(6, pdu(1, 0x01020304)), (9, Event::Body(&[7, 8, 9]))];
-    assert!(rt; is_cut(&[1, 0, 1, 2, 3, 4, 7, 8, 9], &rows));
+    events.end()?;
+    Ok(events.text)
 }
 
 /// A fragment of a command set, an empty one, one of a data set with the ignored bits, and a release.
@@ -163,111 +126,109 @@ const DATA: &[u8] = &[
     5, 0, 0, 0, 0, 4, 0, 0, 0, 0,
 ];
 
-#[test]
-fn several_pdvs_and_another_pdu(rt: HostRuntime) {
-    let rows = [
-        (6, pdu(4, 21)),
-        (12, pdv(4, 1, true, true)),
-        (14, Event::Fragment(&[0xAA, 0xBB])),
-        (14, Event::PdvEnd),
-        (20, pdv(2, 3, true, false)),
-        (20, Event::PdvEnd),
-        (26, pdv(3, 255, false, true)),
-        (27, Event::Fragment(&[0xCC])),
-        (27, Event::PdvEnd),
-        (27, Event::PduEnd(4)),
-        (33, pdu(5, 4)),
-        (37, Event::Body(&[0, 0, 0, 0])),
-        (37, Event::PduEnd(5)),
-    ];
-    assert!(rt; is_cut(DATA, &rows));
-}
+/// A stream and its events. `data` is the stream above.
+static STREAMS: &str = "
+type 01 with a body | 01 ff 00 00 00 03 04 00 09 | \
+    6 PduHead(PduHead { kind: 1, length: 3 }), 9 Body [4, 0, 9], 9 PduEnd(1)
+type 01 without a body | 01 00 00 00 00 00 | 6 PduHead(PduHead { kind: 1, length: 0 }), \
+    6 PduEnd(1)
+type 02 with a body | 02 ff 00 00 00 03 04 00 09 | \
+    6 PduHead(PduHead { kind: 2, length: 3 }), 9 Body [4, 0, 9], 9 PduEnd(2)
+type 02 without a body | 02 00 00 00 00 00 | 6 PduHead(PduHead { kind: 2, length: 0 }), \
+    6 PduEnd(2)
+type 03 with a body | 03 ff 00 00 00 03 04 00 09 | \
+    6 PduHead(PduHead { kind: 3, length: 3 }), 9 Body [4, 0, 9], 9 PduEnd(3)
+type 03 without a body | 03 00 00 00 00 00 | 6 PduHead(PduHead { kind: 3, length: 0 }), \
+    6 PduEnd(3)
+type 05 with a body | 05 ff 00 00 00 03 04 00 09 | \
+    6 PduHead(PduHead { kind: 5, length: 3 }), 9 Body [4, 0, 9], 9 PduEnd(5)
+type 05 without a body | 05 00 00 00 00 00 | 6 PduHead(PduHead { kind: 5, length: 0 }), \
+    6 PduEnd(5)
+type 06 with a body | 06 ff 00 00 00 03 04 00 09 | \
+    6 PduHead(PduHead { kind: 6, length: 3 }), 9 Body [4, 0, 9], 9 PduEnd(6)
+type 06 without a body | 06 00 00 00 00 00 | 6 PduHead(PduHead { kind: 6, length: 0 }), \
+    6 PduEnd(6)
+type 07 with a body | 07 ff 00 00 00 03 04 00 09 | \
+    6 PduHead(PduHead { kind: 7, length: 3 }), 9 Body [4, 0, 9], 9 PduEnd(7)
+type 07 without a body | 07 00 00 00 00 00 | 6 PduHead(PduHead { kind: 7, length: 0 }), \
+    6 PduEnd(7)
+type 47 with a body | 47 ff 00 00 00 03 04 00 09 | \
+    6 PduHead(PduHead { kind: 71, length: 3 }), 9 Body [4, 0, 9], 9 PduEnd(71)
+type 47 without a body | 47 00 00 00 00 00 | 6 PduHead(PduHead { kind: 71, length: 0 }), \
+    6 PduEnd(71)
+a long body | 01 00 01 02 03 04 07 08 09 | \
+    6 PduHead(PduHead { kind: 1, length: 16909060 }), 9 Body [7, 8, 9]
+several PDVs and another PDU | data | 6 PduHead(PduHead { kind: 4, length: 21 }), \
+    12 PdvHead(PdvHead { length: 4, context: 1, command: true, last: true }), \
+    14 Fragment [170, 187], 14 PdvEnd, \
+    20 PdvHead(PdvHead { length: 2, context: 3, command: true, last: false }), 20 PdvEnd, \
+    26 PdvHead(PdvHead { length: 3, context: 255, command: false, last: true }), \
+    27 Fragment [204], 27 PdvEnd, 27 PduEnd(4), 33 PduHead(PduHead { kind: 5, length: 4 }), \
+    37 Body [0, 0, 0, 0], 37 PduEnd(5)
+a bad PDV head of length 0 | 04 00 00 00 00 08 00 00 00 00 01 03 08 09 | \
+    6 PduHead(PduHead { kind: 4, length: 8 }), 12 BadPdv, 14 Body [8, 9], 14 PduEnd(4)
+a bad PDV head of length 1 | 04 00 00 00 00 08 00 00 00 01 01 03 08 09 | \
+    6 PduHead(PduHead { kind: 4, length: 8 }), 12 BadPdv, 14 Body [8, 9], 14 PduEnd(4)
+a bad PDV head of length 5 | 04 00 00 00 00 08 00 00 00 05 01 03 08 09 | \
+    6 PduHead(PduHead { kind: 4, length: 8 }), 12 BadPdv, 14 Body [8, 9], 14 PduEnd(4)
+a bad PDV head of length 255 | 04 00 00 00 00 08 00 00 00 ff 01 03 08 09 | \
+    6 PduHead(PduHead { kind: 4, length: 8 }), 12 BadPdv, 14 Body [8, 9], 14 PduEnd(4)
+a bad PDV head at the end | 04 00 00 00 00 06 00 00 00 03 01 03 04 | \
+    6 PduHead(PduHead { kind: 4, length: 6 }), 12 BadPdv, 12 PduEnd(4)
+a PDV of the whole PDU | 04 00 00 00 00 08 00 00 00 04 01 03 08 09 | \
+    6 PduHead(PduHead { kind: 4, length: 8 }), \
+    12 PdvHead(PdvHead { length: 4, context: 1, command: true, last: true }), \
+    14 Fragment [8, 9], 14 PdvEnd, 14 PduEnd(4)
+1 bytes left over | 04 00 00 00 00 07 00 00 00 02 01 00 01 | \
+    6 PduHead(PduHead { kind: 4, length: 7 }), \
+    12 PdvHead(PdvHead { length: 2, context: 1, command: false, last: false }), 12 PdvEnd, \
+    12 Leftover, 13 Body [1], 13 PduEnd(4)
+2 bytes left over | 04 00 00 00 00 08 00 00 00 02 01 00 01 01 | \
+    6 PduHead(PduHead { kind: 4, length: 8 }), \
+    12 PdvHead(PdvHead { length: 2, context: 1, command: false, last: false }), 12 PdvEnd, \
+    12 Leftover, 14 Body [1, 1], 14 PduEnd(4)
+3 bytes left over | 04 00 00 00 00 09 00 00 00 02 01 00 01 01 01 | \
+    6 PduHead(PduHead { kind: 4, length: 9 }), \
+    12 PdvHead(PdvHead { length: 2, context: 1, command: false, last: false }), 12 PdvEnd, \
+    12 Leftover, 15 Body [1, 1, 1], 15 PduEnd(4)
+4 bytes left over | 04 00 00 00 00 0a 00 00 00 02 01 00 01 01 01 01 | \
+    6 PduHead(PduHead { kind: 4, length: 10 }), \
+    12 PdvHead(PdvHead { length: 2, context: 1, command: false, last: false }), 12 PdvEnd, \
+    12 Leftover, 16 Body [1, 1, 1, 1], 16 PduEnd(4)
+5 bytes left over | 04 00 00 00 00 0b 00 00 00 02 01 00 01 01 01 01 01 | \
+    6 PduHead(PduHead { kind: 4, length: 11 }), \
+    12 PdvHead(PdvHead { length: 2, context: 1, command: false, last: false }), 12 PdvEnd, \
+    12 Leftover, 17 Body [1, 1, 1, 1, 1], 17 PduEnd(4)
+six bytes are a head | 04 00 00 00 00 0c 00 00 00 02 01 00 01 01 01 01 01 01 | \
+    6 PduHead(PduHead { kind: 4, length: 12 }), \
+    12 PdvHead(PdvHead { length: 2, context: 1, command: false, last: false }), 12 PdvEnd, \
+    18 BadPdv, 18 PduEnd(4)
+short data of 0 bytes | 04 00 00 00 00 00 | 6 PduHead(PduHead { kind: 4, length: 0 }), \
+    6 PduEnd(4)
+short data of 1 bytes | 04 00 00 00 00 01 00 | 6 PduHead(PduHead { kind: 4, length: 1 }), \
+    7 PduEnd(4)
+short data of 2 bytes | 04 00 00 00 00 02 00 00 | \
+    6 PduHead(PduHead { kind: 4, length: 2 }), 8 PduEnd(4)
+short data of 3 bytes | 04 00 00 00 00 03 00 00 00 | \
+    6 PduHead(PduHead { kind: 4, length: 3 }), 9 PduEnd(4)
+short data of 4 bytes | 04 00 00 00 00 04 00 00 00 02 | \
+    6 PduHead(PduHead { kind: 4, length: 4 }), 10 PduEnd(4)
+short data of 5 bytes | 04 00 00 00 00 05 00 00 00 02 01 | \
+    6 PduHead(PduHead { kind: 4, length: 5 }), 11 PduEnd(4)
+";
 
-/// Lengths of presentation data values that are below 2 or pass the PDU, by much or by one byte.
 #[test]
-fn bad_pdv_heads(rt: HostRuntime) {
-    for length in [0, 1, 5, 255] {
-        let stream = [4, 0, 0, 0, 0, 8, 0, 0, 0, length, 1, 3, 8, 9];
-        let rows = [
-            (6, pdu(4, 8)),
-            (12, Event::BadPdv),
-            (14, Event::Body(&[8, 9])),
-            (14, Event::PduEnd(4)),
-        ];
-        assert!(rt; is_cut(&stream, &rows));
+fn streams(rt: HostRuntime) -> Result<(), Fail> {
+    let mut parts = Parts::new(rt.alloc());
+    parts.add("data", Vec::from_slice(rt.alloc(), DATA)?)?;
+    for case in cases(rt.alloc(), STREAMS, 34)?.as_slice() {
+        let stream = parts.bytes(case, 0)?;
+        for cut in 0..stream.len() + 2 {
+            let found = events(rt.alloc(), stream.as_slice(), cut)?;
+            case.expect(1, found.as_str())?;
+        }
     }
-    let stream = [4, 0, 0, 0, 0, 6, 0, 0, 0, 3, 1, 3, 4];
-    let rows = [(6, pdu(4, 6)), (12, Event::BadPdv), (12, Event::PduEnd(4))];
-    assert!(rt; is_cut(&stream, &rows));
-}
-
-/// A presentation data value that just fits its PDU.
-#[test]
-fn a_pdv_of_the_whole_pdu(rt: HostRuntime) {
-    let rows = [
-        (6, pdu(4, 8)),
-        (12, pdv(4, 1, true, true)),
-        (14, Event::Fragment(&[8, 9])),
-        (14, Event::PdvEnd),
-        (14, Event::PduEnd(4)),
-    ];
-    assert!(rt; is_cut(&[4, 0, 0, 0, 0, 8, 0, 0, 0, 4, 1, 3, 8, 9], &rows));
-}
-
-/// Whether these bytes are left over after an empty fragment, in a PDU of them and that fragment.
-fn are_left_over(bytes: &[u8], length: u8, whole: usize) -> bool {
-    let stream = [4, 0, 0, 0, 0, length, 0, 0, 0, 2, 1, 0, 1, 1, 1, 1, 1];
-    let rows = [
-        (6, pdu(4, length as u32)),
-        (12, pdv(2, 1, false, false)),
-        (12, Event::PdvEnd),
-        (12, Event::Leftover),
-        (whole, Event::Body(bytes)),
-        (whole, Event::PduEnd(4)),
-    ];
-    match stream.get(..whole) {
-        Some(stream) => is_cut(stream, &rows),
-        None => false,
-    }
-}
-
-#[test]
-fn bytes_left_over(rt: HostRuntime) {
-    assert!(rt; are_left_over(&[1], 7, 13) && are_left_over(&[1, 1], 8, 14));
-    assert!(rt; are_left_over(&[1, 1, 1], 9, 15) && are_left_over(&[1, 1, 1, 1], 10, 16));
-    assert!(rt; are_left_over(&[1, 1, 1, 1, 1], 11, 17));
-}
-
-/// Six bytes after an empty fragment are the head of a bad value.
-#[test]
-fn six_bytes_are_a_head(rt: HostRuntime) {
-    let stream = [4, 0, 0, 0, 0, 12, 0, 0, 0, 2, 1, 0, 1, 1, 1, 1, 1, 1];
-    let rows = [
-        (6, pdu(4, 12)),
-        (12, pdv(2, 1, false, false)),
-        (12, Event::PdvEnd),
-        (18, Event::BadPdv),
-        (18, Event::PduEnd(4)),
-    ];
-    assert!(rt; is_cut(&stream, &rows));
-}
-
-/// Whether a P-DATA-TF of this length, less than the head of a presentation data value, has no event
-/// but its own.
-fn is_short_data(length: u8, whole: usize) -> bool {
-    let stream = [4, 0, 0, 0, 0, length, 0, 0, 0, 2, 1];
-    let rows = [(6, pdu(4, length as u32)), (whole, Event::PduEnd(4))];
-    match stream.get(..whole) {
-        Some(stream) => is_cut(stream, &rows),
-        None => false,
-    }
-}
-
-#[test]
-fn short_data(rt: HostRuntime) {
-    for (length, whole) in [(0, 6), (1, 7), (2, 8), (3, 9), (4, 10), (5, 11)] {
-        assert!(rt; is_short_data(length, whole));
-    }
+    Ok(())
 }
 
 /// Makes this many calls on a piece, and returns what is left of it.
@@ -287,63 +248,54 @@ fn heads_are_held(rt: HostRuntime) {
         1, 2, 3, 4, 5, 0, 1, 2, 3, 4, 5, 0, 0, 0, 1, 2, 3, 4, 5, 0, 1, 2, 3, 4, 5, 0, 0, 1,
     ];
     let mut deframer = Deframer::new();
-    for (byte, expected) in DATA.chunks(1).zip(held) {
-        let rest = call(&mut deframer, byte, 5);
-        assert!(rt; rest.is_empty() && deframer.held() == expected);
+    for (at, expected) in held.iter().enumerate() {
+        let rest = call(
+            &mut deframer,
+            DATA.get(at..at.saturating_add(1)).unwrap_or(&[]),
+            5,
+        );
+        assert!(rt; rest.is_empty() && deframer.held() == *expected);
     }
+}
+
+/// Returns the events of a stream that come after a PDU is skipped: after this many calls on so many bytes.
+fn skipped(alloc: Global, stream: &[u8], place: usize, calls: usize) -> Result<String, AllocError> {
+    let mut deframer = Deframer::new();
+    let mut events = EventList::new(alloc);
+    let left = call(&mut deframer, stream.get(..place).unwrap_or(&[]), calls).len();
+    deframer.skip_frame();
+    events.taken = place.saturating_sub(left);
+    let rest = stream.get(events.taken..).unwrap_or(&[]);
+    events.hand(&mut deframer, rest)?;
+    if deframer.held() > 0 {
+        events.add("held")?;
+    }
+    Ok(events.text)
 }
 
 /// The end of the first PDU, and the head of the next.
-const SKIPPED: [Row; 2] = [
-    (27, Event::PduEnd(4)),
-    (33, Event::PduHead(PduHead { kind: 5, length: 4 })),
-];
-
-/// Returns whether, after this many calls on the first bytes, of which there are so many, a skipped PDU
-/// has its end alone.
-fn skips_after(place: usize, calls: usize) -> bool {
-    let mut deframer = Deframer::new();
-    let (front, back) = DATA[..33].split_at(place.min(33));
-    let left = call(&mut deframer, front, calls).len();
-    deframer.skip_frame();
-    let start = Progress {
-        taken: place.saturating_sub(left),
-        row: 0,
-        lent: 0,
-    };
-    if left > 0 {
-        let taken = start.taken.min(33);
-        return is_skipped(hand(&mut deframer, &DATA[taken..33], &SKIPPED, start));
-    }
-    is_skipped(hand(&mut deframer, back, &SKIPPED, start)) && deframer.held() == 0
-}
-
-fn is_skipped(progress: Option<Progress>) -> bool {
-    match progress {
-        Some(progress) => progress.row == 2,
-        None => false,
-    }
-}
+static SKIPPED: &str = "27 PduEnd(4), 33 PduHead(PduHead { kind: 5, length: 4 })";
 
 #[test]
-fn a_skipped_pdu_has_its_end_alone(rt: HostRuntime) {
+fn a_skipped_pdu_has_its_end_alone(rt: HostRuntime) -> Result<(), Fail> {
+    let stream = DATA.get(..33).unwrap_or(&[]);
     for place in 6..27 {
-        assert!(rt; skips_after(place, 100));
+        assert!(rt; skipped(rt.alloc(), stream, place, 100)?.as_str() == SKIPPED);
     }
     for calls in 1..10 {
-        assert!(rt; skips_after(33, calls));
+        assert!(rt; skipped(rt.alloc(), stream, 33, calls)?.as_str() == SKIPPED);
     }
+    Ok(())
 }
 
 /// Before its head is whole nothing is skipped.
 #[test]
-fn no_pdu_is_skipped_before_its_head(rt: HostRuntime) {
+fn no_pdu_is_skipped_before_its_head(rt: HostRuntime) -> Result<(), Fail> {
+    let head = DATA.get(..6).unwrap_or(&[]);
     for place in 0..6 {
-        let mut deframer = Deframer::new();
-        let (front, back) = DATA[..6].split_at(place.min(6));
-        let before = deframer.next(front);
-        deframer.skip_frame();
-        let after = deframer.next(back);
-        assert!(rt; before == (place, None) && after == (back.len(), Some(pdu(4, 21))));
+        assert!(rt; Deframer::new().next(head.get(..place).unwrap_or(&[])) == (place, None));
+        let found = skipped(rt.alloc(), head, place, 1)?;
+        assert!(rt; found.as_str() == "6 PduHead(PduHead { kind: 4, length: 21 })");
     }
+    Ok(())
 }

@@ -2,13 +2,13 @@
 //! for byte and send for send.
 
 use crate::counting_wire::CountingWire;
+use cases::{Case, Parts, cases};
 use dimse::{
     CLASS_MISMATCH, Command, Detail, DimseFault, INSTANCE_MISMATCH, cause_name, read_command,
-    status, write_response,
+    write_response,
 };
-use element::{Tag, Uid};
+use element::Tag;
 use std::alloc::{AllocError, Global};
-use std::process::Abort;
 use std::test::Fail;
 
 /// The command of the recorded echo.
@@ -19,18 +19,6 @@ pub(crate) const ECHO: [u8; 68] = [
     0, 0, 0, 1, 2, 0, 0, 0, 0x30, 0, // 0100
     0, 0, 0x10, 1, 2, 0, 0, 0, 1, 0, // 0110
     0, 0, 0, 8, 2, 0, 0, 0, 1, 1, // 0800
-];
-
-/// Its reply with status 0000, in one PDU.
-const ECHO_REPLY: [u8; 90] = [
-    4, 0, 0, 0, 0, 0x54, 0, 0, 0, 0x50, 1, 3, // heads
-    0, 0, 0, 0, 4, 0, 0, 0, 0x42, 0, 0, 0, // 0000
-    0, 0, 2, 0, 18, 0, 0, 0, 0x31, 0x2e, 0x32, 0x2e, 0x38, 0x34, 0x30, 0x2e, 0x31, 0x30, 0x30,
-    0x30, 0x38, 0x2e, 0x31, 0x2e, 0x31, 0, // 0002
-    0, 0, 0, 1, 2, 0, 0, 0, 0x30, 0x80, // 0100
-    0, 0, 0x20, 1, 2, 0, 0, 0, 1, 0, // 0120
-    0, 0, 0, 8, 2, 0, 0, 0, 1, 1, // 0800
-    0, 0, 0, 9, 2, 0, 0, 0, 0, 0, // 0900
 ];
 
 /// A store of a CT instance `1.2.3`, with a priority.
@@ -45,227 +33,175 @@ pub(crate) const STORE: [u8; 100] = [
     0, 0, 0, 0x10, 6, 0, 0, 0, 0x31, 0x2e, 0x32, 0x2e, 0x33, 0, // 1000
 ];
 
-/// Places in the echo's command.
-const COUNT: usize = 8;
+/// The elements of the echo, and what of the replies is the same; to a peer that takes eight bytes the echo is answered in
+/// pairs.
+static PARTS: &str = "
+count | 00*4 04 00*3 38 00*3
+class | 00 00 02 00 12 00*3 '1.2.840.10008.1.1' 00
+field | 00 00 00 01 02 00*3 30 00
+message | 00 00 10 01 02 00*3 01 00
+kind | 00 00 00 08 02 00*3 01 01
+without-data | 00 00 00 08 02 00*3 01 01
+echo-answered | 00*4 04 00*3 42 00*3 class 00 00 00 01 02 00*3 30 80 00 00 20 01 02 00*3 01 00 \
+    without-data 00 00 00 09 02 00*4 00
+store-front | 00 00 02 00 1a 00*3 '1.2.840.10008.5.1.4.1.1.2' 00 00 00 00 01 02 00*3 01 80 00 \
+    00 20 01 02 00*3 07 00 without-data 00 00 00 09 02 00*3
+store-end | 00 00 00 10 06 00*3 '1.2.3' 00
+pairs | 0400000000080000000401010000 0400000000080000000401010000 0400000000080000000401010400 \
+    0400000000080000000401010000 0400000000080000000401014200 0400000000080000000401010000 \
+    0400000000080000000401010000 0400000000080000000401010200 0400000000080000000401011200 \
+    0400000000080000000401010000 040000000008000000040101312e 040000000008000000040101322e \
+    0400000000080000000401013834 040000000008000000040101302e 0400000000080000000401013130 \
+    0400000000080000000401013030 040000000008000000040101382e 040000000008000000040101312e \
+    0400000000080000000401013100 0400000000080000000401010000 0400000000080000000401010001 \
+    0400000000080000000401010200 0400000000080000000401010000 0400000000080000000401013080 \
+    0400000000080000000401010000 0400000000080000000401012001 0400000000080000000401010200 \
+    0400000000080000000401010000 0400000000080000000401010100 0400000000080000000401010000 \
+    0400000000080000000401010008 0400000000080000000401010200 0400000000080000000401010000 \
+    0400000000080000000401010101 0400000000080000000401010000 0400000000080000000401010009 \
+    0400000000080000000401010200 0400000000080000000401010000 0400000000080000000401030000
+";
 
-const CLASS_NUMBER: usize = 14;
+/// A command set, and the number of its fault, or its field, its message ID, whether a data set follows, its class and its
+/// instance. `echo` and `store` are those above.
+static COMMANDS: &str = "
+the echo | echo | 0030 1 false 1.2.840.10008.1.1 none
+a store | store | 0001 7 true 1.2.840.10008.5.1.4.1.1.2 1.2.3
+another count | 00*4 04 00*3 36 00*3 class field message kind | 41
+a field of one byte | count class 00 00 00 01 01 00*3 30 00 message kind | 41
+a second count | count 00 00 00 00 12 00*3 '1.2.840.10008.1.1' 00 field message kind | 41
+no class | count 00 00 01 00 12 00*3 '1.2.840.10008.1.1' 00 field message kind | 41
+a class that is no identifier | count 00 00 02 00 12 00*3 'A.2.840.10008.1.1' 00 field message \
+    kind | 41
+no message ID | count class field 00 00 11 01 02 00*3 01 00 kind | 41
+an unknown field | count class 00 00 00 01 02 00*3 20 00 message kind | 42
+an unknown field and another count | 00*4 04 00*3 36 00*3 class 00 00 00 01 02 00*3 20 00 \
+    message kind | 41
+an unknown field and no message ID | count class 00 00 00 01 02 00*3 20 00 00 00 11 01 02 00*3 \
+    01 00 kind | 41
+an unknown field with a data set | count class 00 00 00 01 02 00*3 20 00 message 00 00 00 08 \
+    02 00*3 02 01 | 42
+an echo with a data set | count class field message 00 00 00 08 02 00*3 02 01 | 43
+a store without a data set | count class 00 00 00 01 02 00*3 01 00 message kind | 43
+a store without an instance | count class 00 00 00 01 02 00*3 01 00 message 00 00 00 08 02 \
+    00*3 02 01 | 41
+";
 
-const CLASS_TEXT: usize = 20;
-
-const FIELD_LENGTH: usize = 42;
-
-const FIELD: usize = 46;
-
-const MESSAGE_NUMBER: usize = 50;
-
-const KIND: usize = 66;
-
-/// The number of the fault of the echo's command with these bytes written into it, or `None` if it
-/// is still a command.
-fn refusal(edits: &[(usize, u8)]) -> Option<u8> {
-    let mut bytes = ECHO;
-    for (place, byte) in edits {
-        if let Some(at) = bytes.get_mut(*place) {
-            *at = *byte;
-        }
-    }
-    match read_command(&bytes) {
-        Ok(_) => None,
-        Err(fault) => Some(fault.number()),
-    }
+/// Returns how a command set is read.
+fn read(alloc: Global, bytes: &[u8]) -> Result<String, Fail> {
+    let command = match read_command(bytes) {
+        Ok(command) => command,
+        Err(fault) => return Ok(format!(in alloc; "{}", fault.number())?),
+    };
+    let class = str::from_utf8(command.class().as_bytes())?;
+    let instance = match command.instance() {
+        Some(uid) => str::from_utf8(uid.as_bytes())?,
+        None => "none",
+    };
+    let (field, message, with_data) = (command.field(), command.message(), command.with_data());
+    Ok(format!(in alloc; "{field:04x} {message} {with_data} {class} {instance}")?)
 }
 
-/// Returns whether an instance has this text, or there is none.
-fn is_instance(found: Option<&Uid>, instance: Option<&[u8]>) -> bool {
-    match (found, instance) {
-        (Some(uid), Some(text)) => uid.as_bytes() == text,
-        (None, None) => true,
-        _ => false,
-    }
-}
-
-/// Returns whether a command set is read as this: its field, its message ID and whether a data set
-/// follows; its class; and its instance, if it has one.
-fn reads(
-    bytes: &[u8],
-    (field, message, with_data): (u16, u16, bool),
-    class: &[u8],
-    instance: Option<&[u8]>,
-) -> bool {
-    match read_command(bytes) {
-        Ok(command) => {
-            command.field() == field
-                && command.message() == message
-                && command.with_data() == with_data
-                && command.class().as_bytes() == class
-                && is_instance(command.instance(), instance)
-        }
-        Err(_) => false,
-    }
+/// The parts above, with both commands.
+fn all_parts(alloc: Global) -> Result<Parts<'static>, Fail> {
+    let mut parts = Parts::read(alloc, PARTS, 10)?;
+    parts.add("echo", Vec::from_slice(alloc, &ECHO)?)?;
+    parts.add("store", Vec::from_slice(alloc, &STORE)?)?;
+    Ok(parts)
 }
 
 #[test]
-fn the_echo_is_read(rt: HostRuntime) {
-    let read = (Command::C_ECHO, 1, false);
-    assert!(rt; reads(&ECHO, read, b"1.2.840.10008.1.1", None));
-}
-
-#[test]
-fn a_store_is_read(rt: HostRuntime) {
-    let read = (Command::C_STORE, 7, true);
-    let class = b"1.2.840.10008.5.1.4.1.1.2";
-    assert!(rt; reads(&STORE, read, class, Some(b"1.2.3")));
-}
-
-#[test]
-fn the_echo_is_answered_in_one_send(rt: HostRuntime) -> Result<(), Fail> {
-    let echo = read_command(&ECHO).ok().ok_or("an echo")?;
-    for peer_max in [0, 84, 85, 16384, 0xffff_ffff] {
-        let mut wire = CountingWire::new(rt.alloc());
-        assert!(rt; write_response(&echo, status::SUCCESS, None, 1, peer_max, &mut wire).is_ok());
-        assert!(rt; wire.has_sent(&ECHO_REPLY, 1));
+fn commands(rt: HostRuntime) -> Result<(), Fail> {
+    let parts = all_parts(rt.alloc())?;
+    for case in cases(rt.alloc(), COMMANDS, 15)?.as_slice() {
+        let bytes = parts.bytes(case, 0)?;
+        case.expect(1, read(rt.alloc(), bytes.as_slice())?.as_str())?;
     }
     Ok(())
 }
 
-/// Returns whether these are 39 PDUs of 14 bytes, the first and the last as they should be.
-fn are_pairs(sent: &[u8]) -> bool {
-    sent.len() == 39 * 14
-        && sent.starts_with(&[4, 0, 0, 0, 0, 8, 0, 0, 0, 4, 1, 1, 0, 0])
-        && sent.ends_with(&[4, 0, 0, 0, 0, 8, 0, 0, 0, 4, 1, 3, 0, 0])
+/// The command that is answered, and its status; the number and the tag of the fault, if it has one; the context; the
+/// greatest PDU that the peer takes; in how many sends the reply goes out, and its bytes.
+static REPLIES: &str = "
+an echo in one send, any maximum | echo | 00 00 | | | 01 | 0 | 1 | 04 00 00 00 00 54 00 00 00 \
+    50 01 03 echo-answered
+an echo in one send, the least maximum for one PDU | echo | 00 00 | | | 01 | 84 | 1 | 04 00 00 \
+    00 00 54 00 00 00 50 01 03 echo-answered
+an echo in one send, a greater maximum | echo | 00 00 | | | 01 | 85 | 1 | 04 00 00 00 00 54 00 \
+    00 00 50 01 03 echo-answered
+an echo in one send, the usual maximum | echo | 00 00 | | | 01 | 16384 | 1 | 04 00 00 00 00 54 \
+    00 00 00 50 01 03 echo-answered
+an echo in one send, the greatest maximum | echo | 00 00 | | | 01 | 4294967295 | 1 | 04 00 00 \
+    00 00 54 00 00 00 50 01 03 echo-answered
+an echo to a peer that takes 8 bytes | echo | 00 00 | | | 01 | 8 | 39 | pairs
+an echo to a peer that takes 9 bytes | echo | 00 00 | | | 01 | 9 | 39 | pairs
+an overrun | store | c0 00 | 17 | 00 00 00 00 | 03 | 16384 | 1 | 04 00*4 82 00*3 7e 03 03 00*4 \
+    04 00*3 70 00*3 store-front 00 c0 00 00 02 09 10 00*3 'fault 17 Overrun' store-end
+an undefined length | store | c0 00 | 14 | 7f e0 00 10 | 03 | 16384 | 1 | 04 00*4 96 00*3 92 \
+    03 03 00*4 04 00*3 84 00*3 store-front 00 c0 00 00 01 09 04 00*3 e0 7f 10 00 00 00 02 09 \
+    18 00*3 'fault 14 UndefinedLength' store-end
+another instance | store | a9 00 | 46 | 00 08 00 18 | 03 | 16384 | 1 | 04 00*4 98 00*3 94 03 \
+    03 00*4 04 00*3 86 00*3 store-front 00 a9 00 00 01 09 04 00*3 08 00 18 00 00 00 02 09 1a \
+    00*3 'fault 46 InstanceMismatch ' store-end
+another class | store | a9 00 | 45 | 00 08 00 16 | 03 | 16384 | 1 | 04 00*4 94 00*3 90 03 03 \
+    00*4 04 00*3 82 00*3 store-front 00 a9 00 00 01 09 04 00*3 08 00 16 00 00 00 02 09 16 00*3 \
+    'fault 45 ClassMismatch' store-end
+a success | store | 00 00 | 17 | 00 08 00 16 | 03 | 16384 | 1 | 04 00*4 6a 00*3 66 03 03 00*4 \
+    04 00*3 58 00*3 store-front 00 00 store-end
+a class that is not supported | store | 01 22 | 45 | 00 08 00 16 | 03 | 16384 | 1 | 04 00*4 6a \
+    00*3 66 03 03 00*4 04 00*3 58 00*3 store-front 22 01 store-end
+out of resources | store | a7 00 | 17 | 00 08 00 16 | 03 | 16384 | 1 | 04 00*4 6a 00*3 66 03 \
+    03 00*4 04 00*3 58 00*3 store-front 00 a7 store-end
+a fault without a cause | store | c0 00 | 18 | 00 08 00 16 | 03 | 16384 | 1 | 04 00*4 6a 00*3 \
+    66 03 03 00*4 04 00*3 58 00*3 store-front 00 c0 store-end
+";
+
+/// Returns the number of so many bytes, the greatest first.
+fn number_of(bytes: &[u8]) -> u16 {
+    match bytes {
+        [one] => u16::from(*one),
+        [high, low, ..] => u16::from_be_bytes([*high, *low]),
+        [] => 0,
+    }
+}
+
+/// The fault of a case, if it has one.
+fn detail_of(parts: &Parts, case: &Case) -> Result<Option<Detail>, Fail> {
+    let tag = parts.bytes(case, 3)?;
+    if tag.len() != 4 {
+        return Ok(None);
+    }
+    let tag = Tag(number_of(tag.as_slice()), number_of(&tag.as_slice()[2..]));
+    let number = case.field(2)?.parse()?;
+    Ok(Some(Detail { number, tag }))
+}
+
+/// Fails by the case's name unless a command is answered as the case has it.
+fn is_answered(alloc: Global, parts: &Parts, case: &Case, command: &Command) -> Result<(), Fail> {
+    let status = number_of(parts.bytes(case, 1)?.as_slice());
+    let context = case.field(4)?.parse()?;
+    let peer_max = case.field(5)?.parse::<u32>()?;
+    if 0 < peer_max && peer_max < 8 {
+        return Err(case.fails("a maximum below 8"));
+    }
+    let detail = detail_of(parts, case)?;
+    let mut wire = CountingWire::new(alloc);
+    if write_response(command, status, detail, context, peer_max, &mut wire).is_err() {
+        return Err(case.fails("is not sent"));
+    }
+    case.expect(6, format!(in alloc; "{}", wire.sends)?.as_str())?;
+    parts.expect(case, 7, wire.wire.sent())
 }
 
 #[test]
-fn a_peer_that_takes_eight_or_nine_bytes(rt: HostRuntime) -> Result<(), Fail> {
-    let echo = read_command(&ECHO).ok().ok_or("an echo")?;
-    for peer_max in [8, 9] {
-        let mut wire = CountingWire::new(rt.alloc());
-        assert!(rt; write_response(&echo, status::SUCCESS, None, 1, peer_max, &mut wire).is_ok());
-        assert!(rt; wire.sends == 39 && are_pairs(wire.wire.sent()));
+fn replies(rt: HostRuntime) -> Result<(), Fail> {
+    let parts = all_parts(rt.alloc())?;
+    for case in cases(rt.alloc(), REPLIES, 15)?.as_slice() {
+        let bytes = parts.bytes(case, 0)?;
+        let command = read_command(bytes.as_slice()).ok().ok_or("a command")?;
+        is_answered(rt.alloc(), &parts, case, &command)?;
     }
     Ok(())
-}
-
-/// The bytes of a reply to the store between its group length and its status.
-const STORE_FRONT: [u8; 64] = [
-    0, 0, 2, 0, 26, 0, 0, 0, 0x31, 0x2e, 0x32, 0x2e, 0x38, 0x34, 0x30, 0x2e, 0x31, 0x30, 0x30,
-    0x30, 0x38, 0x2e, 0x35, 0x2e, 0x31, 0x2e, 0x34, 0x2e, 0x31, 0x2e, 0x31, 0x2e, 0x32, 0, // 0002
-    0, 0, 0, 1, 2, 0, 0, 0, 1, 0x80, // 0100
-    0, 0, 0x20, 1, 2, 0, 0, 0, 7, 0, // 0120
-    0, 0, 0, 8, 2, 0, 0, 0, 1, 1, // 0800
-];
-
-/// The bytes of a reply to the store after the status's value, but for its cause.
-const STORE_END: [u8; 14] = [0, 0, 0, 0x10, 6, 0, 0, 0, 0x31, 0x2e, 0x32, 0x2e, 0x33, 0];
-
-/// A reply to the store in context 3, with this group length, status and cause.
-fn store_reply(
-    alloc: Global,
-    group_length: u8,
-    status: u16,
-    cause: &[u8],
-) -> Result<Vec<u8>, AllocError> {
-    let pdu = group_length.saturating_add(18);
-    let pdv = group_length.saturating_add(14);
-    let [low, high] = status.to_le_bytes();
-    let mut reply = Vec::new(alloc);
-    reply.extend_from_slice(&[4, 0, 0, 0, 0, pdu, 0, 0, 0, pdv, 3, 3])?;
-    reply.extend_from_slice(&[0, 0, 0, 0, 4, 0, 0, 0, group_length, 0, 0, 0])?;
-    reply.extend_from_slice(&STORE_FRONT)?;
-    reply.extend_from_slice(&[0, 0, 0, 9, 2, 0, 0, 0, low, high])?;
-    reply.extend_from_slice(cause)?;
-    reply.extend_from_slice(&STORE_END)?;
-    Ok(reply)
-}
-
-/// A status, a detail, and the group length and the cause of the reply.
-type Case = (u16, u8, Tag, u8, &'static [u8]);
-
-/// The replies that name a cause, and some that name none.
-const CASES: [Case; 8] = [
-    (
-        status::CANNOT_UNDERSTAND,
-        17,
-        Tag(0, 0),
-        112,
-        b"\x00\x00\x02\x09\x10\x00\x00\x00fault 17 Overrun",
-    ),
-    (
-        status::CANNOT_UNDERSTAND,
-        14,
-        Tag(0x7fe0, 0x0010),
-        132,
-        b"\x00\x00\x01\x09\x04\x00\x00\x00\xe0\x7f\x10\x00\x00\x00\x02\x09\x18\x00\x00\x00fault 14 UndefinedLength",
-    ),
-    (
-        status::DATA_SET_MISMATCH,
-        INSTANCE_MISMATCH,
-        Tag(0x0008, 0x0018),
-        134,
-        b"\x00\x00\x01\x09\x04\x00\x00\x00\x08\x00\x18\x00\x00\x00\x02\x09\x1a\x00\x00\x00fault 46 InstanceMismatch ",
-    ),
-    (
-        status::DATA_SET_MISMATCH,
-        CLASS_MISMATCH,
-        Tag(0x0008, 0x0016),
-        130,
-        b"\x00\x00\x01\x09\x04\x00\x00\x00\x08\x00\x16\x00\x00\x00\x02\x09\x16\x00\x00\x00fault 45 ClassMismatch",
-    ),
-    (status::SUCCESS, 17, Tag(0x0008, 0x0016), 88, b""),
-    (
-        status::CLASS_NOT_SUPPORTED,
-        45,
-        Tag(0x0008, 0x0016),
-        88,
-        b"",
-    ),
-    (status::OUT_OF_RESOURCES, 17, Tag(0x0008, 0x0016), 88, b""),
-    (status::CANNOT_UNDERSTAND, 18, Tag(0x0008, 0x0016), 88, b""),
-];
-
-/// Checks the reply to the store in a case.
-fn replies<R: Abort + AllocGlobal>(rt: &R, store: &Command, case: Case) -> Result<(), AllocError> {
-    let (status, number, tag, group_length, cause) = case;
-    let mut wire = CountingWire::new(rt.alloc());
-    let detail = Some(Detail { number, tag });
-    assert!(rt; write_response(store, status, detail, 3, 16384, &mut wire).is_ok());
-    let expected = store_reply(rt.alloc(), group_length, status, cause)?;
-    assert!(rt; wire.has_sent(expected.as_slice(), 1));
-    Ok(())
-}
-
-#[test]
-fn a_failure_names_its_cause(rt: HostRuntime) -> Result<(), Fail> {
-    let store = read_command(&STORE).ok().ok_or("a store")?;
-    for case in CASES {
-        replies(&rt, &store, case)?;
-    }
-    Ok(())
-}
-
-/// Bytes that are written into the echo's command, and the number of the fault that it has then.
-const REFUSALS: [(&[(usize, u8)], Option<u8>); 14] = [
-    (&[], None),
-    (&[(COUNT, 0x36)], Some(41)),
-    (&[(FIELD_LENGTH, 1)], Some(41)),
-    (&[(CLASS_NUMBER, 0)], Some(41)),
-    (&[(CLASS_NUMBER, 1)], Some(41)),
-    (&[(CLASS_TEXT, 0x41)], Some(41)),
-    (&[(MESSAGE_NUMBER, 0x11)], Some(41)),
-    (&[(FIELD, 0x20)], Some(42)),
-    (&[(FIELD, 0x20), (COUNT, 0x36)], Some(41)),
-    (&[(FIELD, 0x20), (MESSAGE_NUMBER, 0x11)], Some(41)),
-    (&[(FIELD, 0x20), (KIND, 2)], Some(42)),
-    (&[(KIND, 2)], Some(43)),
-    (&[(FIELD, 1)], Some(43)),
-    (&[(FIELD, 1), (KIND, 2)], Some(41)),
-];
-
-#[test]
-fn the_first_broken_rule_of_a_command(rt: HostRuntime) {
-    for (edits, expected) in REFUSALS {
-        assert!(rt; refusal(edits) == expected);
-    }
 }
 
 /// Returns whether this is printed of the fault.
@@ -274,7 +210,7 @@ fn is_shown(alloc: Global, fault: DimseFault, shown: &str) -> Result<bool, Alloc
     Ok(text.as_str() == shown)
 }
 
-const SHOWN: [(DimseFault, u8, &str); 5] = [
+static SHOWN: [(DimseFault, u8, &str); 5] = [
     (DimseFault::CommandTooLong, 40, "40 CommandTooLong"),
     (DimseFault::BadCommand, 41, "41 BadCommand"),
     (DimseFault::UnknownField, 42, "42 UnknownField"),
@@ -284,8 +220,8 @@ const SHOWN: [(DimseFault, u8, &str); 5] = [
 
 #[test]
 fn faults_have_numbers_and_names(rt: HostRuntime) -> Result<(), AllocError> {
-    for (fault, number, shown) in SHOWN {
-        assert!(rt; fault.number() == number && is_shown(rt.alloc(), fault, shown)?);
+    for (fault, number, shown) in &SHOWN {
+        assert!(rt; fault.number() == *number && is_shown(rt.alloc(), *fault, shown)?);
     }
     let causes = [
         (17, Some("Overrun")),

@@ -3,11 +3,7 @@
 #![tactic(auto)]
 
 #[cfg(test)]
-mod accept_rows;
-#[cfg(test)]
 mod acceptor_rows;
-#[cfg(test)]
-mod class_rows;
 #[cfg(test)]
 mod counting_wire;
 #[cfg(test)]
@@ -17,6 +13,6 @@ mod dimse_rows;
 #[cfg(test)]
 mod join_rows;
 #[cfg(test)]
-mod negotiate_rows;
-#[cfg(test)]
 mod pdu_rows;
+#[cfg(test)]
+mod request_rows;

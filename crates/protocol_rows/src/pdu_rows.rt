@@ -1,169 +1,112 @@
 //! The worked rows of `pdu`, by its public calls alone: requests and PDUs as recorded, one refusal of
 //! each kind, and the wire over memory.
+use cases::{Case, Parts, cases};
 use pdu::{
     MemoryWire, Proposal, Request, Wire, WireFailed, read_pdu_head, read_pdv_head, read_request,
     write_abort, write_data, write_reject, write_release,
 };
 use std::alloc::{AllocError, Global};
+use std::test::Fail;
 
-/// The body of the recorded echo's request.
-const ECHO: &[u8] = &[
-    0x00, 0x01, 0x00, 0x00, 0x44, 0x43, 0x4D, 0x42, 0x4F, 0x58, 0x20, 0x20, 0x20, 0x20, 0x20, 0x20,
-    0x20, 0x20, 0x20, 0x20, 0x53, 0x43, 0x41, 0x4E, 0x4E, 0x45, 0x52, 0x31, 0x20, 0x20, 0x20, 0x20,
-    0x20, 0x20, 0x20, 0x20, 0x00, 0x00, 0x00, 0x00, 0x00, 0x00, 0x00, 0x00, 0x00, 0x00, 0x00, 0x00,
-    0x00, 0x00, 0x00, 0x00, 0x00, 0x00, 0x00, 0x00, 0x00, 0x00, 0x00, 0x00, 0x00, 0x00, 0x00, 0x00,
-    0x00, 0x00, 0x00, 0x00, 0x10, 0x00, 0x00, 0x15, 0x31, 0x2E, 0x32, 0x2E, 0x38, 0x34, 0x30, 0x2E,
-    0x31, 0x30, 0x30, 0x30, 0x38, 0x2E, 0x33, 0x2E, 0x31, 0x2E, 0x31, 0x2E, 0x31, 0x20, 0x00, 0x00,
-    0x2E, 0x01, 0x00, 0x00, 0x00, 0x30, 0x00, 0x00, 0x11, 0x31, 0x2E, 0x32, 0x2E, 0x38, 0x34, 0x30,
-    0x2E, 0x31, 0x30, 0x30, 0x30, 0x38, 0x2E, 0x31, 0x2E, 0x31, 0x40, 0x00, 0x00, 0x11, 0x31, 0x2E,
-    0x32, 0x2E, 0x38, 0x34, 0x30, 0x2E, 0x31, 0x30, 0x30, 0x30, 0x38, 0x2E, 0x31, 0x2E, 0x32, 0x50,
-    0x00, 0x00, 0x11, 0x51, 0x00, 0x00, 0x04, 0x00, 0x00, 0x40, 0x00, 0x52, 0x00, 0x00, 0x05, 0x31,
-    0x2E, 0x32, 0x2E, 0x33,
-];
+/// The fixed part of a request, the items of the recorded echo and items of others, some wrong in one way each.
+static ITEMS: &str = "
+fixed | 00 01 00 00 'DCMBOX          SCANNER1        ' 00*32
+echo-application | 10 00 00 15 '1.2.840.10008.3.1.1.1'
+echo-names | 00*3 30 00 00 11 '1.2.840.10008.1.1' 40 00 00 11 '1.2.840.10008.1.2'
+echo-context | 20 00 00 2e 01 echo-names
+echo-information | 50 00 00 11 51 00 00 04 00 00 40 00 52 00 00 05 '1.2.3'
+application | 10 00 00 03 '1.2'
+context | 20 00 00 0e 03 00 00 00 30 00 00 01 '1' 40 00 00 01 '2'
+information | 50 00 00 08 51 00 00 04 00 00 40 00
+other | 20 00 00 0e 05 00 00 00 30 00 00 01 '1' 40 00 00 01 '2'
+bare | 20 00 00 03 01 00 00
+two-names | 20 00 00 13 05 00 00 00 30 00 00 01 '1' 30 00 00 01 '1' 40 00 00 01 '2'
+long-maximum | 50 00 00 09 51 00 00 05 00 00 40 00 00
+cut-maximum | 50 00 00 08 51 00 00 05 00 00 40 00
+unknown | 21 00 00 01 ff
+";
 
-/// The number of the refusal; 0 where the body is taken.
-fn refusal(body: &[u8]) -> u8 {
-    match read_request(body) {
-        Ok(_) => 0,
-        Err(fault) => fault.number(),
+/// The body of a request, the number of its refusal, 0 where it is taken, and how many bytes it has; and where it is
+/// taken, its version, maximum, titles, reserved bytes, application context, and of each presentation context the ID, the
+/// abstract syntax and the transfer syntaxes.
+static BODIES: &str = "
+the recorded request | fixed echo-application echo-context echo-information | 0 of 164 | \
+    00 01 00 00 40 00 'DCMBOX          SCANNER1        ' 00*32 '1.2.840.10008.3.1.1.1' \
+    01 '1.2.840.10008.1.1' 00 '1.2.840.10008.1.2' 00
+an even ID | fixed echo-application 20 00 00 2e 02 echo-names echo-information | 33 of 164 |
+without the last byte | fixed echo-application echo-context \
+    50 00 00 11 51 00 00 04 00 00 40 00 52 00 00 05 '1.2.' | 31 of 163 |
+without user information | fixed echo-application echo-context | 35 of 143 |
+less than the fixed part | 00 01 00 00 'DCMBOX          SCANNER1        ' 00*31 | 31 of 67 |
+an unknown item, in another order | fixed information unknown context application other | \
+    0 of 128 | 00 01 00 00 40 00 'DCMBOX          SCANNER1        ' 00*32 '1.2' \
+    03 '1' 00 '2' 00 05 '1' 00 '2' 00
+a bare context | fixed application bare information | 31 of 94 |
+a maximum that is cut off | fixed application context cut-maximum | 31 of 105 |
+an item that is cut off | fixed application context information 60 | 31 of 106 |
+two application contexts | fixed application context application information | 32 of 112 |
+two abstract syntaxes | fixed application two-names information | 32 of 110 |
+a long maximum | fixed application context long-maximum | 32 of 106 |
+an ID twice | fixed application context other context information | 34 of 141 |
+no user information | fixed application context | 35 of 93 |
+the greatest body, of small items | fixed 60000000*16364 | 35 of 65524 |
+the greatest body, of small items in a context | \
+    fixed 20 00 ff ac 01 00 00 00 40000000*16362 | 32 of 65524 |
+";
+
+/// Appends the fields of a presentation context.
+fn put_context(fields: &mut Vec<u8>, proposal: &Proposal) -> Result<(), AllocError> {
+    fields.push(proposal.id())?;
+    fields.extend_from_slice(proposal.abstract_syntax())?;
+    fields.push(0)?;
+    for syntax in proposal.transfer_syntaxes() {
+        fields.extend_from_slice(syntax)?;
+        fields.push(0)?;
     }
+    Ok(())
 }
 
-/// A body of the fixed part and these items.
-fn with_items(alloc: Global, items: &[&[u8]]) -> Result<Vec<u8>, AllocError> {
-    let mut body = Vec::from_slice(alloc, &ECHO[..68])?;
-    for item in items {
-        body.extend_from_slice(item)?;
-    }
-    Ok(body)
-}
-
-/// The echo's items: application context, proposed context, user information.
-const APPLICATION: &[u8] = &[0x10, 0, 0, 3, b'1', b'.', b'2'];
-
-const CONTEXT: &[u8] = &[
-    0x20, 0, 0, 14, 3, 0, 0, 0, 0x30, 0, 0, 1, b'1', 0x40, 0, 0, 1, b'2',
-];
-
-const INFORMATION: &[u8] = &[0x50, 0, 0, 8, 0x51, 0, 0, 4, 0, 0, 0x40, 0];
-
-/// Returns whether it is the one presentation context of the recorded request.
-fn is_recorded(proposal: &Proposal) -> bool {
-    let mut syntaxes = proposal.transfer_syntaxes();
-    let Some(syntax) = syntaxes.next() else {
-        return false;
-    };
-    proposal.id() == 1
-        && proposal.abstract_syntax() == b"1.2.840.10008.1.1".as_slice()
-        && syntax == b"1.2.840.10008.1.2".as_slice()
-        && syntaxes.next().is_none()
-}
-
-/// Returns whether the request has that context and no other.
-fn has_recorded_context(request: &Request) -> bool {
-    let mut contexts = request.contexts();
-    let Some(proposal) = contexts.next() else {
-        return false;
-    };
-    is_recorded(&proposal) && contexts.next().is_none()
-}
-
-/// Returns whether the request has the fields of the recorded one.
-fn has_recorded_fields(request: &Request) -> bool {
+/// Appends the fields of a request.
+fn put_fields(fields: &mut Vec<u8>, request: &Request) -> Result<(), AllocError> {
     request.keeps();
-    request.version() == 1
-        && request.maximum() == 16384
-        && request.called().0 == *b"DCMBOX          "
-        && request.calling().0 == *b"SCANNER1        "
-        && request.reserved().len() == 32
-        && request.application_context() == b"1.2.840.10008.3.1.1.1".as_slice()
+    fields.extend_from_slice(&request.version().to_be_bytes())?;
+    fields.extend_from_slice(&request.maximum().to_be_bytes())?;
+    fields.extend_from_slice(&request.called().0)?;
+    fields.extend_from_slice(&request.calling().0)?;
+    fields.extend_from_slice(request.reserved())?;
+    fields.extend_from_slice(request.application_context())?;
+    for proposal in request.contexts() {
+        put_context(fields, &proposal)?;
+    }
+    Ok(())
 }
 
-/// Returns whether the body is that of the recorded request.
-fn is_recorded_request(body: &[u8]) -> bool {
+/// Returns the number of the refusal of a body, 0 where it is taken; and puts the fields of what is taken.
+fn refusal(body: &[u8], fields: &mut Vec<u8>) -> Result<u8, AllocError> {
     match read_request(body) {
-        Ok(request) => has_recorded_fields(&request) && has_recorded_context(&request),
-        Err(_) => false,
+        Ok(request) => {
+            put_fields(fields, &request)?;
+            Ok(0)
+        }
+        Err(fault) => Ok(fault.number()),
     }
 }
 
-#[test]
-fn the_recorded_request(rt: HostRuntime) {
-    assert!(rt; is_recorded_request(ECHO));
+/// Fails by the case's name unless its body is read as it says.
+fn is_read(alloc: Global, parts: &Parts, case: &Case) -> Result<(), Fail> {
+    let body = parts.bytes(case, 0)?;
+    let mut fields = Vec::new(alloc);
+    let number = refusal(body.as_slice(), &mut fields)?;
+    case.expect(1, format!(in alloc; "{number} of {}", body.len())?.as_str())?;
+    parts.expect(case, 2, fields.as_slice())
 }
 
 #[test]
-fn its_neighbours_are_refused(rt: HostRuntime) -> Result<(), AllocError> {
-    let mut even = Vec::from_slice(rt.alloc(), ECHO)?;
-    even[97] = 2;
-    assert!(rt; refusal(even.as_slice()) == 33);
-    assert!(rt; refusal(&ECHO[..163]) == 31);
-    assert!(rt; refusal(&ECHO[..143]) == 35);
-    assert!(rt; refusal(&ECHO[..67]) == 31);
-    Ok(())
-}
-
-/// Items that are wrong in one way each.
-const OTHER: &[u8] = &[
-    0x20, 0, 0, 14, 5, 0, 0, 0, 0x30, 0, 0, 1, b'1', 0x40, 0, 0, 1, b'2',
-];
-
-const BARE: &[u8] = &[0x20, 0, 0, 3, 1, 0, 0];
-
-const TWO_NAMES: &[u8] = &[
-    0x20, 0, 0, 19, 5, 0, 0, 0, 0x30, 0, 0, 1, b'1', 0x30, 0, 0, 1, b'1', 0x40, 0, 0, 1, b'2',
-];
-
-const LONG_MAXIMUM: &[u8] = &[0x50, 0, 0, 9, 0x51, 0, 0, 5, 0, 0, 0x40, 0, 0];
-
-const CUT_MAXIMUM: &[u8] = &[0x50, 0, 0, 8, 0x51, 0, 0, 5, 0, 0, 0x40, 0];
-
-const UNKNOWN: &[u8] = &[0x21, 0, 0, 1, 0xFF];
-
-/// The items of a body, and the number of its refusal.
-const REFUSALS: [(&[&[u8]], u8); 9] = [
-    (&[INFORMATION, UNKNOWN, CONTEXT, APPLICATION, OTHER], 0),
-    (&[APPLICATION, BARE, INFORMATION], 31),
-    (&[APPLICATION, CONTEXT, CUT_MAXIMUM], 31),
-    (&[APPLICATION, CONTEXT, INFORMATION, &[0x60]], 31),
-    (&[APPLICATION, CONTEXT, APPLICATION, INFORMATION], 32),
-    (&[APPLICATION, TWO_NAMES, INFORMATION], 32),
-    (&[APPLICATION, CONTEXT, LONG_MAXIMUM], 32),
-    (&[APPLICATION, CONTEXT, OTHER, CONTEXT, INFORMATION], 34),
-    (&[APPLICATION, CONTEXT], 35),
-];
-
-#[test]
-fn each_refusal_once(rt: HostRuntime) -> Result<(), AllocError> {
-    for (items, number) in REFUSALS {
-        let body = with_items(rt.alloc(), items)?;
-        assert!(rt; refusal(body.as_slice()) == number);
+fn bodies_of_requests(rt: HostRuntime) -> Result<(), Fail> {
+    let parts = Parts::read(rt.alloc(), ITEMS, 14)?;
+    for case in cases(rt.alloc(), BODIES, 16)?.as_slice() {
+        is_read(rt.alloc(), &parts, case)?;
     }
-    Ok(())
-}
-
-/// A body of the fixed part, this item, and one more as often as fits where 65,524 bytes are kept.
-fn full(alloc: Global, first: &[u8], again: &[u8; 4]) -> Result<Vec<u8>, AllocError> {
-    let mut body = with_items(alloc, &[first])?;
-    for _ in 0..16364usize.saturating_sub(first.len() / 4) {
-        body.extend_from_slice(again)?;
-    }
-    Ok(body)
-}
-
-/// Returns whether this is the number of the refusal of a body that is as large as can be.
-fn refuses_greatest(body: &[u8], number: u8) -> bool {
-    body.len() == 65524 && refusal(body) == number
-}
-
-/// The greatest body that is kept, full of the smallest items, at the top and in a context.
-#[test]
-fn hostile_bodies(rt: HostRuntime) -> Result<(), AllocError> {
-    let flat = full(rt.alloc(), &[], &[0x60, 0, 0, 0])?;
-    assert!(rt; refuses_greatest(flat.as_slice(), 35));
-    let context = [0x20, 0, 0xFF, 0xAC, 1, 0, 0, 0];
-    let nested = full(rt.alloc(), &context, &[0x40, 0, 0, 0])?;
-    assert!(rt; refuses_greatest(nested.as_slice(), 32));
     Ok(())
 }
 

@@ -1,0 +1,56 @@
+//! A table of cases.
+
+use std::alloc::Global;
+use std::test::Fail;
+
+/// A case of a table: a line of it.
+#[derive(Clone, Copy)]
+pub struct Case<'a> {
+    /// The case's name, by which a test fails.
+    pub name: &'a str,
+    fields: &'a str,
+}
+
+/// Returns the cases of a table, which has to have so many.
+pub fn cases<'a>(alloc: Global, table: &'a str, count: usize) -> Result<Vec<Case<'a>>, Fail> {
+    let mut cases = Vec::new(alloc);
+    for line in table.lines() {
+        match line.split_once('|') {
+            Some((name, fields)) => cases.push(Case {
+                name: name.trim(),
+                fields,
+            })?,
+            None if line.trim().is_empty() => {}
+            None => return Err(Fail::new(format_args!("{line}: no case"))),
+        }
+    }
+    if cases.len() != count {
+        let found = cases.len();
+        return Err(Fail::new(format_args!("{found} cases and not {count}")));
+    }
+    Ok(cases)
+}
+
+impl<'a> Case<'a> {
+    /// Returns the field at this place, counted from 0.
+    pub fn field(&self, place: usize) -> Result<&'a str, Fail> {
+        match self.fields.split('|').nth(place) {
+            Some(field) => Ok(field.trim()),
+            None => Err(self.fails("has too few fields")),
+        }
+    }
+
+    /// Fails by the case's name unless this is the field at this place.
+    pub fn expect(&self, place: usize, found: &str) -> Result<(), Fail> {
+        if self.field(place)? == found {
+            return Ok(());
+        }
+        Err(self.fails(found))
+    }
+
+    /// Returns a failure that has the case's name.
+    pub fn fails(&self, why: &str) -> Fail {
+        let name = self.name;
+        Fail::new(format_args!("{name}: {why}"))
+    }
+}

@@ -1,0 +1,106 @@
+//! Bytes as a person writes them.
+
+use crate::case::{Case, cases};
+use std::alloc::Global;
+use std::test::Fail;
+
+/// Bytes with a name.
+#[derive(Drop)]
+struct Part<'a> {
+    name: &'a str,
+    bytes: Vec<u8>,
+}
+
+/// The names that fields of bytes may have.
+#[derive(Drop)]
+pub struct Parts<'a> {
+    alloc: Global,
+    parts: Vec<Part<'a>>,
+}
+
+fn digit_of(byte: u8) -> Option<u8> {
+    match byte {
+        b'0'..=b'9' => Some(byte - b'0'),
+        b'a'..=b'f' => Some(byte - b'a' + 10),
+        _ => None,
+    }
+}
+
+fn byte_of(pair: &[u8]) -> Option<u8> {
+    match pair {
+        [high, low] => Some(digit_of(*high)? << 4 | digit_of(*low)?),
+        _ => None,
+    }
+}
+
+impl<'a> Parts<'a> {
+    /// Returns no names.
+    pub fn new(alloc: Global) -> Parts<'a> {
+        Parts {
+            alloc,
+            parts: Vec::new(alloc),
+        }
+    }
+
+    /// Names the bytes of each case of a table, which has to have so many and may have the names before it.
+    pub fn read(alloc: Global, table: &'a str, count: usize) -> Result<Parts<'a>, Fail> {
+        let mut parts = Parts::new(alloc);
+        for case in cases(alloc, table, count)?.as_slice() {
+            let bytes = parts.bytes(case, 0)?;
+            parts.add(case.name, bytes)?;
+        }
+        Ok(parts)
+    }
+
+    /// Names these bytes.
+    pub fn add(&mut self, name: &'a str, bytes: Vec<u8>) -> Result<(), Fail> {
+        self.parts.push(Part { name, bytes })?;
+        Ok(())
+    }
+
+    /// Returns the bytes of a case's field.
+    pub fn bytes(&self, case: &Case, place: usize) -> Result<Vec<u8>, Fail> {
+        let mut bytes = Vec::new(self.alloc);
+        for (at, text) in case.field(place)?.split('\'').enumerate() {
+            if at % 2 == 1 {
+                bytes.extend_from_slice(text.as_bytes())?;
+                continue;
+            }
+            for word in text.split_whitespace() {
+                if !self.put(&mut bytes, word)? {
+                    return Err(case.fails(word));
+                }
+            }
+        }
+        Ok(bytes)
+    }
+
+    /// Fails by the case's name unless these are the bytes of the field at this place.
+    pub fn expect(&self, case: &Case, place: usize, found: &[u8]) -> Result<(), Fail> {
+        if self.bytes(case, place)?.as_slice() == found {
+            return Ok(());
+        }
+        Err(Fail::new(format_args!("{}: {found:?}", case.name)))
+    }
+
+    /// Appends the bytes of a word; returns whether it has some.
+    fn put(&self, bytes: &mut Vec<u8>, word: &str) -> Result<bool, Fail> {
+        if let Some(part) = self.parts.iter().find(|part| part.name == word) {
+            bytes.extend_from_slice(part.bytes.as_slice())?;
+            return Ok(true);
+        }
+        let (digits, times) = match word.split_once('*') {
+            Some((digits, times)) => (digits, times.parse::<usize>().unwrap_or(0)),
+            None => (word, 1),
+        };
+        for _ in 0..times {
+            for pair in digits.as_bytes().chunks(2) {
+                match byte_of(pair) {
+                    Some(byte) => bytes.push(byte)?,
+                    None => return Ok(false),
+                }
+            }
+        }
+        Ok(times > 0)
+    }
+}
