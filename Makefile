@@ -7,7 +7,7 @@ PROGRAM := crates/cli/out/cli
 PREFIX ?= /usr/local
 DESTDIR ?=
 
-.PHONY: run quick test interop bench probe docs check wrong-bodies fmt gate-table clean install uninstall deb
+.PHONY: run quick test interop bench probe docs check must-fail wrong-bodies fmt gate-table clean install uninstall deb
 
 run:
 	@tools/run
@@ -91,6 +91,10 @@ docs:
 # One crate, with what earlier checks left: make check CRATE=pdu
 check:
 	cd crates/$(CRATE) && rt check
+
+# The must-fail edits of one crate: make must-fail CRATE=engine
+must-fail:
+	rt must-fail $(CRATE)
 
 # The wrong bodies of one crate: make wrong-bodies CRATE=pdu
 wrong-bodies:
