@@ -7,7 +7,7 @@ PROGRAM := crates/cli/out/cli
 PREFIX ?= /usr/local
 DESTDIR ?=
 
-.PHONY: run quick test interop bench probe docs check must-fail wrong-bodies fmt gate-table clean install uninstall deb
+.PHONY: run quick test interop bench probe docs check wrong-bodies fmt gate-table clean install uninstall deb
 
 run:
 	@tools/run
@@ -18,7 +18,7 @@ dcmbox: FORCE
 	@mkdir -p crates/cli/out && touch crates/cli/out/started
 	tools/build
 	cd crates/cli && rt run -- --version
-	cp $(PROGRAM) dcmbox
+	install -m 755 $(PROGRAM) dcmbox
 	@touch -r crates/cli/out/started dcmbox
 
 .PHONY: FORCE
@@ -91,10 +91,6 @@ docs:
 # One crate, with what earlier checks left: make check CRATE=pdu
 check:
 	cd crates/$(CRATE) && rt check
-
-# The must-fail edits of one crate: make must-fail CRATE=engine
-must-fail:
-	rt must-fail $(CRATE)
 
 # The wrong bodies of one crate: make wrong-bodies CRATE=pdu
 wrong-bodies:

@@ -1,11 +1,11 @@
 #!/usr/bin/env python3
 """Measures `dcmbox serve` beside DCMTK's storescp and beside the floor, a sink that checks nothing.
 
-bench.py PROGRAM [--rounds N]
+bench.py PROGRAM [--rounds N] [--part PART]
 
 Each round sends each corpus to each server, one after the other, so that what the machine does meanwhile falls on all of
 them. The table has the medians of the rounds as ratios to the sink's: wall time by the client's clock, processor time
-and peak resident memory of the server's process.
+and peak resident memory of the server's process. One part alone is measured where it is named.
 """
 import argparse
 import os
@@ -19,8 +19,14 @@ import tempfile
 import time
 
 HERE = os.path.dirname(os.path.abspath(__file__))
-PORT = 11119
+sys.dont_write_bytecode = True
+sys.path.insert(0, f"{HERE}/../tests")
+from ports import free_port
+
+PORT = free_port()
 CORPORA = [("ct", "200 CT of 512 KiB"), ("large", "one of 160 MB"), ("tiny", "2,000 of 1 KiB")]
+# An object of JPEG frames, each a fragment of 64 KiB; its servers take compressed transfer syntaxes.
+FRAMES = ("frames", "one of 160 MB in 2,441 fragments")
 
 
 def compiled(work):
@@ -31,14 +37,25 @@ def compiled(work):
 
 def servers(program, work):
     """The servers by name, each as the words that start it over a folder."""
-    box = [program, "serve", "--port", str(PORT), "--out"]
+    return taking(program, work, [], [])
+
+
+def taking(program, work, box_options, scp_options):
+    """The same with further options."""
+    box = [program, "serve", "--port", str(PORT), *box_options, "--out"]
+    scp = ["storescp", *scp_options, "-aet", "DCMBOX", "-od"]
     return {
         "sink": lambda folder: [f"{work}/sink", str(PORT), folder],
         "dcmbox --no-sync": lambda folder: box + [folder, "--no-sync"],
         "dcmbox": lambda folder: box + [folder],
-        "storescp": lambda folder: ["storescp", "-aet", "DCMBOX", "-od", folder, str(PORT)],
-        "storescp +B": lambda folder: ["storescp", "+B", "-aet", "DCMBOX", "-od", folder, str(PORT)],
+        "storescp": lambda folder: scp + [folder, str(PORT)],
+        "storescp +B": lambda folder: scp + [folder, "+B", str(PORT)],
     }
+
+
+def compressed(program, work):
+    """The servers that take every transfer syntax."""
+    return taking(program, work, ["--all-syntaxes"], ["+xa"])
 
 
 def is_listening():
@@ -137,15 +154,29 @@ def compare(program, work, rounds, log):
     for corpus, names in files.items():
         for n, name in enumerate(names):
             subprocess.run([f"{work}/client", "--file", name, corpus, str(n)], check=True)
-    senders = {title: send(work, name) for name, title in CORPORA}
+    senders = {title: send(work, name) for name, title in [*CORPORA, FRAMES]}
     senders["60 CT of 512 KiB by storescu"] = storescu(files["ct"])
     senders["60 of 1 KiB by storescu"] = storescu(files["tiny"])
     runs = {(title, name): [] for title in senders for name in starts}
     for _ in range(rounds):
         for title, sender in senders.items():
-            for name, words_of in starts.items():
+            for name, words_of in (compressed(program, work) if title == FRAMES[1] else starts).items():
                 runs[title, name].append(measured(work, words_of, sender, log))
     table(list(senders), starts, {key: medians(got) for key, got in runs.items()})
+
+
+def fragments(program, work, rounds, log):
+    """The object in fragments beside the native one of its size, in turns, to the same box; and one of empty fragments."""
+    words_of = compressed(program, work)["dcmbox --no-sync"]
+    runs = {"large": [], "frames": [], "empty": []}
+    for _ in range(rounds):
+        for corpus, got in runs.items():
+            got.append(measured(work, words_of, send(work, corpus), log))
+    large, frames, empty = (medians(got) for got in runs.values())
+    print(f"\n160 MB in 2,441 fragments, beside 160 MB of native Pixel Data to `dcmbox serve --no-sync --all-syntaxes`: wall time "
+          f"{ratio(frames[0], large[0])}, processor time {ratio(frames[1], large[1])}, peak memory {frames[2] / 1024:.1f} and "
+          f"{large[2] / 1024:.1f} MiB ({rounds} rounds).")
+    print(f"2^20 fragments without a byte: {empty[1]:.3f} processor seconds, {empty[2] / 1024:.1f} MiB.")
 
 
 def growth(program, work, rounds, log):
@@ -260,7 +291,7 @@ def spent(words, folder):
     return (usage.ru_utime + usage.ru_stime, usage.ru_maxrss * 1024) if process.returncode == 0 else None
 
 
-def indexing(program, work, rounds):
+def indexing(program, work, rounds, _log):
     """Cost of a directory by the number of its images, each of another patient, beside that of dcmmkdir."""
     print("\nGrowth of `dcmbox index`: processor seconds for each 1,000 images, each of a patient of its own, and peak memory")
     print("by the image above that for 1,000; beside DCMTK's `dcmmkdir`, which is not asked where it would take hours\n")
@@ -312,7 +343,7 @@ def starting(program, work, rounds, log):
     print(f"\nFrom the start to the first connection: {statistics.median(times) * 1000:.1f} ms.")
 
 
-def walks(program, work, rounds):
+def walks(program, work, rounds, _log):
     """The walk alone: `check` and `show` of an object of 160 MB, beside `cat`."""
     name = f"{work}/large.dcm"
     subprocess.run([f"{work}/client", "--file", name, "large", "0"], check=True)
@@ -330,21 +361,30 @@ def walks(program, work, rounds):
     print(", ".join(f"`{what}` {ratio(costs[what], costs['cat'])}" for what in ("check", "show")) + ".")
 
 
+PARTS = {
+    "compare": compare,
+    "fragments": fragments,
+    "growth": growth,
+    "several": several,
+    "filled": filled,
+    "indexing": indexing,
+    "starting": starting,
+    "walks": walks,
+}
+
+
 def main():
     words = argparse.ArgumentParser()
     words.add_argument("program")
     words.add_argument("--rounds", type=int, default=5)
+    words.add_argument("--part", choices=list(PARTS))
     given = words.parse_args()
     program = os.path.abspath(given.program)
     with tempfile.TemporaryDirectory() as work, open(os.devnull, "w") as log:
         compiled(work)
-        compare(program, work, given.rounds, log)
-        growth(program, work, given.rounds, log)
-        several(program, work, given.rounds, log)
-        filled(program, work, given.rounds, log)
-        indexing(program, work, given.rounds)
-        starting(program, work, given.rounds, log)
-        walks(program, work, given.rounds)
+        for name, part in PARTS.items():
+            if given.part in (None, name):
+                part(program, work, given.rounds, log)
 
 
 if __name__ == "__main__":

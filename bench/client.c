@@ -77,7 +77,7 @@ static size_t item(unsigned char *p, int kind, const char *text) {
 }
 
 /* Opens the association, and returns the greatest P-DATA length that the peer takes. */
-static size_t associate(int fd) {
+static size_t associate(int fd, const char *syntax) {
   unsigned char body[4096], kind;
   memset(body, 0, 68);
   body[1] = 1;
@@ -91,7 +91,7 @@ static size_t associate(int fd) {
   memcpy(body + n, "\1\0\0\0", 4);
   n += 4;
   n += item(body + n, 0x30, CT_CLASS);
-  n += item(body + n, 0x40, "1.2.840.10008.1.2.1");
+  n += item(body + n, 0x40, syntax);
   body[context] = 0x20;
   body[context + 1] = 0;
   body[context + 2] = (unsigned char)((n - context - 4) >> 8);
@@ -164,7 +164,7 @@ static void send_command(int fd, const char *instance, unsigned message) {
 
 /* Sends the data set in PDUs of at most `most` bytes. */
 static void send_data(int fd, struct object *o, size_t most) {
-  uint64_t left = o->head + o->pixels, at = 0;
+  uint64_t left = o->head + o->pixels + o->tail, at = 0;
   while (left > 0) {
     size_t n = left < most - 6 ? (size_t)left : most - 6;
     unsigned char head[12] = {4, 0};
@@ -175,17 +175,11 @@ static void send_data(int fd, struct object *o, size_t most) {
     struct iovec parts[16] = {{head, 12}};
     int count = 1;
     left -= n;
-    if (at < o->head) {
-      size_t first = o->head - at < n ? o->head - at : n;
-      parts[count].iov_base = o->bytes + at;
-      parts[count++].iov_len = first;
-      at += first;
-      n -= first;
-    }
     while (n > 0) {
-      size_t from = (at - o->head) % PATTERN;
-      size_t run = PATTERN - from < n ? PATTERN - from : n;
-      parts[count].iov_base = pattern + from;
+      const unsigned char *bytes;
+      size_t run = bytes_at(o, at, &bytes);
+      run = run < n ? run : n;
+      parts[count].iov_base = (void *)bytes;
       parts[count++].iov_len = run;
       at += run;
       n -= run;
@@ -211,7 +205,7 @@ static void read_reply(int fd) {
   die("a reply without status");
 }
 
-static int write_file(const char *name, struct object *o) {
+static int write_file(const char *name, struct object *o, const char *syntax) {
   FILE *file = fopen(name, "wb");
   if (!file) die(name);
   struct object meta;
@@ -222,19 +216,16 @@ static int write_file(const char *name, struct object *o) {
   put(&meta, "OB\0\0\2\0\0\0\0\1", 10);
   element(&meta, 2, 2, "UI", CT_CLASS, 0);
   element(&meta, 2, 3, "UI", o->instance, 0);
-  element(&meta, 2, 0x10, "UI", "1.2.840.10008.1.2.1", 0);
+  element(&meta, 2, 0x10, "UI", syntax, 0);
   element(&meta, 2, 0x12, "UI", "2.25.7003", 0);
   unsigned char length[12] = {2, 0, 0, 0, 'U', 'L', 4, 0, (unsigned char)meta.head, (unsigned char)(meta.head >> 8), 0, 0};
   fwrite(zeros, 1, 128, file);
   fwrite("DICM", 1, 4, file);
   fwrite(length, 1, 12, file);
   fwrite(meta.bytes, 1, meta.head, file);
-  fwrite(o->bytes, 1, o->head, file);
-  for (uint64_t at = 0; at < o->pixels;) {
-    size_t n = o->pixels - at < PATTERN ? (size_t)(o->pixels - at) : PATTERN;
-    fwrite(pattern, 1, n, file);
-    at += n;
-  }
+  const unsigned char *bytes;
+  size_t n;
+  for (uint64_t at = 0; (n = bytes_at(o, at, &bytes)) > 0; at += n) fwrite(bytes, 1, n, file);
   return fclose(file) == 0 ? 0 : 1;
 }
 
@@ -244,8 +235,8 @@ int main(int argc, char **argv) {
   if (argc == 5 && strcmp(argv[1], "--file") == 0) {
     const struct corpus *c = corpus_of(argv[3]);
     if (!c) die("no such corpus");
-    make_object(&o, (unsigned)atoi(argv[4]), c->pixels);
-    return write_file(argv[2], &o);
+    make_object(&o, (unsigned)atoi(argv[4]), c->pixels, c->kind);
+    return write_file(argv[2], &o, c->syntax);
   }
   const struct corpus *c = argc >= 3 ? corpus_of(argv[2]) : NULL;
   if (!c) {
@@ -262,9 +253,9 @@ int main(int argc, char **argv) {
   clock_gettime(CLOCK_MONOTONIC, &start);
   errno = 0;
   if (connect(fd, (struct sockaddr *)&to, sizeof to) != 0) die("connect");
-  size_t most = associate(fd);
+  size_t most = associate(fd, c->syntax);
   for (unsigned n = 0; n < count; n++) {
-    make_object(&o, n, pixels);
+    make_object(&o, n, pixels, c->kind);
     send_command(fd, o.instance, n & 0xffff);
     send_data(fd, &o, most);
     read_reply(fd);

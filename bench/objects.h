@@ -7,24 +7,57 @@
 
 #define CT_CLASS "1.2.840.10008.5.1.4.1.1.2"
 #define PATTERN 1048576
+/* A fragment of encapsulated Pixel Data (PS3.5 section A.4), with its header, and how many of them are told apart. */
+#define FRAGMENT 65536
+#define FRAGMENTS (16 * (FRAGMENT + 8))
+#define EMPTY_FRAGMENTS 65536
 
-/* What stands before the pixels of an object, and how many pixel bytes come after it, taken from a
-   repeated pattern. */
+/* Pixel Data is native, or frames of a fragment each, or fragments without a byte. */
+enum kind { NATIVE, FRAMES, EMPTY };
+
+/* What stands before the pixels of an object; how many pixel bytes come after it, taken from a repeated pattern, in
+   which fragments have their headers; and how many bytes of a delimitation come then. */
 struct object {
   char instance[65];
   size_t head;
   uint64_t pixels;
+  const unsigned char *pattern;
+  size_t period, tail;
   unsigned char bytes[4096];
 };
 
-static unsigned char pattern[PATTERN];
+static unsigned char pattern[PATTERN], fragments[FRAGMENTS], empty_fragments[EMPTY_FRAGMENTS];
+static const unsigned char delimitation[8] = {0xfe, 0xff, 0xdd, 0xe0};
 
 static inline void make_pattern(void) {
+  static const unsigned char header[8] = {0xfe, 0xff, 0x00, 0xe0, 0, 0, FRAGMENT >> 16, 0};
   uint32_t x = 12345;
   for (size_t i = 0; i < PATTERN; i++) {
     x = x * 1664525u + 1013904223u;
     pattern[i] = (unsigned char)(x >> 24);
   }
+  for (size_t i = 0; i < 16; i++) {
+    memcpy(fragments + i * (FRAGMENT + 8), header, 8);
+    memcpy(fragments + i * (FRAGMENT + 8) + 8, pattern + i * FRAGMENT, FRAGMENT);
+  }
+  for (size_t i = 0; i < EMPTY_FRAGMENTS; i += 8) memcpy(empty_fragments + i, header, 4);
+}
+
+/* The bytes of an object from a place on, as far as they stand in one piece; none at its end. */
+static inline size_t bytes_at(const struct object *o, uint64_t at, const unsigned char **bytes) {
+  if (at < o->head) {
+    *bytes = o->bytes + at;
+    return (size_t)(o->head - at);
+  }
+  at -= o->head;
+  if (at < o->pixels) {
+    size_t from = (size_t)(at % o->period), run = o->period - from;
+    *bytes = o->pattern + from;
+    return run < o->pixels - at ? run : (size_t)(o->pixels - at);
+  }
+  at -= o->pixels;
+  *bytes = delimitation + at;
+  return (size_t)(o->tail - at);
 }
 
 static inline void put16(struct object *o, unsigned n) {
@@ -80,10 +113,13 @@ static inline void nested(struct object *o, int depth) {
 }
 
 /* Object number n; `tiny` has nested sequences and no pixels. */
-static inline void make_object(struct object *o, unsigned n, uint64_t pixels) {
+static inline void make_object(struct object *o, unsigned n, uint64_t pixels, enum kind kind) {
   char text[65];
   o->head = 0;
   o->pixels = pixels;
+  o->pattern = kind == NATIVE ? pattern : kind == FRAMES ? fragments : empty_fragments;
+  o->period = kind == NATIVE ? PATTERN : kind == FRAMES ? FRAGMENTS : EMPTY_FRAGMENTS;
+  o->tail = kind == NATIVE ? 0 : sizeof delimitation;
   snprintf(o->instance, sizeof o->instance, "2.25.7.%u", n);
   element(o, 8, 0x0008, "CS", "ORIGINAL\\PRIMARY\\AXIAL", ' ');
   element(o, 8, 0x0016, "UI", CT_CLASS, 0);
@@ -108,6 +144,10 @@ static inline void make_object(struct object *o, unsigned n, uint64_t pixels) {
   }
   us(o, 2, 1);
   element(o, 0x28, 4, "CS", "MONOCHROME2", ' ');
+  if (kind != NATIVE) {
+    snprintf(text, sizeof text, "%u", (unsigned)(pixels / (kind == FRAMES ? FRAGMENT + 8 : 8)));
+    element(o, 0x28, 8, "IS", text, ' ');
+  }
   us(o, 0x10, 512);
   us(o, 0x11, 512);
   us(o, 0x100, 16);
@@ -116,21 +156,27 @@ static inline void make_object(struct object *o, unsigned n, uint64_t pixels) {
   us(o, 0x103, 0);
   put16(o, 0x7fe0);
   put16(o, 0x0010);
-  put(o, "OW\0\0", 4);
-  put32(o, (uint32_t)pixels);
+  put(o, kind == NATIVE ? "OW\0\0" : "OB\0\0", 4);
+  put32(o, kind == NATIVE ? (uint32_t)pixels : 0xffffffff);
+  /* An empty offset table. */
+  if (kind != NATIVE) put(o, "\xfe\xff\0\xe0\0\0\0\0", 8);
 }
 
-/* The corpora: how many objects, and the bytes of pixels of each. */
+/* The corpora: how many objects, the bytes of pixels of each, and their transfer syntax. */
 struct corpus {
   const char *name;
   unsigned count;
   uint64_t pixels;
+  const char *syntax;
+  enum kind kind;
 };
 
 static const struct corpus corpora[] = {
-  {"ct", 200, 524288},
-  {"large", 1, 160000000},
-  {"tiny", 2000, 0},
+  {"ct", 200, 524288, "1.2.840.10008.1.2.1", NATIVE},
+  {"large", 1, 160000000, "1.2.840.10008.1.2.1", NATIVE},
+  {"frames", 1, 2441 * (FRAGMENT + 8), "1.2.840.10008.1.2.4.50", FRAMES},
+  {"empty", 1, 8 * 1048576, "1.2.840.10008.1.2.4.50", EMPTY},
+  {"tiny", 2000, 0, "1.2.840.10008.1.2.1", NATIVE},
 };
 
 static inline const struct corpus *corpus_of(const char *name) {

@@ -18,10 +18,15 @@ import signal
 import socket
 import struct
 import subprocess
+import sys
 import tempfile
 import time
 
-PORT = 11171
+sys.dont_write_bytecode = True
+sys.path.insert(0, str(pathlib.Path(__file__).resolve().parent.parent / "tests"))
+from ports import free_port
+
+PORT, HTTP_PORT = free_port(), free_port()
 CT = "1.2.840.10008.5.1.4.1.1.2"
 EXPLICIT, IMPLICIT = "1.2.840.10008.1.2.1", "1.2.840.10008.1.2"
 # Storage classes that scanners of today send: PS3.4 annex B.5, without those that are retired.
@@ -224,7 +229,7 @@ def orthanc_words(orthanc, folder):
         "StorageDirectory": folder,
         "IndexDirectory": folder,
         "DicomPort": PORT,
-        "HttpPort": PORT + 1,
+        "HttpPort": HTTP_PORT,
         "DicomAet": "DCMBOX",
         "DicomAlwaysAllowStore": True,
         "Plugins": [],

@@ -20,16 +20,16 @@ _dcmbox() {
       mapfile -t COMPREPLY < <(compgen -W 'text json' -- "$current")
       return
       ;;
-    --port | --ae | --caller | --timeout | --idle | --max-pdu | --max-data | --per | --at-once | --per-peer | --longest | --stop-file | --grace | --storage-class | --transfer-syntax | --cut | --tag | --uid)
+    --port | --ae | --caller | --timeout | --idle | --max-pdu | --max-data | --per | --numbers | --at-once | --per-peer | --longest | --stop-file | --grace | --storage-class | --transfer-syntax | --cut | --tag | --uid)
       return
       ;;
   esac
   case ${COMP_WORDS[1]} in
-    serve) options='--port --out --bind --ae --caller --timeout --idle --max-pdu --max-data --verbose --quiet --log --per --no-sync --once --at-once --per-peer --longest --stop-file --grace --all-storage --storage-class --all-syntaxes --transfer-syntax --help' ;;
+    serve) options='--port --out --bind --ae --caller --timeout --idle --max-pdu --max-data --verbose --quiet --log --per --numbers --no-sync --once --at-once --per-peer --longest --stop-file --grace --all-storage --storage-class --all-syntaxes --transfer-syntax --help' ;;
     replay) options='--out --ae --cut --per --all-storage --storage-class --all-syntaxes --transfer-syntax --help' ;;
     show) options='--recursive --values --tag --json --all-syntaxes --help' ;;
     check) options='--recursive --strict --json --all-syntaxes --help' ;;
-    index) options='--uid --new-uid --keep --replace --help' ;;
+    index) options='--uid --new-uid --descriptions --all-syntaxes --keep --replace --help' ;;
     checkdir) options='--help' ;;
     help) options='serve replay show check index checkdir' ;;
     *) return ;;

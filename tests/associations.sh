@@ -1,6 +1,5 @@
 # Tries associations over TCP; tests/program.sh reads it. The box serves one peer after the other, and
 # what a peer does costs it that association alone.
-free_port port
 listening=
 
 # listen ARGUMENTS.. : starts the box in 16 MB of memory; its log is err.txt, which has no line of the last one.

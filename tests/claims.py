@@ -94,7 +94,7 @@ def body_faults(place, row):
     return [
         f"{place}: no edit is named {name}"
         for name in named(row["A refused body"])
-        if not any([*ROOT.glob(f"crates/*/{folder}/*{name}.edit")] for folder in ("wrong-bodies", "must-fail"))
+        if not any(ROOT.glob(f"crates/*/wrong-bodies/*{name}.edit"))
     ]
 
 

@@ -137,11 +137,14 @@ image() {
 (0008,0016) UI =$2
 (0008,0018) UI [2.25.1.$3]
 (0008,0020) DA [20260101]
+(0008,0030) TM [120000]
 (0008,0060) CS [CT]
 (0010,0010) PN [DOE^JOHN]
 (0010,0020) LO [P1]
 (0020,000d) UI [2.25.2.1]
 (0020,000e) UI [2.25.3.1]
+(0020,0010) SH [S1]
+(0020,0011) IS [1]
 (0020,0013) IS [$3]
 (0028,0002) US 1
 (0028,0004) CS [MONOCHROME2]
@@ -280,6 +283,36 @@ offsets_are_shown() {
 }
 check 'show has the offset of a frame' offsets_are_shown
 
+# ---- the directory of compressed images of four instances
+
+mkdir listed
+place=0
+for name in sv1 baseline frames_rle near; do
+  place=$((place + 1))
+  cp "$(like $name)" "listed/I000000$place"
+done
+# indexes WANT ARGUMENTS.. : index over that folder has to tell these counts.
+indexes() {
+  local want=$1
+  shift
+  "$program" index --uid 2.25.4.1 "$@" listed >indexed.txt 2>counted.txt && [ "$(cat counted.txt)" = "$want" ]
+}
+check 'index skips each without the option' indexes 'images 0 left out 4'
+check 'for its transfer syntax' test "$(grep -c '^skipped I000000[1-4] fault 53$' indexed.txt)" -eq 4
+check 'and lists each with it' indexes 'images 4 left out 0' --all-syntaxes
+records_name_syntaxes() {
+  dcmdump -q -Un +P 0004,1512 listed/DICOMDIR | sed -n 's/.*\[\(.*\)\].*/\1/p' >found.txt
+  for file in listed/I*; do
+    syntax "$file"
+  done | diff - found.txt
+}
+check 'their records name the transfer syntaxes' records_name_syntaxes
+is_linked() {
+  "$program" checkdir listed/DICOMDIR >checked.txt && [ "$(tail -n 1 checked.txt)" = 'records 7' ]
+}
+check 'checkdir takes the directory' is_linked
+check 'and its images are kept' indexes 'images 4 left out 0' --all-syntaxes --keep
+
 # ---- what no tool sends, by a peer of this folder's own
 
 # peer WANT ARGUMENTS.. : the peer has to print this.
@@ -323,6 +356,20 @@ check 'a peer that goes in a fragment' peer '' leave $jpeg $ct 2.25.1 four.bin
 check 'a fragment of undefined length' peer C000 store $jpeg $ct 2.25.1 endless.bin
 { begin 2.25.1; fragment 3; printf 'abc'; end; } >odd.bin
 check 'a fragment of odd length' peer C000 store $jpeg $ct 2.25.1 odd.bin
+{ begin 2.25.1; fragment 0; printf '\340\177\21\0\0\0\0\0'; end; } >other.bin
+check 'an element in place of a fragment' peer C000 store $jpeg $ct 2.25.1 other.bin
+{ begin 2.25.1; fragment 0; printf '\376\377\335\340\2\0\0\0ab'; } >long_end.bin
+check 'a delimitation of two bytes' peer C000 store $jpeg $ct 2.25.1 long_end.bin
+# An item of 28 bytes in an Icon Image Sequence, whose Pixel Data has a fragment that claims more.
+{
+  head -c 48 whole.bin
+  printf '\210\0\0\2SQ\0\0\377\377\377\377'
+  fragment 28
+  printf '\340\177\20\0OB\0\0\377\377\377\377'
+  fragment 0
+  fragment 100
+} >past.bin
+check 'a fragment past the end of its item' peer C000 store $jpeg $ct 2.25.1 past.bin
 check 'and an echo is answered' echoscu "${to_box[@]}"
 stop
 kept() {
@@ -330,6 +377,10 @@ kept() {
 }
 check 'the two whole ones are filed, and nothing else is left' kept
 check 'the log counts the 128 contexts' grep -q 'released contexts 128 of 128 ' raw.log
+logged_faults() {
+  [ "$(sed -n 's/.* status C000 fault \([0-9]*\) .*/\1/p' raw.log | sort -u | tr '\n' ' ')" = '11 14 15 16 17 20 ' ]
+}
+check 'and names each of these faults' logged_faults
 
 start limited --all-syntaxes --max-data 1024 || exit 1
 check 'a fragment that claims more than the limit' peer A700 store $jpeg $ct 2.25.1 four.bin

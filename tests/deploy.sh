@@ -152,8 +152,8 @@ kill "$balancer" "$second"
 
 check 'images for the importer' storescu -aec DCMBOX 127.0.0.1 "$box_port" "${images[@]}"
 check 'images of other classes' storescu -R -aec DCMBOX 127.0.0.1 "$box_port" "${rare[@]}"
-mkdir archive "$received/S0000001"
-mv "$received/I0000001" "$received/S0000001"
+mkdir archive
+mv "$received/S0000001/I0000001" "$received"
 (cd archive && exec storescp -aet ARCHIVE "$archive_port" >/dev/null 2>&1) &
 archive=$!
 check 'an archive' listens "$archive_port"

@@ -46,14 +46,14 @@ fi
 mkdir fixed
 if mount -t tmpfs tmpfs fixed 2>mount.txt && mount -o remount,ro fixed 2>mount.txt; then
   try 'a folder of a read-only disk' 3 '' "dcmbox: fixed: the folder can't be (opened|written into): Read-only file system .*; check that .*" \
-    serve --port 0 --out fixed
+    serve --port "$port" --out fixed
 else
   skip 'a folder of a read-only disk' "no tmpfs can be mounted here: $(tail -n 1 mount.txt)"
 fi
 umount fixed 2>/dev/null
 mkdir untouched
 : >err.txt
-"$program" serve --port 0 --out untouched 2>err.txt &
+"$program" serve --port "$port" --out untouched 2>err.txt &
 box=$!
 for _ in $(seq 100); do
   grep -q 'listening on' err.txt && break
@@ -84,13 +84,14 @@ try 'a record type of control characters' 0 "${records% IMAGE} "'\?\[2 J\? I0000
 hex "$here/data/image.hex" >image.dcm
 mkdir one two
 cp image.dcm one/I0000001
-one=$'records 4\nimages 1 left out 0'
-try 'an image is indexed' 0 "$one" '' index one --uid 2.25.1
+one='records 4'
+counted='images 1 left out 0'
+try 'an image is indexed' 0 "$one" "$counted" index one --uid 2.25.1
 cmp directory.bin one/DICOMDIR
 report 'its directory, byte by byte'
 mkdir two/S0000001
 cp image.dcm two/S0000001/I0000001
-try 'an image in a folder of a folder is indexed' 0 "$one" '' index two --uid 2.25.1
+try 'an image in a folder of a folder is indexed' 0 "$one" "$counted" index two --uid 2.25.1
 try 'its directory is listed' 0 "$records S0000001/I0000001"$'\n''records 4' '' checkdir two/DICOMDIR
 
 # Two images of a series, one of another series of the study, a double, and one without Study ID.
@@ -103,11 +104,27 @@ put five/I0000003 398 2
 { head -c 406 image.dcm; printf '\0\0'; tail -c +411 image.dcm; } >five/I0000005
 try 'a folder of five' 0 'skipped I0000005 missing 0020,0010
 double I0000004
-records 7
-images 3 left out 2' '' index five --uid 2.25.1
+records 7' 'images 3 left out 2' index five --uid 2.25.1
 timeout 60 "$program" checkdir five/DICOMDIR | sed 's/^[0-9]* *//' >listed.txt
 [ "$(tr '\n' ' ' <listed.txt)" = 'PATIENT STUDY SERIES IMAGE I0000001 IMAGE I0000002 SERIES IMAGE I0000003 records 7 ' ]
 report 'its records'
+
+# Series Description (AXIAL) stands in the record of the series where it is asked for, and makes it 14 bytes longer; one
+# of 300 bytes is left out.
+mkdir described
+{ head -c 344 image.dcm; printf '\10\0\76\20LO\6\0AXIAL '; tail -c +345 image.dcm; } >described/I0000001
+try 'an image with Series Description is indexed' 0 "$one" "$counted" index described --uid 2.25.1
+cmp directory.bin described/DICOMDIR
+report 'its directory has none'
+try 'it is asked for' 0 "$one" "$counted" index described --uid 2.25.1 --descriptions
+[ "$(wc -c <described/DICOMDIR)" -eq 802 ] && [ "$("$program" show --tag 0008,103e described/DICOMDIR | wc -l)" -eq 1 ]
+report 'its directory has it'
+{ head -c 344 image.dcm; printf '\10\0\76\20LO\54\1%300s' ''; tail -c +345 image.dcm; } >described/I0000001
+for asked in '' --descriptions; do
+  try "one that is too long $asked" 0 "$one" "$counted" index described --uid 2.25.1 $asked
+  cmp directory.bin described/DICOMDIR
+  report 'its directory has none'
+done
 
 # A directory that another program wrote stays, unless its images are kept or it is to be replaced. The value of the
 # implementation class UID is 13 bytes long in it, and a zero byte.
@@ -122,11 +139,11 @@ try 'the directory of another program' 3 '' \
   index others --uid 2.25.1
 [ "$(ls others)" = $'DICOMDIR\nI0000001' ] && cmp others/DICOMDIR before.bin
 report 'it stays as it was'
-try 'its images are kept' 0 "$one" '' index others --uid 2.25.1 --keep
+try 'its images are kept' 0 "$one" "$counted" index others --uid 2.25.1 --keep
 cmp others/DICOMDIR directory.bin
 report 'their directory is this program.s'
 cp before.bin others/DICOMDIR
-try 'it is replaced where that is asked for' 0 "$one" '' index others --uid 2.25.1 --replace
+try 'it is replaced where that is asked for' 0 "$one" "$counted" index others --uid 2.25.1 --replace
 cmp others/DICOMDIR directory.bin
 report 'a directory takes its place'
 mv others/DICOMDIR others/DICOMDIR.bin
@@ -137,19 +154,28 @@ rmdir others/DICOMDIR
 
 for uid in 2.25.01 2..25 .2.25 2.25. 02.25; do
   try "the UID $uid is taken and warned of" 0 "$one" \
-    'dcmbox: --uid is taken as it is, but a component of it is empty or begins with 0' index others --uid $uid
+    "dcmbox: --uid is taken as it is, but a component of it is empty or begins with 0
+$counted" index others --uid $uid
 done
 for uid in 2.0.25 0 2.25.10; do
-  try "the UID $uid is taken" 0 "$one" '' index others --uid $uid
+  try "the UID $uid is taken" 0 "$one" "$counted" index others --uid $uid
 done
 
 # instance : the instance of the directory of a folder.
 instance() {
   "$program" show "$1/DICOMDIR" | sed -n 's/^instance //p'
 }
-try 'a new UID' 0 "$one" '' index others --new-uid
+try 'a new UID' 0 "$one" "$counted" index others --new-uid
 first=$(instance others)
-"$program" index others --new-uid >out.txt
+"$program" index others --new-uid >out.txt 2>err.txt
 [[ $first =~ ^2\.25\.[1-9][0-9]{30,38}$ ]] && [[ $(instance others) =~ ^2\.25\.[1-9][0-9]{30,38}$ ]] &&
   [ "$(instance others)" != "$first" ]
 report 'each new UID is another one'
+
+# What is said on standard error is lost where nobody takes it, and the directory is there.
+for errors in '/dev/full' '&-'; do
+  rm others/DICOMDIR
+  eval 'timeout 60 "$program" index others --uid 2.25.1 >out.txt 2>'"$errors"
+  [ "$?" -eq 0 ] && [ "$(cat out.txt)" = "$one" ] && cmp others/DICOMDIR directory.bin
+  report "a directory where standard error is $errors"
+done

@@ -331,7 +331,7 @@ objects_are_read() {
   done
 }
 check 'check and show take its files' objects_are_read
-"$program" index study --uid 2.25.7.100 >indexed.txt
+"$program" index study --uid 2.25.7.100 >indexed.txt 2>counted.txt
 check 'index leaves five of its files out' diff indexed.txt - <<'END'
 skipped I0000002 class 1.2.840.10008.5.1.4.1.1.88.33
 skipped I0000003 class 1.2.840.10008.5.1.4.1.1.481.5
@@ -339,6 +339,8 @@ skipped I0000004 class 1.2.840.10008.5.1.4.1.1.481.3
 skipped I0000005 class 1.2.840.10008.5.1.4.1.1.11.1
 skipped I0000006 class 1.2.840.10008.5.1.4.1.1.104.1
 records 4
+END
+check 'and counts them' diff counted.txt - <<'END'
 images 1 left out 5
 END
 check 'its directory is good' dcmftest study/DICOMDIR

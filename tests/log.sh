@@ -420,13 +420,11 @@ done
 stop
 
 : >log.txt
-timeout 20 "$program" serve --port 0 --out hostile --once 2>>log.txt &
+timeout 20 "$program" serve --port $port --out hostile --once 2>>log.txt &
 box=$!
-until_logged 'listening on'
-taken=$(sed -n 's/.*listening on 127\.0\.0\.1:\([0-9]*\)$/\1/p' log.txt)
-echoscu -aec DCMBOX 127.0.0.1 "$taken"
+until_logged "listening on 127\.0\.0\.1:$port\$" && echoscu "${to_box[@]}"
 wait "$box"
-[ "$?" -eq 0 ] && tail -n 1 log.txt | grep -q ' stopped$' && ok 'a free port, and the end' || fail 'a free port, and the end'
+[ "$?" -eq 0 ] && tail -n 1 log.txt | grep -q ' stopped$' && ok 'the port, and the end' || fail 'the port, and the end'
 box=
 
 echo "log: $passed passed, $failed failed, $skipped skipped"

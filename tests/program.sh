@@ -77,6 +77,7 @@ put() {
 }
 
 . "$here/ports.sh"
+free_port port
 printf '' >empty.bin
 printf 'GET / HTTP/1.0\r\n\r\n' >text.bin
 head -c 200 "$recordings/echo.bin" >cut.bin
@@ -147,8 +148,7 @@ mkdir -p odd/DICOMDIR
 cp ct.dcm folder/I0000001
 cp text.bin other/DICOMDIR
 try 'a folder is indexed' 0 'skipped I0000001 missing 0008,0020
-records 0
-images 0 left out 1' '' index folder --uid 2.25.1
+records 0' 'images 0 left out 1' index folder --uid 2.25.1
 try 'its directory is good' 0 'records 0' '' checkdir folder/DICOMDIR
 try 'no UID' 2 '' 'error: index needs --uid UID, or --new-uid, which makes one' index folder
 try 'a UID and a new one' 2 '' 'error: --uid and --new-uid exclude each other' index folder --uid 2.25.1 --new-uid
@@ -158,6 +158,7 @@ try 'no directory whose files are kept' 3 '' 'dcmbox: empty: the folder.s DICOMD
 try 'a folder in place of the directory' 3 '' 'dcmbox: odd: the folder.s DICOMDIR can.t be read: .*' index odd --uid 2.25.1 --keep
 try 'the directory is no DICOM file' 1 'fault 50 NotPart10 at 128' '' index other --uid 2.25.1 --keep
 try 'no port' 2 '' '.*--port.*' serve --out .
+try 'port 0' 2 '' "error: --port takes a number from 1 to 65535, not '0'" serve --out . --port 0
 try 'a port past the greatest' 2 '' '.*--port.*' serve --out . --port 65536
 try 'a form that no log has' 2 '' '.*--log takes text or json.*' serve --out . --port 11112 --log xml
 try 'a log both quiet and not' 2 '' '.*--verbose and --quiet.*' serve --out . --port 11112 -v -q
@@ -185,18 +186,28 @@ for _ in $(seq 15); do
 done
 { cat header.dcm; printf '\10\0\100\21SQ\0\0\377\377\377\377'; cat items.bin; printf '\376\377\335\340\0\0\0\0'; } >items.dcm
 timeout 60 "$program" show items.dcm 2>err.txt | head -1 >out.txt
-[ "${PIPESTATUS[0]}" -eq 0 ] && [ ! -s err.txt ] && [ "$(cat out.txt)" = 'class 1.2.840.10008.5.1.4.1.1.2' ]
-report 'a reader that has read enough'
-# One that has closed the pipe before a short text is flushed.
-{
-  sleep 0.5
-  timeout 60 "$program" check ct.dcm 2>err.txt
-  echo "$?" >status.txt
-} | true
-[ "$(cat status.txt)" -eq 0 ] && [ ! -s err.txt ]
-report 'a reader that reads nothing'
+[ "${PIPESTATUS[0]}" -eq 3 ] && [ ! -s err.txt ] && [ "$(cat out.txt)" = 'class 1.2.840.10008.5.1.4.1.1.2' ]
+report 'an output that is closed after a line'
+timeout 60 "$program" check cut.dcm 2>err.txt | head -1 >out.txt
+[ "${PIPESTATUS[0]}" -eq 1 ] && [ ! -s err.txt ] && [ "$(cat out.txt)" = 'fault 20 Truncated at 330 tag 0008,0018' ]
+report 'a fault whose line was written before'
+# A pipe whose reader is gone: also a fault that was found is not told.
+exec 4> >(:)
+wait "$!"
+for command in 'show ct.dcm' 'check ct.dcm' 'check cut.dcm' 'check ./ct.dcm ./cut.dcm' 'check --json cut.dcm' 'checkdir directory.bin' \
+  'checkdir cut_directory.bin' 'index one --uid 2.25.1' "replay $recordings/echo.bin --out ." --help --version; do
+  timeout 60 "$program" $command >&4 2>err.txt
+  [ "$?" -eq 3 ] && [ ! -s err.txt ]
+  report "a closed output for $command"
+done
+exec 4>&-
+for command in 'show ct.dcm' 'check cut.dcm' 'checkdir directory.bin' 'index one --uid 2.25.1' --help; do
+  timeout 60 "$program" $command >&- 2>err.txt
+  [ "$?" -eq 3 ] && [ ! -s err.txt ]
+  report "an output that is closed at the start for $command"
+done
 for command in 'show items.dcm' 'show ct.dcm' 'check ct.dcm' 'check cut.dcm' 'check ./ct.dcm ./cut.dcm' 'checkdir directory.bin' \
-  'checkdir cut_directory.bin' 'index one --uid 2.25.1' "replay $recordings/echo.bin --out ."; do
+  'checkdir cut_directory.bin' 'index one --uid 2.25.1' "replay $recordings/echo.bin --out ." --help; do
   timeout 60 "$program" $command >/dev/full 2>err.txt
   [ "$?" -eq 3 ] && grep -Eq "dcmbox: (.*: )?the output can't be written: No space left on device" err.txt
   report "a full disk for ${command%% *}"

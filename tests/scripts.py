@@ -337,7 +337,7 @@ def copy(tree):
     for name in ("crates.txt", "crates", "docs", "tests", "man", "packaging", "README.md", "CHANGELOG.md", "Makefile"):
         source = TESTS.parent / name
         if source.is_dir():
-            shutil.copytree(source, tree / name, ignore=shutil.ignore_patterns("out", "proofs", "data", "wrong-bodies", "must-fail"))
+            shutil.copytree(source, tree / name, ignore=shutil.ignore_patterns("out", "proofs", "data", "wrong-bodies"))
         else:
             shutil.copy(source, tree / name)
 

@@ -370,8 +370,12 @@ refuses() {
 }
 for value in 0 65 x ''; do
   refuses "--at-once '$value'" --at-once "$value" "--at-once takes a number from 1 to 64, not '$value'"
-  refuses "--per-peer '$value'" --per-peer "$value" "--per-peer takes a number from 1 to 64, not '$value'"
 done
+for value in 0 2 x ''; do
+  refuses "--per-peer '$value'" --per-peer "$value" "--per-peer takes a number from 1 to 1, not '$value'"
+done
+refuses '--stop-file in no folder' --stop-file none/stop "--stop-file names 'none/stop', but there is no folder 'none'"
+refuses '--storage-class 1.2.' --storage-class 1.2. "--storage-class names '1.2.', which ends in a dot"
 refuses '--longest 0' --longest 0 "--longest takes a number from 1 to 86400, not '0'"
 refuses '--grace x' --grace x "--grace takes a number from 0 to 86400, not 'x'"
 

@@ -15,6 +15,9 @@ import sys
 import tempfile
 import time
 
+sys.dont_write_bytecode = True
+from ports import free_port
+
 ROOT = pathlib.Path(__file__).resolve().parent.parent
 IMAGE = """(0008,0016) UI =CTImageStorage
 (0008,0018) UI [2.25.1.1]
@@ -66,19 +69,19 @@ def without_times(lines):
 
 def received(command, work):
     """What the box logs that receives the image."""
-    words = [word if word != "11112" else "0" for word in command.split()]
+    port = str(free_port())
+    words = [word if word != "11112" else port for word in command.split()]
     log = work / "log"
     with open(log, "w") as lines:
         box = subprocess.Popen(words, cwd=work, stderr=lines)
         for _ in range(100):
-            port = re.search(r"listening on 127\.0\.0\.1:(\d+)", log.read_text())
-            if port:
+            if f"listening on 127.0.0.1:{port}" in log.read_text():
                 break
             time.sleep(0.05)
         else:
             box.kill()
             return ["the box doesn't listen"]
-        subprocess.run(["storescu", "-aec", "DCMBOX", "127.0.0.1", port[1], "image.dcm"], cwd=work, timeout=60)
+        subprocess.run(["storescu", "-aec", "DCMBOX", "127.0.0.1", port, "image.dcm"], cwd=work, timeout=60)
         box.wait(timeout=60)
     return without_times(log.read_text().splitlines())
 

@@ -5,7 +5,7 @@
 run_unit() {
   local root=$1 name=$2 instance=$3 command folder
   command=$(sed -n 's/^ExecStart=//p' "$root/lib/systemd/system/$name" | sed "s/%i/$instance/g")
-  for folder in $(sed -n 's,^StateDirectory=,/var/lib/,p; s,^RuntimeDirectory=,/run/,p' "$root/lib/systemd/system/$name"); do
+  for folder in $(sed -n '/^StateDirectory=/ { s,[= ],&/var/lib/,g; s,.*=,,; p }; s,^RuntimeDirectory=,/run/,p' "$root/lib/systemd/system/$name"); do
     mkdir -p "$root${folder//%i/$instance}"
   done
   (

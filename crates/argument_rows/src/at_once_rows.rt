@@ -86,8 +86,22 @@ fn numbers_of_associations_are_refused(rt: HostRuntime) -> Result<(), Fail> {
     assert!(rt; is_refused(alloc, "--at-once", "0", text)?);
     let text = "error: --at-once takes a number from 1 to 64, not '65'\n";
     assert!(rt; is_refused(alloc, "--at-once", "65", text)?);
-    let text = "error: --per-peer takes a number from 1 to 64, not '0'\n";
+    let text = "error: --per-peer takes a number from 1 to 1, not '0'\n";
     assert!(rt; is_refused(alloc, "--per-peer", "0", text)?);
+    let words = [
+        "dcmbox",
+        "serve",
+        "--port",
+        "1",
+        "--out",
+        "DIR",
+        "--at-once",
+        "5",
+        "--per-peer",
+        "6",
+    ];
+    let text = "error: --per-peer takes a number from 1 to 5, not '6'\n";
+    assert!(rt; refuses(&serve_for(alloc, &words), text));
     let text = "error: --longest takes a number from 1 to 86400, not '0'\n";
     assert!(rt; is_refused(alloc, "--longest", "0", text)?);
     let text = "error: --grace takes a number from 0 to 86400, not '86401'\n";

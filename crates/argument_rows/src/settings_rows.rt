@@ -123,7 +123,7 @@ fn settings_of_serve_have_defaults(rt: HostRuntime) -> Result<(), Fail> {
 #[test]
 fn a_log_is_quiet_where_it_is_asked_to_be(rt: HostRuntime) -> Result<(), Fail> {
     let words = [
-        "dcmbox", "serve", "--port", "0", "--out", "DIR", "-q", "--log", "text",
+        "dcmbox", "serve", "--port", "1", "--out", "DIR", "-q", "--log", "text",
     ];
     let serve = serve_for(rt.alloc(), &words)?;
     assert!(rt; serve.level == Level::Warn && matches!(serve.form, Form::Text));
@@ -133,11 +133,11 @@ fn a_log_is_quiet_where_it_is_asked_to_be(rt: HostRuntime) -> Result<(), Fail> {
 #[test]
 fn what_is_no_log_is_refused(rt: HostRuntime) -> Result<(), Fail> {
     let alloc = rt.alloc();
-    let words = ["dcmbox", "serve", "--port", "0", "--out", "DIR", "-q", "-v"];
+    let words = ["dcmbox", "serve", "--port", "1", "--out", "DIR", "-q", "-v"];
     let refusal = "error: --verbose and --quiet exclude each other\n";
     assert!(rt; refuses(&serve_for(alloc, &words), refusal));
     let words = [
-        "dcmbox", "serve", "--port", "0", "--out", "DIR", "--log", "xml",
+        "dcmbox", "serve", "--port", "1", "--out", "DIR", "--log", "xml",
     ];
     let refusal = "error: --log takes text or json, not 'xml'\n";
     assert!(rt; refuses(&serve_for(alloc, &words), refusal));
@@ -190,14 +190,15 @@ fn settings_of_index_are_its_arguments(rt: HostRuntime) -> Result<(), Fail> {
     let given = ["dcmbox", "index", "received", "--uid", "2.25.1", "--keep"];
     let index = index_for(rt.alloc(), &given)?;
     assert!(rt; index.dir == "received" && has_instance(&index, Some(b"2.25.1")));
-    assert!(rt; index.keep && !index.replace);
+    assert!(rt; index.keep && !index.replace && !index.descriptions);
     let words = ["dcmbox", "index", "files", "--uid", "2.25.2", "--replace"];
     let index = index_for(rt.alloc(), &words)?;
     assert!(rt; index.dir == "files" && has_instance(&index, Some(b"2.25.2")));
     assert!(rt; !index.keep && index.replace);
-    let words = ["dcmbox", "index", "files", "--new-uid"];
+    let words = ["dcmbox", "index", "files", "--new-uid", "--descriptions"];
     let index = index_for(rt.alloc(), &words)?;
     assert!(rt; has_instance(&index, None) && !index.keep && !index.replace);
+    assert!(rt; index.descriptions);
     Ok(())
 }
 
@@ -205,7 +206,7 @@ fn settings_of_index_are_its_arguments(rt: HostRuntime) -> Result<(), Fail> {
 struct Bounds<'a>(&'a str, u64, u64);
 
 const BOUNDS: &[Bounds<'static>] = &[
-    Bounds("port", 0, 65535),
+    Bounds("port", 1, 65535),
     Bounds("timeout", 1, 86400),
     Bounds("idle", 1, 86400),
     Bounds("max-pdu", 1024, 131_072),
@@ -282,10 +283,7 @@ fn numbers_are_taken_within_their_bounds(rt: HostRuntime) -> Result<(), Fail> {
             is_taken(alloc, option, *least)? && is_taken(alloc, option, *most)?,
             "{option}"
         );
-        assert!(rt;
-            *least == 0 || is_refused(alloc, bounds, below.as_str())?,
-            "{option}"
-        );
+        assert!(rt; is_refused(alloc, bounds, below.as_str())?, "{option}");
         assert!(rt; is_refused(alloc, bounds, above.as_str())?, "{option}");
         assert!(rt; is_refused(alloc, bounds, "all")?, "{option}");
     }

@@ -93,11 +93,12 @@ fn more_than_sixteen_are_refused(rt: HostRuntime) -> Result<(), Fail> {
     Ok(())
 }
 
-/// Returns whether `show` or `check` takes compressed files for a command line.
+/// Returns whether `show`, `check` or `index` takes compressed files for a command line.
 fn reads_all(alloc: Global, words: &[&str]) -> Result<bool, WordsError> {
     match read_words(alloc, words)? {
         Job::Show(arguments) => Ok(arguments.all_syntaxes),
         Job::Check(arguments) => Ok(arguments.all_syntaxes),
+        Job::Index(arguments) => Ok(arguments.all_syntaxes),
         _ => Ok(false),
     }
 }
@@ -105,8 +106,8 @@ fn reads_all(alloc: Global, words: &[&str]) -> Result<bool, WordsError> {
 #[test]
 fn compressed_files_are_read_where_that_is_asked_for(rt: HostRuntime) -> Result<(), Fail> {
     let alloc = rt.alloc();
-    for command in ["show", "check"] {
-        let words = ["dcmbox", command, "FILE", "--json", "--all-syntaxes"];
+    for (command, option) in [("show", "--json"), ("check", "--json"), ("index", "--keep")] {
+        let words = ["dcmbox", command, "FILE", option, "--all-syntaxes"];
         assert!(rt; reads_all(alloc, &words)?);
         assert!(rt; !reads_all(alloc, &words[..4])?);
     }

@@ -66,7 +66,7 @@ pub record AsksFor (all : Bool) (texts : List (List ℕ)) (transfers : List Tran
 -- what `serve` does is what its arguments say
 pub record IsServed (serve : Serve) (a : ServeArguments) : Type 0 where
   pub bind : serve.bind.now ≡ a.bind.now
-  pub port : Spells 0 65535 a.port.now serve.port
+  pub port : Spells 1 65535 a.port.now serve.port
   pub out : serve.out.now ≡ a.out.now
   pub ae : title_of_text a.ae.now ≡ Some (settings_of serve.config).ae
   pub callers : map (λ t. title_of_text t.now) a.callers.items ≡ map Some (settings_of serve.config).callers
@@ -79,6 +79,7 @@ pub record IsServed (serve : Serve) (a : ServeArguments) : Type 0 where
   pub level : IsLevel a.verbose a.quiet serve.level
   pub form : IsForm serve.form (unwrap_or (option_map (λ t. t.now) a.log) (codes "text"))
   pub layout : IsLayout serve.layout (option_map (λ t. t.now) a.per)
+  pub numbers : option_map (λ t. t.now) serve.numbers ≡ option_map (λ t. t.now) a.numbers
   pub sync : serve.sync ≡ not a.no_sync
   pub once : serve.once ≡ a.once
 
@@ -99,5 +100,7 @@ pub record IsReplayed (replay : Replay) (a : ReplayArguments) : Type 0 where
 pub record IsIndexed (index : Index) (a : IndexArguments) : Type 0 where
   pub dir : index.dir.now ≡ a.dir.now
   pub uid : IsDirectoryUid index.uid (option_map (λ t. t.now) a.uid) a.new_uid
+  pub descriptions : index.descriptions ≡ a.descriptions
+  pub all_syntaxes : index.all_syntaxes ≡ a.all_syntaxes
   pub keep : index.keep ≡ a.keep
   pub replace : index.replace ≡ a.replace

@@ -10,10 +10,10 @@ use Rattle.arguments.specs.Asked.{Spells, SpellsTime}
 abbrev pub SpellsGrace : List ℕ → Duration → Type 0
 SpellsGrace text time = (seconds : ℕ) × Spells 0 86400 text seconds × (as_nanos time ≡ seconds * 1_000_000_000)
 
--- how many associations one address may have: the number that is given, or half of all, rounded up
+-- how many associations one address may have: the number that is given, at most all, or half of all, rounded up
 abbrev pub IsPerPeer : ℕ → Option (List ℕ) → ℕ → Type 0
 IsPerPeer at_once None per_peer = per_peer ≡ at_once / 2 + at_once % 2
-IsPerPeer at_once (Some text) per_peer = Spells 1 64 text per_peer
+IsPerPeer at_once (Some text) per_peer = Spells 1 at_once text per_peer
 
 -- how long an association may last, where that is given
 abbrev pub IsLongest : Option Duration → Option (List ℕ) → Type 0

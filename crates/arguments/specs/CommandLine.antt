@@ -72,7 +72,7 @@ abbrev pub logging_app : App
 logging_app = with_rules limited_app (letter_rule (codes "verbose") 118 ∷ letter_rule (codes "quiet") 113 ∷ free (codes "log") ∷ [])
 
 abbrev pub filing_app : App
-filing_app = with_rules logging_app (free (codes "per") ∷ flag_rule (codes "no-sync") ∷ flag_rule (codes "once") ∷ [])
+filing_app = with_rules logging_app (free (codes "per") ∷ free (codes "numbers") ∷ flag_rule (codes "no-sync") ∷ flag_rule (codes "once") ∷ [])
 
 -- and how many are served at once, how long, and how that is ended
 abbrev pub serve_app : App
@@ -96,7 +96,7 @@ check_app = with_rules (files_app (codes "check")) (flag_rule (codes "strict") �
 
 abbrev pub index_app : App
 index_app = with_rules (new_app (codes "index"))
-    (positional (codes "DIR") ∷ free (codes "uid") ∷ flag_rule (codes "new-uid") ∷ flag_rule (codes "keep") ∷ flag_rule (codes "replace") ∷ [])
+    (positional (codes "DIR") ∷ free (codes "uid") ∷ flag_rule (codes "new-uid") ∷ flag_rule (codes "descriptions") ∷ flag_rule (codes "all-syntaxes") ∷ flag_rule (codes "keep") ∷ flag_rule (codes "replace") ∷ [])
 
 abbrev pub with_subcommands : App → List App → App
 with_subcommands app [] = app
@@ -151,6 +151,8 @@ pub record IsIndex (a : IndexArguments) (rows : List Row) : Type 0 where
   pub dir : first_of (codes "DIR") rows ≡ Some a.dir.now
   pub uid : first_of (codes "uid") rows ≡ option_map (λ w. w.now) a.uid
   pub new_uid : IsFlag rows (codes "new-uid") a.new_uid
+  pub descriptions : IsFlag rows (codes "descriptions") a.descriptions
+  pub all_syntaxes : IsFlag rows (codes "all-syntaxes") a.all_syntaxes
   pub keep : IsFlag rows (codes "keep") a.keep
   pub replace : IsFlag rows (codes "replace") a.replace
 
@@ -168,6 +170,7 @@ pub record IsServe (a : ServeArguments) (rows : List Row) : Type 0 where
   pub quiet : IsFlag rows (codes "quiet") a.quiet
   pub log : first_of (codes "log") rows ≡ option_map (λ w. w.now) a.log
   pub per : first_of (codes "per") rows ≡ option_map (λ w. w.now) a.per
+  pub numbers : first_of (codes "numbers") rows ≡ option_map (λ w. w.now) a.numbers
   pub no_sync : IsFlag rows (codes "no-sync") a.no_sync
   pub once : IsFlag rows (codes "once") a.once
   pub at_once : first_of (codes "at-once") rows ≡ Some a.at_once.now

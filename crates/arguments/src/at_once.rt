@@ -17,12 +17,13 @@ fn count(alloc: Global, option: &str, text: &str) -> Result<usize, WordsError>
     Ok(number(alloc, option, text, 1, 64)? as usize)
 }
 
-/// Reads how many associations one address may have: half of so many where nothing else is said.
+/// Reads how many associations one address may have, at most so many: half of them where nothing else is
+/// said.
 fn per_peer_of(alloc: Global, text: Option<&str>, at_once: usize) -> Result<usize, WordsError>
     ensures { IfOk result (λ n. IsPerPeer at_once (option_map (λ t. t.now) text.entry) n) }
 {
     match text {
-        Some(text) => count(alloc, "per-peer", text),
+        Some(text) => Ok(number(alloc, "per-peer", text, 1, at_once as u64)? as usize),
         None => Ok(at_once / 2 + at_once % 2),
     }
 }

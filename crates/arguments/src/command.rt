@@ -22,11 +22,7 @@ const SERVE: Subcommand<'static> = Subcommand {
     about: "Receives images from scanners",
     example: "Example: dcmbox serve --port 11112 --out received --bind 0.0.0.0 --ae DCMBOX --caller SCANNER1",
     arguments: &[
-        Argument::Needed(
-            "port",
-            "PORT",
-            "The TCP port to listen on, up to 65535; 0 takes a free one",
-        ),
+        Argument::Needed("port", "PORT", "The TCP port to listen on, from 1 to 65535"),
         Argument::Needed("out", "DIR", "The folder that received files go to"),
         Argument::Default("bind", "ADDRESS", "127.0.0.1", "The address to listen on"),
         Argument::Default(
@@ -76,6 +72,11 @@ const SERVE: Subcommand<'static> = Subcommand {
             "FILES",
             "Files into folders of so many, from 1 to 9999",
         ),
+        Argument::Free(
+            "numbers",
+            "FILE",
+            "A file that keeps the greatest numbers that were given, so that none comes again",
+        ),
         Argument::Flag(
             "no-sync",
             "Answers a store before its file is surely on the disk",
@@ -90,7 +91,7 @@ const SERVE: Subcommand<'static> = Subcommand {
         Argument::Free(
             "per-peer",
             "COUNT",
-            "How many of them one address may have, from 1 to 64; half of them where none is given",
+            "How many of them one address may have, at most all; half of them where none is given",
         ),
         Argument::Free(
             "longest",
@@ -204,6 +205,11 @@ const INDEX: Subcommand<'static> = Subcommand {
         Argument::Positional("DIR", "The folder of received files"),
         Argument::Free("uid", "UID", "The SOP instance UID of the directory"),
         Argument::Flag("new-uid", "Makes the SOP instance UID, in place of --uid"),
+        Argument::Flag(
+            "descriptions",
+            "Puts Series Description into the records of series",
+        ),
+        Argument::Flag("all-syntaxes", "Takes compressed transfer syntaxes, too"),
         Argument::Flag(
             "keep",
             "Takes the files that the folder's DICOMDIR names, not those that are there",

@@ -48,6 +48,8 @@ pub struct Serve<'a> {
     pub level: Level,
     pub form: Form,
     pub layout: Layout,
+    /// The path of the file that keeps the greatest numbers, if one does.
+    pub numbers: Option<&'a str>,
     /// Whether a store is answered only once its file is on the disk.
     pub sync: bool,
     pub once: bool,
@@ -82,6 +84,10 @@ pub struct Index<'a> {
     pub dir: &'a str,
     /// The instance of the directory; where there is none, a new one is made.
     pub uid: Option<Uid>,
+    /// Whether the records of series have Series Description.
+    pub descriptions: bool,
+    /// Whether files in compressed transfer syntaxes are listed, too.
+    pub all_syntaxes: bool,
     /// Whether the files are those that the present directory keeps.
     pub keep: bool,
     /// Whether a directory that another implementation wrote is written over.

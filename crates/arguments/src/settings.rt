@@ -83,6 +83,12 @@ fn classes_of(alloc: Global, classes: &ArrayVec<&str, MOST_VALUES>) -> Result<Ve
     let mut uids = Vec::new(alloc);
     for class in classes.as_slice() {
         let uid = identifier(alloc, "storage-class", *class)?;
+        if class.ends_with('.') {
+            let refused = format!(in alloc;
+                "error: --storage-class names '{class}', which ends in a dot\n"
+            )?;
+            return Err(WordsError::Refused(refused));
+        }
         if uids.iter().any(|other: &Uid| *other == uid) {
             let refused = format!(in alloc; "error: --storage-class names '{class}' twice\n")?;
             return Err(WordsError::Refused(refused));
@@ -152,7 +158,7 @@ pub fn serve_settings<'a>(
     ensures served { IfOk result (λ s. IsServed s arguments.now) }
     ensures at_once { IfOk result (λ s. IsAtOnce s.at_once arguments.now) }
 {
-    let port = number(alloc, "port", arguments.port, 0, 65535)?;
+    let port = number(alloc, "port", arguments.port, 1, 65535)?;
     let ae = title(alloc, "ae", arguments.ae)?;
     let callers = callers_of(alloc, &arguments.callers)?;
     let limits = limits_of(alloc, arguments)?;
@@ -173,6 +179,7 @@ pub fn serve_settings<'a>(
         level: level_of(alloc, arguments)?,
         form: form_of(alloc, arguments.log)?,
         layout: limits.layout,
+        numbers: arguments.numbers,
         sync: !arguments.no_sync,
         once: arguments.once,
         at_once: at_once_of(alloc, arguments)?,
@@ -301,6 +308,8 @@ pub fn index_settings<'a>(
     Ok(Index {
         dir: arguments.dir,
         uid: instance_of(alloc, arguments)?,
+        descriptions: arguments.descriptions,
+        all_syntaxes: arguments.all_syntaxes,
         keep: arguments.keep,
         replace: arguments.replace,
     })

@@ -61,6 +61,8 @@ pub struct IndexArguments<'a> {
     pub dir: &'a str,
     pub uid: Option<&'a str>,
     pub new_uid: bool,
+    pub descriptions: bool,
+    pub all_syntaxes: bool,
     pub keep: bool,
     pub replace: bool,
 }
@@ -82,6 +84,7 @@ pub struct ServeArguments<'a> {
     pub quiet: bool,
     pub log: Option<&'a str>,
     pub per: Option<&'a str>,
+    pub numbers: Option<&'a str>,
     pub no_sync: bool,
     pub once: bool,
     pub at_once: &'a str,
@@ -208,10 +211,14 @@ pub fn index_arguments<'a>(matches: &ArgMatches<'a>) -> Option<IndexArguments<'a
     ensures some { IfSome result (λ a. IsIndex a (rows_of (found_of matches.now))) }
     ensures none { IfNone result (have_values (rows_of (found_of matches.now)) index_needs ≡ false) }
 {
+    let descriptions = matches.get_flag("descriptions");
+    let all_syntaxes = matches.get_flag("all-syntaxes");
     Some(IndexArguments {
         dir: matches.get_str("DIR")?,
         uid: matches.get_str("uid"),
         new_uid: matches.get_flag("new-uid"),
+        descriptions,
+        all_syntaxes,
         keep: matches.get_flag("keep"),
         replace: matches.get_flag("replace"),
     })
@@ -268,6 +275,7 @@ pub fn serve_arguments<'a>(matches: &ArgMatches<'a>) -> Option<ServeArguments<'a
     let verbose = matches.get_flag("verbose");
     let quiet = matches.get_flag("quiet");
     let log = matches.get_str("log");
+    let numbers = matches.get_str("numbers");
     let per_peer = matches.get_str("per-peer");
     let longest = matches.get_str("longest");
     let stop_file = matches.get_str("stop-file");
@@ -284,6 +292,7 @@ pub fn serve_arguments<'a>(matches: &ArgMatches<'a>) -> Option<ServeArguments<'a
         quiet,
         log,
         per: matches.get_str("per"),
+        numbers,
         no_sync: matches.get_flag("no-sync"),
         once: matches.get_flag("once"),
         at_once,

@@ -162,6 +162,20 @@ fn of_two_stores(alloc: Global) -> Result<Row, AllocError> {
     )
 }
 
+/// A store on behalf of a C-MOVE: its command ends with the originator and the originator's message.
+fn of_a_move(alloc: Global) -> Result<Row, AllocError> {
+    let mut command = store(alloc, INSTANCE)?;
+    command.extend_from_slice(b"\0\0\x30\x10\x08\0\0\0SCANNER2\0\0\x31\x10\x02\0\0\0\x05\0")?;
+    if let Some(count) = command.as_mut_slice().get_mut(8) {
+        *count = 88 + 16 + 10;
+    }
+    let command = data(alloc, 3, command.as_slice())?;
+    let set = data(alloc, 2, &CT_SET)?;
+    let reply = reply(alloc, INSTANCE, status::SUCCESS, None)?;
+    let messages = [command.as_slice(), set.as_slice()];
+    Row::of_messages(alloc, &messages, &[reply.as_slice()], &CT_SET, State::Sta6)
+}
+
 #[test]
 fn a_data_set_with_too_many_levels(rt: HostRuntime) -> Result<(), Fail> {
     assert!(rt; comes(&rt, "too_many_levels", &of_too_many_levels(rt.alloc())?)?);
@@ -175,5 +189,6 @@ fn messages_of_an_association(rt: HostRuntime) -> Result<(), Fail> {
     assert!(rt; comes(&rt, dir, &of_bad_pdv(rt.alloc())?)?);
     assert!(rt; comes(&rt, dir, &of_another_class(rt.alloc())?)?);
     assert!(rt; comes(&rt, dir, &of_two_stores(rt.alloc())?)?);
+    assert!(rt; comes(&rt, dir, &of_a_move(rt.alloc())?)?);
     Ok(())
 }

@@ -184,8 +184,8 @@ fn one_of_two_drafts_is_discarded(rt: HostRuntime) -> Result<(), Fail> {
     Ok(())
 }
 
-/// Whether a commit that fails with this error leaves the draft of the other filing as it is, which is filed under this
-/// name.
+/// Whether a commit whose draft was removed fails with this error, and leaves the draft of the other filing as it is,
+/// which is filed under this name.
 fn fails_beside(
     rt: &HostRuntime,
     dir: &str,
@@ -193,7 +193,12 @@ fn fails_beside(
     other: &mut FolderFiling<HostRuntime>,
     (kind, name): (ErrorKind, &str),
 ) -> io::Result<bool> {
-    if !begins(other, b"other") || !begins(failing, b"failing") || commits(failing) {
+    if !begins(other, b"other") || !begins(failing, b"failing") {
+        return Ok(false);
+    }
+    let draft = format!(in rt.alloc(); "{dir}/DRAFT")?;
+    fs::remove_file(rt, draft)?;
+    if commits(failing) {
         return Ok(false);
     }
     let has_failed = match failing.notes()?.take_error() {
@@ -209,14 +214,15 @@ fn fails_beside(
     )
 }
 
-/// The name that is due to the first commit is taken by a file of another: the second commit has the next one.
+/// The first commit has no draft any more, and the name that is due is taken by a file of another: the second commit has
+/// the next one.
 #[test]
 fn one_of_two_commits_fails(rt: HostRuntime) -> Result<(), Fail> {
     let dir = "one_of_two_commits_fails";
     let mut writer = fresh_writer(&rt, dir, false)?;
     let (mut first, mut second) = (writer.filing()?, writer.filing()?);
     put(&rt, dir, "I0000001", b"of another")?;
-    let due = (ErrorKind::AlreadyExists, "I0000002");
+    let due = (ErrorKind::NotFound, "I0000002");
     assert!(rt; fails_beside(&rt, dir, &mut first, &mut second, due)?);
     assert!(rt; holds(&rt, dir, "I0000001", b"of another")? && count(&rt, dir)? == 2);
     fs::remove_dir_all(&rt, dir)?;

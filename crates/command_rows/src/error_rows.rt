@@ -57,6 +57,10 @@ fn failed_devices_have_their_texts(rt: HostRuntime) -> Result<(), Fail> {
             "the folder can't be written into: timed out; check that you may, and that its disk is not read-only or full",
         ),
         Row(
+            ProgramError::System(Failure::Numbers, failed()),
+            "the file of numbers can't be read or made: timed out; check that you may write it; once it is damaged, put the greatest number that was given into it, as I0000100 S0000007",
+        ),
+        Row(
             ProgramError::System(Failure::UnreadDirectory, failed()),
             "the folder's DICOMDIR can't be looked at: timed out; check that you may read it, or write over it with --replace",
         ),
@@ -83,6 +87,10 @@ fn failed_devices_have_their_texts(rt: HostRuntime) -> Result<(), Fail> {
         Row(
             ProgramError::System(Failure::Listen, failed()),
             "can't be listened on: timed out; choose another port, or end what uses it",
+        ),
+        Row(
+            ProgramError::System(Failure::KeptPort, failed()),
+            "can't be listened on: timed out; choose a port from 1024 on: lower ones are for programs with CAP_NET_BIND_SERVICE",
         ),
         Row(
             ProgramError::System(Failure::Address, failed()),
@@ -119,11 +127,39 @@ fn errors_are_about_what_is_wrong(rt: HostRuntime) -> Result<(), Fail> {
         let told = ProgramError::of_listening(io::Error::from(kind));
         assert!(rt; matches!(told, ProgramError::System(Failure::Address, _)));
     }
-    for kind in [ErrorKind::AddrInUse, ErrorKind::PermissionDenied] {
+    let told = ProgramError::of_listening(io::Error::from(ErrorKind::PermissionDenied));
+    assert!(rt; matches!(told, ProgramError::System(Failure::KeptPort, _)));
+    for kind in [ErrorKind::AddrInUse, ErrorKind::TimedOut] {
         let told = ProgramError::of_listening(io::Error::from(kind));
         assert!(rt; matches!(told, ProgramError::System(Failure::Listen, _)));
     }
     Ok(())
+}
+
+/// A full disk has its text; where the reader of the output closed it, there is none.
+#[test]
+fn only_a_closed_output_has_no_text(rt: HostRuntime) {
+    for kind in [
+        ErrorKind::BrokenPipe,
+        ErrorKind::StorageFull,
+        ErrorKind::WriteZero,
+    ] {
+        let told = ProgramError::of_output(io::Error::from(kind));
+        assert!(rt; told.is_of_closed_output() == (kind == ErrorKind::BrokenPipe));
+    }
+    let told = ProgramError::of(Failure::Read, io::Error::from(ErrorKind::BrokenPipe));
+    assert!(rt; !told.is_of_closed_output());
+    let told = ProgramError::of_output(io::Error::from_raw_os_error(9));
+    assert!(rt; told.is_of_closed_output());
+}
+
+/// An output that got no memory has no fault either.
+#[test]
+fn an_output_without_memory_is_out_of_memory(rt: HostRuntime) {
+    let told = ProgramError::of_output(io::Error::from(ErrorKind::OutOfMemory));
+    assert!(rt; matches!(told, ProgramError::Memory(_)));
+    let told = ProgramError::of_output(io::Error::from(ErrorKind::StorageFull));
+    assert!(rt; matches!(told, ProgramError::System(Failure::Write, _)));
 }
 
 #[test]

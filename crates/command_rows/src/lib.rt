@@ -11,6 +11,8 @@ mod files;
 #[cfg(test)]
 mod inspect_rows;
 #[cfg(test)]
+mod refused_replay;
+#[cfg(test)]
 mod replay_rows;
 #[cfg(test)]
 mod serve_rows;

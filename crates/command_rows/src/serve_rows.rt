@@ -31,6 +31,7 @@ fn settings() -> Serve<'static> {
         level: Level::Info,
         form: Form::Text,
         layout: Layout::Flat,
+        numbers: None,
         sync: true,
         once: true,
         at_once: AtOnce {

@@ -3,6 +3,7 @@
 
 mod perform;
 mod program;
+mod standard;
 
 pub use checkdir_command::checkdir_over;
 pub use failures::{Failure, ProgramError};

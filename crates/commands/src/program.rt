@@ -1,5 +1,6 @@
 //! The program: it reads its arguments, does what they say, and reports what went wrong.
 use crate::perform::perform;
+use crate::standard::open_standard;
 use arguments::{Job, read_words};
 use failures::{Failure, ProgramError, WordsError};
 use inspection::Outcome;
@@ -28,8 +29,9 @@ fn only<'a>(files: &[&'a str]) -> &'a str {
 /// Returns what an error is about: a file, a folder or a port.
 fn subject<'a>(job: &Job<'a>, error: &ProgramError) -> &'a str {
     match (job, error.failure()) {
-        (Job::Serve(arguments), Some(Failure::Listen)) => arguments.port,
+        (Job::Serve(arguments), Some(Failure::Listen | Failure::KeptPort)) => arguments.port,
         (Job::Serve(arguments), Some(Failure::Address)) => arguments.bind,
+        (Job::Serve(arguments), Some(Failure::Numbers)) => arguments.numbers.unwrap_or(""),
         (Job::Serve(arguments), Some(failure)) if failure.is_of_folder() => arguments.out,
         (Job::Replay(arguments), Some(failure)) if failure.is_of_folder() => arguments.out,
         (Job::Replay(arguments), _) => arguments.file,
@@ -41,26 +43,27 @@ fn subject<'a>(job: &Job<'a>, error: &ProgramError) -> &'a str {
     }
 }
 
+/// Tells that the program failed, unless the output was closed, and returns the status.
+fn fail(rt: &HostRuntime, subject: &str, error: &ProgramError) -> ExitCode {
+    if !error.is_of_closed_output() {
+        let _ = if subject.is_empty() {
+            eprintln!(rt; "dcmbox: {error}")
+        } else {
+            eprintln!(rt; "dcmbox: {subject}: {error}")
+        };
+    }
+    ExitCode::from(FAILED)
+}
+
 /// Prints help or the version, and returns the status.
 fn show(rt: &HostRuntime, text: &str) -> ExitCode {
     match print!(rt; "{text}") {
         Ok(()) => ExitCode::SUCCESS,
-        Err(error) if error.kind() == ErrorKind::BrokenPipe => ExitCode::SUCCESS,
-        Err(_) => ExitCode::from(FAILED),
+        Err(error) => fail(rt, "", &ProgramError::of_output(error)),
     }
 }
 
-/// Tells that the program failed, and returns the status.
-fn fail(rt: &HostRuntime, subject: &str, error: &ProgramError) -> ExitCode {
-    let _ = if subject.is_empty() {
-        eprintln!(rt; "dcmbox: {error}")
-    } else {
-        eprintln!(rt; "dcmbox: {subject}: {error}")
-    };
-    ExitCode::from(FAILED)
-}
-
-/// Tells of an error, and returns the status. A reader that closed the output has read enough.
+/// Tells of an error, and returns the status.
 fn report(rt: &HostRuntime, subject: &str, error: &ProgramError) -> ExitCode {
     match error {
         ProgramError::Words(WordsError::Shown(text)) => show(rt, text.as_str()),
@@ -73,9 +76,6 @@ fn report(rt: &HostRuntime, subject: &str, error: &ProgramError) -> ExitCode {
                 let _ = eprintln!(rt; "error: an argument is not UTF-8");
                 ExitCode::from(REFUSED)
             }
-        ProgramError::System(Failure::Write, error) if error.kind() == ErrorKind::BrokenPipe => {
-            ExitCode::SUCCESS
-        }
         _ => fail(rt, subject, error),
     }
 }
@@ -121,7 +121,9 @@ fn run_words(rt: &HostRuntime, owned: &[String]) -> Result<ExitCode, ProgramErro
 
 /// Runs the program: does what its arguments say, tells of an error on standard error, and returns the
 /// status: 0, 1 where a fault was found, 2 for invalid arguments, 3 where a device failed or memory ran out.
+/// Before anything else it opens the standard descriptors that are closed.
 pub fn run_program(rt: &HostRuntime) -> ExitCode {
+    open_standard(rt);
     let ran = match owned_words(rt) {
         Ok(owned) => run_words(rt, owned.as_slice()),
         Err(error) => Err(error),

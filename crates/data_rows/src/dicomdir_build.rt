@@ -1,7 +1,8 @@
 //! Directories that are built of rows and written, by the public calls of `dicomdir` alone.
 use crate::files::{Change, ONE_IMAGE, Record, change, has, one_image, two_images};
 use dicomdir::{DirFault, FileId, Keys, Row, TreeRecord, build, check, write_dir};
-use element::{Syntax, Tag, Uid};
+use dictionary::Transfer;
+use element::{Tag, Uid};
 use std::alloc::{Allocator, Global};
 use std::test::Fail;
 
@@ -101,7 +102,7 @@ fn row_with<A: Allocator>(file: &File, keys: Keys<A>) -> Option<Row<A>> {
     let file_id = FileId::read(file.file_id)?;
     let class = Uid::read(b"1.2.840.10008.5.1.4.1.1.2")?;
     let instance = Uid::read(file.instance)?;
-    Row::new(file_id, class, instance, Syntax::Explicit, keys).ok()
+    Row::new(file_id, class, instance, Transfer::Explicit, keys).ok()
 }
 
 fn row<A: Allocator + Copy>(alloc: A, file: &File) -> Option<Row<A>> {

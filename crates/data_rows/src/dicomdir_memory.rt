@@ -1,8 +1,9 @@
 //! Memory that is refused to each public call of `dicomdir` that takes some, at each call of the allocator in turn.
 use crate::dicomdir_build::{FILES, rows};
 use crate::files::{Record, has, two_images};
-use crate::images::{id, image, is_image};
-use dicomdir::{DirFault, Skip, build, check, kept_of, rows_of};
+use crate::images::{id, image, is_described, is_image};
+use dicomdir::{DirFault, Skip, build, build_within, check, described_row_of, kept_of, rows_of};
+use dictionary::Transfer;
 use element::{Syntax, Tag, Uid};
 use fixtures::refusing::Refusing;
 use std::alloc::Global;
@@ -12,7 +13,9 @@ use std::test::Fail;
 #[derive(Clone, Copy, Debug, PartialEq, Eq)]
 enum Call {
     RowsOf,
+    DescribedRowOf,
     Build,
+    BuildTooLarge,
     Check,
     KeptOf,
 }
@@ -59,8 +62,21 @@ fn came_of_rows_of(alloc: &Refusing<Global>, given: &Given) -> Came {
     let Ok(id) = id() else {
         return Came::Other;
     };
-    match rows_of(alloc, &mut rest, &id) {
-        Ok(row) => value_if(is_image(&row, Syntax::Explicit)),
+    match rows_of(alloc, &mut rest, &id, &[]) {
+        Ok(row) => value_if(is_image(&row, Transfer::Explicit)),
+        Err(Skip::OutOfMemory) => Came::OutOfMemory,
+        Err(_) => Came::Other,
+    }
+}
+
+fn came_of_described_row_of(alloc: &Refusing<Global>, given: &Given) -> Came {
+    let mut first = given.image;
+    let mut again = given.image;
+    let Ok(id) = id() else {
+        return Came::Other;
+    };
+    match described_row_of(alloc, &mut first, &mut again, &id, &[]) {
+        Ok(row) => value_if(is_described(&row, Transfer::Explicit, Some(b"AXIAL "))),
         Err(Skip::OutOfMemory) => Came::OutOfMemory,
         Err(_) => Came::Other,
     }
@@ -75,6 +91,19 @@ fn came_of_build<'a>(alloc: &'a Refusing<Global>, free: &'a Refusing<Global>) ->
         Ok(built) => value_if(
             rows.len() == 5 && built.records() == 11 && built.doubles() == [3].as_slice(),
         ),
+        Err(fault) => came_of_fault(fault),
+    }
+}
+
+/// The directory of the files has a byte more than it may have, which is told where memory suffices.
+fn came_of_build_too_large<'a>(alloc: &'a Refusing<Global>, free: &'a Refusing<Global>) -> Came {
+    let rows = rows(free, &FILES);
+    let Some(uid) = Uid::read(b"2.25.1") else {
+        return Came::Other;
+    };
+    match build_within(alloc, rows.as_slice(), uid, 1671) {
+        Ok(_) => Came::Other,
+        Err(fault) if fault.number == DirFault::TOO_LARGE => Came::Value,
         Err(fault) => came_of_fault(fault),
     }
 }
@@ -117,7 +146,9 @@ fn came_of<'a>(
 ) -> Came {
     match call {
         Call::RowsOf => came_of_rows_of(alloc, given),
+        Call::DescribedRowOf => came_of_described_row_of(alloc, given),
         Call::Build => came_of_build(alloc, free),
+        Call::BuildTooLarge => came_of_build_too_large(alloc, free),
         Call::Check => came_of_check(alloc, given),
         Call::KeptOf => came_of_kept_of(alloc, free, given),
     }
@@ -158,7 +189,9 @@ fn each_allocation_is_refused(rt: HostRuntime) -> Result<(), Fail> {
     };
     for (call, least) in [
         (Call::RowsOf, 12u64),
+        (Call::DescribedRowOf, 13),
         (Call::Build, 30),
+        (Call::BuildTooLarge, 30),
         (Call::Check, 3),
         (Call::KeptOf, 1),
     ] {

@@ -1,6 +1,7 @@
 //! Rows that are read of files that end early or are long, by readers that are slow or fail, and with little memory.
 use crate::images::{Element, header, id, image, is_image, put, reason};
 use dicomdir::{Skip, rows_of};
+use dictionary::Transfer;
 use element::{Syntax, Tag};
 use fixtures::readers::{FailsWhen, SlowReader};
 use fixtures::refusing::Refusing;
@@ -61,8 +62,8 @@ fn fails_at(rt: HostRuntime, file: &[u8], most: usize, fails_at: usize) -> bool 
     let Ok(id) = id() else {
         return false;
     };
-    match rows_of(rt.alloc(), &mut reader, &id) {
-        Ok(row) => file.len() < fails_at && is_image(&row, Syntax::Explicit),
+    match rows_of(rt.alloc(), &mut reader, &id, &[]) {
+        Ok(row) => file.len() < fails_at && is_image(&row, Transfer::Explicit),
         Err(reason) => fails_at <= file.len() && reason == Skip::Fault(54),
     }
 }
@@ -86,7 +87,7 @@ fn a_file_without_a_row_takes_no_memory(rt: HostRuntime) -> Result<(), Fail> {
     file.truncate(file.len().saturating_sub(1));
     let refusing = Refusing::new(rt.alloc(), 0);
     let mut rest = file.as_slice();
-    let row = rows_of(&refusing, &mut rest, &id()?);
+    let row = rows_of(&refusing, &mut rest, &id()?, &[]);
     assert!(rt; row.err() == Some(Skip::Fault(20)) && !refusing.has_refused());
     Ok(())
 }

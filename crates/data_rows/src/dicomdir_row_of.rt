@@ -1,9 +1,10 @@
 //! Rows that are read from files, by the public calls of `dicomdir` and `part10` alone.
 use crate::images::{
-    Element, IMAGE, SERIES_DESCRIPTION, STUDY_ID, changed, header, id, image, is_image, is_skipped,
-    put, reason, row_of, same,
+    Element, IMAGE, STUDY_ID, changed, compressed, header, id, image, is_image, is_skipped, put,
+    reason, row_of, same,
 };
 use dicomdir::{Row, Skip, rows_of};
+use dictionary::Transfer;
 use element::{Syntax, Tag};
 use std::alloc::Global;
 use std::test::Fail;
@@ -26,15 +27,18 @@ fn has_row(rt: HostRuntime, syntax: Syntax) -> Result<bool, Fail> {
     let file = image(rt.alloc(), syntax)?;
     let mut rest = file.as_slice();
     let is_read = match id() {
-        Ok(id) => is_image_of(rows_of(rt.alloc(), &mut rest, &id), syntax),
+        Ok(id) => is_image_of(
+            rows_of(rt.alloc(), &mut rest, &id, &[]),
+            Transfer::native(syntax),
+        ),
         Err(_) => false,
     };
     Ok(is_read && rest.is_empty())
 }
 
-fn is_image_of(row: Result<Row<Global>, Skip>, syntax: Syntax) -> bool {
+fn is_image_of(row: Result<Row<Global>, Skip>, transfer: Transfer) -> bool {
     match row {
-        Ok(row) => is_image(&row, syntax),
+        Ok(row) => is_image(&row, transfer),
         Err(_) => false,
     }
 }
@@ -123,26 +127,24 @@ fn keeps_value(rt: HostRuntime, tag: Tag, value: Option<&[u8]>) -> Result<bool, 
     })
 }
 
-/// Specific Character Set and Series Description are there, empty, or not there.
+/// Specific Character Set is there, empty, or not there.
 #[test]
-fn keys_that_may_be_missing(rt: HostRuntime) -> Result<(), Fail> {
-    for tag in [Tag(0x0008, 0x0005), SERIES_DESCRIPTION] {
-        assert!(rt; keeps_value(rt, tag, Some(b"ANY "))?);
-        assert!(rt; keeps_value(rt, tag, Some(b""))?);
-        assert!(rt; keeps_value(rt, tag, None)?);
-    }
+fn a_key_that_may_be_missing(rt: HostRuntime) -> Result<(), Fail> {
+    let tag = Tag(0x0008, 0x0005);
+    assert!(rt; keeps_value(rt, tag, Some(b"ANY "))?);
+    assert!(rt; keeps_value(rt, tag, Some(b""))?);
+    assert!(rt; keeps_value(rt, tag, None)?);
     Ok(())
 }
 
 /// The rooms of the keys.
-const ROOMS: [(Tag, usize); 14] = [
+const ROOMS: [(Tag, usize); 13] = [
     (Tag(0x0008, 0x0005), 64),
     (Tag(0x0008, 0x0020), 32),
     (Tag(0x0008, 0x0030), 32),
     (Tag(0x0008, 0x0050), 64),
     (Tag(0x0008, 0x0060), 64),
     (Tag(0x0008, 0x1030), 256),
-    (SERIES_DESCRIPTION, 256),
     (Tag(0x0010, 0x0010), 512),
     (Tag(0x0010, 0x0020), 256),
     (Tag(0x0020, 0x000d), 64),
@@ -210,5 +212,30 @@ fn other_transfer_syntaxes(rt: HostRuntime) -> Result<(), Fail> {
         *digit = b'2';
     }
     assert!(rt; reason(rt, file.as_slice()) == Some(Skip::Fault(53)));
+    Ok(())
+}
+
+/// What a compressed file gives where these further transfer syntaxes are taken: whether it is the image's row, or why
+/// there is none.
+fn row_in(rt: HostRuntime, file: &[u8], further: &[Transfer]) -> Result<bool, Skip> {
+    let mut rest = file;
+    let row = rows_of(rt.alloc(), &mut rest, &id()?, further)?;
+    Ok(is_image(&row, Transfer::JpegLossless) && rest.is_empty())
+}
+
+/// A compressed file has its row where its transfer syntax is taken, and is walked to its end.
+#[test]
+fn compressed_files(rt: HostRuntime) -> Result<(), Fail> {
+    let file = compressed(rt.alloc(), Transfer::JpegLossless)?;
+    let whole = file.as_slice();
+    let one = [Transfer::RleLossless, Transfer::JpegLossless];
+    for further in [one.as_slice(), Transfer::encapsulated()] {
+        assert!(rt; row_in(rt, whole, further) == Ok(true));
+        let cut = &whole[..whole.len().saturating_sub(9)];
+        assert!(rt; row_in(rt, cut, further) == Err(Skip::Fault(20)));
+    }
+    for further in [[].as_slice(), &one[..1]] {
+        assert!(rt; row_in(rt, whole, further) == Err(Skip::Fault(53)));
+    }
     Ok(())
 }

@@ -1,7 +1,10 @@
-//! A directory of more images than any other test has, from their files to the file IDs that it keeps.
-use crate::dicomdir_build::uid;
+//! A directory of more images than any other test has, from their files to the file IDs that it keeps; and directories
+//! that would have more bytes than they may have.
+use crate::dicomdir_build::{FILES, rows as rows_of_files, uid};
 use crate::images::{Element, IMAGE, header, put};
-use dicomdir::{FileId, Row, build, check, kept_of, rows_of, write_dir};
+use dicomdir::{
+    Built, DirFault, FileId, Row, build, build_within, check, kept_of, rows_of, write_dir,
+};
 use element::{Syntax, Tag};
 use std::alloc::Global;
 use std::test::Fail;
@@ -51,7 +54,7 @@ fn rows(alloc: Global, images: u32) -> Result<Vec<Row<Global>>, Fail> {
     for number in 0..images {
         let file = image(alloc, number)?;
         let mut rest = file.as_slice();
-        rows.push(rows_of(alloc, &mut rest, &file_id(alloc, number)?)?)?;
+        rows.push(rows_of(alloc, &mut rest, &file_id(alloc, number)?, &[])?)?;
     }
     Ok(rows)
 }
@@ -78,5 +81,34 @@ fn a_directory_of_5000_images(rt: HostRuntime) -> Result<(), Fail> {
     let kept = kept_of(rt.alloc(), &tree)?;
     assert!(rt; built.records() == RECORDS && tree.records().len() == RECORDS);
     assert!(rt; are_all(rt.alloc(), kept.as_slice(), IMAGES)?);
+    Ok(())
+}
+
+/// The size of the directory of the five files.
+const SIZE: u32 = 1672;
+
+/// Whether the directory is built exactly if it may have as many bytes as it has, and is otherwise told to be too large.
+fn is_held_to(built: Result<Built<'_, Global>, DirFault>, most: u32) -> bool {
+    let due = DirFault {
+        number: 66,
+        place: 0,
+        tag: Tag(0, 0),
+    };
+    match built {
+        Ok(built) => SIZE <= most && built.records() == 11,
+        Err(fault) => most < SIZE && fault == due,
+    }
+}
+
+/// Wherever the records pass what they may have, the directory is too large.
+#[test]
+fn directories_that_are_too_large(rt: HostRuntime) -> Result<(), Fail> {
+    let rows = rows_of_files(rt.alloc(), &FILES);
+    for most in 0..=SIZE {
+        let built = build_within(rt.alloc(), rows.as_slice(), uid()?, most);
+        assert!(rt; is_held_to(built, most));
+    }
+    let built = build_within(rt.alloc(), rows.as_slice(), uid()?, u32::MAX);
+    assert!(rt; is_held_to(built, u32::MAX));
     Ok(())
 }

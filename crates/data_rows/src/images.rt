@@ -55,10 +55,14 @@ pub(crate) fn put(
 
 /// The header of a file of the CT image with this instance UID.
 pub(crate) fn header(alloc: Global, syntax: Syntax, instance: &[u8]) -> Result<Vec<u8>, Fail> {
+    header_in(alloc, Transfer::native(syntax), instance)
+}
+
+fn header_in(alloc: Global, transfer: Transfer, instance: &[u8]) -> Result<Vec<u8>, Fail> {
     let meta = Meta {
         class: Uid::read(b"1.2.840.10008.5.1.4.1.1.2").ok_or("a class")?,
         instance: Uid::read(instance).ok_or("an instance")?,
-        syntax: Transfer::native(syntax),
+        syntax: transfer,
         calling: AeTitle(*b"SCANNER1        "),
     };
     Ok(Vec::from_slice(alloc, meta_bytes(&meta).as_slice())?)
@@ -90,28 +94,41 @@ pub(crate) fn image(alloc: Global, syntax: Syntax) -> Result<Vec<u8>, Fail> {
     changed(alloc, syntax, b"1.2.3.1.1", Tag(0, 0), None)
 }
 
+/// The file of the image in a transfer syntax whose elements have VRs, with Pixel Data of undefined length: an empty
+/// offset table and a fragment of four bytes.
+pub(crate) fn compressed(alloc: Global, transfer: Transfer) -> Result<Vec<u8>, Fail> {
+    let mut file = header_in(alloc, transfer, b"1.2.3.1.1")?;
+    for element in &IMAGE {
+        put(&mut file, Syntax::Explicit, element, element.2)?;
+    }
+    file.extend_from_slice(b"\xe0\x7f\x10\0OB\0\0\xff\xff\xff\xff")?;
+    file.extend_from_slice(b"\xfe\xff\0\xe0\0\0\0\0")?;
+    file.extend_from_slice(b"\xfe\xff\0\xe0\x04\0\0\0\xfe\xff\xdd\xe0")?;
+    file.extend_from_slice(b"\xfe\xff\xdd\xe0\0\0\0\0")?;
+    Ok(file)
+}
+
 pub(crate) fn same(value: &[u8], wanted: &[u8]) -> bool {
     value == wanted
 }
 
 /// Whether the row has what the image's file header says.
-fn is_identified<A: Allocator>(row: &Row<A>, syntax: Syntax) -> bool {
+fn is_identified<A: Allocator>(row: &Row<A>, transfer: Transfer) -> bool {
     let file_id = row.file_id();
     same(file_id.text(), b"I0000001")
         && same(row.class(), b"1.2.840.10008.5.1.4.1.1.2")
         && same(row.instance(), b"1.2.3.1.1")
-        && row.syntax() == syntax
+        && row.syntax() == transfer
 }
 
-/// The image's keys.
-static KEYS: [(Tag, &[u8]); 14] = [
+/// The image's keys, but for Series Description, which is asked for.
+static KEYS: [(Tag, &[u8]); 13] = [
     (Tag(0x0008, 0x0005), b"ISO_IR 100"),
     (Tag(0x0008, 0x0020), b"20260101"),
     (Tag(0x0008, 0x0030), b"120000"),
     (Tag(0x0008, 0x0050), b""),
     (Tag(0x0008, 0x0060), b"CT"),
     (Tag(0x0008, 0x1030), b"HEAD"),
-    (SERIES_DESCRIPTION, b"AXIAL "),
     (Tag(0x0010, 0x0010), b"DOE^JANE"),
     (Tag(0x0010, 0x0020), b"P1"),
     (Tag(0x0020, 0x000d), b"1.2.3\0"),
@@ -127,9 +144,18 @@ fn has_keys<A: Allocator>(row: &Row<A>) -> bool {
         .all(|(tag, value)| row.value(*tag) == Some(*value))
 }
 
-/// Whether the row is that of the image.
-pub(crate) fn is_image<A: Allocator>(row: &Row<A>, syntax: Syntax) -> bool {
-    is_identified(row, syntax) && has_keys(row)
+/// Whether the row is that of the image in this transfer syntax, with this Series Description.
+pub(crate) fn is_described<A: Allocator>(
+    row: &Row<A>,
+    transfer: Transfer,
+    description: Option<&[u8]>,
+) -> bool {
+    is_identified(row, transfer) && has_keys(row) && row.value(SERIES_DESCRIPTION) == description
+}
+
+/// Whether the row is that of the image in this transfer syntax.
+pub(crate) fn is_image<A: Allocator>(row: &Row<A>, transfer: Transfer) -> bool {
+    is_described(row, transfer, None)
 }
 
 /// The file ID of these rows.
@@ -151,7 +177,7 @@ pub(crate) fn reason(rt: HostRuntime, file: &[u8]) -> Option<Skip> {
 /// The row of a file.
 pub(crate) fn row_of(rt: HostRuntime, file: &[u8]) -> Result<Row<Global>, Skip> {
     let mut rest = file;
-    rows_of(rt.alloc(), &mut rest, &id()?)
+    rows_of(rt.alloc(), &mut rest, &id()?, &[])
 }
 
 /// Whether a file has no row for this reason, or a row if that is `None`, where the image's element with this tag

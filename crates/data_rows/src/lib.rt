@@ -8,6 +8,8 @@ mod dicomdir_build;
 #[cfg(test)]
 mod dicomdir_check;
 #[cfg(test)]
+mod dicomdir_descriptions;
+#[cfg(test)]
 mod dicomdir_faults;
 #[cfg(test)]
 mod dicomdir_memory;
@@ -36,6 +38,8 @@ mod inspection_rows;
 #[cfg(test)]
 mod part10_folders;
 #[cfg(test)]
+mod part10_numbers;
+#[cfg(test)]
 mod part10_rows;
 #[cfg(test)]
 mod sequence_faults;
@@ -45,5 +49,7 @@ mod sequence_fragments;
 mod sequence_rows;
 #[cfg(test)]
 mod value_rows;
+#[cfg(test)]
+mod value_sizes;
 #[cfg(test)]
 mod walks;

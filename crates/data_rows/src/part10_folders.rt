@@ -160,14 +160,15 @@ fn past_the_last_number_each_commit_fails(rt: HostRuntime) {
     );
 }
 
-/// Files a text where another file has the name that is due, which stays as it is, and the next name is
-/// taken then.
+/// Files a text where other files have the next names, which stay as they are: it gets the first name that
+/// is free.
 fn goes_past(rt: &HostRuntime, dir: &str, filing: &mut Folder) -> bool {
     puts(rt, dir, "I0000001", b"of another")
-        && becomes(rt, dir, filing, (b"mine", None))
+        && puts(rt, dir, "I0000002", b"of another")
+        && becomes(rt, dir, filing, (b"mine", Some("I0000003")))
         && stands(rt, dir, "I0000001", b"of another")
-        && becomes(rt, dir, filing, (b"mine", Some("I0000002")))
-        && has_counted(filing, 1, 1)
+        && stands(rt, dir, "I0000002", b"of another")
+        && has_counted(filing, 1, 0)
 }
 
 #[test]
@@ -289,17 +290,50 @@ fn folders_of_two_levels(rt: HostRuntime) {
 #[test]
 fn folders_that_can_not_be_made(rt: HostRuntime) {
     let dir = "folders_that_can_not_be_made";
-    let rows: [Row; 2] = [(b"1", None), (b"2", None)];
+    let (passed, next) = ("S0000002/I0000001", "S0000002/I0000002");
+    let rows: [Row; 2] = [(b"1", Some(passed)), (b"2", Some(next))];
     assert!(rt;
         begins(&rt, dir, &[("S0000001", b"a file")])
-            && files_in_levels(&rt, dir, 2, &rows, (0, 2, 1))
+            && files_in_levels(&rt, dir, 2, &rows, (2, 0, 2))
             && stands(&rt, dir, "S0000001", b"a file")
     );
     let rows: [Row; 2] = [(b"last", Some("S9999999/I0000001")), (b"too many", None)];
     assert!(rt; fs::create_dir(&rt, "folders_that_can_not_be_made/S9999999").is_ok());
     assert!(rt;
-        files_in_levels(&rt, dir, 1, &rows, (1, 1, 2))
+        files_in_levels(&rt, dir, 1, &rows, (1, 1, 3))
             && stands(&rt, dir, "S9999999/I0000001", b"last")
             && ends(&rt, dir)
     );
+}
+
+/// Moves the folder of files away, and files a text: the folder is made again, and the numbers go on.
+fn is_made_again(rt: &HostRuntime, dir: &str, filing: &mut Folder) -> bool {
+    fs::rename(
+        rt,
+        "folders_that_were_moved/S0000001",
+        "folders_that_were_moved/moved",
+    )
+    .is_ok()
+        && becomes(rt, dir, filing, (b"2", Some("S0000001/I0000002")))
+        && stands(rt, dir, "moved/I0000001", b"1")
+}
+
+/// Puts the next folder there, with a file of its own, and files a text: it gets the name after that file's.
+fn is_put_back(rt: &HostRuntime, dir: &str, filing: &mut Folder) -> bool {
+    fs::create_dir(rt, "folders_that_were_moved/S0000002").is_ok()
+        && puts(rt, dir, "S0000002/I0000001", b"of another")
+        && becomes(rt, dir, filing, (b"3", Some("S0000002/I0000002")))
+        && stands(rt, dir, "S0000002/I0000001", b"of another")
+}
+
+#[test]
+fn folders_that_were_moved_or_put_back(rt: HostRuntime) {
+    let dir = "folders_that_were_moved";
+    assert!(rt; begins(&rt, dir, &[]));
+    let mut filing = FolderFiling::open_levels(rt, dir, 2).expect(&rt, "the folder is opened");
+    assert!(rt; becomes(&rt, dir, &mut filing, (b"1", Some("S0000001/I0000001"))));
+    assert!(rt; is_made_again(&rt, dir, &mut filing) && is_put_back(&rt, dir, &mut filing));
+    assert!(rt; has_counted(&filing, 3, 0) && counts(&rt, dir, 3));
+    drop(filing);
+    assert!(rt; ends(&rt, dir));
 }

@@ -1,5 +1,6 @@
 -- The file that is built and written has the size and the text of the definitions.
-use Rattle.std.proofs.Common.{◌≡◌, ℕ, ◌+◌, [], ◌++◌, length, codes, refl, arith, ◌^◌, ◌<◌, ◌≤◌, true, false, List, ap, ◌∙◌, ◌-◌, Bool, take, get_or, Option, take-add, ltb-true, nat_lt}
+use Rattle.std.proofs.lemmas.Bool.Decides.{nat_tests}
+use Rattle.std.proofs.Common.{◌≡◌, sym, ℕ, ◌+◌, [], ◌++◌, length, codes, refl, arith, ◌^◌, ◌<◌, ◌≤◌, true, false, List, ap, ◌∙◌, ◌-◌, Bool, take, get_or, Option, take-add, ltb-true, nat_lt}
 use Rattle.std.proofs.lemmas.List.{length-append, append-nil, take_all, take_at, drop_at, take-append-le}
 use Rattle.element.specs.Numbers.{le}
 use Rattle.element.specs.Vr.{is_short}
@@ -12,9 +13,12 @@ use Rattle.dicomdir.specs.Examples.{SizesAreTrue}
 use Rattle.std.proofs.lemmas.Grind.{common_steps}
 use Rattle.dicomdir.specs.declared.build_plan.LaidRecord.{LaidRecord}
 use Rattle.dicomdir.specs.declared.level.Level.TheVariants.{Patient}
-use Rattle.dicomdir.specs.Built.{directory_header, directory_file, file_is_too_large, AppendsFront}
+use Rattle.dicomdir.specs.Built.{directory_header, directory_file, file_is_too_large, AppendsFront, IsNotBuilt, too_large, no_memory, FailsAsTooLarge}
+use Rattle.dicomdir.specs.declared.fault.DirFault.{DirFault}
 use Rattle.dicomdir.specs.Directory.{Record}
-use Rattle.dicomdir.specs.machine.Building.{place_from_end, laid_text, forest_text, Lays, entry_text, IsBuilt, root_text}
+use Rattle.dicomdir.specs.declared.build_plan.Stop.{Stop}
+use Rattle.dicomdir.specs.declared.build_plan.Stop.TheVariants.{TooLarge, OutOfMemory}
+use Rattle.dicomdir.specs.machine.Building.{StopsFor, stop_fault, place_from_end, laid_text, forest_text, Lays, entry_text, IsBuilt, root_text}
 use Rattle.dicomdir.specs.Row.{Row, without_doubles}
 use Rattle.std.proofs.lemmas.Bool.{ltb-false}
 use Rattle.std.proofs.KnownBytes.{Appends-trans}
@@ -69,10 +73,21 @@ tree_is rows = refl
 same_tree : (kept rows : List Row) → kept ≡ without_doubles [] rows → forest_for Patient kept ≡ TreeOf rows
 same_tree kept rows e = ap (forest_for Patient) e ∙ tree_is rows
 
--- records of 2^32 bytes are too large already without what stands before them
-pub records_too_large : (uid : List ℕ) (rows kept : List Row) (old : ℕ) → kept ≡ without_doubles [] rows → old ≡ 0 → 2 ^ 32 ≤ old + forest_size (forest_for Patient kept)
-    → file_is_too_large uid rows ≡ true
-records_too_large uid rows kept old e none large = grind (arith, common_steps, same_tree kept rows e)
+-- records of more bytes are too large already without what stands before them
+pub records_too_large : (most : ℕ) (uid : List ℕ) (rows kept : List Row) (old : ℕ) → kept ≡ without_doubles [] rows → old ≡ 0 → most < old + forest_size (forest_for Patient kept)
+    → file_is_too_large most uid rows ≡ true
+records_too_large most uid rows kept old e none large = grind (arith, common_steps, same_tree kept rows e)
+
+-- why no records are laid down is why no file is built
+pub stopped : (most : ℕ) (uid : List ℕ) (rows kept : List Row) (old : ℕ) (stop : Stop) (f : DirFault) → kept ≡ without_doubles [] rows → old ≡ 0
+    → StopsFor most (old + forest_size (forest_for Patient kept)) stop → f ≡ stop_fault stop → IsNotBuilt most uid rows f
+stopped most uid rows kept old TooLarge f e none large is = too_large (records_too_large most uid rows kept old e none large) is
+stopped most uid rows kept old OutOfMemory f e none large is = no_memory is
+
+-- and that is, where memory suffices, that it is too large
+pub stop_is_large : (stop : Stop) (f : DirFault) → f ≡ stop_fault stop → FailsAsTooLarge f
+stop_is_large TooLarge f e other = e
+stop_is_large OutOfMemory f e other = absurd (other e)
 
 -- what was laid down, and what stands before it
 pub record Counts (uid : List ℕ) (rows : List Row) (header records : ℕ) : Type 0 where
@@ -82,11 +97,19 @@ pub record Counts (uid : List ℕ) (rows : List Row) (header records : ℕ) : Ty
 total_is : (uid : List ℕ) (rows : List Row) (header records : ℕ) → Counts uid rows header records → length (directory_header uid) + root_size + forest_size (TreeOf rows) ≡ records + (header + 54)
 total_is uid rows header records s = let root = root_size_is in let a = s.header_is in let b = s.records_are in omega (arith, a, b, root)
 
-pub file_too_large : (uid : List ℕ) (rows : List Row) (header records : ℕ) → Counts uid rows header records → 2 ^ 32 ≤ records + (header + 54) → file_is_too_large uid rows ≡ true
-file_too_large uid rows header records s large = grind (arith, common_steps, total_is uid rows header records s)
+pub file_too_large : (most : ℕ) (uid : List ℕ) (rows : List Row) (header records : ℕ) → Counts uid rows header records → most < records + (header + 54) → file_is_too_large most uid rows ≡ true
+file_too_large most uid rows header records s large = grind (arith, common_steps, total_is uid rows header records s)
 
-pub file_fits : (uid : List ℕ) (rows : List Row) (header records : ℕ) → Counts uid rows header records → records + (header + 54) < 2 ^ 32 → file_is_too_large uid rows ≡ false
-file_fits uid rows header records s small = grind (arith, common_steps, total_is uid rows header records s)
+pub file_fits : (most : ℕ) (uid : List ℕ) (rows : List Row) (header records : ℕ) → Counts uid rows header records → records + (header + 54) ≤ most → file_is_too_large most uid rows ≡ false
+file_fits most uid rows header records s small = grind (arith, common_steps, total_is uid rows header records s)
+
+-- what is no more than that is no more than the greatest size
+pub fits_more : (most more : ℕ) (uid : List ℕ) (rows : List Row) → most ≤ more → file_is_too_large most uid rows ≡ false → file_is_too_large more uid rows ≡ false
+fits_more most more uid rows le fits = grind (arith, nat_tests)
+
+-- what fits is not too large
+pub fits_not : (b : Bool) → b ≡ false → b ≡ true → ⊥
+fits_not b fits large = absurd (let e : true ≡ false = sym large ∙ fits in cc)
 
 pub at_least : (n m : ℕ) → (n < m → ⊥) → m ≤ n
 at_least n m h = omega (arith, h)

@@ -18,7 +18,7 @@ use Rattle.dicomdir.specs.Built.{directory_meta, directory_header, directory_fil
 use Rattle.dicomdir.specs.Keys.{IsRow}
 use Rattle.dicomdir.specs.Row.{Row}
 use Rattle.std.specs.List.{AllByRecursion}
-use Rattle.dicomdir.specs.Places.{directory_elements}
+use Rattle.dicomdir.specs.Places.{greatest_size, directory_elements}
 use Rattle.std.proofs.lemmas.List.{append-nil}
 use Rattle.part10.specs.declared.meta_fault.MetaFault.TheVariants.{NotPart10, OtherSyntax}
 use Rattle.part10.specs.Examples.{least_header, least_said}
@@ -56,7 +56,7 @@ the_records : List Record
 the_records = records_or_none (records_of 266 the_elements)
 
 -- a directory that is written is linked
-linked_as : (rows : List Row) (file : List ℕ) → AllByRecursion IsRow rows → file_is_too_large (codes "2.25.1") rows ≡ false → directory_file (record { uid = codes "2.25.1"; rows = rows }) ≡ file
+linked_as : (rows : List Row) (file : List ℕ) → AllByRecursion IsRow rows → file_is_too_large greatest_size (codes "2.25.1") rows ≡ false → directory_file (record { uid = codes "2.25.1"; rows = rows }) ≡ file
     → Linked file (carried_forest (TreeOf rows))
 linked_as rows file all fits is = subst (λ f. Linked f (carried_forest (TreeOf rows))) is (written_is_linked (codes "2.25.1") rows refl all fits).linked
 

@@ -90,8 +90,8 @@ lays_node level row below next e0 e1 e2 e3 s0 s1 s2 s3 f1 l1 f2 l2 last others u
       none = none_is s3 (omega (arith, size, some));
     }
 
-pub stops_more : (n m : ℕ) (stop : Stop) → n ≤ m → StopsFor n stop → StopsFor m stop
-stops_more n m v3 h s = grind (arith, nat_tests)
+pub stops_more : (most n m : ℕ) (stop : Stop) → n ≤ m → StopsFor most n stop → StopsFor most m stop
+stops_more most n m v4 h s = grind (arith, nat_tests)
 
 group_size : (r : Row → Elements) (b : List Row → Forest Elements) (group : List Row) (next : Forest Elements) → forest_size next ≤ forest_size (group_node r b group next)
 group_size r b v3 next = grind (arith, nat_tests)
@@ -146,11 +146,11 @@ rows_dropped rows zero = refl
 rows_dropped [] (suc n) = refl
 rows_dropped (row ∷ rows) (suc n) = rows_dropped rows n
 
-pub image_stops : {A : Type 0} (rows : List (Bor Row)) (at : ℕ) (row : Bor Row) (e0 e1 : List (LaidRecord A)) (s0 s1 f l : ℕ) (stop : Stop)
+pub image_stops : {A : Type 0} (most : ℕ) (rows : List (Bor Row)) (at : ℕ) (row : Bor Row) (e0 e1 : List (LaidRecord A)) (s0 s1 f l : ℕ) (stop : Stop)
     → 0 < at → at ≤ length rows → row ≡ get_or rows (at - 1) row
-    → Lays (images (rows_at (drop at rows))) e0 e1 s0 s1 f l → StopsFor (s1 + record_size (record_for Image row.now)) stop
-    → StopsFor (s0 + forest_size (images (rows_at rows))) stop
-image_stops rows at row e0 e1 s0 s1 f l stop some le is lays stops = grind (arith, common_steps, rows_dropped rows (at - 1), images_dropped (rows_at rows) (at - 1), last_row rows at row some le is)
+    → Lays (images (rows_at (drop at rows))) e0 e1 s0 s1 f l → StopsFor most (s1 + record_size (record_for Image row.now)) stop
+    → StopsFor most (s0 + forest_size (images (rows_at rows))) stop
+image_stops most rows at row e0 e1 s0 s1 f l stop some le is lays stops = grind (arith, common_steps, rows_dropped rows (at - 1), images_dropped (rows_at rows) (at - 1), last_row rows at row some le is)
 
 pub group_more : {X : Type 0} (group : List X) (row : X) → slice_get group 0 ≡ Some row → group ≡ row ∷ drop 1 group
 group_more v1 row e = grind (arith, nat_tests)
@@ -185,23 +185,23 @@ module _ (level : Level) (groups : List (List Row)) (at : ℕ) (group : List Row
       let w : forest_for level rows ≡ forest groups = forest_is level rows no_image ∙ ap forest (sym are) in
       omega (arith, h, e, ap forest_size w)
 
-  pub below_stops : {A : Type 0} (rows : List Row) (e0 e1 : List (LaidRecord A)) (s0 s1 f1 l1 : ℕ) (stop : Stop) → is_image level ≡ false → groups ≡ groups_of (key_for level) rows
-      → Lays (forest (drop at groups)) e0 e1 s0 s1 f1 l1 → StopsFor (s1 + forest_size (forest_for (lower_level level) group)) stop
-      → StopsFor (s0 + forest_size (forest_for level rows)) stop
-  below_stops rows e0 e1 s0 s1 f1 l1 stop no_image are others stops =
+  pub below_stops : {A : Type 0} (most : ℕ) (rows : List Row) (e0 e1 : List (LaidRecord A)) (s0 s1 f1 l1 : ℕ) (stop : Stop) → is_image level ≡ false → groups ≡ groups_of (key_for level) rows
+      → Lays (forest (drop at groups)) e0 e1 s0 s1 f1 l1 → StopsFor most (s1 + forest_size (forest_for (lower_level level) group)) stop
+      → StopsFor most (s0 + forest_size (forest_for level rows)) stop
+  below_stops most rows e0 e1 s0 s1 f1 l1 stop no_image are others stops =
       let w = whole_size rows no_image are in
       let size : s1 ≡ s0 + forest_size (forest (drop at groups)) = others.size in
-      stops_more _ _ stop (omega (arith, w, size)) stops
+      stops_more most _ _ stop (omega (arith, w, size)) stops
 
-  pub own_stops : {A : Type 0} (rows : List Row) (e0 e1 e2 : List (LaidRecord A)) (s0 s1 s2 f1 l1 f2 l2 : ℕ) (stop : Stop) → is_image level ≡ false → groups ≡ groups_of (key_for level) rows
+  pub own_stops : {A : Type 0} (most : ℕ) (rows : List Row) (e0 e1 e2 : List (LaidRecord A)) (s0 s1 s2 f1 l1 f2 l2 : ℕ) (stop : Stop) → is_image level ≡ false → groups ≡ groups_of (key_for level) rows
       → Lays (forest (drop at groups)) e0 e1 s0 s1 f1 l1 → Lays (forest_for (lower_level level) group) e1 e2 s1 s2 f2 l2
-      → StopsFor (s2 + record_size (record_for level row)) stop
-      → StopsFor (s0 + forest_size (forest_for level rows)) stop
-  own_stops rows e0 e1 e2 s0 s1 s2 f1 l1 f2 l2 stop no_image are others under stops =
+      → StopsFor most (s2 + record_size (record_for level row)) stop
+      → StopsFor most (s0 + forest_size (forest_for level rows)) stop
+  own_stops most rows e0 e1 e2 s0 s1 s2 f1 l1 f2 l2 stop no_image are others under stops =
       let w = whole_size rows no_image are in
       let size : s1 ≡ s0 + forest_size (forest (drop at groups)) = others.size in
       let below : s2 ≡ s1 + forest_size (forest_for (lower_level level) group) = under.size in
-      stops_more _ _ stop (omega (arith, w, size, below)) stops
+      stops_more most _ _ stop (omega (arith, w, size, below)) stops
 
 -- a group without rows has no node
 pub empty_group : {A : Type 0} (r : Row → Elements) (b : List Row → Forest Elements) (groups : List (List Row)) (at : ℕ) (group : List Row) (e0 e1 : List (LaidRecord A)) (s0 s1 f l : ℕ)

@@ -13,7 +13,9 @@ pub mod WalkLemmas
 pub mod PathForests
 pub mod FaultFree
 pub mod KeptLemmas
+pub mod TakenLemmas
 pub mod RowLaws
+pub mod DescriptionLaws
 pub mod RecordLemmas
 pub mod GroupingLemmas
 pub mod LaidRecords

@@ -5,12 +5,13 @@ use Rattle.std.proofs.lemmas.Bool.Decides.{nat_tests}
 use Rattle.std.specs.List.{list_all}
 use Rattle.std.proofs.lemmas.List.{append-nil, at_drop_more}
 use Rattle.element.specs.declared.tag.Tag.{Tag}
-use Rattle.element.specs.declared.syntax.Syntax.{Syntax}
+use Rattle.dictionary.specs.declared.transfer.Transfer.{Transfer}
 use Rattle.element.specs.Header.{number}
 use Rattle.element.specs.Numbers.{le}
 use Rattle.element.specs.Padding.{is_empty, without_trailing, is_padding, padded}
 use Rattle.element.specs.Vr.{is_capital, is_short, is_short_vr, vr_of}
-use Rattle.dictionary.specs.Syntaxes.{syntax_uid}
+use Rattle.dictionary.specs.Transfers.{transfer_uid}
+use Rattle.dictionary.proofs.Public.{transfer_short}
 use Rattle.sequence.specs.Tree.{Elements, no_elements}
 use Rattle.sequence.specs.Wanted.{Values}
 use Rattle.dicomdir.specs.declared.record_table.RecordRule.{RecordRule}
@@ -116,8 +117,8 @@ kind_fits v1 = grind (arith, nat_tests)
 uid_fits : (text : List ℕ) → is_uid text ≡ true → nat_le (length text) 64 ≡ true
 uid_fits text e = (and_parts _ _ (and_parts _ _ e).0).1
 
-syntax_fits : (s : Syntax) → nat_le (length (syntax_uid s)) 64 ≡ true
-syntax_fits v1 = grind (arith, nat_tests)
+syntax_fits : (t : Transfer) → nat_le (length (transfer_uid t)) 64 ≡ true
+syntax_fits t = let short = transfer_short t in le-leb _ _ (omega (arith, short))
 
 -- keys are of groups above 0004
 abbrev are_keys : List RecordRule → Bool

@@ -1,11 +1,12 @@
 -- Walking the data set of a file for its row, piece by piece, and what that gives.
-use Rattle.std.proofs.Common.{◌≡◌, ℕ, true, ◌-◌, ◌≤◌, List, [], ◌++◌, length, take, drop, Option, Some, None, IfSome, refl, sym, ap, subst, ◌∙◌, arith, append_assoc, suc, ◌∷◌, Result, Err}
+use Rattle.std.specs.Prelude.{IfErr}
+use Rattle.std.proofs.Common.{◌≡◌, ℕ, true, ◌-◌, ◌≤◌, List, [], ◌++◌, length, take, drop, Option, Some, None, IfSome, refl, sym, ap, subst, ◌∙◌, arith, append_assoc, suc, ◌∷◌, Result, Err, false}
 use Rattle.std.proofs.lemmas.List.{take_rest, append-nil}
 use Rattle.std.specs.Io.KnownBytes.{Consumes, IsAtEnd}
 use Rattle.std.specs.Bool.{◌==◌}
 use Rattle.std.proofs.KnownBytes.{Consumes-trans}
 use Rattle.element.specs.Numbers.{IsBytes}
-use Rattle.sequence.specs.Coding.{coding_of}
+use Rattle.sequence.specs.Transfer.{coding_in}
 use Rattle.sequence.specs.declared.fault.Fault.{Fault}
 use Rattle.sequence.specs.declared.step.Step.{Step}
 use Rattle.sequence.specs.declared.step.Step.TheVariants.{Refused}
@@ -16,7 +17,7 @@ use Rattle.sequence.specs.FirstFault.{IsUnbroken}
 use Rattle.sequence.specs.Taken.{StandsAt, walker_syntax, limits_of, fault_of, told_by}
 use Rattle.sequence.proofs.Public.{nothing_unbroken, one_path, no_header, whole_breaks_no_rule}
 use Rattle.dicomdir.specs.declared.skip.Skip.{Skip}
-use Rattle.dicomdir.specs.machine.RowReading.{refusal_of, IsGoing, IsSameSet, FailsBy, FailsIn, WalkFails, text_fails, TookWhole}
+use Rattle.dicomdir.specs.machine.RowReading.{refusal_of, IsGoing, IsSameSet, FailsBy, FailsIn, WalkFails, text_fails, TookWhole, FailsToTake}
 use Rattle.dicomdir.proofs.WalkLemmas.{unrefused, refused_fails, tells_none, failed_text, not_refused, farther}
 use Rattle.std.proofs.lemmas.Bool.Decides.{nat_tests}
 use Rattle.std.proofs.lemmas.Grind.{common_steps}
@@ -24,10 +25,8 @@ use Rattle.sequence.specs.declared.coding.Coding.{Coding}
 use Rattle.part10.specs.declared.meta.Meta.{Meta}
 use Rattle.part10.specs.declared.meta_fault.MetaFault.{MetaFault}
 use Rattle.part10.specs.declared.meta_fault.MetaFault.TheVariants.{NotPart10, BadMeta, OtherSyntax, ReadFailed}
-use Rattle.dictionary.specs.Syntaxes.{syntax_uid}
-use Rattle.dictionary.specs.Transfers.{native, syntax_in, transfer_uid}
-use Rattle.dictionary.proofs.Public.{native_uid}
-use Rattle.part10.specs.MetaText.{Said, said_of, TakesMeta, FailsToRead, fault_number}
+use Rattle.dictionary.specs.declared.transfer.Transfer.{Transfer}
+use Rattle.part10.specs.MetaText.{said_of, TakesMeta, fault_number}
 use Rattle.sequence.specs.Tree.{Elements, DataSet}
 use Rattle.sequence.specs.Open.{header_tail, in_header, last_of, Nested, at_elements, Open}
 use Rattle.sequence.specs.Walk.{Told, Tells, going, refused}
@@ -35,7 +34,10 @@ use Rattle.sequence.specs.Wanted.{kept_of}
 use Rattle.sequence.specs.Rules.{Limits}
 use Rattle.dicomdir.specs.Row.{Row}
 use Rattle.dicomdir.specs.Keys.{checked_row}
-use Rattle.dicomdir.specs.RowOf.{row_wants, row_limits, row_from, IsInstance, in_header as header_fault, in_data_set, of_values, RowRead, read_failed, has_row}
+use Rattle.dicomdir.specs.RowOf.{row_wants, row_limits, row_from, is_taken, IsInstance, in_header as header_fault, in_data_set, of_values, RowOf, DescribedRow, described, undescribed, is_too_long, RowIsRead, no_memory, read_failed, has_row}
+use Rattle.dicomdir.specs.declared.record_table.RecordRule.{RecordRule}
+use Rattle.dicomdir.specs.declared.record_table.RecordKeys.TheVariants.{Needed, Described}
+use Rattle.dicomdir.specs.RecordTable.{keys_read}
 use Rattle.dicomdir.specs.declared.skip.Skip.TheVariants as skip
 use Rattle.dicomdir.specs.machine.RowReading as walking
 
@@ -162,50 +164,89 @@ bytes_behind [] b bytes = bytes
 bytes_behind (x ∷ a) b bytes = bytes_behind a b (λ i. bytes (suc i))
 
 -- the result for what the reader has, where that is known
-abbrev pub Read : Option (List ℕ) → List ℕ → Result Row Skip → Type 0
-Read old file_id result = IfSome old (λ file. IsBytes file → RowRead file file_id result)
+abbrev pub Read : List Transfer → List RecordRule → Option (List ℕ) → List ℕ → Result Row Skip → Type 0
+Read further rules old file_id result = IfSome old (λ file. IsBytes file → RowIsRead (RowOf further rules file file_id) result)
 
-pub refused_header : (fault : MetaFault) (old : Option (List ℕ)) (file_id : List ℕ) → FailsToRead fault old → Read old file_id (Err (skip.Fault (fault_number fault)))
-refused_header fault None file_id r = tt
-refused_header NotPart10 (Some file) file_id r = λ _. has_row (header_fault NotPart10 r refl)
-refused_header BadMeta (Some file) file_id r = λ _. has_row (header_fault BadMeta r refl)
-refused_header OtherSyntax (Some file) file_id r = λ _. has_row (header_fault OtherSyntax r refl)
-refused_header ReadFailed (Some file) file_id r = λ _. read_failed refl
+pub refused_header : (further : List Transfer) (rules : List RecordRule) (fault : MetaFault) (old : Option (List ℕ)) (file_id : List ℕ) → FailsToTake further fault old → Read further rules old file_id (Err (skip.Fault (fault_number fault)))
+refused_header further rules fault None file_id r = tt
+refused_header further rules NotPart10 (Some file) file_id r = λ _. has_row (header_fault NotPart10 r refl)
+refused_header further rules BadMeta (Some file) file_id r = λ _. has_row (header_fault BadMeta r refl)
+refused_header further rules OtherSyntax (Some file) file_id r = λ _. has_row (header_fault OtherSyntax r refl)
+refused_header further rules ReadFailed (Some file) file_id r = λ _. read_failed refl
 
--- what a header in a native transfer syntax says
-abbrev pub native_said : Meta → Said
-native_said meta = record { class = meta.class; instance = meta.instance; syntax = syntax_uid (syntax_in meta.syntax) }
+-- what was read of a header that names a transfer syntax that is taken
+pub record Takes (further : List Transfer) (meta : Meta) (old new : Option (List ℕ)) : Type 0 where
+  pub header : TakesMeta (said_of meta) old new
+  pub taken : is_taken further meta.syntax ≡ true
 
-pub takes_native : (meta : Meta) (old new : Option (List ℕ)) → meta.syntax ≡ native (syntax_in meta.syntax) → TakesMeta (said_of meta) old new → TakesMeta (native_said meta) old new
-takes_native meta old new e takes =
-    subst (λ u. TakesMeta (record { class = meta.class; instance = meta.instance; syntax = u }) old new) (ap transfer_uid e ∙ native_uid (syntax_in meta.syntax)) takes
+abbrev instance_of : (further : List Transfer) (meta : Meta) (file back : List ℕ) → Takes further meta (Some file) (Some back) → IsInstance further file
+instance_of further meta file back takes = record {
+  class = meta.class;
+  instance = meta.instance;
+  syntax = meta.syntax;
+  taken = takes.taken;
+  front = takes.header.0;
+  back = back;
+  whole = takes.header.2;
+  header = takes.header.1;
+}
 
-instance_of : (meta : Meta) (file back : List ℕ) → TakesMeta (native_said meta) (Some file) (Some back) → IsInstance file
-instance_of meta file back takes = grind (arith, common_steps)
+pub refused_data_set : {V D : ℕ} (w : Walker V D) (further : List Transfer) (rules : List RecordRule) (meta : Meta) (old mid : Option (List ℕ)) (file_id : List ℕ) (reason : Skip) → Takes further meta old mid
+    → walker_syntax w ≡ coding_in meta.syntax → limits_of w ≡ row_limits rules → WalkFails w mid reason → Read further rules old file_id (Err reason)
+refused_data_set w further rules meta None mid file_id reason takes syntax limits fails = tt
+refused_data_set w further rules meta (Some file) None file_id reason takes syntax limits fails = absurd takes.header.2
+refused_data_set w further rules meta (Some file) (Some back) file_id reason takes syntax limits (walking.read_failed e) = λ _. read_failed (ap (λ z. Err z) e)
+refused_data_set w further rules meta (Some file) (Some back) file_id reason takes syntax limits (walking.text_fails f) = λ bytes.
+    let told = f (bytes_behind takes.header.0 back (subst (λ z. IsBytes z) takes.header.2 bytes)) in
+    let fails : Fails (coding_in meta.syntax) (row_limits rules) back told.0 = subst (λ z. Fails z (row_limits rules) back told.0) syntax (subst (λ z. Fails (walker_syntax w) z back told.0) limits told.1) in
+    has_row (in_data_set (instance_of further meta file back takes) told.0 fails (ap (λ z. Err z) told.2))
 
-pub refused_data_set : {V D : ℕ} (w : Walker V D) (meta : Meta) (old mid : Option (List ℕ)) (file_id : List ℕ) (reason : Skip) → TakesMeta (native_said meta) old mid
-    → walker_syntax w ≡ (coding_of (syntax_in meta.syntax)) → limits_of w ≡ row_limits → WalkFails w mid reason → Read old file_id (Err reason)
-unfolding instance_of
-refused_data_set w meta None mid file_id reason takes syntax limits fails = tt
-refused_data_set w meta (Some file) None file_id reason takes syntax limits fails = absurd takes.2
-refused_data_set w meta (Some file) (Some back) file_id reason takes syntax limits (walking.read_failed e) = λ _. read_failed (ap (λ z. Err z) e)
-refused_data_set w meta (Some file) (Some back) file_id reason takes syntax limits (walking.text_fails f) = λ bytes.
-    let told = f (bytes_behind takes.0 back (subst (λ z. IsBytes z) takes.2 bytes)) in
-    let fails : Fails (coding_of (syntax_in meta.syntax)) row_limits back told.0 = subst (λ z. Fails z row_limits back told.0) syntax (subst (λ z. Fails (walker_syntax w) z back told.0) limits told.1) in
-    has_row (in_data_set (instance_of meta file back takes) told.0 fails (ap (λ z. Err z) told.2))
+pub out_of_memory : (further : List Transfer) (rules : List RecordRule) (old : Option (List ℕ)) (file_id : List ℕ) (reason : Skip) → reason ≡ skip.OutOfMemory → Read further rules old file_id (Err reason)
+out_of_memory further rules v1 file_id reason e = grind (arith, nat_tests)
 
-pub out_of_memory : (old : Option (List ℕ)) (file_id : List ℕ) (reason : Skip) → reason ≡ skip.OutOfMemory → Read old file_id (Err reason)
-out_of_memory v1 file_id reason e = grind (arith, nat_tests)
+pub whole_file : {V D : ℕ} (w : Walker V D) (further : List Transfer) (rules : List RecordRule) (meta : Meta) (old mid : Option (List ℕ)) (file_id : List ℕ) (result : Result Row Skip) → Takes further meta old mid
+    → walker_syntax w ≡ coding_in meta.syntax → limits_of w ≡ row_limits rules → TookWhole w mid
+    → result ≡ checked_row (row_from rules file_id meta.class meta.instance meta.syntax (told_by w).kept) → Read further rules old file_id result
+whole_file w further rules meta None mid file_id result takes syntax limits took is = tt
+whole_file w further rules meta (Some file) None file_id result takes syntax limits took is = absurd takes.header.2
+whole_file w further rules meta (Some file) (Some back) file_id result takes syntax limits took is = λ _.
+    let whole : IsWholeDataSet (coding_in meta.syntax) (row_limits rules) back = subst (λ z. IsWholeDataSet z (row_limits rules) back) syntax (subst (λ z. IsWholeDataSet (walker_syntax w) z back) limits took.1) in
+    let tells : Tells (coding_in meta.syntax) (row_limits rules) back (told_by w) = subst (λ z. Tells z (row_limits rules) back (told_by w)) syntax (subst (λ z. Tells (walker_syntax w) z back (told_by w)) limits took.0.tells) in
+    let kept : (told_by w).kept ≡ kept_of (row_wants rules) whole.elements = kept_at_end whole tells in
+    has_row (of_values (instance_of further meta file back takes) whole.elements whole.text whole.within
+    (is ∙ ap (λ z. checked_row (row_from rules file_id meta.class meta.instance meta.syntax z)) kept))
 
-pub whole_file : {V D : ℕ} (w : Walker V D) (meta : Meta) (old mid : Option (List ℕ)) (file_id : List ℕ) (result : Result Row Skip) → TakesMeta (native_said meta) old mid
-    → walker_syntax w ≡ (coding_of (syntax_in meta.syntax)) → limits_of w ≡ row_limits → TookWhole w mid
-    → result ≡ checked_row (row_from file_id meta.class meta.instance (syntax_in meta.syntax) (told_by w).kept) → Read old file_id result
-unfolding instance_of
-whole_file w meta None mid file_id result takes syntax limits took is = tt
-whole_file w meta (Some file) None file_id result takes syntax limits took is = absurd takes.2
-whole_file w meta (Some file) (Some back) file_id result takes syntax limits took is = λ _.
-    let whole : IsWholeDataSet (coding_of (syntax_in meta.syntax)) row_limits back = subst (λ z. IsWholeDataSet z row_limits back) syntax (subst (λ z. IsWholeDataSet (walker_syntax w) z back) limits took.1) in
-    let tells : Tells (coding_of (syntax_in meta.syntax)) row_limits back (told_by w) = subst (λ z. Tells z row_limits back (told_by w)) syntax (subst (λ z. Tells (walker_syntax w) z back (told_by w)) limits took.0.tells) in
-    let kept : (told_by w).kept ≡ kept_of row_wants whole.elements = kept_at_end whole tells in
-    has_row (of_values (instance_of meta file back takes) whole.elements whole.text whole.within
-    (is ∙ ap (λ z. checked_row (row_from file_id meta.class meta.instance (syntax_in meta.syntax) z)) kept))
+-- ---- the result where Series Description is asked for
+
+abbrev pub ReadDescribed : List Transfer → Option (List ℕ) → Option (List ℕ) → List ℕ → Result Row Skip → Type 0
+ReadDescribed further old again file_id result = IfSome old (λ file. again ≡ Some file → IsBytes file → RowIsRead (DescribedRow further file file_id) result)
+
+-- that with all keys, where none is too long
+pub described_result : (further : List Transfer) (old again : Option (List ℕ)) (file_id : List ℕ) (result : Result Row Skip) → Read further (keys_read Described) old file_id result
+    → IfErr result (λ reason. is_too_long reason ≡ false) → ReadDescribed further old again file_id result
+described_result further None again file_id result read fits = tt
+described_result further (Some file) again file_id result read fits = λ same bytes. by (read bytes)
+  where
+    by : RowIsRead (RowOf further (keys_read Described) file file_id) result → RowIsRead (DescribedRow further file file_id) result
+    by (no_memory e) = no_memory e
+    by (read_failed e) = read_failed e
+    by (has_row row) = has_row (described row fits)
+
+-- else that with those alone that are needed
+pub undescribed_result : (further : List Transfer) (old again : Option (List ℕ)) (file_id : List ℕ) (reason : Skip) (result : Result Row Skip) → Read further (keys_read Described) old file_id (Err reason)
+    → is_too_long reason ≡ true → Read further (keys_read Needed) again file_id result → ReadDescribed further old again file_id result
+undescribed_result further None again file_id reason result read long other = tt
+undescribed_result further (Some file) again file_id reason result read long other = λ same bytes. by (read bytes) (subst (λ z. Read further (keys_read Needed) z file_id result) same other bytes)
+  where
+    never : (other : Skip) → ◌≡◌ {A = Result Row Skip} (Err reason) (Err other) → is_too_long other ≡ false → ⊥
+    never other e short =
+        let is : reason ≡ other = cc in
+        let wrong : false ≡ true = sym short ∙ subst (λ z. is_too_long z ≡ true) is long in
+        absurd cc
+
+    by : RowIsRead (RowOf further (keys_read Described) file file_id) (Err reason) → RowIsRead (RowOf further (keys_read Needed) file file_id) result → RowIsRead (DescribedRow further file file_id) result
+    by (no_memory e) second = absurd (never skip.OutOfMemory e refl)
+    by (read_failed e) second = absurd (never (skip.Fault 54) e refl)
+    by (has_row row) (no_memory e) = no_memory e
+    by (has_row row) (read_failed e) = read_failed e
+    by (has_row row) (has_row other) = has_row (undescribed reason row long other)

@@ -16,7 +16,7 @@ use Rattle.dicomdir.specs.Directory.{Record, size_of, end_size, records_at, firs
 use Rattle.dicomdir.specs.Keys.{IsRow}
 use Rattle.dicomdir.specs.Record.{spelled, spelled_items, with_offsets, root_elements}
 use Rattle.dicomdir.specs.Linked.{Linked, LinkedElements, IsAllReached, carried_forest, places_of}
-use Rattle.dicomdir.specs.Places.{record_size, root_size, forest_size, with_places, first_record_place, last_record_place, record_items, elements_with_places}
+use Rattle.dicomdir.specs.Places.{greatest_size, record_size, root_size, forest_size, with_places, first_record_place, last_record_place, record_items, elements_with_places}
 use Rattle.dicomdir.specs.Row.{Row}
 use Rattle.dicomdir.specs.TreeOf.{Forest, no_nodes, node, TreeOf}
 use Rattle.dicomdir.specs.Laws.{IsDirectoryOf, WrittenIsLinked}
@@ -102,10 +102,10 @@ pub header_read : (uid : List ℕ) → is_uid uid ≡ true → SpellsMeta (said_
 unfolding directory_header
 header_read uid e = head_is_read (directory_meta uid) refl e refl (group_short uid e)
 
-total_small : (uid : List ℕ) (rows : List Row) → file_is_too_large uid rows ≡ false → length (directory_header uid) + root_size + forest_size (TreeOf rows) < 2 ^ 32
+total_small : (uid : List ℕ) (rows : List Row) → file_is_too_large greatest_size uid rows ≡ false → length (directory_header uid) + root_size + forest_size (TreeOf rows) < 2 ^ 32
 total_small uid rows fits = grind (arith, nat_tests)
 
-module _ (uid : List ℕ) (rows : List Row) (is_one : is_uid uid ≡ true) (all : AllByRecursion IsRow rows) (fits : file_is_too_large uid rows ≡ false) where
+module _ (uid : List ℕ) (rows : List Row) (is_one : is_uid uid ≡ true) (all : AllByRecursion IsRow rows) (fits : file_is_too_large greatest_size uid rows ≡ false) where
   abbrev start : ℕ
   start = length (directory_header uid)
 

@@ -35,14 +35,26 @@ directory_header uid = head (directory_meta uid)
 abbrev pub directory_file : BuiltFrom → List ℕ
 directory_file built = directory_of (directory_header built.uid) built.rows
 
--- whether the file, with its header, has 2^32 bytes or more
-abbrev pub file_is_too_large : List ℕ → List Row → Bool
-file_is_too_large uid rows = is_too_large (length (directory_header uid)) rows
+-- whether the file, with its header, has more than so many bytes
+abbrev pub file_is_too_large : ℕ → List ℕ → List Row → Bool
+file_is_too_large most uid rows = is_too_large most (length (directory_header uid)) rows
+
+-- the fault of a file that is too large
+abbrev pub too_large_fault : DirFault
+too_large_fault = record { number = numbered.too_large; place = 0; tag = no_tag }
+
+-- the fault of memory that ran out
+abbrev pub memory_fault : DirFault
+memory_fault = record { number = numbered.out_of_memory; place = 0; tag = no_tag }
 
 -- no directory is built if its file is too large, or if memory ran out
-pub data IsNotBuilt (uid : List ℕ) (rows : List Row) (f : DirFault) : Type 0 where
-  too_large : file_is_too_large uid rows ≡ true → f ≡ record { number = numbered.too_large; place = 0; tag = no_tag } → IsNotBuilt uid rows f
-  no_memory : f ≡ record { number = numbered.out_of_memory; place = 0; tag = no_tag } → IsNotBuilt uid rows f
+pub data IsNotBuilt (most : ℕ) (uid : List ℕ) (rows : List Row) (f : DirFault) : Type 0 where
+  too_large : file_is_too_large most uid rows ≡ true → f ≡ too_large_fault → IsNotBuilt most uid rows f
+  no_memory : f ≡ memory_fault → IsNotBuilt most uid rows f
+
+-- where memory suffices, it is because the file is too large
+abbrev pub FailsAsTooLarge : DirFault → Type 0
+FailsAsTooLarge f = (f ≡ memory_fault → ⊥) → f ≡ too_large_fault
 
 -- ---- what a writer has of a text of which a write failed
 

@@ -1,6 +1,6 @@
 -- Worked directories: of one image (PS3.3 annex F), byte by byte, of more images, and of none.
 use Rattle.std.specs.Prelude.{◌≡◌, ℕ, List, [], ◌∷◌, ◌++◌, length, replicate, None, codes, Some, ◌+◌}
-use Rattle.element.specs.declared.syntax.Syntax.TheVariants.{Explicit}
+use Rattle.dictionary.specs.declared.transfer.Transfer.TheVariants.{Explicit}
 use Rattle.element.specs.Numbers.{le}
 use Rattle.sequence.specs.Tree.{Elements, no_elements, no_items, value, sequence}
 use Rattle.dicomdir.specs.declared.level.Level.TheVariants.{Patient, Study, Series, Image}

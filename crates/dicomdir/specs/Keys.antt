@@ -15,7 +15,7 @@ use Rattle.dicomdir.specs.declared.skip.Skip.TheVariants.{Fault, Missing}
 use Rattle.dicomdir.specs.FileId.{is_file_id}
 use Rattle.dicomdir.specs.RecordTable.{key_table}
 use Rattle.dicomdir.specs.Row.{Row, key, key_in}
-use Rattle.element.specs.declared.syntax.Syntax.{Syntax}
+use Rattle.dictionary.specs.declared.transfer.Transfer.{Transfer}
 use Rattle.dicomdir.specs.declared.keys.Entry.{Entry}
 use Rattle.dicomdir.specs.declared.keys.Keys.{Keys}
 
@@ -74,7 +74,7 @@ entry_value entry = (number entry.tag, entry.value.items)
 abbrev pub key_values : {A : Type 0} → Keys A → Values
 key_values keys = map entry_value keys.entries.items
 
-abbrev pub keys_row : {A : Type 0} → List ℕ → List ℕ → List ℕ → Syntax → Keys A → Row
+abbrev pub keys_row : {A : Type 0} → List ℕ → List ℕ → List ℕ → Transfer → Keys A → Row
 keys_row file_id class instance syntax keys = record {
   file_id = file_id;
   class = class;

@@ -1,8 +1,7 @@
 -- What holds of the definitions.
-use Rattle.std.specs.Prelude.{◌≡◌, ℕ, true, List, Result, ◌≤◌, length, false, None, suc, ◌+◌, [], ◌∷◌, map, unwrap_or}
-use Rattle.element.specs.declared.syntax.Syntax.{Syntax}
-use Rattle.sequence.specs.Coding.{coding_of}
-use Rattle.dictionary.specs.Transfers.{native}
+use Rattle.std.specs.Prelude.{◌≡◌, ℕ, true, List, Result, Ok, IsOk, ◌≤◌, length, false, None, suc, ◌+◌, [], ◌∷◌, map, unwrap_or}
+use Rattle.dictionary.specs.declared.transfer.Transfer.{Transfer}
+use Rattle.sequence.specs.Transfer.{coding_in}
 use Rattle.sequence.specs.Tree.{Elements, DataSet, no_items}
 use Rattle.sequence.specs.Within.{FitRooms, Within}
 use Rattle.sequence.specs.Wanted.{kept_of}
@@ -10,10 +9,16 @@ use Rattle.dicomdir.specs.declared.level.Level.TheVariants.{Patient, Study}
 use Rattle.dicomdir.specs.declared.skip.Skip.{Skip}
 use Rattle.dicomdir.specs.Row.{Row}
 use Rattle.dicomdir.specs.Keys.{fits_rooms, checked_row, IsRow}
-use Rattle.dicomdir.specs.RowOf.{RowOf, row_wants, row_from, row_limits}
+use Rattle.dicomdir.specs.RecordTable.{keys_read}
+use Rattle.dicomdir.specs.RowOf.{RowOf, DescribedRow, row_wants, row_from, row_limits, is_taken, HeaderFaultOf}
+use Rattle.dicomdir.specs.declared.record_table.RecordKeys.{RecordKeys}
+use Rattle.dicomdir.specs.declared.record_table.RecordKeys.TheVariants.{Needed}
+use Rattle.dicomdir.specs.declared.record_table.RecordRule.{RecordRule}
 use Rattle.element.specs.Uid.{is_uid}
 use Rattle.part10.specs.declared.meta.Meta.{Meta}
 use Rattle.part10.specs.File.{File, meta_group}
+use Rattle.part10.specs.declared.meta_fault.MetaFault.{MetaFault}
+use Rattle.part10.specs.MetaText.{MetaFaultOf}
 use Rattle.element.specs.declared.tag.Tag.{Tag}
 use Rattle.dicomdir.specs.NodesInUse.{LevelNode, HasNodes}
 use Rattle.dicomdir.specs.DirFault.{CheckFault, HasDataSet, directory_fault, fault, first_fault, links_of}
@@ -22,28 +27,48 @@ use Rattle.dicomdir.specs.Directory.{Node, records_of}
 use Rattle.dicomdir.specs.Linked.{Linked, LinkedElements, IsAllReached, places_of, is_one_of, carried_forest}
 use Rattle.std.specs.List.{AllByRecursion}
 use Rattle.dicomdir.specs.Built.{directory_file, file_is_too_large}
+use Rattle.dicomdir.specs.Places.{greatest_size}
 use Rattle.dicomdir.specs.Record.{record_item, root_elements, record_for}
 use Rattle.dicomdir.specs.Paths.{Links, level_of, paths_from, paths_of, reached_by}
 use Rattle.dicomdir.specs.Examples.{one_image_row, one_image_elements}
 
--- a file has one row at most, or one reason why it has none
+-- a file has one row with these keys at most, or one reason why it has none, whichever further transfer syntaxes are taken
 abbrev pub OneRow : Type 0
-OneRow = (file file_id : List ℕ) (result other : Result Row Skip) → RowOf file file_id result → RowOf file file_id other → result ≡ other
+OneRow =
+    (further : List Transfer) (rules : List RecordRule) (file file_id : List ℕ) (result other : Result Row Skip)
+    → RowOf further rules file file_id result → RowOf further rules file file_id other → result ≡ other
+
+-- and so has it where Series Description is asked for
+abbrev pub OneDescribedRow : Type 0
+OneDescribedRow = (further : List Transfer) (file file_id : List ℕ) (result other : Result Row Skip) → DescribedRow further file file_id result → DescribedRow further file file_id other → result ≡ other
+
+-- Series Description costs no file its row: one that has a row without it has one where it is asked for
+abbrev pub DescriptionsCostNoRow : Type 0
+DescriptionsCostNoRow =
+    (further : List Transfer) (file file_id : List ℕ) (row : Row) (result : Result Row Skip)
+    → RowOf further (keys_read Needed) file file_id (Ok row) → DescribedRow further file file_id result → IsOk result
+
+-- where none is taken, a header has the faults that it has for the two native ones
+abbrev pub NativeAloneAreTaken : Type 0
+NativeAloneAreTaken = (file : List ℕ) (fault : MetaFault) → (HeaderFaultOf [] file fault → MetaFaultOf file fault) × (MetaFaultOf file fault → HeaderFaultOf [] file fault)
 
 -- values that fit the rooms of the walk fit those of a row
 abbrev pub KeysFit : Type 0
-KeysFit = (file_id class instance : List ℕ) (s : Syntax) (elements : Elements) → FitRooms row_wants elements → fits_rooms (row_from file_id class instance s (kept_of row_wants elements)) ≡ true
+KeysFit =
+    (keys : RecordKeys) (file_id class instance : List ℕ) (s : Transfer) (elements : Elements)
+    → FitRooms (row_wants (keys_read keys)) elements
+    → fits_rooms (row_from (keys_read keys) file_id class instance s (kept_of (row_wants (keys_read keys)) elements)) ≡ true
 
 -- ---- what a directory has of a file that was filed (PS3.10 section 7.1)
 
--- the file of an instance in a native syntax whose data set is whole and within the limits of a row gives the row of that class, instance
--- and syntax and of the data set's values, or the first key that is missing there
+-- the file of an instance in a transfer syntax that is taken, whose data set is whole and within the limits of a row, gives the row of
+-- that class, instance and transfer syntax and of the data set's values, or the first key that is missing there
 abbrev pub FiledHasRow : Type 0
 FiledHasRow =
-    (meta : Meta) (syntax : Syntax) (file_id back : List ℕ) (elements : Elements)
-    → meta.syntax ≡ native syntax → is_uid meta.class ≡ true → is_uid meta.instance ≡ true → length meta.calling.0 ≡ 16 → length (meta_group meta) ≤ 360
-    → DataSet (coding_of syntax) 0 elements back → Within (coding_of syntax) row_limits elements back
-    → RowOf (File meta back) file_id (checked_row (row_from file_id meta.class meta.instance syntax (kept_of row_wants elements)))
+    (further : List Transfer) (rules : List RecordRule) (meta : Meta) (file_id back : List ℕ) (elements : Elements)
+    → is_taken further meta.syntax ≡ true → is_uid meta.class ≡ true → is_uid meta.instance ≡ true → length meta.calling.0 ≡ 16 → length (meta_group meta) ≤ 360
+    → DataSet (coding_in meta.syntax) 0 elements back → Within (coding_in meta.syntax) (row_limits rules) elements back
+    → RowOf further rules (File meta back) file_id (checked_row (row_from rules file_id meta.class meta.instance meta.syntax (kept_of (row_wants rules) elements)))
 
 -- ---- what a check finds is determined by the file
 
@@ -102,7 +127,7 @@ WrittenIsLinked =
     (uid : List ℕ) (rows : List Row)
     → is_uid uid ≡ true
     → AllByRecursion IsRow rows
-    → file_is_too_large uid rows ≡ false
+    → file_is_too_large greatest_size uid rows ≡ false
     → IsDirectoryOf (directory_file (record { uid = uid; rows = rows })) rows
 
 -- ---- longer paths change nothing, and what paths name

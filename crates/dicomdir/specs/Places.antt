@@ -1,6 +1,6 @@
 -- The directory that this product builds of rows: where each record of the tree stands, and what its offsets are
 -- (PS3.3 sections F.3 and F.4). Records stand depth first, without gaps, which is this product's own profile.
-use Rattle.std.specs.Prelude.{ℕ, suc, ◌+◌, ◌^◌, Bool, List, [], ◌∷◌, ◌++◌, length, nat_le, if◌then◌else◌}
+use Rattle.std.specs.Prelude.{ℕ, suc, ◌+◌, ◌-◌, ◌^◌, Bool, List, [], ◌∷◌, ◌++◌, length, nat_lt, if◌then◌else◌}
 use Rattle.std.specs.List.{list_any}
 use Rattle.std.specs.Str.{bytes_eq}
 use Rattle.sequence.specs.Tree.{Elements, Items, no_items}
@@ -73,9 +73,13 @@ directory_of front rows = front ++ spelled (directory_elements (length front) (T
 abbrev pub directory_size : ℕ → List Row → ℕ
 directory_size start rows = start + root_size + forest_size (TreeOf rows)
 
--- a directory whose offsets might not fit four bytes is not built
-abbrev pub is_too_large : ℕ → List Row → Bool
-is_too_large start rows = nat_le (2 ^ 32) (directory_size start rows)
+-- the greatest size of a directory, whose offsets have four bytes
+abbrev pub greatest_size : ℕ
+greatest_size = 2 ^ 32 - 1
+
+-- a directory that has more than so many bytes is not built
+abbrev pub is_too_large : ℕ → ℕ → List Row → Bool
+is_too_large most start rows = nat_lt most (directory_size start rows)
 
 -- of rows that follow `at` others, the numbers of those that are left out as doubles
 abbrev pub doubles_after : ℕ → List (List ℕ) → List Row → List ℕ

@@ -4,7 +4,7 @@ use Rattle.std.specs.Cmp.Lexicographic.{pointwise}
 use Rattle.element.specs.declared.tag.Tag.{Tag}
 use Rattle.element.specs.Header.{number, header_bytes, item_tag}
 use Rattle.element.specs.Numbers.{le}
-use Rattle.dictionary.specs.Syntaxes.{syntax_uid}
+use Rattle.dictionary.specs.Transfers.{transfer_uid}
 use Rattle.element.specs.Padding.{padded}
 use Rattle.sequence.specs.Tree.{Elements, no_elements, value, sequence, Items, no_items, item, fragment}
 use Rattle.sequence.specs.Wanted.{Values, value_of}
@@ -62,7 +62,7 @@ own_values level row =
     ∷ (0x00041500, row.file_id)
     ∷ (0x00041510, row.class)
     ∷ (0x00041511, row.instance)
-    ∷ (0x00041512, syntax_uid row.syntax)
+    ∷ (0x00041512, transfer_uid row.syntax)
     ∷ []
 
 -- under a tag of group 0004 it says these, under any above it a key without the padding that it came with

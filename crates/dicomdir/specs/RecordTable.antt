@@ -1,12 +1,14 @@
 -- The elements that the records of a directory have, in the order of their tags (PS3.3 table F.3-3 and section F.5). How
 -- long a key may be, and which must not be empty, is this product's own profile.
-use Rattle.std.specs.Prelude.{ℕ, Bool, true, false, ◌&&◌, List, [], ◌∷◌, codes}
+use Rattle.std.specs.Prelude.{ℕ, Bool, true, false, ◌&&◌, List, [], ◌∷◌, codes, filter}
 use Rattle.sequence.specs.declared.wanted.Want.{Want}
 use Rattle.dicomdir.specs.declared.record_table.RecordRule.{RecordRule}
 use Rattle.dicomdir.specs.declared.record_table.ElementType.{ElementType}
 use Rattle.dicomdir.specs.declared.record_table.ElementType.TheVariants.{Unique, Type1, Type1C, Type2, Type3}
 use Rattle.dicomdir.specs.declared.record_table.Levels.{Levels}
 use Rattle.dicomdir.specs.declared.record_table.Levels.TheVariants.{Each, Only}
+use Rattle.dicomdir.specs.declared.record_table.RecordKeys.{RecordKeys}
+use Rattle.dicomdir.specs.declared.record_table.RecordKeys.TheVariants.{Needed, Described}
 use Rattle.dicomdir.specs.declared.level.Level.{Level}
 use Rattle.dicomdir.specs.declared.level.Level.TheVariants.{Patient, Study, Series, Image}
 
@@ -46,6 +48,19 @@ key_table =
     ∷ record_rule 0x0020 0x0011 (codes "IS") 32 Type1 (Only Series)
     ∷ record_rule 0x0020 0x0013 (codes "IS") 32 Type1 (Only Image)
     ∷ []
+
+-- whether keys of a type are read of a data set, and so are in records: those of type 3 where they are asked for alone
+abbrev pub reads_type : RecordKeys → ElementType → Bool
+reads_type Needed Type3 = false
+reads_type keys kind = true
+
+-- whether a key is read
+abbrev pub is_read : RecordKeys → RecordRule → Bool
+is_read keys rule = reads_type keys rule.kind
+
+-- the keys that are read
+abbrev pub keys_read : RecordKeys → List RecordRule
+keys_read keys = filter (is_read keys) key_table
 
 -- all elements of records: the offsets of the next and of the first lower record, between them Record In-use Flag,
 -- Directory Record Type, the file ID, what the file header says of the file, and then the keys

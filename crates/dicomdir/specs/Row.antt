@@ -3,18 +3,18 @@
 use Rattle.std.specs.Prelude.{ℕ, List, [], ◌∷◌, ◌++◌, unwrap_or, if◌then◌else◌}
 use Rattle.std.specs.List.{list_any}
 use Rattle.std.specs.Str.{bytes_eq}
-use Rattle.element.specs.declared.syntax.Syntax.{Syntax}
+use Rattle.dictionary.specs.declared.transfer.Transfer.{Transfer}
 use Rattle.element.specs.declared.tag.Tag.{Tag}
 use Rattle.element.specs.Header.{number}
 use Rattle.element.specs.Padding.{is_padding, without_trailing}
 use Rattle.sequence.specs.Wanted.{Values, value_of}
 
--- the class, the instance and the syntax are those of the file header
+-- the class, the instance and the transfer syntax are those of the file header
 pub record Row : Type 0 where
   pub file_id : List ℕ
   pub class : List ℕ
   pub instance : List ℕ
-  pub syntax : Syntax
+  pub syntax : Transfer
   -- those of the data set that records have, each after its tag's number
   pub values : Values
 

@@ -1,14 +1,16 @@
 -- The row of a file, or why it has none (this product's own profile; which values the records of a directory have is
 -- that of PS3.3 section F.5).
-use Rattle.std.specs.Prelude.{◌≡◌, ℕ, ◌^◌, List, [], ◌∷◌, ◌++◌, Option, Some, None, Result, Err, map}
-use Rattle.element.specs.declared.syntax.Syntax.{Syntax}
+use Rattle.std.specs.Prelude.{◌≡◌, ◌≢◌, ℕ, ◌^◌, Bool, true, false, not, ◌||◌, List, [], ◌∷◌, ◌++◌, Option, Some, None, Result, Err, IfErr, map, nat_eq}
+use Rattle.std.specs.List.{list_any}
 use Rattle.element.specs.Header.{number}
-use Rattle.dictionary.specs.Syntaxes.{syntax_uid}
+use Rattle.dictionary.specs.declared.transfer.Transfer.{Transfer}
+use Rattle.dictionary.specs.Transfers.{is_encapsulated, is_text_of, transfer_uid}
 use Rattle.part10.specs.declared.meta_fault.MetaFault.{MetaFault}
-use Rattle.part10.specs.MetaText.{SpellsMeta, MetaFaultOf, fault_number}
+use Rattle.part10.specs.declared.meta_fault.MetaFault.TheVariants.{NotPart10, BadMeta, OtherSyntax, ReadFailed}
+use Rattle.part10.specs.MetaText.{Said, SpellsMeta, HasMeta, MetaFaultOf, fault_number}
 use Rattle.sequence.specs.declared.fault.Fault.{Fault}
 use Rattle.sequence.specs.declared.wanted.Want.{Want}
-use Rattle.sequence.specs.Coding.{coding_of}
+use Rattle.sequence.specs.Transfer.{coding_in}
 use Rattle.sequence.specs.Tree.{Elements, DataSet}
 use Rattle.sequence.specs.Within.{Within}
 use Rattle.sequence.specs.Rules.{Limits}
@@ -17,17 +19,18 @@ use Rattle.sequence.specs.Ending.{Fails}
 use Rattle.dicomdir.specs.declared.record_table.RecordRule.{RecordRule}
 use Rattle.dicomdir.specs.declared.skip.Skip.{Skip}
 use Rattle.dicomdir.specs.declared.skip.Skip.TheVariants as skip
-use Rattle.dicomdir.specs.RecordTable.{key_table, want_of}
+use Rattle.dicomdir.specs.declared.record_table.RecordKeys.TheVariants.{Needed, Described}
+use Rattle.dicomdir.specs.RecordTable.{keys_read, want_of}
 use Rattle.dicomdir.specs.Row.{Row}
 use Rattle.dicomdir.specs.Keys.{checked_row}
 
--- the elements that a row has of the data set, each with the greatest size of its value
-abbrev pub row_wants : List Want
-row_wants = map want_of key_table
+-- the elements that a row with these keys has of the data set, each with the greatest size of its value
+abbrev pub row_wants : List RecordRule → List Want
+row_wants rules = map want_of rules
 
 -- what the data set is held to: these rooms, 64 open levels and 2^48 bytes
-abbrev pub row_limits : Limits
-row_limits = record { wanted = row_wants; depth = 64; bytes = 2 ^ 48 }
+abbrev pub row_limits : List RecordRule → Limits
+row_limits rules = record { wanted = row_wants rules; depth = 64; bytes = 2 ^ 48 }
 
 -- the values of these keys
 abbrev pub with_value : ℕ → Option (List ℕ) → Values → Values
@@ -38,38 +41,64 @@ abbrev pub values_for : List RecordRule → Values → Values
 values_for [] values = []
 values_for (rule ∷ rules) values = with_value (number rule.tag) (value_of values (number rule.tag)) (values_for rules values)
 
--- the row of a file with this file ID and these values
-abbrev pub row_from : List ℕ → List ℕ → List ℕ → Syntax → Values → Row
-row_from file_id class instance syntax values = record {
+-- the row of a file with this file ID and the values of these keys
+abbrev pub row_from : List RecordRule → List ℕ → List ℕ → List ℕ → Transfer → Values → Row
+row_from rules file_id class instance syntax values = record {
   file_id = file_id;
   class = class;
   instance = instance;
   syntax = syntax;
-  values = values_for key_table values;
+  values = values_for rules values;
 }
 
--- the file is a file header that names a syntax that is taken, and what follows
-pub record IsInstance (file : List ℕ) : Type 0 where
+-- whether files in a transfer syntax are taken: in a native one, or in one of the further ones
+abbrev pub is_taken : List Transfer → Transfer → Bool
+is_taken further transfer = not (is_encapsulated transfer) || list_any (is_text_of (transfer_uid transfer)) further
+
+-- the first fault of a file header, where these further transfer syntaxes are taken: `OtherSyntax` is to name none that is
+abbrev pub HeaderFaultOf : List Transfer → List ℕ → MetaFault → Type 0
+HeaderFaultOf further file NotPart10 = MetaFaultOf file NotPart10
+HeaderFaultOf further file BadMeta = MetaFaultOf file BadMeta
+HeaderFaultOf further file OtherSyntax = (said : Said) × HasMeta said file × ((t : Transfer) → is_taken further t ≡ true → said.syntax ≢ transfer_uid t)
+HeaderFaultOf further file ReadFailed = ⊥
+
+-- the file is a file header that names a transfer syntax that is taken, and what follows
+pub record IsInstance (further : List Transfer) (file : List ℕ) : Type 0 where
   pub class : List ℕ
   pub instance : List ℕ
-  pub syntax : Syntax
+  pub syntax : Transfer
+  pub taken : is_taken further syntax ≡ true
   pub front : List ℕ
   pub back : List ℕ
   pub whole : file ≡ front ++ back
-  pub header : SpellsMeta (record { class = class; instance = instance; syntax = syntax_uid syntax }) front
+  pub header : SpellsMeta (record { class = class; instance = instance; syntax = transfer_uid syntax }) front
 
--- what the file gives under this file ID: its row, its first fault, or the first key that is missing
-pub data RowOf (file file_id : List ℕ) (result : Result Row Skip) : Type 0 where
+-- what the file gives under this file ID: its row with these keys, its first fault, or the first key that is missing
+pub data RowOf (further : List Transfer) (rules : List RecordRule) (file file_id : List ℕ) (result : Result Row Skip) : Type 0 where
   -- the first fault of the file header
-  in_header : (fault : MetaFault) → MetaFaultOf file fault → result ≡ Err (skip.Fault (fault_number fault)) → RowOf file file_id result
+  in_header : (fault : MetaFault) → HeaderFaultOf further file fault → result ≡ Err (skip.Fault (fault_number fault)) → RowOf further rules file file_id result
   -- the first fault of the whole data set, before any key is looked at
-  in_data_set : (is : IsInstance file) (fault : Fault) → Fails (coding_of is.syntax) row_limits is.back fault → result ≡ Err (skip.Fault fault.number) → RowOf file file_id result
-  -- the row of the header's class, instance and syntax and the data set's values, if none that must be there is missing
-  of_values : (is : IsInstance file) (elements : Elements) → DataSet (coding_of is.syntax) 0 elements is.back → Within (coding_of is.syntax) row_limits elements is.back
-      → result ≡ checked_row (row_from file_id is.class is.instance is.syntax (kept_of row_wants elements)) → RowOf file file_id result
+  in_data_set : (is : IsInstance further file) (fault : Fault) → Fails (coding_in is.syntax) (row_limits rules) is.back fault → result ≡ Err (skip.Fault fault.number)
+      → RowOf further rules file file_id result
+  -- the row of the header's class, instance and transfer syntax and the data set's values, if none that must be there is missing
+  of_values : (is : IsInstance further file) (elements : Elements) → DataSet (coding_in is.syntax) 0 elements is.back → Within (coding_in is.syntax) (row_limits rules) elements is.back
+      → result ≡ checked_row (row_from rules file_id is.class is.instance is.syntax (kept_of (row_wants rules) elements)) → RowOf further rules file file_id result
 
--- what reading the file gives: a growth was refused, a read failed, or this
-pub data RowRead (file file_id : List ℕ) (result : Result Row Skip) : Type 0 where
-  no_memory : result ≡ Err skip.OutOfMemory → RowRead file file_id result
-  read_failed : result ≡ Err (skip.Fault 54) → RowRead file file_id result
-  has_row : RowOf file file_id result → RowRead file file_id result
+-- what reading the file gives: a growth was refused, a read failed, or what the file gives
+pub data RowIsRead (Gives : Result Row Skip → Type 0) (result : Result Row Skip) : Type 0 where
+  no_memory : result ≡ Err skip.OutOfMemory → RowIsRead Gives result
+  read_failed : result ≡ Err (skip.Fault 54) → RowIsRead Gives result
+  has_row : Gives result → RowIsRead Gives result
+
+-- ---- the row where Series Description is asked for
+
+-- whether a value is too long for its room
+abbrev pub is_too_long : Skip → Bool
+is_too_long (skip.Fault number) = nat_eq number 21
+is_too_long reason = false
+
+-- what the file gives with all keys; but where a value is too long then, what it gives with those alone that are needed
+pub data DescribedRow (further : List Transfer) (file file_id : List ℕ) (result : Result Row Skip) : Type 0 where
+  described : RowOf further (keys_read Described) file file_id result → IfErr result (λ reason. is_too_long reason ≡ false) → DescribedRow further file file_id result
+  undescribed : (reason : Skip) → RowOf further (keys_read Described) file file_id (Err reason) → is_too_long reason ≡ true → RowOf further (keys_read Needed) file file_id result
+      → DescribedRow further file file_id result

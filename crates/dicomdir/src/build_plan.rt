@@ -1,12 +1,13 @@
 //! Lays the records of a directory down, last record first.
-ghost use Rattle.std.specs.Prelude.{◌≡◌, ◌+◌, [], IfOk, IfErr, if◌then◌else◌, nat_eq};
+ghost use Rattle.std.specs.Prelude.{◌≡◌, ◌<◌, ◌≤◌, ◌+◌, [], IfOk, IfErr, IfSome, IfNone, if◌then◌else◌, nat_eq};
 ghost use Rattle.dicomdir.specs.TreeOf.{rows_at, images, forest_for};
-ghost use Rattle.dicomdir.specs.machine.Building.{StopsFor, Adds, Lays};
+ghost use Rattle.dicomdir.specs.machine.Building.{StopsFor, stop_fault, Adds, Lays};
 ghost use Rattle.dicomdir.specs.Record.{record_for};
 ghost use Rattle.dicomdir.specs.Places.{record_size, forest_size};
 
 use crate::Row;
 use crate::build_groups::groups;
+use crate::fault::DirFault;
 use crate::level::Level;
 use crate::record_bytes::record_bytes;
 use std::alloc::Allocator;
@@ -14,10 +15,34 @@ use std::alloc::Allocator;
 /// Why no directory is laid down.
 #[derive(Clone, Copy)]
 pub(crate) enum Stop {
-    /// The records have 2^32 bytes or more.
+    /// There would be more bytes than there may be.
     TooLarge,
     /// An allocation was refused.
     OutOfMemory,
+}
+
+impl Stop {
+    /// Returns the fault of the directory that is not built.
+    pub(crate) fn fault(self) -> DirFault
+        ensures { result ≡ stop_fault self }
+    {
+        match self {
+            Stop::TooLarge => DirFault::too_large(),
+            Stop::OutOfMemory => DirFault::out_of_memory(),
+        }
+    }
+}
+
+/// Returns the sum of two sizes, or `None` if it is greater than `most`.
+pub(crate) fn sum_up_to(most: u32, size: u32, more: u32) -> Option<u32>
+    ensures some { IfSome result (λ sum. (sum ≡ size + more) × (sum ≤ most)) }
+    ensures none { IfNone result (most < size + more) }
+{
+    let sum = size.checked_add(more)?;
+    if sum > most {
+        return None;
+    }
+    Some(sum)
 }
 
 /// A record. Its offsets are counted from the end of the file, since that alone is known while the
@@ -68,23 +93,17 @@ impl<'r, A: Allocator> Plan<'r, A> {
         }
     }
 
-    /// Puts a record before those that are laid down, and returns where it starts.
+    /// Puts a record before those that are laid down, and returns where it starts; there may be `most` bytes.
     #[tactic(auto, using(crate::proofs::LayingLemmas::record_length))]
-    fn add(&mut self, level: Level, row: &'r Row<A>, next: u32, lower: u32) -> Result<u32, Stop>
-        ensures added { IfOk result (λ start. Adds level row.now next lower self.old.entries.items self.new.entries.items) }
-        ensures size { IfOk result (λ start. self.new.size ≡ self.old.size + record_size (record_for level row.now)) }
+    fn add(&mut self, most: u32, entry: LaidRecord<'r, A>) -> Result<u32, Stop>
+        ensures added { IfOk result (λ start. Adds entry.entry.level entry.entry.row.now entry.entry.next entry.entry.lower self.old.entries.items self.new.entries.items) }
+        ensures size { IfOk result (λ start. self.new.size ≡ self.old.size + record_size (record_for entry.entry.level entry.entry.row.now)) }
         ensures start { IfOk result (λ start. start ≡ self.new.size) }
-        ensures stops { IfErr result (StopsFor (self.old.size + record_size (record_for level row.now))) }
+        ensures stops { IfErr result (StopsFor most (self.old.size + record_size (record_for entry.entry.level entry.entry.row.now))) }
     {
-        let record = record_bytes(level, row, 0, 0);
-        let Some(size) = self.size.checked_add(record.len() as u32) else {
+        let record = record_bytes(entry.level, entry.row, 0, 0);
+        let Some(size) = sum_up_to(most, self.size, record.len() as u32) else {
             return Err(Stop::TooLarge);
-        };
-        let entry = LaidRecord {
-            level,
-            row,
-            next,
-            lower,
         };
         if self.entries.push(entry).is_err() {
             return Err(Stop::OutOfMemory);
@@ -95,33 +114,44 @@ impl<'r, A: Allocator> Plan<'r, A> {
 }
 
 /// Lays down a record for each row, as images.
-fn lay_images<'r, A: Allocator>(plan: &mut Plan<'r, A>, rows: &[&'r Row<A>]) -> Result<Chain, Stop>
+fn lay_images<'r, A: Allocator>(
+    plan: &mut Plan<'r, A>,
+    rows: &[&'r Row<A>],
+    most: u32,
+) -> Result<Chain, Stop>
     ensures laid { IfOk result (λ chain. Lays (images (rows_at rows.now)) plan.old.entries.items plan.new.entries.items plan.old.size plan.new.size chain.first chain.last) }
-    ensures stops { IfErr result (StopsFor (plan.old.size + forest_size (images (rows_at rows.now)))) }
+    ensures stops { IfErr result (StopsFor most (plan.old.size + forest_size (images (rows_at rows.now)))) }
 {
     let mut chain = Chain { first: 0, last: 0 };
     let mut at = rows.len();
     while at > 0 {
         at -= 1;
-        let start = plan.add(Level::Image, rows[at], chain.first, 0)?;
+        let record = LaidRecord {
+            level: Level::Image,
+            row: rows[at],
+            next: chain.first,
+            lower: 0,
+        };
+        let start = plan.add(most, record)?;
         chain = chain.after(start);
     }
     Ok(chain)
 }
 
 /// Lays down the records of rows at a level and below it: a record for each group, with the keys of
-/// its first row.
+/// its first row. There may be `most` bytes of records.
 pub(crate) fn lay<'r, A: Allocator + Copy>(
     alloc: A,
     plan: &mut Plan<'r, A>,
     rows: &[&'r Row<A>],
     level: Level,
+    most: u32,
 ) -> Result<Chain, Stop>
     ensures laid { IfOk result (λ chain. Lays (forest_for level (rows_at rows.now)) plan.old.entries.items plan.new.entries.items plan.old.size plan.new.size chain.first chain.last) }
-    ensures stops { IfErr result (StopsFor (plan.old.size + forest_size (forest_for level (rows_at rows.now)))) }
+    ensures stops { IfErr result (StopsFor most (plan.old.size + forest_size (forest_for level (rows_at rows.now)))) }
 {
     if level.is_image() {
-        return lay_images(plan, rows);
+        return lay_images(plan, rows, most);
     }
     let Ok(groups) = groups(alloc, rows, level) else {
         return Err(Stop::OutOfMemory);
@@ -132,8 +162,14 @@ pub(crate) fn lay<'r, A: Allocator + Copy>(
         at -= 1;
         let group = groups[at].as_slice();
         if let Some(row) = group.first() {
-            let below = lay(alloc, plan, group, level.below())?;
-            let start = plan.add(level, row, chain.first, below.first)?;
+            let below = lay(alloc, plan, group, level.below(), most)?;
+            let record = LaidRecord {
+                level,
+                row,
+                next: chain.first,
+                lower: below.first,
+            };
+            let start = plan.add(most, record)?;
             chain = chain.after(start);
         }
     }

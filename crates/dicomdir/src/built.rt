@@ -1,13 +1,13 @@
 //! Builds the directory of rows.
-ghost use Rattle.std.specs.Prelude.{◌≡◌, false, IfOk, OnOk, IfErr, OnErr};
+ghost use Rattle.std.specs.Prelude.{◌≡◌, true, false, IfOk, OnOk, IfErr, OnErr, IsErrAnd};
 ghost use Rattle.std.specs.Io.KnownBytes.{Appends};
-ghost use Rattle.dicomdir.specs.Built.{file_is_too_large, IsNotBuilt, directory_file, AppendsFront};
-ghost use Rattle.dicomdir.specs.Places.{doubles_of};
+ghost use Rattle.dicomdir.specs.Built.{file_is_too_large, IsNotBuilt, FailsAsTooLarge, directory_file, AppendsFront};
+ghost use Rattle.dicomdir.specs.Places.{doubles_of, greatest_size};
 ghost use Rattle.dicomdir.specs.TreeOf.{TreeOf, count_of};
 ghost use Rattle.dicomdir.specs.Laws.{IsDirectoryOf};
 
 use crate::Row;
-use crate::build_plan::{Chain, Plan, Stop, lay};
+use crate::build_plan::{Chain, Plan, Stop, lay, sum_up_to};
 use crate::doubles::leave_out_doubles;
 use crate::fault::DirFault;
 use crate::level::Level;
@@ -80,22 +80,41 @@ pub fn build<'r, A: Allocator + Copy>(
 ) -> Result<Built<'r, A>, DirFault>
     ensures uid { IfOk result (λ built. built.uid ≡ uid) }
     ensures rows { IfOk result (λ built. built.rows ≡ rows.now) }
-    ensures fits { OnOk result (file_is_too_large uid rows.now ≡ false) }
+    ensures fits { OnOk result (file_is_too_large greatest_size uid rows.now ≡ false) }
+    ensures too_large { file_is_too_large greatest_size uid rows.now ≡ true → IsErrAnd result FailsAsTooLarge }
     ensures linked { IfOk result (λ built. IsDirectoryOf (directory_file built) rows.now) }
-    ensures fault { IfErr result (IsNotBuilt uid rows.now) }
+    ensures fault { IfErr result (IsNotBuilt greatest_size uid rows.now) }
+{
+    build_within(alloc, rows, uid, u32::MAX)
+}
+
+/// Builds the directory of rows as `build` does, of at most `most` bytes.
+///
+/// Fails with 66 if the file would have more, and with 67 if the allocator refuses a growth.
+pub fn build_within<'r, A: Allocator + Copy>(
+    alloc: A,
+    rows: &'r [Row<A>],
+    uid: Uid,
+    most: u32,
+) -> Result<Built<'r, A>, DirFault>
+    ensures uid { IfOk result (λ built. built.uid ≡ uid) }
+    ensures rows { IfOk result (λ built. built.rows ≡ rows.now) }
+    ensures fits { OnOk result (file_is_too_large most uid rows.now ≡ false) }
+    ensures too_large { file_is_too_large most uid rows.now ≡ true → IsErrAnd result FailsAsTooLarge }
+    ensures linked { IfOk result (λ built. IsDirectoryOf (directory_file built) rows.now) }
+    ensures fault { IfErr result (IsNotBuilt most uid rows.now) }
 {
     let Ok(kept) = leave_out_doubles(alloc, rows) else {
-        return Err(DirFault::out_of_memory());
+        return Err(Stop::OutOfMemory.fault());
     };
     let mut plan = Plan::new(alloc);
-    let chain = match lay(alloc, &mut plan, kept.rows.as_slice(), Level::Patient) {
+    let chain = match lay(alloc, &mut plan, kept.rows.as_slice(), Level::Patient, most) {
         Ok(chain) => chain,
-        Err(Stop::TooLarge) => return Err(DirFault::too_large()),
-        Err(Stop::OutOfMemory) => return Err(DirFault::out_of_memory()),
+        Err(stop) => return Err(stop.fault()),
     };
     let before = file_header(&uid).len() as u32 + ROOT_SIZE;
-    let Some(size) = plan.size.checked_add(before) else {
-        return Err(DirFault::too_large());
+    let Some(size) = sum_up_to(most, plan.size, before) else {
+        return Err(Stop::TooLarge.fault());
     };
     Ok(Built {
         uid,

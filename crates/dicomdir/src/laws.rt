@@ -2,7 +2,7 @@
 ghost use Rattle.std.specs.Prelude.{◌≡◌, ◌∷◌, []};
 ghost use Rattle.dicomdir.specs.Examples.{OneImageHasNodes, RowsAreGrouped, FileIdsAreRead, HeaderFaults, InactiveRecords, OneImageIsLinked, OneImageFaults, PreambleCounts, RecordFaults, NoRowsAreLinked, PlacesAreAssigned, SizesAreTrue};
 ghost use Rattle.dicomdir.specs.FaultNumbers.{bad_offset, cycle, twice_reached, unreached, wrong_level, bad_file_id, too_large, out_of_memory, bad_record};
-ghost use Rattle.dicomdir.specs.Laws.{FiledHasRow, LinkedHasNoFault, NodesAreRecords, NoFaultIsLinked, OneTreeOfFile, AcceptedHasNoFault, OneCheckFault, OneListOfNodes, LongerPathsChangeNothing, PathsNameNodes, PathsNameRecords, KeysFit, OneRow, WrittenIsLinked};
+ghost use Rattle.dicomdir.specs.Laws.{FiledHasRow, LinkedHasNoFault, NodesAreRecords, NoFaultIsLinked, OneTreeOfFile, AcceptedHasNoFault, OneCheckFault, OneListOfNodes, LongerPathsChangeNothing, PathsNameNodes, PathsNameRecords, KeysFit, NativeAloneAreTaken, OneRow, OneDescribedRow, DescriptionsCostNoRow, WrittenIsLinked};
 
 use crate::fault::DirFault;
 
@@ -134,9 +134,25 @@ pub fn one_image_has_nodes()
     ensures { OneImageHasNodes }
 {}
 
-/// A file has one row at most, or one reason why it has none.
+/// A file has one row at most, or one reason why it has none, whichever further transfer syntaxes are taken.
 pub fn one_row_of_a_file()
     ensures { OneRow }
+{}
+
+/// Where Series Description is asked for, a file has one row at most, too, or one reason why it has none.
+pub fn one_described_row_of_a_file()
+    ensures { OneDescribedRow }
+{}
+
+/// Series Description costs no file its row, however long it is.
+pub fn descriptions_cost_no_row()
+    ensures { DescriptionsCostNoRow }
+{}
+
+/// Where no further transfer syntax is taken, a file header has the faults that it has for the two native ones.
+#[tactic(auto, using(crate::proofs::TakenLemmas::native_alone))]
+pub fn native_alone_are_taken()
+    ensures { NativeAloneAreTaken }
 {}
 
 /// Values that fit the rooms with which a file is read fit those of a row.
@@ -144,8 +160,9 @@ pub fn keys_fit_their_rooms()
     ensures { KeysFit }
 {}
 
-/// A file that was filed gives the row of its class, its instance and its data set's values, where the
-/// data set is whole and within the limits of a row; or the first key that is missing there.
+/// A file that was filed in a transfer syntax that is taken gives the row of its class, its instance, its transfer
+/// syntax and its data set's values, where the data set is whole and within the limits of a row; or the first key that
+/// is missing there.
 pub fn a_filed_instance_has_its_row()
     ensures { FiledHasRow }
 {}

@@ -16,8 +16,17 @@ pub(crate) enum ElementType {
     Type1C,
     /// Always; the value may be empty.
     Type2,
-    /// Where there is a value; no record needs it.
+    /// Where it is asked for and there is a value; no record needs it.
     Type3,
+}
+
+/// Which keys of a data set the records of a directory have.
+#[derive(Clone, Copy)]
+pub(crate) enum RecordKeys {
+    /// All but those of type 3.
+    Needed,
+    /// All, Series Description among them.
+    Described,
 }
 
 /// The levels of the records that have an element.
@@ -53,6 +62,18 @@ pub(crate) struct RecordRule {
     pub(crate) room: u32,
     pub(crate) kind: ElementType,
     pub(crate) levels: Levels,
+}
+
+impl RecordKeys {
+    /// Returns whether the value of a key is read.
+    pub(crate) fn has(self, rule: &RecordRule) -> bool
+        ensures { result ≡ table.is_read self rule.now }
+    {
+        match (self, rule.kind) {
+            (RecordKeys::Needed, ElementType::Type3) => false,
+            _ => true,
+        }
+    }
 }
 
 impl RecordRule {

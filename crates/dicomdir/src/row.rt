@@ -8,10 +8,12 @@ ghost use Rattle.dicomdir.specs.Keys.{IsRow, checked_row, optional_size, key_val
 ghost use Rattle.dicomdir.specs.Keys as spelling;
 ghost use Rattle.dicomdir.specs.Row.{key_in};
 ghost use Rattle.dicomdir.specs.RowOf.{row_wants};
+ghost use Rattle.dicomdir.specs.RecordTable.{key_table};
 
 use crate::record_table::{ElementType, RecordRule, key_table};
 use crate::{FileId, Keys, Skip};
-use element::{Syntax, Tag, Uid, unpadded};
+use dictionary::Transfer;
+use element::{Tag, Uid, unpadded};
 use std::alloc::Allocator;
 use std::marker::Model;
 
@@ -23,7 +25,7 @@ pub struct Row<A: Allocator> {
     file_id: FileId,
     class: Uid,
     instance: Uid,
-    syntax: Syntax,
+    syntax: Transfer,
     keys: Keys<A>,
 }
 
@@ -86,7 +88,7 @@ impl<A: Allocator> Row<A> {
         file_id: FileId,
         class: Uid,
         instance: Uid,
-        syntax: Syntax,
+        syntax: Transfer,
         keys: Keys<A>,
     ) -> Result<Row<A>, Skip>
         ensures { result ≡ checked_row (keys_row file_id class instance syntax keys) }
@@ -136,7 +138,7 @@ impl<A: Allocator> Row<A> {
     }
 
     /// Returns the transfer syntax of its data set.
-    pub fn syntax(&self) -> Syntax
+    pub fn syntax(&self) -> Transfer
         ensures { result ≡ self.now.syntax }
     {
         self.syntax
@@ -160,7 +162,7 @@ impl<A: Allocator> Row<A> {
     #[tactic(auto, using(crate::proofs::RowLaws::room_kept))]
     pub fn value(&self, tag: Tag) -> Option<&[u8]>
         ensures value { option_map (λ v. v.now) result ≡ value_of self.now.values (number tag) }
-        ensures room { (room : ℕ) → room_of row_wants (number tag) ≡ Some room → optional_size (value_of self.now.values (number tag)) ≤ room }
+        ensures room { (room : ℕ) → room_of (row_wants key_table) (number tag) ≡ Some room → optional_size (value_of self.now.values (number tag)) ≤ room }
     {
         self.keys.value(tag)
     }

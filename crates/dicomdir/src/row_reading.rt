@@ -1,28 +1,31 @@
 //! Reads the row of a directory from a file.
-ghost use Rattle.std.specs.Prelude.{◌≡◌, ◌<◌, ◌≤◌, ℕ, List, [], ◌++◌, length, map, take, option_map, OnOk, IfOk, IfErr, IfSome};
+ghost use Rattle.std.specs.Prelude.{◌≡◌, ◌<◌, ◌≤◌, ℕ, List, [], ◌++◌, length, filter, take, option_map, Some, OnOk, IfOk, IfErr, IfSome};
 ghost use Rattle.std.specs.Io.KnownBytes.{Consumes, IsAtEnd};
-ghost use Rattle.element.specs.declared.syntax.Syntax.{Syntax};
 ghost use Rattle.element.specs.Numbers.{IsBytes};
 ghost use Rattle.element.specs.Header.{number};
 ghost use Rattle.sequence.specs.Wanted.{value_of};
 ghost use Rattle.sequence.specs.Taken.{StandsAt, told_by, limits_of};
 ghost use Rattle.sequence.specs.Stored.{wanted_tags};
 ghost use Rattle.dicomdir.specs.declared.skip.Skip.TheVariants as skip;
-ghost use Rattle.dicomdir.specs.RowOf.{row_wants, with_value, values_for, RowRead};
-ghost use Rattle.dicomdir.specs.RecordTable.{want_of};
+ghost use Rattle.dicomdir.specs.RowOf.{row_wants, with_value, values_for, RowOf, DescribedRow, RowIsRead};
+ghost use Rattle.dicomdir.specs.RowOf as spelling;
+ghost use Rattle.dicomdir.specs.RecordTable.{is_read, keys_read};
+ghost use Rattle.dicomdir.specs.declared.record_table.RecordKeys.TheVariants.{Needed};
 ghost use Rattle.dicomdir.specs.Keys.{key_values};
 ghost use Rattle.dicomdir.specs.machine.RowReading.{IsSameSet, TookWhole, WalkFails};
 
 use crate::data_set::walk_piece;
 use crate::file_id::FileId;
 use crate::keys::Keys;
-use crate::record_table::{RecordRule, key_table};
+use crate::record_table::{RecordKeys, RecordRule, key_table};
 use crate::row::Row;
 use crate::skip::Skip;
+use crate::taken::read_taken;
 use arrayvec::ArrayVec;
+use dictionary::Transfer;
 use element::Tag;
 use element::again::read_again;
-use part10::{MetaFault, read_meta};
+use part10::MetaFault;
 use sequence::{Walker, Want, Wanted};
 use std::alloc::Allocator;
 use std::io::Read;
@@ -33,26 +36,29 @@ const PIECE: usize = 4096;
 /// A walker that keeps what a row has of a data set of at most 64 open levels.
 type RowWalker = Walker<2048, 64>;
 
-/// Returns what a walk keeps for these keys.
-fn wants_of(rules: &[RecordRule]) -> ArrayVec<Want, 16>
+/// Returns what a walk keeps for those of these keys that are read.
+fn wants_of(rules: &[RecordRule], keys: RecordKeys) -> ArrayVec<Want, 16>
     requires { length rules.now ≤ 16 }
-    ensures { result.items ≡ map want_of rules.now }
+    ensures { result.items ≡ row_wants (filter (is_read keys) rules.now) }
 {
     let mut wants = ArrayVec::new();
     for rule in rules {
-        wants.push(Want {
-            tag: rule.tag,
-            room: rule.room,
-        });
+        if keys.has(rule) {
+            wants.push(Want {
+                tag: rule.tag,
+                room: rule.room,
+            });
+        }
     }
     wants
 }
 
 /// Returns the elements of the data set that a row has, each with the greatest size of its value.
-fn wanted() -> Wanted
-    ensures { wanted_tags result ≡ row_wants }
+#[tactic(auto, using(crate::proofs::RowLaws::wants_are_few, crate::proofs::RowLaws::wants_rise))]
+fn wanted(keys: RecordKeys) -> Wanted
+    ensures { wanted_tags result ≡ row_wants (keys_read keys) }
 {
-    match Wanted::of(wants_of(key_table()).as_slice()) {
+    match Wanted::of(wants_of(key_table(), keys).as_slice()) {
         Some(wanted) => wanted,
         None => unreachable!(),
     }
@@ -108,25 +114,52 @@ fn copy_key<A: Allocator + Copy>(
     }
 }
 
-/// Copies the values of these keys of the data set that the walker took.
+/// Copies the values of those of these keys that are read of the data set that the walker took.
 fn keys_of<A: Allocator + Copy>(
     alloc: A,
     walker: &RowWalker,
     rules: &[RecordRule],
+    keys: RecordKeys,
 ) -> Result<Keys<A>, Skip>
-    ensures values { IfOk result (λ keys. key_values keys ≡ values_for rules.now (told_by walker.now).kept) }
+    ensures values { IfOk result (λ copied. key_values copied ≡ values_for (filter (is_read keys) rules.now) (told_by walker.now).kept) }
     ensures failed { IfErr result (λ reason. reason ≡ skip.OutOfMemory) }
 {
-    let mut keys = Keys::new(alloc);
+    let mut copied = Keys::new(alloc);
     for rule in rules {
-        copy_key(alloc, walker, rule.tag, &mut keys)?;
+        if keys.has(rule) {
+            copy_key(alloc, walker, rule.tag, &mut copied)?;
+        }
     }
-    Ok(keys)
+    Ok(copied)
+}
+
+/// Reads the row of a file with these keys, as `rows_of` does.
+#[tactic(auto, using(crate::proofs::RowLaws::wants_have_room))]
+fn row_with<A: Allocator + Copy, R: Read>(
+    alloc: A,
+    reader: &mut R,
+    file_id: &FileId,
+    further: &[Transfer],
+    keys: RecordKeys,
+) -> Result<Row<A>, Skip>
+    ensures row { IfSome (R.remaining reader.old) (λ file. IsBytes file → RowIsRead (RowOf further.now (keys_read keys) file file_id.now) result) }
+{
+    let meta = match read_taken(reader, further) {
+        Ok(meta) => meta,
+        Err(fault) => return Err(Skip::Fault(fault.number())),
+    };
+    let mut walker = RowWalker::in_transfer(meta.syntax, wanted(keys), 1 << 48);
+    walk(&mut walker, reader)?;
+    let keys = keys_of(alloc, &walker, key_table(), keys)?;
+    Row::new(*file_id, meta.class, meta.instance, meta.syntax, keys)
 }
 
 /// Reads the file that the reader gives from its first byte to its end, and returns its row: the class,
 /// the instance and the transfer syntax of the file header (PS3.10 section 7.1), and the values of the
-/// data set that the records of a directory have (PS3.3 section F.5).
+/// data set that the records of a directory have (PS3.3 section F.5), but for those of type 3.
+///
+/// Files in the two native transfer syntaxes are taken, and in the further ones that are named; any other
+/// file has fault 53.
 ///
 /// The first fault is returned as `Fault`: of the file header (50, 51, 53), else of the whole data set
 /// (10 to 21), at 64 open levels, 2^48 bytes and the rooms that `Row` has for the values. Only then
@@ -139,16 +172,38 @@ pub fn rows_of<A: Allocator + Copy, R: Read>(
     alloc: A,
     reader: &mut R,
     file_id: &FileId,
+    further: &[Transfer],
 ) -> Result<Row<A>, Skip>
-    ensures row { IfSome (R.remaining reader.old) (λ file. IsBytes file → RowRead file file_id.now result) }
+    ensures row { IfSome (R.remaining reader.old) (λ file. IsBytes file → RowIsRead (RowOf further.now (keys_read Needed) file file_id.now) result) }
 {
-    let meta = match read_meta(reader) {
-        Ok(meta) => meta,
-        Err(fault) => return Err(Skip::Fault(fault.number())),
+    row_with(alloc, reader, file_id, further, RecordKeys::Needed)
+}
+
+/// Returns whether a value is too long for its room.
+fn is_too_long(reason: Skip) -> bool
+    ensures { result ≡ spelling.is_too_long reason }
+{
+    matches!(reason, Skip::Fault(21))
+}
+
+/// Reads the row of a file as `rows_of` does, with Series Description (0008,103E), of type 3, where the
+/// data set has one that is no longer than its room. Both readers give the file from its first byte; the
+/// second is read where a value is too long for its room.
+pub fn described_row_of<A: Allocator + Copy, R: Read>(
+    alloc: A,
+    reader: &mut R,
+    again: &mut R,
+    file_id: &FileId,
+    further: &[Transfer],
+) -> Result<Row<A>, Skip>
+    ensures row { IfSome (R.remaining reader.old) (λ file. R.remaining again.old ≡ Some file → IsBytes file → RowIsRead (DescribedRow further.now file file_id.now) result) }
+{
+    let reason = match row_with(alloc, reader, file_id, further, RecordKeys::Described) {
+        Ok(row) => return Ok(row),
+        Err(reason) => reason,
     };
-    let syntax = meta.syntax.syntax();
-    let mut walker = RowWalker::new(syntax, wanted(), 1 << 48);
-    walk(&mut walker, reader)?;
-    let keys = keys_of(alloc, &walker, key_table())?;
-    Row::new(*file_id, meta.class, meta.instance, syntax, keys)
+    if is_too_long(reason) {
+        return rows_of(alloc, again, file_id, further);
+    }
+    Err(reason)
 }

@@ -6,7 +6,6 @@ ghost use Rattle.dicomdir.specs.machine.RowRecords.{own_values_of, says_of};
 
 use crate::Row;
 use crate::level::Level;
-use dictionary::syntax_uid;
 use element::{Tag, unpadded};
 use std::alloc::Allocator;
 
@@ -33,7 +32,7 @@ impl<'r, A: Allocator> RowRecord<'r, A> {
             0x0004_1500 => Some(self.row.file_id_text()),
             0x0004_1510 => Some(self.row.class()),
             0x0004_1511 => Some(self.row.instance()),
-            0x0004_1512 => Some(syntax_uid(self.row.syntax())),
+            0x0004_1512 => Some(self.row.syntax().uid()),
             _ => None,
         }
     }

@@ -60,7 +60,7 @@ fn each_call_of_the_disk_fails(rt: HostRuntime) -> Result<(), Fail> {
 /// The line of the second image, which has no Study ID any more.
 const SKIPPED: &[u8] = b"skipped I0000002 missing 0020,0010\n";
 
-const PRINTED: &[u8] = b"skipped I0000002 missing 0020,0010\nrecords 4\nimages 1 left out 1\n";
+const PRINTED: &[u8] = b"skipped I0000002 missing 0020,0010\nrecords 4\n";
 
 /// What comes of a run.
 #[derive(Clone, Copy, PartialEq, Eq)]

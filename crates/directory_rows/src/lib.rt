@@ -5,10 +5,18 @@
 #[cfg(test)]
 mod checkdir_rows;
 #[cfg(test)]
+mod index_compressed;
+#[cfg(test)]
+mod index_counts;
+#[cfg(test)]
+mod index_descriptions;
+#[cfg(test)]
 mod index_failures;
 #[cfg(test)]
 mod index_others;
 #[cfg(test)]
 mod index_rows;
+#[cfg(test)]
+mod index_sizes;
 #[cfg(test)]
 mod recorded;

@@ -82,21 +82,17 @@ fn links_that_are_refused(rt: HostRuntime) -> Result<(), Fail> {
     Ok(())
 }
 
-/// Whether a text is not filed where something has its name, and the next one is, under the next name.
-fn goes_past(filing: &mut Folder) -> bool {
-    !is_filed(filing, b"mine") && is_filed(filing, b"mine")
-}
-
-/// A file, and a link that leads nowhere, stay where a draft would get their name without a hard link.
+/// A file, and a link that leads nowhere, stay where a draft would get their name without a hard link: it gets the next
+/// one.
 #[test]
 fn no_file_is_renamed_over(rt: HostRuntime) -> Result<(), Fail> {
     let dir = "no_file_is_renamed_over";
     fresh(&rt, dir)?;
     let mut filing = FolderFiling::open(without_links(rt, 1), dir)?;
     put(&rt, dir, "I0000001", b"of another")?;
-    assert!(rt; goes_past(&mut filing) && holds(&rt, dir, "I0000001", b"of another")?);
+    assert!(rt; is_filed(&mut filing, b"mine") && holds(&rt, dir, "I0000001", b"of another")?);
     rt.symlink("nowhere", "no_file_is_renamed_over/I0000003")?;
-    assert!(rt; goes_past(&mut filing) && holds(&rt, dir, "I0000002", b"mine")?);
+    assert!(rt; is_filed(&mut filing, b"mine") && holds(&rt, dir, "I0000002", b"mine")?);
     assert!(rt; fs::symlink_metadata(&rt, "no_file_is_renamed_over/I0000003")?.is_symlink());
     assert!(rt; holds(&rt, dir, "I0000004", b"mine")? && count(&rt, dir)? == 4);
     drop(filing);

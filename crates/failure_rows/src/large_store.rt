@@ -1,6 +1,7 @@
-//! A store of 16 MiB where memory is refused to whatever asks for as much as one piece of it.
+//! A store of 16 MiB where memory is refused: each allocation, or whatever asks for as much as one piece of the store.
 
 use crate::sources::Repeated;
+use crate::still::{StillFiling, StillWire};
 use dimse::status;
 use engine::{Report, Standing, run};
 use fixtures::bytes::joined;
@@ -8,8 +9,8 @@ use fixtures::folders::{count, fresh};
 use fixtures::stores::{ACCEPT, CT_SET, EXPLICIT, INSTANCE, data, file, reply, request, store};
 use harness::config;
 use linked_list_allocator::LocalHeap;
-use part10::FolderFiling;
-use pdu::MemoryWire;
+use part10::{Filing, FolderFiling, MemoryFiling};
+use pdu::{MemoryWire, Wire};
 use std::alloc::{AllocError, Global};
 use std::test::Fail;
 use std::{fs, io};
@@ -25,6 +26,9 @@ const HEADER: [u8; 12] = [0xe0, 0x7f, 0x10, 0, b'O', b'W', 0, 0, 0, 0, 0, 1];
 
 /// How many bytes of the value come after the first such PDU, which has the class and the instance too.
 const LEFT: usize = VALUE - (PART - 60);
+
+/// The bytes of the file: its header, the class and the instance, the header of the value, and the value.
+const FILE: usize = 288 + 60 + VALUE;
 
 /// How many bytes the devices may allocate.
 const ROOM: usize = 4096;
@@ -63,39 +67,60 @@ fn make_rest(alloc: Global) -> Result<Rest, AllocError> {
     })
 }
 
-/// Runs the store over these devices; whether the association is open after it, and holds what it keeps
-/// of its request.
-fn is_run(
+/// What an association reports that is open after the store, and holds what it keeps of its request.
+const OPEN: Report = Report {
+    standing: Standing::Open,
+    held: 24,
+};
+
+/// What an association reports that a failed send ended.
+const ENDED: Report = Report {
+    standing: Standing::Ended,
+    held: 0,
+};
+
+/// Runs the store over these devices, from the opening of the association on. No allocator is at hand here but what the
+/// devices bring.
+fn run_over<W: Wire, F: Filing>(
     opening: &Opening,
     rest: &Rest,
-    wire: &mut MemoryWire<&LocalHeap>,
-    filing: FolderFiling<(HostRuntime, &LocalHeap)>,
-) -> bool {
+    wire: &mut W,
+    filing: &mut F,
+) -> Report {
     let first = [
         opening.request.as_slice(),
         opening.command.as_slice(),
         opening.first.as_slice(),
     ];
     let (again, last) = (rest.again.as_slice(), rest.last.as_slice());
-    let mut filing = filing;
     let mut source = Repeated::new(&first, again, LEFT / PART, last);
     let turns = 4 + (LEFT / PART) as u64;
-    let report = run::<65536, 1024, 256, 64, _, _, _>(
-        &mut source,
-        &config(),
-        wire,
-        &mut filing,
-        turns,
-    );
-    let (standing, held) = (Standing::Open, 24);
-    report == Report { standing, held } && (filing.committed(), filing.dropped()) == (1, 0)
+    run::<65536, 1024, 256, 64, _, _, _>(&mut source, &config(), wire, filing, turns)
+}
+
+/// Whether the store is filed over these devices.
+fn is_run(
+    opening: &Opening,
+    rest: &Rest,
+    wire: &mut MemoryWire<&LocalHeap>,
+    filing: FolderFiling<(HostRuntime, &LocalHeap)>,
+) -> bool {
+    let mut filing = filing;
+    run_over(opening, rest, wire, &mut filing) == OPEN
+        && (filing.committed(), filing.dropped()) == (1, 0)
 }
 
 /// Whether the folder has the file, as far as the first part of its data set, and of its size.
 fn is_filed(rt: &HostRuntime, dir: &str, front: &[u8]) -> io::Result<bool> {
     let path = format!(in rt.alloc(); "{dir}/I0000001")?;
     let file = fs::read(rt, path)?;
-    Ok(count(rt, dir)? == 1 && file.len() == 288 + 60 + VALUE && file.starts_with(front))
+    Ok(count(rt, dir)? == 1 && file.len() == FILE && file.starts_with(front))
+}
+
+/// The answer to the store of this status: the A-ASSOCIATE-AC and the reply.
+fn answer_of(alloc: Global, status: u16) -> Result<Vec<u8>, AllocError> {
+    let reply = reply(alloc, INSTANCE, status, None)?;
+    joined(alloc, &[ACCEPT, reply.as_slice()])
 }
 
 /// All that the devices may allocate from is a heap that has no room for one more piece of the data set.
@@ -104,15 +129,53 @@ fn a_store_of_16_mib_in_4_kib(rt: HostRuntime) -> Result<(), Fail> {
     let dir = "a_store_of_16_mib";
     let opening = make_opening(rt.alloc())?;
     let rest = make_rest(rt.alloc())?;
-    let reply = reply(rt.alloc(), INSTANCE, status::SUCCESS, None)?;
+    let answer = answer_of(rt.alloc(), status::SUCCESS)?;
     assert!(rt; opening.first.len() == 4096 && rest.again.len() == 4096);
     fresh(&rt, dir)?;
     let heap = LocalHeap::new(rt.alloc(), ROOM)?;
     let mut wire = MemoryWire::new(&heap);
     let filing = FolderFiling::open((rt, &heap), dir)?.without_sync();
     assert!(rt; is_run(&opening, &rest, &mut wire, filing));
-    assert!(rt; wire.sent() == joined(rt.alloc(), &[ACCEPT, reply.as_slice()])?.as_slice());
+    assert!(rt; wire.sent() == answer.as_slice());
     assert!(rt; is_filed(&rt, dir, opening.file.as_slice())?);
     fs::remove_dir_all(&rt, dir)?;
+    Ok(())
+}
+
+/// Whether the store is filed and answered so over devices that take no memory.
+fn is_still(opening: &Opening, rest: &Rest, answer: &[u8]) -> bool {
+    let mut wire = StillWire::new();
+    let mut filing = StillFiling::new(opening.file.as_slice());
+    run_over(opening, rest, &mut wire, &mut filing) == OPEN
+        && wire.sent() == answer
+        && filing.has_filed(FILE)
+}
+
+/// Whether one allocation of the wire ends the association, and one of the filing gives this answer, where the heap has
+/// nothing left.
+fn is_noticed(opening: &Opening, rest: &Rest, heap: &LocalHeap, answer: &[u8]) -> bool {
+    let (mut asking_wire, mut filing) = (MemoryWire::new(heap), StillFiling::new(&[]));
+    let (mut wire, mut asking_filing) = (StillWire::new(), MemoryFiling::new(heap));
+    run_over(opening, rest, &mut asking_wire, &mut filing) == ENDED
+        && asking_wire.sent().is_empty()
+        && filing.is_empty()
+        && run_over(opening, rest, &mut wire, &mut asking_filing) == OPEN
+        && wire.sent() == answer
+        && asking_filing.files().is_empty()
+}
+
+/// Each allocation is refused from the opening of the association to its end, since the heap has nothing left: the store
+/// needs none, and where a device makes one it fails.
+#[test]
+fn a_store_of_16_mib_without_memory(rt: HostRuntime) -> Result<(), Fail> {
+    let (opening, rest) = (make_opening(rt.alloc())?, make_rest(rt.alloc())?);
+    let stored = answer_of(rt.alloc(), status::SUCCESS)?;
+    let refused = answer_of(rt.alloc(), status::OUT_OF_RESOURCES)?;
+    let heap = LocalHeap::new(rt.alloc(), 16)?;
+    let taken = Vec::from_slice(&heap, &[1u8; 16])?;
+    assert!(rt; heap.free() == 0 && Vec::from_slice(&heap, &[1u8]).is_err());
+    assert!(rt; is_still(&opening, &rest, stored.as_slice()));
+    assert!(rt; is_noticed(&opening, &rest, &heap, refused.as_slice()));
+    assert!(rt; taken.len() == 16);
     Ok(())
 }

@@ -29,6 +29,8 @@ mod send_failures;
 #[cfg(test)]
 mod sources;
 #[cfg(test)]
+mod still;
+#[cfg(test)]
 mod store_failures;
 #[cfg(test)]
 mod timer_rows;

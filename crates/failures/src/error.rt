@@ -6,8 +6,11 @@ use std::io::ErrorKind;
 use std::{fmt, io};
 use thiserror::Error;
 
+/// The operating system's number for `EBADF`, by which it refuses to write what was closed.
+const BAD_DESCRIPTOR: i32 = 9;
+
 /// Why the program did not do what it was asked for, and what to do about it. But for help, the
-/// version and invalid arguments it ends with status 3 and this text.
+/// version and invalid arguments it ends with status 3 and this text; where the output was closed, without it.
 #[derive(Drop, Error)]
 pub enum ProgramError {
     #[error("{what}: {1}; {advice}", what = .0.what(), advice = .0.advice())]
@@ -40,9 +43,9 @@ impl ProgramError {
         }
     }
 
-    /// Returns the error of an output that can't be written.
+    /// Returns the error of an output that can't be written; where memory ran out for that, nothing else failed.
     pub fn of_output(error: io::Error) -> ProgramError {
-        ProgramError::System(Failure::Write, error)
+        ProgramError::of(Failure::Write, error)
     }
 
     /// Returns the error of a folder that could not be opened or listed; where memory ran out for that, the folder has
@@ -57,13 +60,26 @@ impl ProgramError {
     }
 
     /// Returns the error of an address and a port that could not be listened on. The system tells that it
-    /// has no such address; what is no IP address is not supported.
+    /// has no such address, or denies a port that it keeps; what is no IP address is not supported.
     pub fn of_listening(error: io::Error) -> ProgramError {
         let failure = match error.kind() {
             ErrorKind::AddrNotAvailable | ErrorKind::Unsupported => Failure::Address,
+            ErrorKind::PermissionDenied => Failure::KeptPort,
             _ => Failure::Listen,
         };
         ProgramError::System(failure, error)
+    }
+
+    /// Returns whether the output is closed, by its reader or since the program began; then nobody reads a text
+    /// either.
+    pub fn is_of_closed_output(&self) -> bool {
+        match self {
+            ProgramError::System(Failure::Write, error) => {
+                error.kind() == ErrorKind::BrokenPipe
+                    || error.raw_os_error() == Some(BAD_DESCRIPTOR)
+            }
+            _ => false,
+        }
     }
 
     /// Returns what the system refused, if that is the error.

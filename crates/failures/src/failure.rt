@@ -17,6 +17,8 @@ pub enum Failure {
     BusyFolder,
     /// A folder can't be written into.
     UnwrittenFolder,
+    /// The file of numbers can't be read or made.
+    Numbers,
     /// A folder's directory can't be read.
     NoDirectory,
     /// Who wrote a folder's directory can't be told.
@@ -29,6 +31,8 @@ pub enum Failure {
     Write,
     /// A port can't be listened on.
     Listen,
+    /// A port can't be listened on, since the system keeps it for programs with more rights.
+    KeptPort,
     /// No more associations can be served.
     Serve,
     /// An address can't be listened on.
@@ -46,12 +50,14 @@ impl Failure {
             Failure::MissingFolder => "the folder can't be opened",
             Failure::BusyFolder => "the folder can't be opened",
             Failure::UnwrittenFolder => "the folder can't be written into",
+            Failure::Numbers => "the file of numbers can't be read or made",
             Failure::NoDirectory => "the folder's DICOMDIR can't be read",
             Failure::UnreadDirectory => "the folder's DICOMDIR can't be looked at",
             Failure::Random => "no UID can be made",
             Failure::Directory => "the directory can't be written",
             Failure::Write => "the output can't be written",
             Failure::Listen => "can't be listened on",
+            Failure::KeptPort => "can't be listened on",
             Failure::Serve => "associations can't be served any more",
             Failure::Address => "can't be listened on",
         }
@@ -69,6 +75,8 @@ impl Failure {
             Failure::BusyFolder => "end the other program that receives into it",
             Failure::UnwrittenFolder =>
                 "check that you may, and that its disk is not read-only or full",
+            Failure::Numbers =>
+                "check that you may write it; once it is damaged, put the greatest number that was given into it, as I0000100 S0000007",
             Failure::NoDirectory => "run index without --keep",
             Failure::UnreadDirectory =>
                 "check that you may read it, or write over it with --replace",
@@ -77,6 +85,8 @@ impl Failure {
                 "check that the disk has room, and that you may write into the folder",
             Failure::Write => "check that its disk has room",
             Failure::Listen => "choose another port, or end what uses it",
+            Failure::KeptPort =>
+                "choose a port from 1024 on: lower ones are for programs with CAP_NET_BIND_SERVICE",
             Failure::Serve => "start the program again",
             Failure::Address =>
                 "--bind takes an IP address of this machine, or 0.0.0.0 for all of them, and no name",

@@ -24,6 +24,22 @@ pub fn open_writer<R: Files<File = File> + Alloc + Clone + Drop>(
     }
 }
 
+/// Has the file of this path, if there is one, keep the greatest numbers that the folder's files are given.
+///
+/// Fails if it can't be read or made, or has no numbers.
+pub fn numbered<R: Files<File = File> + Alloc + Clone + Drop>(
+    writer: FolderWriter<R>,
+    path: Option<&str>,
+) -> Result<FolderWriter<R>, ProgramError> {
+    let Some(path) = path else {
+        return Ok(writer);
+    };
+    match writer.with_numbers(path) {
+        Ok(writer) => Ok(writer),
+        Err(error) => Err(ProgramError::of(Failure::Numbers, error)),
+    }
+}
+
 /// Opens the folder for one filing, as `open_writer` does for several.
 pub fn open_folder<R: Files<File = File> + Alloc + Clone + Drop>(
     rt: R,

@@ -1,12 +1,13 @@
 //! What `dcmbox index` reads of the files of a folder: their rows, and why a file has none.
 use crate::names::path_of;
+use arguments::Index;
 use checkdir_command::PathText;
-use dicomdir::{FileId, Row, Skip, rows_of};
-use dictionary::storage_class;
+use dicomdir::{FileId, Row, Skip, described_row_of, rows_of};
+use dictionary::{Transfer, storage_class};
 use element::Uid;
 use failures::ProgramError;
 use inspection::{Printable, TagText};
-use part10::{MetaFault, read_meta};
+use part10::{MetaFault, read_any_meta};
 use std::alloc::{AllocError, Allocator};
 use std::fs;
 use std::io::{self, Write};
@@ -37,33 +38,52 @@ fn is_image_class(uid: &[u8]) -> bool {
 /// Returns the class of a file that a directory has no IMAGE record of, as its file header names it.
 fn other_class<R: Files>(rt: &R, path: &str) -> Option<Uid> {
     let mut file = fs::open(rt, path).ok()?;
-    let class = read_meta(&mut file).ok()?.class;
+    let class = read_any_meta(&mut file).ok()?.class;
     if is_image_class(class.as_bytes()) {
         return None;
     }
     Some(class)
 }
 
-/// Reads the row of a file at this path, whatever its class.
-fn read_row<R: Files + Alloc>(rt: &R, path: &str, id: &FileId) -> Result<Row<R::A>, Skip>
+/// Reads the row of a file at this path, whatever its class, if it is in a native transfer syntax or in one of these;
+/// with Series Description where that is asked for.
+fn read_row<R: Files + Alloc>(
+    rt: &R,
+    path: &str,
+    id: &FileId,
+    descriptions: bool,
+    further: &[Transfer],
+) -> Result<Row<R::A>, Skip>
 where
     R::A: Copy,
 {
+    let unread = Skip::Fault(MetaFault::ReadFailed.number());
+    let Ok(mut file) = fs::open(rt, path) else {
+        return Err(unread);
+    };
+    if !descriptions {
+        return rows_of(rt.alloc(), &mut file, id, further);
+    }
     match fs::open(rt, path) {
-        Ok(mut file) => rows_of(rt.alloc(), &mut file, id),
-        Err(_) => Err(Skip::Fault(MetaFault::ReadFailed.number())),
+        Ok(mut again) => described_row_of(rt.alloc(), &mut file, &mut again, id, further),
+        Err(_) => Err(unread),
     }
 }
 
 /// Reads the row of the file with this file ID. A file that no IMAGE record is due of need not have its keys.
-fn row_of<R: Files + Alloc>(rt: &R, dir: &str, id: &FileId) -> Result<Row<R::A>, Reason>
+fn row_of<R: Files + Alloc>(
+    rt: &R,
+    settings: &Index,
+    id: &FileId,
+    further: &[Transfer],
+) -> Result<Row<R::A>, Reason>
 where
     R::A: Copy,
 {
-    let Ok(path) = path_of(rt.alloc(), dir, id) else {
+    let Ok(path) = path_of(rt.alloc(), settings.dir, id) else {
         return Err(Reason::Unread(Skip::OutOfMemory));
     };
-    let reason = match read_row(rt, path.as_str(), id) {
+    let reason = match read_row(rt, path.as_str(), id, settings.descriptions, further) {
         Ok(row) if is_image_class(row.class()) => return Ok(row),
         Ok(_) => Skip::Fault(MetaFault::ReadFailed.number()),
         Err(Skip::Missing(tag)) => Skip::Missing(tag),
@@ -103,11 +123,13 @@ impl<A: Allocator> Contents<A> {
     }
 }
 
-/// Reads the rows of files, and keeps why a file has none; fails where memory ran out.
+/// Reads the rows of files in the native transfer syntaxes and in these, and keeps why a file has none; fails where
+/// memory ran out.
 pub(crate) fn read_rows<R: Files + Alloc>(
     rt: &R,
-    dir: &str,
+    settings: &Index,
     ids: &[FileId],
+    further: &[Transfer],
 ) -> Result<Contents<R::A>, ProgramError>
 where
     R::A: Copy,
@@ -117,7 +139,7 @@ where
         skipped: Vec::new(rt.alloc()),
     };
     for id in ids {
-        contents.push(id, row_of(rt, dir, id))?;
+        contents.push(id, row_of(rt, settings, id, further))?;
     }
     Ok(contents)
 }

@@ -1,11 +1,12 @@
 //! `dcmbox index`: the directory of a folder of received files.
 use crate::contents::{Contents, Skipped, read_rows, tell_skipped};
+use crate::indexed::{IndexCounts, Indexed};
 use crate::names::received_files;
 use crate::new_uid::new_uid;
 use arguments::Index;
 use checkdir_command::{PathText, tell_fault};
-use dicomdir::{Built, DirFault, FileId, build, check, kept_of, write_dir};
-use dictionary::IMPLEMENTATION_CLASS_UID;
+use dicomdir::{Built, DirFault, FileId, build_within, check, kept_of, write_dir};
+use dictionary::{IMPLEMENTATION_CLASS_UID, Transfer};
 use element::Uid;
 use failures::{Failure, ProgramError, flushed, read_whole};
 use inspection::{Outcome, implementation_of};
@@ -168,7 +169,7 @@ where
 }
 
 /// Writes a line for each file that has no row, a line for each row that is left out because an earlier one
-/// has the same instance, the number of records, and how many images are listed and how many files left out.
+/// has the same instance, and the number of records.
 fn tell_built<A: Allocator, O: Write>(
     built: &Built<'_, A>,
     skipped: &[Skipped],
@@ -182,27 +183,23 @@ fn tell_built<A: Allocator, O: Write>(
         }
     }
     let records = built.records();
-    writeln!(out, "records {records}")?;
-    let doubles = built.doubles().len();
-    let images = built.rows().len().saturating_sub(doubles);
-    let left_out = skipped.len().saturating_add(doubles);
-    writeln!(out, "images {images} left out {left_out}")
+    writeln!(out, "records {records}")
 }
 
-/// Puts the directory into the folder, and tells what it left out.
+/// Puts the directory into the folder, tells what it left out, and counts that.
 fn put_and_tell<R: Files + Alloc, O: Write>(
     rt: &R,
     dir: &str,
     built: &Built<'_, R::A>,
     skipped: &[Skipped],
     out: &mut O,
-) -> Result<Outcome, ProgramError>
+) -> Result<Indexed, ProgramError>
 where
     R::A: Copy,
 {
     put_directory(rt, dir, built)?;
     match tell_built(built, skipped, out) {
-        Ok(()) => Ok(Outcome::Good),
+        Ok(()) => Ok(Indexed::Written(IndexCounts::of(built, skipped))),
         Err(error) => Err(ProgramError::of_output(error)),
     }
 }
@@ -215,31 +212,44 @@ fn uid_of<R: Files + Alloc>(rt: &R, settings: &Index) -> Result<Uid, ProgramErro
     }
 }
 
-/// Writes the directory of these files, and tells what it left out, or its fault.
+/// Tells the fault of a directory, because of which none is written.
+fn refuse<O: Write>(fault: DirFault, out: &mut O) -> Result<Indexed, ProgramError> {
+    tell_fault(fault, out)?;
+    Ok(Indexed::Faulty)
+}
+
+/// Writes the directory of these files, of at most `most` bytes, and tells what it left out, or its fault.
 fn index_files<R: Files + Alloc, O: Write>(
     rt: &R,
     settings: &Index,
     contents: &Contents<R::A>,
+    most: u32,
     out: &mut O,
-) -> Result<Outcome, ProgramError>
+) -> Result<Indexed, ProgramError>
 where
     R::A: Copy,
 {
     let skipped = contents.skipped.as_slice();
     let uid = uid_of(rt, settings)?;
-    match build(rt.alloc(), contents.rows.as_slice(), uid) {
+    match build_within(rt.alloc(), contents.rows.as_slice(), uid, most) {
         Ok(built) => put_and_tell(rt, settings.dir, &built, skipped, out),
         Err(fault) => {
             tell_skipped(skipped, out).map_err(ProgramError::of_output)?;
-            tell_fault(fault, out)
+            refuse(fault, out)
         }
     }
 }
 
+/// Returns the transfer syntaxes in which files are listed beside the two native ones.
+fn further_syntaxes(all: bool) -> &'static [Transfer] {
+    if all { Transfer::encapsulated() } else { &[] }
+}
+
 /// Writes the file `DICOMDIR` of a folder: the directory of its received files or, with `keep`, of the
 /// images that its present directory keeps. Once it is there, a line tells of each file that gets no row,
-/// and why; then of each double; then how many records there are, and how many images are listed and how many
-/// files left out. A directory that is not built leaves an old one as it is, and its fault is told.
+/// and why; then of each double; then how many records there are. Returns how many images it lists and how
+/// many files it leaves out. A directory that is not built, as one of more than `most` bytes, leaves an old one
+/// as it is, and its fault is told.
 ///
 /// Memory for what the files say is the runtime's.
 ///
@@ -248,11 +258,12 @@ where
 /// bytes for a new UID; if the directory or the output can't be written; or if memory runs out. Then an old
 /// directory is as it was. Where only the output fails, or the folder can't be
 /// written up to the disk, the new directory is there.
-pub fn index_dir<R: Files + Alloc + Clone + Drop, O: Write>(
+pub fn index_folder<R: Files + Alloc + Clone + Drop, O: Write>(
     rt: &R,
     settings: &Index,
+    most: u32,
     out: &mut O,
-) -> Result<Outcome, ProgramError>
+) -> Result<Indexed, ProgramError>
 where
     R::A: Copy,
 {
@@ -261,17 +272,36 @@ where
     }
     match files_of(rt, settings)? {
         Ok(ids) => {
-            let contents = read_rows(rt, settings.dir, ids.as_slice())?;
-            index_files(rt, settings, &contents, out)
+            let further = further_syntaxes(settings.all_syntaxes);
+            let contents = read_rows(rt, settings, ids.as_slice(), further)?;
+            index_files(rt, settings, &contents, most, out)
         }
-        Err(fault) => tell_fault(fault, out),
+        Err(fault) => refuse(fault, out),
     }
 }
 
-/// Writes the directory of a folder, and prints what it left out. What was written before an error is
-/// printed, too.
+/// Writes the directory of a folder as `index_folder` does, of fewer than 2^32 bytes, and returns whether there
+/// was no fault.
+pub fn index_dir<R: Files + Alloc + Clone + Drop, O: Write>(
+    rt: &R,
+    settings: &Index,
+    out: &mut O,
+) -> Result<Outcome, ProgramError>
+where
+    R::A: Copy,
+{
+    let indexed = index_folder(rt, settings, u32::MAX, out)?;
+    Ok(indexed.outcome())
+}
+
+/// Writes the directory of a folder, and prints what it left out; how many images it lists and how many files
+/// it leaves out goes to standard error. What was written before an error is printed, too.
 pub fn index(rt: &HostRuntime, settings: &Index) -> Result<Outcome, ProgramError> {
     let mut out = BufWriter::new(rt.alloc(), io::writer(rt)).map_err(ProgramError::of_output)?;
-    let outcome = index_dir(rt, settings, &mut out);
-    flushed(outcome, &mut out)
+    let indexed = index_folder(rt, settings, u32::MAX, &mut out);
+    let indexed = flushed(indexed, &mut out)?;
+    if let Indexed::Written(counts) = indexed {
+        let _ = eprintln!(rt; "{counts}");
+    }
+    Ok(indexed.outcome())
 }

@@ -3,7 +3,9 @@
 
 mod contents;
 mod directory;
+mod indexed;
 mod names;
 mod new_uid;
 
-pub use directory::{index, index_dir};
+pub use directory::{index, index_dir, index_folder};
+pub use indexed::{IndexCounts, Indexed};

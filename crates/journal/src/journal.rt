@@ -7,6 +7,7 @@ use crate::entries::{
 use crate::outcome::Outcome;
 use crate::outgoing::Said;
 use crate::reply::Value;
+use crate::server_entries::NumbersLow;
 use crate::state::State;
 use crate::teller::Teller;
 use crate::text::Text;
@@ -180,6 +181,9 @@ impl<'a, R: Log + Clock, A: Allocator> Journal<'a, R, A> {
             bytes,
             place,
         });
+        if let Some(place) = self.notes.take_low() {
+            self.teller.tell(&NumbersLow(place));
+        }
     }
 }
 

@@ -2,6 +2,7 @@
 use crate::entries::{Words, give_error};
 use crate::entry::{Entry, Event, Fields, Name};
 use log::Level;
+use part10::Place;
 use std::fmt::Write;
 use std::io;
 use std::net::SocketAddr;
@@ -10,6 +11,12 @@ const PLACES: Name = Name {
     key: "places",
     before: " places ",
     after: "",
+};
+
+const LOW: Name = Name {
+    key: "file",
+    before: ": ",
+    after: " of 9999999",
 };
 
 /// The box listens: `listening on ADDRESS:PORT`.
@@ -153,6 +160,29 @@ impl Entry for NotAccepted<'_> {
 
     fn fields<F: Fields>(&self, out: &mut F) {
         give_error(self.0, out);
+    }
+}
+
+/// Few numbers are left in the folder after that of this file, which is the first one of which it is so.
+#[derive(Clone, Copy)]
+pub(crate) struct NumbersLow(pub Place);
+
+impl Entry for NumbersLow {
+    fn level(&self) -> Level {
+        Level::Warn
+    }
+
+    fn event(&self) -> Event {
+        Event {
+            key: "numbers low",
+            words: "few numbers are left, so move the files away and start anew, or file with --per",
+        }
+    }
+
+    fn fields<F: Fields>(&self, out: &mut F) {
+        let mut file = Words::new();
+        let _ = write!(file, "{}", self.0);
+        out.text(LOW, file.as_str());
     }
 }
 

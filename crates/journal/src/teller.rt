@@ -28,10 +28,11 @@ impl<'a, R: Log + Clock> Teller<'a, R> {
         }
     }
 
-    /// Returns what writes lines about the connection of this peer.
+    /// Returns what writes lines about the connection of this peer. An IPv4 address that came mapped to IPv6
+    /// (RFC 4291 section 2.5.5.2) is shown as the IPv4 address.
     pub fn about(self, peer: SocketAddr) -> Teller<'a, R> {
         Teller {
-            peer: Some(peer),
+            peer: Some(SocketAddr::new(peer.ip().to_canonical(), peer.port())),
             ..self
         }
     }

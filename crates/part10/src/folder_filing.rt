@@ -184,6 +184,9 @@ where
         };
         let place = self.folder.name_draft(self.draft_path.as_str())?;
         self.notes.committed(place);
+        if self.folder.runs_low(place) {
+            self.notes.ran_low(place);
+        }
         self.committed = committed;
         if let Some(draft) = &self.draft {
             self.kept.push(draft.trace());

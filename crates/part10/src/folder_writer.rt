@@ -81,6 +81,22 @@ where
         self
     }
 
+    /// Keeps the greatest numbers that files and folders of files were given in the file of this path, which is
+    /// made if it is not there, and gives greater ones alone. So no number comes again, also once the files
+    /// were moved away and the folder is opened anew. In folders of files a new one begins.
+    ///
+    /// It is written, up to the disk, before a number is given that it does not cover: for every hundredth file
+    /// of a flat folder, else for each folder of files.
+    ///
+    /// Fails with `InvalidData` if the file has anything but a line of numbers, as `I0000100 S0000007`, and if
+    /// it can't be read or made.
+    pub fn with_numbers(self, path: &str) -> io::Result<FolderWriter<R>>
+        ensures same { IfOk result (λ writer. writer ≡ self) }
+    {
+        self.folder.keep_numbers(path)?;
+        Ok(self)
+    }
+
     /// Returns a filing over the folder. Its draft has a number that no other filing of the folder
     /// has: the first filing has 1, and each further one the number after the last.
     ///

@@ -15,6 +15,7 @@ mod meta_fault;
 mod names;
 mod naming;
 mod notes;
+mod numbers;
 mod place;
 mod reading;
 mod stored_file;

@@ -3,11 +3,13 @@
 use crate::drafts::DraftName;
 use crate::folder_identity::FolderIdentity;
 use crate::listing::{contents_of, file_path, folder_path};
+use crate::names::{EntryKind, EntryName};
 use crate::naming::{Named, name_file};
+use crate::numbers::NumbersFile;
 use crate::place::{Layout, Place};
 use crate::stored_file::StoredFile;
 use std::alloc::{AllocError, Allocator};
-use std::cell::Cell;
+use std::cell::{Cell, RefCell};
 use std::fs::{File, OpenFile, TryLockError};
 use std::io::{Error, ErrorKind};
 use std::rt::Files;
@@ -33,7 +35,29 @@ where
     layout: Layout,
     /// Of the last file that was found or committed.
     last: Cell<Place>,
+    /// What keeps the greatest numbers, where something does.
+    numbers: RefCell<Option<NumbersFile<R::A>>>,
     has_sync: Cell<bool>,
+    /// Whether it was told that few numbers are left.
+    has_run_low: Cell<bool>,
+}
+
+/// From this number on few are left in a flat folder.
+const LOW: u32 = 9_000_000;
+
+/// Why a file gets no name once the greatest number is in use, and what helps.
+const NO_NUMBER: &str = "no number up to 9999999 is left: move the files away and start again";
+
+/// Returns the error of a folder of files that can't be made, with its name in the text.
+fn unmade<A: Allocator>(alloc: A, folder: u32, error: &Error) -> Error {
+    let name = EntryName {
+        kind: EntryKind::Folder,
+        number: folder,
+    };
+    match format!(in alloc; "the folder {name} can't be made: {error}") {
+        Ok(text) => Error::new(error.kind(), text.as_str()),
+        Err(failed) => Error::from(failed),
+    }
 }
 
 /// Opens the folder and locks it.
@@ -98,7 +122,9 @@ where
             identity,
             layout,
             last: Cell::new(contents.last),
+            numbers: RefCell::new(None),
             has_sync: Cell::new(true),
+            has_run_low: Cell::new(false),
         })
     }
 
@@ -115,6 +141,25 @@ where
     /// Writes no commit to the disk from now on.
     pub(crate) fn stop_sync(&self) {
         self.has_sync.set(false);
+    }
+
+    /// Keeps the greatest numbers in the file of this path from now on, and goes on behind those that it has.
+    ///
+    /// Fails with `InvalidData` if it has anything but numbers, and if it can't be read or made.
+    pub(crate) fn keep_numbers(&self, path: &str) -> io::Result<()> {
+        let file = NumbersFile::open(&self.rt, path)?;
+        self.last
+            .set(file.kept().last(self.layout, self.last.get()));
+        *self.numbers.try_borrow_mut()? = Some(file);
+        Ok(())
+    }
+
+    /// Has the number of this place kept before it is given.
+    fn keep_number(&self, place: Place) -> io::Result<()> {
+        match &mut *self.numbers.try_borrow_mut()? {
+            Some(file) => file.keep(&self.rt, self.layout, place),
+            None => Ok(()),
+        }
     }
 
     /// Returns the path of the draft with this number.
@@ -157,10 +202,16 @@ where
         fs::remove_file(&self.rt, path)
     }
 
-    /// Makes a folder for files.
+    /// Makes a folder for files, unless something has its name.
+    ///
+    /// Fails with the folder's name in the text if the system refuses it.
     fn make_folder(&self, folder: u32) -> io::Result<()> {
         let path = folder_path(self.rt.alloc(), self.dir.as_str(), folder)?;
-        fs::create_dir(&self.rt, path.as_str())?;
+        match fs::create_dir(&self.rt, path.as_str()) {
+            Ok(()) => {}
+            Err(error) if error.kind() == ErrorKind::AlreadyExists => return Ok(()),
+            Err(error) => return Err(unmade(self.rt.alloc(), folder, &error)),
+        }
         if self.has_sync() {
             if let Err(error) = self.folder.sync_all() {
                 if self.check_path().is_ok() {
@@ -169,7 +220,6 @@ where
                 return Err(error);
             }
         }
-        self.last.set(Place { folder, file: 0 });
         Ok(())
     }
 
@@ -198,18 +248,23 @@ where
         Ok(file_path(self.rt.alloc(), folder.as_str(), place.file)?)
     }
 
+    /// Gives a draft this path. A folder of files that was moved or removed is made again.
+    fn link(&self, draft: &str, place: Place, path: &str) -> io::Result<Named> {
+        match name_file(&self.rt, draft, path) {
+            Err(error)
+                if error.kind() == ErrorKind::NotFound
+                    && matches!(self.layout, Layout::Levels { .. }) => {
+                self.make_folder(place.folder)?;
+                name_file(&self.rt, draft, path)
+            }
+            named => named,
+        }
+    }
+
     /// Gives a draft the name of this place. After an error it has its old name alone.
     fn name_at(&self, draft: &str, place: Place) -> io::Result<()> {
         let path = self.path_of(place)?;
-        let named = match name_file(&self.rt, draft, path.as_str()) {
-            Ok(named) => named,
-            Err(error) => {
-                if error.kind() == ErrorKind::AlreadyExists {
-                    self.last.set(place);
-                }
-                return Err(error);
-            }
-        };
+        let named = self.link(draft, place, path.as_str())?;
         if let Err(error) = self.sync_name(place, named) {
             if self.remove_named(path.as_str()).is_err() {
                 self.last.set(place);
@@ -220,19 +275,59 @@ where
         Ok(())
     }
 
-    /// Gives a draft the next name, and returns where its file stands.
+    /// Returns where the file after the last one stands, in a folder that is made if it is the next one.
     ///
-    /// Fails with `StorageFull` if all numbers are in use.
-    pub(crate) fn name_draft(&self, draft: &str) -> io::Result<Place> {
-        self.check_path()?;
+    /// Fails with `StorageFull` if no number is left.
+    fn next_place(&self) -> io::Result<Place> {
         let last = self.last.get();
         let Some(place) = last.next(self.layout) else {
-            return Err(Error::new(ErrorKind::StorageFull, "all numbers are in use"));
+            return Err(Error::new(ErrorKind::StorageFull, NO_NUMBER));
         };
+        self.keep_number(place)?;
         if place.folder != last.folder {
             self.make_folder(place.folder)?;
+            self.last.set(Place {
+                folder: place.folder,
+                file: 0,
+            });
         }
-        self.name_at(draft, place)?;
         Ok(place)
+    }
+
+    /// Goes on after a place that another program has put something at, or after a folder whose name it gave
+    /// to a file.
+    ///
+    /// Fails with the error that the place met if it is another one.
+    fn pass_over(&self, place: Place, error: Error) -> io::Result<()> {
+        match (error.kind(), self.layout) {
+            (ErrorKind::AlreadyExists, _) => self.last.set(place),
+            (ErrorKind::NotADirectory, Layout::Levels { per }) => self.last.set(Place {
+                folder: place.folder,
+                file: per,
+            }),
+            _ => return Err(error),
+        }
+        Ok(())
+    }
+
+    /// Returns whether few numbers are left after this place, the first time that it is so. Folders of files are
+    /// so many that it is of no concern.
+    pub(crate) fn runs_low(&self, place: Place) -> bool {
+        matches!(self.layout, Layout::Flat) && place.file >= LOW && !self.has_run_low.replace(true)
+    }
+
+    /// Gives a draft the next name that is free, and returns where its file stands.
+    ///
+    /// Fails with `StorageFull` if no number is left.
+    pub(crate) fn name_draft(&self, draft: &str) -> io::Result<Place> {
+        self.check_path()?;
+        for _ in 0..u64::MAX {
+            let place = self.next_place()?;
+            match self.name_at(draft, place) {
+                Ok(()) => return Ok(place),
+                Err(error) => self.pass_over(place, error)?,
+            }
+        }
+        Err(Error::new(ErrorKind::StorageFull, NO_NUMBER))
     }
 }

@@ -48,7 +48,15 @@ impl EntryKind {
         ensures number { result ≡ entry_number self name.now }
         ensures most { IfSome result (λ n. n ≤ 9999999) }
     {
-        let (first, digits) = name.as_bytes().split_first()?;
+        self.number_in_bytes(name.as_bytes())
+    }
+
+    /// Returns the number in a name of this kind, as `number_in` does.
+    pub(crate) fn number_in_bytes(self, name: &[u8]) -> Option<u32>
+        ensures number { result ≡ entry_number self name.now }
+        ensures most { IfSome result (λ n. n ≤ 9999999) }
+    {
+        let (first, digits) = name.split_first()?;
         if *first != self.letter() || digits.len() != 7 {
             return None;
         }

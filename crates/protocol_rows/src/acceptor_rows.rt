@@ -95,28 +95,55 @@ fn pairs_outside_the_table(rt: HostRuntime) {
     assert!(rt; are_given(&OUTSIDE));
 }
 
+/// An action and the next state, the reason of an A-ABORT, and what the action sends and does to the ARTIM timer.
+type ActionRow = (Action, State, u8, Sending, Timer);
+
+/// PS3.8 Tables 9-6 to 9-9, in their order, and no action.
+const EFFECTS: [ActionRow; 22] = [
+    (Ae5, Sta2, 6, Sending::Nothing, Timer::Starts),
+    (Ae6, Sta3, 6, Sending::Nothing, Timer::Stops),
+    (Ae6, Sta13, 6, Sending::Answer, Timer::Starts),
+    (Ae7, Sta6, 6, Sending::Answer, Timer::GoesOn),
+    (Ae8, Sta13, 6, Sending::Answer, Timer::Starts),
+    (Dt2, Sta6, 6, Sending::Nothing, Timer::GoesOn),
+    (Ar2, Sta8, 6, Sending::Nothing, Timer::GoesOn),
+    (Ar4, Sta13, 6, Sending::ReleaseResponse, Timer::Starts),
+    (Ar5, Sta1, 6, Sending::Nothing, Timer::Stops),
+    (Aa1, Sta13, 6, Sending::Abort(0, 0), Timer::Starts),
+    (Aa2, Sta1, 6, Sending::Nothing, Timer::Stops),
+    (Aa3, Sta1, 6, Sending::Nothing, Timer::GoesOn),
+    (Aa4, Sta1, 6, Sending::Nothing, Timer::GoesOn),
+    (Aa5, Sta1, 6, Sending::Nothing, Timer::Stops),
+    (Aa6, Sta13, 6, Sending::Nothing, Timer::GoesOn),
+    (Aa7, Sta13, 1, Sending::Abort(2, 1), Timer::GoesOn),
+    (Aa7, Sta13, 2, Sending::Abort(2, 2), Timer::GoesOn),
+    (Aa7, Sta13, 6, Sending::Abort(2, 6), Timer::GoesOn),
+    (Aa8, Sta13, 1, Sending::Abort(2, 1), Timer::Starts),
+    (Aa8, Sta13, 2, Sending::Abort(2, 2), Timer::Starts),
+    (Aa8, Sta13, 6, Sending::Abort(2, 6), Timer::Starts),
+    (Nothing, Sta6, 6, Sending::Nothing, Timer::GoesOn),
+];
+
 #[test]
-fn sendings(rt: HostRuntime) {
-    for (action, next, sending) in [
-        (Ae6, Sta3, Sending::Nothing),
-        (Ae6, Sta13, Sending::Answer),
-        (Ar4, Sta13, Sending::ReleaseResponse),
-        (Aa1, Sta13, Sending::Abort(0, 0)),
-        (Aa8, Sta13, Sending::Abort(2, 6)),
-    ] {
-        assert!(rt; action.sends(next, 6) == sending);
+fn effects_of_actions(rt: HostRuntime) {
+    for (action, next, reason, sending, timer) in EFFECTS {
+        assert!(rt; action.sends(next, reason) == sending && action.timer(next) == timer);
     }
 }
 
+/// An effect on the timer, and whether it runs afterwards where it did not run before, and where it did.
+const AFTERWARDS: [(Timer, bool, bool); 3] = [
+    (Timer::Starts, true, true),
+    (Timer::Stops, false, false),
+    (Timer::GoesOn, false, true),
+];
+
 #[test]
-fn timers(rt: HostRuntime) {
-    for (action, next, timer) in [
-        (Ae6, Sta3, Timer::Stops),
-        (Ae6, Sta13, Timer::Starts),
-        (Aa7, Sta13, Timer::GoesOn),
-    ] {
-        assert!(rt; action.timer(next) == timer);
+fn the_timer_afterwards(rt: HostRuntime) {
+    for (timer, stopped, running) in AFTERWARDS {
+        assert!(rt; timer.after(false) == stopped && timer.after(true) == running);
     }
-    assert!(rt; Timer::GoesOn.after(true) && !Timer::Stops.after(true));
-    assert!(rt; Sta13.timer_runs() && !Sta6.timer_runs());
+    for state in [Sta1, Sta2, Sta3, Sta6, Sta8, Sta13] {
+        assert!(rt; state.timer_runs() == (state == Sta2 || state == Sta13));
+    }
 }

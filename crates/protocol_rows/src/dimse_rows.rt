@@ -47,6 +47,10 @@ echo-answered | 00*4 04 00*3 42 00*3 class 00 00 00 01 02 00*3 30 80 00 00 20 01
 store-front | 00 00 02 00 1a 00*3 '1.2.840.10008.5.1.4.1.1.2' 00 00 00 00 01 02 00*3 01 80 00 \
     00 20 01 02 00*3 07 00 without-data 00 00 00 09 02 00*3
 store-end | 00 00 00 10 06 00*3 '1.2.3' 00
+store-request | 00 00 02 00 1a 00*3 '1.2.840.10008.5.1.4.1.1.2' 00 00 00 00 01 02 00*3 01 00 \
+    00 00 10 01 02 00*3 07 00 00 00 00 07 02 00*5 00 00 00 08 02 00*3 02 01 store-end
+originator | 00 00 30 10 08 00*3 'SCANNER2'
+originator-message | 00 00 31 10 02 00*3 05 00
 pairs | 0400000000080000000401010000 0400000000080000000401010000 0400000000080000000401010400 \
     0400000000080000000401010000 0400000000080000000401014200 0400000000080000000401010000 \
     0400000000080000000401010000 0400000000080000000401010200 0400000000080000000401011200 \
@@ -83,6 +87,18 @@ an unknown field with a data set | count class 00 00 00 01 02 00*3 20 00 message
     02 00*3 02 01 | 42
 an echo with a data set | count class field message 00 00 00 08 02 00*3 02 01 | 43
 a store without a data set | count class 00 00 00 01 02 00*3 01 00 message kind | 43
+a store of a move | 00*4 04 00*3 72 00*3 store-request originator originator-message | \
+    0001 7 true 1.2.840.10008.5.1.4.1.1.2 1.2.3
+a store of a move, of other lengths | 00*4 04 00*3 6c 00*3 store-request 00 00 30 10 00*4 \
+    00 00 31 10 04 00*3 05 00*3 | 0001 7 true 1.2.840.10008.5.1.4.1.1.2 1.2.3
+an echo with the elements of a move | 00*4 04 00*3 52 00*3 class field message kind originator \
+    originator-message | 0030 1 false 1.2.840.10008.1.1 none
+a store of a move, the message first | 00*4 04 00*3 72 00*3 store-request originator-message \
+    originator | 41
+an originator of an odd length | 00*4 04 00*3 71 00*3 store-request 00 00 30 10 07 00*3 \
+    'SCANNER' originator-message | 41
+an originator twice | 00*4 04 00*3 78 00*3 store-request originator originator | 41
+an originator that is not counted | 00*4 04 00*3 58 00*3 store-request originator | 41
 a store without an instance | count class 00 00 00 01 02 00*3 01 00 message 00 00 00 08 02 \
     00*3 02 01 | 41
 ";
@@ -104,7 +120,7 @@ fn read(alloc: Global, bytes: &[u8]) -> Result<String, Fail> {
 
 /// The parts above, with both commands.
 fn all_parts(alloc: Global) -> Result<Parts<'static>, Fail> {
-    let mut parts = Parts::read(alloc, PARTS, 10)?;
+    let mut parts = Parts::read(alloc, PARTS, 13)?;
     parts.add("echo", Vec::from_slice(alloc, &ECHO)?)?;
     parts.add("store", Vec::from_slice(alloc, &STORE)?)?;
     Ok(parts)
@@ -113,7 +129,7 @@ fn all_parts(alloc: Global) -> Result<Parts<'static>, Fail> {
 #[test]
 fn commands(rt: HostRuntime) -> Result<(), Fail> {
     let parts = all_parts(rt.alloc())?;
-    for case in cases(rt.alloc(), COMMANDS, 15)?.as_slice() {
+    for case in cases(rt.alloc(), COMMANDS, 22)?.as_slice() {
         let bytes = parts.bytes(case, 0)?;
         case.expect(1, read(rt.alloc(), bytes.as_slice())?.as_str())?;
     }

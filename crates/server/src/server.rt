@@ -69,6 +69,7 @@ where
     asked: Option<Instant>,
     places_told: Notice,
     peer_told: Notice,
+    accept_told: Notice,
 }
 
 impl<'a, R: Log + Clock, S: Files<File = File> + Alloc<A = Global> + Clone + Drop> Server<
@@ -252,7 +253,9 @@ impl<'a, R: Log + Clock, S: Files<File = File> + Alloc<A = Global> + Clone + Dro
             }
             Err(failure) if failure.kind() == ErrorKind::WouldBlock => self.may_accept = false,
             Err(failure) => {
-                self.teller().tell(&NotAccepted(&failure));
+                if self.accept_told.is_due(now) {
+                    self.teller().tell(&NotAccepted(&failure));
+                }
                 self.paused = now.checked_add(Duration::from_millis(PAUSE_MILLISECONDS));
             }
         }
@@ -385,6 +388,7 @@ impl<'a, R: Log + Clock, S: Files<File = File> + Alloc<A = Global> + Clone + Dro
             asked: _asked,
             places_told: _places_told,
             peer_told: _peer_told,
+            accept_told: _accept_told,
         } = self;
         let mut seats = seats;
         let count = seats.len();

@@ -1,4 +1,5 @@
 pub mod WireLemmas
 pub mod GivenLemmas
+pub mod CloseLemmas
 pub mod TakenLemmas
 pub mod InboxLemmas

@@ -1,6 +1,6 @@
 -- What a connection has taken: at its open, with one input more, and at its end.
 use Rattle.std.proofs.Common.{◌≡◌, ◌≢◌, ℕ, zero, suc, ◌+◌, ◌<◌, ◌≤◌, Bool, true, false, List, [], ◌∷◌, ◌++◌, length, Some, refl, sym, ap, subst, ◌∙◌, append_assoc, length-append, arith, inl, inr}
-use Rattle.std.proofs.Math.Logic.{∥∥₁_elim, ∥∥₁_map}
+use Rattle.std.proofs.Math.Logic.{∥∥₁_elim, ∥∥₁_map, ∥∥₁_prop}
 use Rattle.std.specs.Coded.{le_prop}
 use Rattle.std.proofs.lemmas.Bool.{cases_lt}
 use Rattle.acceptor.specs.declared.state.State.{State}
@@ -28,8 +28,10 @@ use Rattle.engine.specs.Stands.{Stands}
 use Rattle.engine.specs.Timeline.{Happened, entries, entries_of}
 use Rattle.engine.specs.Turns.{TookInput, Reports}
 use Rattle.engine.proofs.Public.{turns_begin, one_turn_more, turns_are_a_run, entries_of_more, silent_sends_nothing, aborts_shortly}
+use Rattle.serving.proofs.CloseLemmas.{one_more_closes, still_closed}
 use Rattle.serving.proofs.GivenLemmas.{gives_one, still_whole, whole_more}
 use Rattle.serving.specs.declared.outbox.Outbox.{Outbox}
+use Rattle.serving.specs.Closes.{HasClosed, ClosesWithSocket}
 use Rattle.serving.specs.Rooms.{served_rooms}
 use Rattle.serving.specs.Taken.{supply_of, unfailed_line, HasTaken}
 use Rattle.serving.specs.Served.{ExchangedSoFar}
@@ -150,6 +152,14 @@ module _ (s : Settings) (named : List (Input × List ℕ)) (kind : Input) (bytes
       let sent = aborts_shortly served_rooms s (progress_of served_rooms s at_start g.story) (stream_of g.inputs) g.more told in
       omega (arith, ap length g.waits, length-append pending (sent_of served_rooms s (progress_of served_rooms s at_start g.story) g.more), sent, few)
 
+  -- what waits still does
+  pub still_waits : HasTaken s named seen (socket ++ pending) opened old → pending ≢ [] → pending_new ≢ []
+  still_waits h some none = let g = grew h in some (nothing_before pending (sent_of served_rooms s (progress_of served_rooms s at_start g.story) g.more) (sym g.waits ∙ none))
+    where
+      nothing_before : (xs ys : List ℕ) → xs ++ ys ≡ [] → xs ≡ []
+      nothing_before [] ys e = refl
+      nothing_before (x ∷ xs) ys e = absurd cc
+
 -- an input that has no bytes
 pub other_fits : (s : Settings) (named : List (Input × List ℕ)) (kind : Input) (bytes : List ℕ) (seen seen_new : Fields) (socket pending pending_new : List ℕ) (m n : ℕ) (opened old new : Store)
     → m ≡ 0 → OnInput s kind bytes seen seen_new (devices (line pending m) old) (devices (line pending_new n) new) → kind ≢ Piece → (kind ≡ LocalAbort → length pending + 30 < 18631) → length pending < 18631
@@ -210,6 +220,11 @@ module _ (s set : Settings) (named named_new : List (Input × List ℕ)) (kind :
       keeps_on (∥∥₁_elim was.taken le_prop (λ h. other_fits s named kind bytes seen seen_new socket pending pending_new m n opened old new was.never moved no_piece room was.fits h)) read
       (still_whole named kind bytes read no_piece was.whole)
 
+  -- the transport's close where the socket has closed
+  pub keeps_closed : (untaken : List ℕ) (ends refusals : ℕ) → (kind ≡ Closed → ∥ HasClosed untaken ends pending refusals ∥₁) → ∥ ClosesWithSocket (inputs_of named_new) untaken ends pending_new refusals ∥₁
+  keeps_closed untaken ends refusals closed = one_more_closes named named_new bytes untaken ends pending_new refusals kind pushed
+      (λ is. ∥∥₁_elim was.taken ∥∥₁_prop (λ h. ∥∥₁_map (closed is) (λ k. still_closed untaken ends pending pending_new refusals (still_waits s named kind bytes seen seen_new socket pending pending_new m n opened old new was.never moved h) k)))
+
   -- with a portion of a piece
   pub keeps_piece : (most : ℕ) (read_new : List ℕ) → kind ≡ Piece → pending ≡ [] → length bytes ≤ most → read_new ≡ read ++ bytes → IsBytes read_new → ((inputs : List Received) (story : List Happened) (failed : Bool) → Stands served_rooms s inputs story failed seen old → SendsFew served_rooms s inputs story most)
       → Keeps set named_new seen_new read_new socket pending_new n opened new
@@ -229,9 +244,10 @@ ended_stands Sta6 reported e over = absurd cc
 ended_stands Sta8 reported e over = absurd cc
 ended_stands Sta13 reported e over = absurd cc
 
-pub ends : (s : Settings) (named : List (Input × List ℕ)) (seen : Fields) (report : Report) (read untaken socket unsent : List ℕ) (opened old new : Store) → stream_of (inputs_of named) ++ untaken ≡ read
-    → Reports served_rooms s seen old report → new ≡ stepped without_draft false old → HasTaken s named seen (socket ++ unsent) opened old → ExchangedSoFar s report read untaken socket unsent opened new
-ends s named seen report read untaken socket unsent opened old new e reports store h =
+pub ends : (s : Settings) (named : List (Input × List ℕ)) (seen : Fields) (report : Report) (read untaken : List ℕ) (stopped : ℕ) (socket unsent : List ℕ) (refusals : ℕ) (opened old new : Store) → stream_of (inputs_of named) ++ untaken ≡ read
+    → ClosesWithSocket (inputs_of named) untaken stopped unsent refusals → Reports served_rooms s seen old report → new ≡ stepped without_draft false old → HasTaken s named seen (socket ++ unsent) opened old
+    → ExchangedSoFar s report read untaken stopped socket unsent refusals opened new
+ends s named seen report read untaken stopped socket unsent refusals opened old new e closes reports store h =
     let mid = devices (unfailed_line (socket ++ unsent)) old in
     let last = devices (unfailed_line (socket ++ unsent)) new in
     let r = turns_are_a_run served_rooms s h.turns h.turns (supply_of []) (supply_of named) seen (devices (unfailed_line []) opened) mid last report h.took (omega arith) (λ lt. absurd (omega (arith, lt))) reports refl store in
@@ -246,6 +262,7 @@ ends s named seen report read untaken socket unsent opened old new e reports sto
       pieces = ap (λ (xs : List Received). stream_of xs ++ untaken) (sym same) ∙ e;
       run = record { story_is = a.run.story_is; sent_is = sent_same (socket ++ unsent) a.sent (ap (λ (l : Line). l.sent) a.line) ∙ a.run.sent_is; files_are = a.run.files_are; state_is = a.run.state_is };
       last = a.last;
+      closed = λ before last. closes before (same ∙ last);
       unfailed = omega (arith, ap (λ (l : Line). l.failures) a.line);
       standing = a.standing;
       held = a.held;

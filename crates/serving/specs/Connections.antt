@@ -6,7 +6,7 @@ use Rattle.part10.specs.declared.filing.Filing.{Ghosts}
 use Rattle.engine.specs.Fields.{association_in, drafting_of, settings_in, state_of}
 use Rattle.serving.specs.declared.open_connection.Connection.{Connection}
 use Rattle.serving.specs.Waits.{Waits}
-use Rattle.serving.specs.Wires.{pending_in, untaken_in}
+use Rattle.serving.specs.Wires.{IsClosed, pending_in, untaken_in}
 
 -- the settings of its association
 abbrev pub settings_at : {S F : Type 0} {G : Ghosts F} → Connection S F G → Settings
@@ -31,6 +31,14 @@ waiting_at c = pending_in c.link.outbox
 -- the bytes that were read and wait until its association takes them
 abbrev pub untaken_at : {S F : Type 0} {G : Ghosts F} → Connection S F G → List ℕ
 untaken_at c = untaken_in c.link.inbox
+
+-- its socket has closed
+abbrev pub IsClosedAt : {S F : Type 0} {G : Ghosts F} → Connection S F G → Type 0
+IsClosedAt c = IsClosed c.link
+
+-- how many writes took nothing since its socket last took a byte
+abbrev pub refusals_at : {S F : Type 0} {G : Ghosts F} → Connection S F G → ℕ
+refusals_at c = c.link.stream.refusals.total
 
 -- the times by which its peer is waited for
 abbrev pub times_at : {S F : Type 0} {G : Ghosts F} → Connection S F G → Waits

@@ -1,4 +1,5 @@
 pub mod Waits
+pub mod Closes
 pub mod Wires
 pub mod Rooms
 pub mod Taken

@@ -11,14 +11,15 @@ use Rattle.engine.specs.Ran.{Run, EndsLast, standing_of}
 use Rattle.engine.specs.Reached.{reached}
 use Rattle.engine.specs.Run.{wire_failures, filing_failures}
 use Rattle.engine.specs.Timeline.{Happened}
+use Rattle.serving.specs.Closes.{ClosesWithSocket}
 use Rattle.serving.specs.Rooms.{served_rooms}
 use Rattle.serving.specs.declared.exchange.Exchange.{Exchange}
 use Rattle.serving.specs.Wires.{pending_in, untaken_in}
 
 -- Inputs whose pieces, put together and followed by the bytes that were not taken any more, are the bytes that were read gave the bytes that the socket took followed by those that
--- it did not take, the files, and how the association stands and what it holds; none before the last ended it. No send
--- failed.
-pub record ExchangedSoFar (s : Settings) (report : Report) (read untaken sent unsent : List ℕ) (old new : Store) : Type 0 where
+-- it did not take, the files, and how the association stands and what it holds; none before the last ended it. Where the
+-- last is the transport's close, the socket has closed. No send failed.
+pub record ExchangedSoFar (s : Settings) (report : Report) (read untaken : List ℕ) (ends : ℕ) (sent unsent : List ℕ) (refusals : ℕ) (old new : Store) : Type 0 where
   pub inputs : List Received
   pub story : List Happened
   pub failed : Bool
@@ -27,6 +28,7 @@ pub record ExchangedSoFar (s : Settings) (report : Report) (read untaken sent un
   pub pieces : stream_of inputs ++ untaken ≡ read
   pub run : Run served_rooms s inputs story failed (sent ++ unsent) files state
   pub last : EndsLast served_rooms s inputs story
+  pub closed : ClosesWithSocket inputs untaken ends unsent refusals
   pub unfailed : wire_failures story ≡ 0
   pub standing : report.standing ≡ standing_of state
   pub held : Held served_rooms s (reached served_rooms s inputs story failed) report.held
@@ -36,4 +38,6 @@ pub record ExchangedSoFar (s : Settings) (report : Report) (read untaken sent un
 
 -- a connection leaves this
 abbrev pub Leaves : {S : Type 0} → Settings → Exchange S → Store → Store → Type 0
-Leaves s exchange old new = ExchangedSoFar s exchange.report exchange.read.trace.bytes (untaken_in exchange.untaken) exchange.sent.trace.bytes (pending_in exchange.unsent) old new
+Leaves s exchange old new =
+    ExchangedSoFar s exchange.report exchange.read.trace.bytes (untaken_in exchange.untaken) exchange.read.stops.total
+    exchange.sent.trace.bytes (pending_in exchange.unsent) exchange.sent.stops.total old new

@@ -1,6 +1,8 @@
 -- What contracts see of the bytes of one connection.
-use Rattle.std.specs.Prelude.{◌≡◌, ℕ, ◌≤◌, List, [], ◌++◌, drop, length, take, Some}
+use Rattle.std.specs.Prelude.{◌≡◌, ℕ, ◌≤◌, ◌<◌, List, [], ◌++◌, drop, length, take, Some}
+use Rattle.engine.specs.Inputs.{Received}
 use Rattle.pdu.specs.Sent.{Line}
+use Rattle.serving.specs.Closes.{ClosesWithSocket, HasClosed}
 use Rattle.serving.specs.declared.inbox.Inbox.{Inbox}
 use Rattle.serving.specs.declared.link.Arrival.{Arrival}
 use Rattle.serving.specs.declared.link.Arrival.TheVariants as arrival
@@ -17,7 +19,7 @@ line_of outbox = record { sent = Some (pending_in outbox); failures = outbox.fai
 
 -- what an association has sent: what its socket took, and what waits
 abbrev pub sent_over : {S : Type 0} → Link S → List ℕ
-sent_over link = link.stream.written.bytes ++ pending_in link.outbox
+sent_over link = link.stream.traced.written.bytes ++ pending_in link.outbox
 
 -- the bytes that were read and wait until the association takes them
 abbrev pub untaken_in : Inbox → List ℕ
@@ -25,7 +27,15 @@ untaken_in inbox = drop inbox.taken inbox.bytes.items
 
 -- what was read is these bytes, which were taken, followed by what waits
 abbrev pub IsTakenOf : {S : Type 0} → List ℕ → Link S → Type 0
-IsTakenOf taken link = taken ++ untaken_in link.inbox ≡ link.stream.read.bytes
+IsTakenOf taken link = taken ++ untaken_in link.inbox ≡ link.stream.traced.read.bytes
+
+-- its socket has closed
+abbrev pub IsClosed : {S : Type 0} → Link S → Type 0
+IsClosed link = HasClosed (untaken_in link.inbox) link.stream.ends.total (pending_in link.outbox) link.stream.refusals.total
+
+-- where the last of the inputs is the transport's close, its socket has closed
+abbrev pub ClosesWith : {S : Type 0} → List Received → Link S → Type 0
+ClosesWith inputs link = ClosesWithSocket inputs (untaken_in link.inbox) link.stream.ends.total (pending_in link.outbox) link.stream.refusals.total
 
 -- so the bytes that were read grow, by what stands at the front of a room
 abbrev pub ReadsMore : Arrival → List ℕ → List ℕ → List ℕ → Type 0
@@ -33,9 +43,15 @@ ReadsMore (arrival.Bytes n) old new room = (n ≤ length room) × (new ≡ old +
 ReadsMore arrival.Nothing old new room = new ≡ old
 ReadsMore (arrival.End end) old new room = new ≡ old
 
+-- the socket gave its end at least once where nothing more comes, and not where nothing has come yet
+abbrev pub CountsEnd : Arrival → ℕ → ℕ → Type 0
+CountsEnd (arrival.Bytes n) old new = Unit {0}
+CountsEnd arrival.Nothing old new = new ≡ old
+CountsEnd (arrival.End end) old new = 0 < new
+
 -- nothing more was read, and all that was read was taken
 abbrev pub NothingMore : {S : Type 0} → Link S → Link S → Type 0
-NothingMore old new = (new.stream.read.bytes ≡ old.stream.read.bytes) × (new.inbox ≡ old.inbox) × (untaken_in new.inbox ≡ [])
+NothingMore old new = (new.stream.traced.read.bytes ≡ old.stream.traced.read.bytes) × (new.inbox ≡ old.inbox) × (untaken_in new.inbox ≡ [])
 
 -- so the bytes that are to be taken are lent at the front of a room, at most so many; the socket has nothing, or nothing more,
 -- where all that was read was taken

@@ -2,6 +2,7 @@
 //! with its filing, how long its peer is waited for, and what went over it.
 #![tactic(auto)]
 
+mod counted_stream;
 mod exchange;
 mod inbox;
 mod link;

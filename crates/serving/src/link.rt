@@ -1,11 +1,11 @@
 //! The socket of a connection. It does not block: it is read and written as far as it goes.
 ghost use Rattle.std.specs.Prelude.{◌≡◌, ◌≢◌, ◌≤◌, ◌<◌, [], ◌++◌, take, length, IfOk, OnErr, true, false};
 
+use crate::counted_stream::CountedStream;
 use crate::inbox::{INBOX, Inbox};
 use crate::outbox::Outbox;
 use crate::traces::SocketTraces;
 use connection::{Observer, ReadEnd};
-use element::traced_stream::TracedStream;
 use std::io::{Error, ErrorKind, Read, Write};
 
 /// How many bytes are read beyond a portion that is larger than an inbox: the heads of a P-DATA-TF and of
@@ -37,7 +37,7 @@ pub(crate) enum Arrival {
 /// the inbox, is what was read.
 #[derive(Drop)]
 pub struct Link<S> {
-    pub(crate) stream: TracedStream<S>,
+    pub(crate) stream: CountedStream<S>,
     pub(crate) inbox: Inbox,
     pub(crate) outbox: Outbox,
 }
@@ -47,14 +47,14 @@ impl<S> Link<S> {
 
     /// Traces this socket from now on.
     pub(crate) fn new(socket: S) -> Link<S>
-        ensures nothing_read { result.stream.read.bytes ≡ [] }
-        ensures nothing_sent { result.stream.written.bytes ≡ [] }
+        ensures nothing_read { result.stream.traced.read.bytes ≡ [] }
+        ensures nothing_sent { result.stream.traced.written.bytes ≡ [] }
         ensures nothing_untaken { untaken_in result.inbox ≡ [] }
         ensures nothing_waits { pending_in result.outbox ≡ [] }
         ensures never { result.outbox.failures.total ≡ 0 }
     {
         Link {
-            stream: TracedStream::new(socket),
+            stream: CountedStream::new(socket),
             inbox: Inbox::new(),
             outbox: Outbox::new(),
         }
@@ -62,13 +62,16 @@ impl<S> Link<S> {
 }
 
 impl<S: Read> Link<S> {
-    ghost use Rattle.serving.specs.Wires.{Arrives, ReadsMore, untaken_in};
+    ghost use Rattle.serving.specs.Wires.{Arrives, CountsEnd, ReadsMore, untaken_in};
 
     /// Reads what has come, at most as many bytes as there is room for, which the observer is shown.
     fn read<B: Observer>(&mut self, room: &mut [u8], observer: &B) -> Arrival
-        ensures reads { ReadsMore result self.old.stream.read.bytes self.new.stream.read.bytes room.new }
+        requires some_room { 0 < length room.old }
+        ensures reads { ReadsMore result self.old.stream.traced.read.bytes self.new.stream.traced.read.bytes room.new }
+        ensures ends { CountsEnd result self.old.stream.ends.total self.new.stream.ends.total }
         ensures same_room { length room.new ≡ length room.old }
-        ensures same_written { self.new.stream.written ≡ self.old.stream.written }
+        ensures same_written { self.new.stream.traced.written ≡ self.old.stream.traced.written }
+        ensures same_refusals { self.new.stream.refusals ≡ self.old.stream.refusals }
         ensures same_inbox { self.new.inbox ≡ self.old.inbox }
         ensures same_outbox { self.new.outbox ≡ self.old.outbox }
     {
@@ -95,7 +98,9 @@ impl<S: Read> Link<S> {
         requires some_room { 0 < length room.old }
         requires some { 0 < portion }
         ensures arrives { Arrives portion result self.old self.new room.new }
-        ensures same_written { self.new.stream.written ≡ self.old.stream.written }
+        ensures ends { CountsEnd result self.old.stream.ends.total self.new.stream.ends.total }
+        ensures same_written { self.new.stream.traced.written ≡ self.old.stream.traced.written }
+        ensures same_refusals { self.new.stream.refusals ≡ self.old.stream.refusals }
         ensures same_outbox { self.new.outbox ≡ self.old.outbox }
     {
         if !self.inbox.pending().is_empty() {
@@ -128,10 +133,14 @@ impl<S: Write> Link<S> {
         ensures fewer { length (pending_in self.new.outbox) ≤ length (pending_in self.old.outbox) }
         ensures same_failures { self.new.outbox.failures ≡ self.old.outbox.failures }
         ensures some { result ≡ Ok false → pending_in self.new.outbox ≢ [] }
-        ensures same_read { self.new.stream.read ≡ self.old.stream.read }
+        ensures blocked { result ≡ Ok false → 0 < self.new.stream.refusals.total }
+        ensures some_left { OnErr result (pending_in self.new.outbox ≢ []) }
+        ensures refused { OnErr result (0 < self.new.stream.refusals.total) }
+        ensures same_read { self.new.stream.traced.read ≡ self.old.stream.traced.read }
+        ensures same_ends { self.new.stream.ends ≡ self.old.stream.ends }
         ensures same_inbox { self.new.inbox ≡ self.old.inbox }
     {
-        for _ in 0..u64::MAX {
+        for _call in 0..self.outbox.pending().len() {
             let pending = self.outbox.pending();
             if pending.is_empty() {
                 return Ok(true);
@@ -146,15 +155,17 @@ impl<S: Write> Link<S> {
                 Err(error) => return Err(error),
             }
         }
-        Ok(self.outbox.pending().is_empty())
+        Ok(true)
     }
 }
 
 impl<S: Drop> Link<S> {
     /// Gives up the socket. Returns what contracts see of the bytes that went over it, and what waited.
     pub(crate) fn end(self) -> (SocketTraces<S>, Inbox, Outbox)
-        ensures read { result.0.read.trace ≡ self.stream.read }
-        ensures sent { result.0.sent.trace ≡ self.stream.written }
+        ensures read { result.0.read.trace ≡ self.stream.traced.read }
+        ensures ends { result.0.read.stops ≡ self.stream.ends }
+        ensures sent { result.0.sent.trace ≡ self.stream.traced.written }
+        ensures refusals { result.0.sent.stops ≡ self.stream.refusals }
         ensures inbox { result.1 ≡ self.inbox }
         ensures outbox { result.2 ≡ self.outbox }
     {

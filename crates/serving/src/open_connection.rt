@@ -5,7 +5,7 @@ ghost use Rattle.engine.specs.Drafts.{IsThere};
 ghost use Rattle.engine.specs.Fields.{association_in, drafting_of, fields_of, settings_in, state_of};
 ghost use Rattle.engine.specs.Inputs.{inputs_of, stream_of};
 ghost use Rattle.serving.specs.Taken.{HasTaken};
-ghost use Rattle.serving.specs.Wires.{IsTakenOf};
+ghost use Rattle.serving.specs.Wires.{ClosesWith, IsTakenOf};
 
 mod turns;
 
@@ -50,7 +50,9 @@ pub struct Connection<S, F: Filing> {
     /// and none taken twice.
     ghost whole: { IsTakenOf (stream_of (inputs_of given.named)) link },
     /// What the socket took and what waits, and the files, are what came of the inputs.
-    ghost taken: { ∥ HasTaken (settings_in (association_in running)) given.named (fields_of (association_in running)) (link.stream.written.bytes ++ link.outbox.bytes.items) (F.store opened.value) (F.store filing) ∥₁ },
+    ghost taken: { ∥ HasTaken (settings_in (association_in running)) given.named (fields_of (association_in running)) (link.stream.traced.written.bytes ++ link.outbox.bytes.items) (F.store opened.value) (F.store filing) ∥₁ },
+    /// The transport's close was taken only where the socket has closed.
+    ghost closed: { ∥ ClosesWith (inputs_of given.named) link ∥₁ },
 }
 
 /// What a connection leaves whose socket is of type `S`.

@@ -1,12 +1,13 @@
 //! What contracts see of a socket that was traced.
 //!
-//! What stands here is generic in the type `S` of the socket: only a `TracedStream<S>` becomes traces of
+//! What stands here is generic in the type `S` of the socket: only a `CountedStream<S>` becomes traces of
 //! type `S`. So a function that is generic in `S`, too, and has one socket, can return no traces but that
 //! one's.
 ghost use Rattle.std.specs.Prelude.{◌≡◌};
 
+use crate::counted_stream::CountedStream;
+use element::count::Count;
 use element::trace::Trace;
-use element::traced_stream::TracedStream;
 use std::marker::PhantomData;
 
 /// What contracts see of the bytes that went one way over a socket of type `S`. Only what traced such a
@@ -14,6 +15,9 @@ use std::marker::PhantomData;
 #[derive(Drop)]
 pub struct SocketTrace<S> {
     trace: Trace,
+    /// How often the socket stopped there since its last byte: gave its end where it was read, took nothing
+    /// where it was written.
+    stops: Count,
     socket: PhantomData<S>,
 }
 
@@ -29,18 +33,23 @@ pub(crate) struct SocketTraces<S> {
 
 impl<S: Drop> SocketTraces<S> {
     /// Gives up a socket that was traced both ways.
-    pub(crate) fn of(stream: TracedStream<S>) -> SocketTraces<S>
-        ensures read { result.read.trace ≡ stream.read }
-        ensures sent { result.sent.trace ≡ stream.written }
+    pub(crate) fn of(stream: CountedStream<S>) -> SocketTraces<S>
+        ensures read { result.read.trace ≡ stream.traced.read }
+        ensures ends { result.read.stops ≡ stream.ends }
+        ensures sent { result.sent.trace ≡ stream.traced.written }
+        ensures refusals { result.sent.stops ≡ stream.refusals }
     {
-        let (read, written) = stream.into_traces();
+        let (traced, ends, refusals) = stream.into_parts();
+        let (read, written) = traced.into_traces();
         SocketTraces {
             read: SocketTrace {
                 trace: read,
+                stops: ends,
                 socket: PhantomData,
             },
             sent: SocketTrace {
                 trace: written,
+                stops: refusals,
                 socket: PhantomData,
             },
         }

@@ -189,6 +189,28 @@ fn a_peer_that_takes_nothing_is_closed(rt: HostRuntime) -> Result<(), Fail> {
 }
 
 #[test]
+fn a_peer_that_takes_at_last_is_not_closed(rt: HostRuntime) -> Result<(), Fail> {
+    let (now, script) = (Instant::now(&rt)?, Script::new(rt.alloc()));
+    let shown = Audience::new(rt.alloc());
+    let mut one = scripted(rt.alloc(), &script, now);
+    let mut room = [0u8; 4096];
+    script.takes.set(100);
+    script.send(echo::REQUEST)?;
+    assert!(rt; one.turn(now, &mut room, &shown) == Turn::Socket);
+    // As its time is up it takes one byte more, and then all.
+    script.takes.set(1);
+    one.expire(after(now, 600), &shown);
+    assert!(rt; one.wait(after(now, 600)) == Wait::Left(Duration::from_secs(600)));
+    script.takes.set(usize::MAX);
+    one.expire(after(now, 1200), &shown);
+    assert!(rt; !one.is_over() && shown.end.get().is_none());
+    assert!(rt; script.took(echo::ACCEPT));
+    one.expire(after(now, 1800), &shown);
+    assert!(rt; shown.end.get() == Some(ReadEnd::Idle) && shown.failures.get() == 0);
+    Ok(())
+}
+
+#[test]
 fn a_write_that_fails_closes(rt: HostRuntime) -> Result<(), Fail> {
     let (now, script) = (Instant::now(&rt)?, Script::new(rt.alloc()));
     let shown = Audience::new(rt.alloc());

@@ -1,5 +1,5 @@
 -- What laying down records does, last record first: offsets are counted from the end of the file.
-use Rattle.std.specs.Prelude.{◌≡◌, ℕ, ◌+◌, ◌-◌, ◌^◌, ◌≤◌, Bool, true, false, List, [], ◌∷◌, ◌++◌, length, nat_eq, if◌then◌else◌}
+use Rattle.std.specs.Prelude.{◌≡◌, ℕ, ◌+◌, ◌-◌, ◌<◌, Bool, true, false, List, [], ◌∷◌, ◌++◌, length, nat_eq, if◌then◌else◌}
 use Rattle.sequence.specs.Tree.{Elements, no_elements, no_items}
 use Rattle.dicomdir.specs.declared.level.Level.{Level}
 use Rattle.dicomdir.specs.declared.build_plan.LaidRecord.{LaidRecord}
@@ -11,12 +11,18 @@ use Rattle.dicomdir.specs.Places.{forest_size, with_places, first_record_place, 
 use Rattle.dicomdir.specs.Row.{Row}
 use Rattle.dicomdir.specs.TreeOf.{Forest, no_nodes, node, count_of, group_node, TreeOf}
 use Rattle.element.specs.Header.{header_bytes}
-use Rattle.dicomdir.specs.Built.{directory_header}
+use Rattle.dicomdir.specs.Built.{directory_header, too_large_fault, memory_fault}
+use Rattle.dicomdir.specs.declared.fault.DirFault.{DirFault}
 
--- no directory of so many bytes is laid down
-abbrev pub StopsFor : ℕ → Stop → Type 0
-StopsFor size TooLarge = 2 ^ 32 ≤ size
-StopsFor size OutOfMemory = Unit {0}
+-- no directory of so many bytes is laid down where it may have no more than these
+abbrev pub StopsFor : ℕ → ℕ → Stop → Type 0
+StopsFor most size TooLarge = most < size
+StopsFor most size OutOfMemory = Unit {0}
+
+-- the fault because of which none is laid down
+abbrev pub stop_fault : Stop → DirFault
+stop_fault TooLarge = too_large_fault
+stop_fault OutOfMemory = memory_fault
 
 -- the place that is so far from the end
 abbrev pub place_from_end : ℕ → ℕ → ℕ

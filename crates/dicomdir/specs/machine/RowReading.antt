@@ -1,5 +1,5 @@
 -- What walking the data set of a file leaves.
-use Rattle.std.specs.Prelude.{◌≡◌, List, ℕ, ◌++◌, Option, None, IfSome, Some}
+use Rattle.std.specs.Prelude.{◌≡◌, List, ℕ, ◌++◌, Option, None, IfSome, Some, ⊤}
 use Rattle.sequence.specs.declared.coding.Coding.{Coding}
 use Rattle.element.specs.Numbers.{IsBytes}
 use Rattle.sequence.specs.declared.fault.Fault.{Fault}
@@ -10,6 +10,8 @@ use Rattle.sequence.specs.Taken.{StandsAt, walker_syntax, limits_of, fault_of}
 use Rattle.dicomdir.specs.declared.skip.Skip.{Skip}
 use Rattle.part10.specs.declared.meta_fault.MetaFault.{MetaFault}
 use Rattle.part10.specs.declared.meta_fault.MetaFault.TheVariants.{NotPart10, BadMeta, OtherSyntax, ReadFailed}
+use Rattle.dictionary.specs.declared.transfer.Transfer.{Transfer}
+use Rattle.dicomdir.specs.RowOf.{HeaderFaultOf}
 use Rattle.dicomdir.specs.declared.fault.DirFault.{DirFault}
 use Rattle.sequence.specs.declared.step.Step.{Step}
 use Rattle.sequence.specs.declared.step.Step.TheVariants.{Refused}
@@ -40,6 +42,11 @@ TookWhole w old = IfSome old (λ text. StandsAt w text × IsWholeDataSet (walker
 pub data WalkFails {V D : ℕ} (w : Walker V D) (old : Option (List ℕ)) (reason : Skip) : Type 0 where
   read_failed : reason ≡ skip.Fault 54 → WalkFails w old reason
   text_fails : IfSome old (λ text. IsBytes text → FailsBy (walker_syntax w) (limits_of w) text reason) → WalkFails w old reason
+
+-- the header of a file has this fault, where these further transfer syntaxes are taken, or a read failed
+abbrev pub FailsToTake : List Transfer → MetaFault → Option (List ℕ) → Type 0
+FailsToTake further ReadFailed old = ⊤
+FailsToTake further fault old = IfSome old (λ file. HeaderFaultOf further file fault)
 
 -- ---- the refusal that a step of a walk reports, if any, and the fault that a check reports of a file header
 

@@ -137,8 +137,8 @@ fn due_files<'a>(alloc: Global, files: &[&'a [u8]]) -> io::Result<Vec<Due<'a>>> 
     Ok(due)
 }
 
-/// Whether a text is not filed where the next name is taken, and is filed under the one after it; and after a loss of
-/// power, in each state that may be left, all files are there.
+/// Whether a text is filed under the name after the next one where that is taken; and after a loss of power, in each
+/// state that may be left, all files are there.
 fn spares_others(alloc: Global, kept: Kept, has_links: bool) -> io::Result<bool> {
     let trouble = Trouble {
         has_links,
@@ -148,12 +148,11 @@ fn spares_others(alloc: Global, kept: Kept, has_links: bool) -> io::Result<bool>
     let mut filing = open(alloc, &disk, kept)?;
     let is_first = is_filed(&mut filing, b"first");
     put_other(&mut *disk.try_borrow_mut()?, kept)?;
-    let is_refused = !is_filed(&mut filing, b"mine");
     let is_next = is_filed(&mut filing, b"mine");
     let due = due_files(alloc, &[b"first", OTHER, b"mine"])?;
     let disk = disk.try_borrow()?;
     let tried = tried_states(alloc, &disk, kept, due.as_slice())?;
-    Ok(is_first && is_refused && is_next && tried.is_some())
+    Ok(is_first && is_next && tried.is_some())
 }
 
 #[test]

@@ -102,6 +102,7 @@ where
         asked: None,
         places_told: Notice::new(),
         peer_told: Notice::new(),
+        accept_told: Notice::new(),
     })
 }
 

@@ -29,8 +29,8 @@ enum Flush {
     All,
     /// Not all of it: the socket takes nothing more now.
     Blocked,
-    /// Not all of it: the socket fails.
-    Failed,
+    /// Nothing more is: the association has ended, in this call if the socket failed.
+    Over,
 }
 
 /// What a connection that has had its turn waits for.
@@ -46,13 +46,14 @@ pub enum Turn {
 
 impl<S, F: Filing> Connection<S, F> {
     ghost use Rattle.engine.specs.Held.{is_ended};
-    ghost use Rattle.serving.specs.Connections.{settings_at, opening_of, state_at, waiting_at};
+    ghost use Rattle.serving.specs.Connections.{IsClosedAt, settings_at, opening_of, state_at, waiting_at};
 
-    /// Has the association take an input that has no bytes.
+    /// Has the association take an input that has no bytes: the transport's close where the socket has closed.
     fn give(&mut self, input: Input, now: Instant)
         requires open { is_ended (state_at self.old) ≡ false }
         requires no_piece { input ≢ kind.Piece }
         requires room { input ≡ kind.LocalAbort → length (waiting_at self.old) + 30 < 18631 }
+        requires closed { input ≡ kind.Closed → ∥ IsClosedAt self.old ∥₁ }
         ensures settings { settings_at self.new ≡ settings_at self.old }
         ensures opening { opening_of self.new ≡ opening_of self.old }
     {
@@ -61,28 +62,25 @@ impl<S, F: Filing> Connection<S, F> {
             .take(input, &[], &mut self.link.outbox, &mut self.filing);
         self.waiting.follow(now, self.running.state());
     }
-
-    /// Has the association take the transport's close, unless it has ended.
-    fn close(&mut self, now: Instant)
-        ensures settings { settings_at self.new ≡ settings_at self.old }
-        ensures opening { opening_of self.new ≡ opening_of self.old }
-    {
-        if !self.is_over() {
-            self.give(Input::Closed, now);
-        }
-    }
 }
 
 impl<S: Write, F: Filing> Connection<S, F> {
-    ghost use Rattle.serving.specs.Connections.{settings_at, opening_of, waiting_at};
+    ghost use Rattle.engine.specs.Held.{is_ended};
+    ghost use Rattle.serving.specs.Connections.{settings_at, opening_of, refusals_at, state_at, waiting_at};
 
-    /// Writes what waits, as much as the socket takes. Where it fails, that is the transport's close.
+    /// Writes what waits, as much as the socket takes, unless the association has ended. Where the socket
+    /// fails, that is the transport's close.
     fn flush<B: Observer>(&mut self, now: Instant, observer: &B) -> Flush
         ensures settings { settings_at self.new ≡ settings_at self.old }
         ensures opening { opening_of self.new ≡ opening_of self.old }
+        ensures open { result ≢ Flush.Over → is_ended (state_at self.new) ≡ false }
         ensures all { result ≡ Flush.All → waiting_at self.new ≡ [] }
         ensures blocked { result ≡ Flush.Blocked → waiting_at self.new ≢ [] }
+        ensures refused { result ≡ Flush.Blocked → 0 < refusals_at self.new }
     {
+        if self.is_over() {
+            return Flush::Over;
+        }
         let before = self.link.outbox.pending().len();
         match self.link.flush(observer) {
             Ok(all) => {
@@ -93,8 +91,8 @@ impl<S: Write, F: Filing> Connection<S, F> {
             }
             Err(error) => {
                 observer.send_failed(&error);
-                self.close(now);
-                Flush::Failed
+                self.give(Input::Closed, now);
+                Flush::Over
             }
         }
     }
@@ -109,8 +107,14 @@ impl<S: Write, F: Filing> Connection<S, F> {
             return;
         }
         if self.link.outbox.room() <= ABORT {
-            self.give_up(now, observer);
-            return;
+            match self.flush(now, observer) {
+                Flush::All => {}
+                Flush::Blocked => {
+                    self.give_up(now, observer);
+                    return;
+                }
+                Flush::Over => return,
+            }
         }
         observer.read_ended(why);
         self.give(Input::LocalAbort, now);
@@ -119,11 +123,34 @@ impl<S: Write, F: Filing> Connection<S, F> {
 
     /// Closes a connection whose peer takes nothing: nor would it take an A-ABORT.
     fn give_up<B: Observer>(&mut self, now: Instant, observer: &B)
+        requires open { is_ended (state_at self.old) ≡ false }
+        requires some { waiting_at self.old ≢ [] }
+        requires refused { 0 < refusals_at self.old }
         ensures settings { settings_at self.new ≡ settings_at self.old }
         ensures opening { opening_of self.new ≡ opening_of self.old }
     {
         observer.send_failed(&Error::from(ErrorKind::TimedOut));
-        self.close(now);
+        self.give(Input::Closed, now);
+    }
+
+    /// Ends an established association whose peer was silent for the idle time: it is aborted, or the
+    /// connection closed if the peer did not take what waits. That is offered to it once more: a peer that
+    /// takes some of it is not silent.
+    fn end_silence<B: Observer>(&mut self, now: Instant, observer: &B)
+        ensures settings { settings_at self.new ≡ settings_at self.old }
+        ensures opening { opening_of self.new ≡ opening_of self.old }
+    {
+        let waits = self.link.outbox.pending().len();
+        if waits == 0 {
+            self.abort(now, ReadEnd::Idle, observer);
+            return;
+        }
+        match self.flush(now, observer) {
+            Flush::Blocked if self.link.outbox.pending().len() == waits => {
+                self.give_up(now, observer);
+            }
+            _ => {}
+        }
     }
 
     /// Ends what the peer took too long for: once the ARTIM timer has expired, the association; where an
@@ -142,13 +169,7 @@ impl<S: Write, F: Filing> Connection<S, F> {
                 observer.read_ended(ReadEnd::Timer);
                 self.give(Input::Expired, now);
             }
-            Wait::Silent => {
-                if self.link.outbox.pending().is_empty() {
-                    self.abort(now, ReadEnd::Idle, observer);
-                } else {
-                    self.give_up(now, observer);
-                }
-            }
+            Wait::Silent => self.end_silence(now, observer),
         }
     }
 }
@@ -198,9 +219,9 @@ impl<S: Read + Write, F: Filing> Connection<S, F> {
             match self.flush(now, observer) {
                 Flush::All => {}
                 Flush::Blocked => return true,
-                Flush::Failed => return false,
+                Flush::Over => return false,
             }
-            if self.is_over() || left == 0 || left < self.running.portion().min(room.len()) {
+            if left == 0 || left < self.running.portion().min(room.len()) {
                 return false;
             }
             match self.receive(now, room, observer) {

@@ -22,6 +22,16 @@ returns-clause-some c =
         on = λ e. c.get_flag.ensures.value (one_text-rows found (codes "new-uid") ∙ e);
         off = λ e. c.get_flag.ensures.other (one_text-rows found (codes "new-uid") ∙ e);
       };
+      descriptions = record {
+        none = λ e. c.get_flag-descriptions.ensures.none (one_text-rows found (codes "descriptions") ∙ e);
+        on = λ e. c.get_flag-descriptions.ensures.value (one_text-rows found (codes "descriptions") ∙ e);
+        off = λ e. c.get_flag-descriptions.ensures.other (one_text-rows found (codes "descriptions") ∙ e);
+      };
+      all_syntaxes = record {
+        none = λ e. c.get_flag-all_syntaxes.ensures.none (one_text-rows found (codes "all-syntaxes") ∙ e);
+        on = λ e. c.get_flag-all_syntaxes.ensures.value (one_text-rows found (codes "all-syntaxes") ∙ e);
+        off = λ e. c.get_flag-all_syntaxes.ensures.other (one_text-rows found (codes "all-syntaxes") ∙ e);
+      };
       keep = record {
         none = λ e. c.get_flag-2.ensures.none (one_text-rows found (codes "keep") ∙ e);
         on = λ e. c.get_flag-2.ensures.value (one_text-rows found (codes "keep") ∙ e);

@@ -31,6 +31,7 @@ returns-clause-some c =
       };
       log = sym (c.get_str-log.ensures ∙ first_value-rows found (codes "log"));
       per = sym (c.get_str.ensures ∙ first_value-rows found (codes "per"));
+      numbers = sym (c.get_str-numbers.ensures ∙ first_value-rows found (codes "numbers"));
       no_sync = record {
         none = λ e. c.get_flag.ensures.none (one_text-rows found (codes "no-sync") ∙ e);
         on = λ e. c.get_flag.ensures.value (one_text-rows found (codes "no-sync") ∙ e);

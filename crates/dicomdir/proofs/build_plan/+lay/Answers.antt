@@ -16,7 +16,7 @@ returns-in_err-below-clause-stops g t c =
     (below_stops c.args.level (row_groups gs) c.loop-at.at (rows_at group) c.in-Some.row.now.now c.loop-at-test.true le
     (group_at gs (c.loop-at.at - 1) c.index.result.now group c.as_slice-group.ensures.value c.index.ensures)
     (first_now group c.in-Some.row.now c.in-Some.ensures.value)
-    (rows_at c.args.rows.now) c.args.plan.now.entries.items c.loop-at.plan.entries.items c.args.plan.now.size c.loop-at.plan.size c.loop-at.chain.first c.loop-at.chain.last c.in_err-below.field-0.0
+    c.args.most (rows_at c.args.rows.now) c.args.plan.now.entries.items c.loop-at.plan.entries.items c.args.plan.now.size c.loop-at.plan.size c.loop-at.chain.first c.loop-at.chain.last c.in_err-below.field-0.0
     (sym c.is_image.ensures ∙ c.if-is_image.false) c.in-Ok.ensures c.loop-at.invariant.laid (rw c.below.ensures at c.in_err-below.ensures.stops))
 
 pub returns-in_err-start-clause-stops : goal.returns-in_err-start-clause-stops
@@ -29,7 +29,7 @@ returns-in_err-start-clause-stops g t c =
     (own_stops c.args.level (row_groups gs) c.loop-at.at (rows_at group) c.in-Some.row.now.now c.loop-at-test.true le
     (group_at gs (c.loop-at.at - 1) c.index.result.now group c.as_slice-group.ensures.value c.index.ensures)
     (first_now group c.in-Some.row.now c.in-Some.ensures.value)
-    (rows_at c.args.rows.now) c.args.plan.now.entries.items c.loop-at.plan.entries.items c.lay.new.plan.entries.items c.args.plan.now.size c.loop-at.plan.size c.lay.new.plan.size c.loop-at.chain.first c.loop-at.chain.last c.in_ok-below.below.first c.in_ok-below.below.last c.in_err-start.field-0.0
+    c.args.most (rows_at c.args.rows.now) c.args.plan.now.entries.items c.loop-at.plan.entries.items c.lay.new.plan.entries.items c.args.plan.now.size c.loop-at.plan.size c.lay.new.plan.size c.loop-at.chain.first c.loop-at.chain.last c.in_ok-below.below.first c.in_ok-below.below.last c.in_err-start.field-0.0
     (sym c.is_image.ensures ∙ c.if-is_image.false) c.in-Ok.ensures c.loop-at.invariant.laid (rw c.below.ensures at c.in_ok-below.ensures.laid) c.in_err-start.ensures.stops)
 
 pub loop-at-preserved-in-Some : goal.loop-at-preserved-in-Some

@@ -1,6 +1,12 @@
-use Rattle.std.proofs.Common.{◌≡◌, map, take}
-use Rattle.dicomdir.specs.RecordTable.{want_of}
+use Rattle.std.proofs.Common.{◌≡◌, ◌≤◌, ◌++◌, drop}
+use Rattle.std.specs.Prelude.{filter}
+use Rattle.arrayvec.specs.ArrayVec.{array_vec_len}
+use Rattle.dicomdir.specs.RecordTable.{is_read}
+use Rattle.dicomdir.specs.RowOf.{row_wants}
 use Rattle.dicomdir.proofs.row_reading.wants_of.Given as goal
 
 abbrev pub invariant-loop-rule : goal.invariant-loop-rule
-invariant-loop-rule l = l.wants.items ≡ map want_of (take l.rule-index l.rules)
+invariant-loop-rule l = record {
+  wants : l.wants.items ++ row_wants (filter (is_read l.keys) (drop l.rule-index l.rules)) ≡ row_wants (filter (is_read l.keys) l.rules);
+  few : array_vec_len l.wants ≤ l.rule-index;
+}

@@ -4,7 +4,7 @@ use Rattle.dicomdir.proofs.build_plan.Plan.add.Goals as goal
 
 pub returns-clause-added : goal.returns-clause-added
 returns-clause-added g c = record {
-  entry = record { level = c.args.level; row = c.args.row; next = c.args.next; lower = c.args.lower };
+  entry = c.args.entry;
   level_is = refl;
   row_is = refl;
   next_is = refl;

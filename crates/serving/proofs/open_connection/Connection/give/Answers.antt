@@ -1,14 +1,14 @@
 -- One input more, which has no bytes.
 use Rattle.std.proofs.Common.{◌∙◌, refl, subst, sym}
 use Rattle.element.specs.Numbers.{IsBytes}
-use Rattle.serving.proofs.TakenLemmas.{keeps_other}
+use Rattle.serving.proofs.TakenLemmas.{Keeps, keeps_closed, keeps_other}
 use Rattle.serving.proofs.open_connection.Connection.give.Goals as goal
 
 pub invariant_of-self : goal.invariant_of-self
 invariant_of-self g c =
     let was = c.args.self.now in
-    let k = keeps_other _ _ _ _ _ _ _ _ _ _ _ _ _ _ _ _ _ c.take.ensures.settings c.push.ensures c.requires.open c.take.new.wire.full c.take.ensures.moved
-    (record { never = was.never; fits = was.fits; whole = refl; taken = was.taken }) c.requires.no_piece c.requires.room in
+    let before : Keeps _ _ _ _ _ _ _ _ _ = record { never = was.never; fits = was.fits; whole = refl; taken = was.taken } in
+    let k = keeps_other _ _ _ _ _ _ _ _ _ _ _ _ _ _ _ _ _ c.take.ensures.settings c.push.ensures c.requires.open c.take.new.wire.full c.take.ensures.moved before c.requires.no_piece c.requires.room in
     record {
       there = c.take.ensures.draft;
       never = k.never;
@@ -17,4 +17,5 @@ invariant_of-self g c =
       followed = c.follow.ensures.state ∙ c.state.ensures;
       whole = rw k.whole was.whole;
       taken = k.taken;
+      closed = keeps_closed _ _ _ _ _ _ _ _ _ _ _ _ _ _ _ _ _ c.take.ensures.settings c.push.ensures c.requires.open c.take.new.wire.full c.take.ensures.moved before _ _ _ c.requires.closed;
     }

@@ -2,6 +2,8 @@
 use Rattle.std.proofs.Common.{◌≡◌, refl, true, false, subst, sym, ap, ◌∙◌, lit<}
 use Rattle.element.specs.Numbers.{IsBytes}
 use Rattle.serving.specs.Waits.{Waits}
+use Rattle.engine.specs.Inputs.{inputs_of}
+use Rattle.serving.proofs.CloseLemmas.{none_closes}
 use Rattle.serving.proofs.InboxLemmas.{nothing_read}
 use Rattle.serving.proofs.TakenLemmas.{begins_due, opens}
 use Rattle.serving.proofs.open_connection.Connection.open.Goals as goal
@@ -17,4 +19,5 @@ invariant_of-result g c =
       followed = ap (λ (w : Waits). w.state) c.new-2.ensures ∙ begins_due _ _ _ (c.open.ensures.stands (g.F.Filing.store c.args.filing));
       whole = nothing_read _ _ _ k.whole c.new.ensures.nothing_untaken c.new.ensures.nothing_read;
       taken = k.taken;
+      closed = ∣ none_closes _ _ _ _ _ (ap inputs_of c.new-3.ensures) ∣₁;
     }

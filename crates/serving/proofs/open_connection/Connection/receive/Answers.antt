@@ -1,7 +1,9 @@
 -- One portion more.
-use Rattle.std.proofs.Common.{refl, ap, sym, subst, ◌∙◌}
+use Rattle.std.proofs.Common.{ℕ, ◌<◌, refl, ap, sym, subst, ◌∙◌}
 use Rattle.element.specs.Numbers.{IsBytes}
+use Rattle.element.specs.declared.count.Count.{Count}
 use Rattle.serving.specs.declared.outbox.Outbox.{Outbox}
+use Rattle.serving.proofs.CloseLemmas.{one_more_closes, still_closes}
 use Rattle.serving.proofs.InboxLemmas.{within_portion}
 use Rattle.serving.proofs.TakenLemmas.{keeps_piece, more_bytes, same_link}
 use Rattle.serving.proofs.open_connection.Connection.receive.Goals as goal
@@ -23,4 +25,16 @@ invariant_of-self-in-Bytes g c =
       followed = c.follow.ensures.state ∙ c.state.ensures;
       whole = rw k.whole (lent.arrives.2 _ was.whole);
       taken = k.taken;
+      closed = one_more_closes _ _ _ _ _ _ _ _ c.push.ensures (λ e. absurd cc);
     }
+
+pub invariant_of-self-clause-closed : goal.invariant_of-self-clause-closed
+invariant_of-self-clause-closed g c =
+    let lent = c.in-Nothing.ensures in
+    still_closes _ _ _ _ _ _ _ _ _ lent.arrives.2 (λ lt. subst (λ (n : ℕ). 0 < n) (sym lent.ends) lt) (ap (λ (o : Outbox). o.bytes.items) lent.same_outbox) (ap (λ (k : Count). k.total) lent.same_refusals) c.args.self.now.closed
+
+pub invariant_of-self-clause-whole : goal.invariant_of-self-clause-whole
+invariant_of-self-clause-whole g c = let lent = c.in-Nothing.ensures.arrives in rw (lent.1, lent.0) c.args.self.now.whole
+
+pub invariant_of-self-clause-taken : goal.invariant_of-self-clause-taken
+invariant_of-self-clause-taken g c = let lent = c.in-Nothing.ensures in rw (lent.same_written, lent.same_outbox) c.args.self.now.taken

@@ -1,0 +1,43 @@
+//! In which transfer syntaxes a file is taken.
+ghost use Rattle.std.specs.Prelude.{◌≡◌, true, IfOk, IfErr};
+ghost use Rattle.std.specs.List.{list_any};
+ghost use Rattle.dictionary.specs.Transfers.{is_text_of, transfer_uid};
+ghost use Rattle.part10.specs.MetaText.{said_of, TakesMeta};
+ghost use Rattle.dicomdir.specs.RowOf as rule;
+ghost use Rattle.dicomdir.specs.machine.RowReading.{FailsToTake};
+
+use dictionary::Transfer;
+use part10::{Meta, MetaFault, read_any_meta};
+use std::io::Read;
+
+/// Returns whether the list has this transfer syntax.
+fn is_among(transfers: &[Transfer], transfer: Transfer) -> bool
+    ensures { result ≡ list_any (is_text_of (transfer_uid transfer)) transfers.now }
+{
+    transfers.iter().any(|other| other.uid() == transfer.uid())
+}
+
+/// Returns whether a file in this transfer syntax is taken: in a native one, or in one of the further ones.
+fn is_taken(further: &[Transfer], transfer: Transfer) -> bool
+    ensures { result ≡ rule.is_taken further.now transfer }
+{
+    !transfer.is_encapsulated() || is_among(further, transfer)
+}
+
+/// Reads the file header that the reader begins with, where it names a transfer syntax that is taken; any other one is
+/// `OtherSyntax`.
+pub(crate) fn read_taken<R: Read>(reader: &mut R, further: &[Transfer]) -> Result<Meta, MetaFault>
+    ensures header { IfOk result (λ meta. TakesMeta (said_of meta) (R.remaining reader.old) (R.remaining reader.new)) }
+    ensures taken { IfOk result (λ meta. rule.is_taken further.now meta.syntax ≡ true) }
+    ensures fault { IfErr result (λ fault. FailsToTake further.now fault (R.remaining reader.old)) }
+{
+    match read_any_meta(reader) {
+        Ok(meta) => {
+            if is_taken(further, meta.syntax) {
+                return Ok(meta);
+            }
+            Err(MetaFault::OtherSyntax)
+        }
+        Err(fault) => Err(fault),
+    }
+}

@@ -1,0 +1,113 @@
+//! A wire and a filing that take no memory.
+ghost use Rattle.std.specs.Prelude.{None};
+
+use arrayvec::ArrayVec;
+use element::count::Count;
+use part10::{Filing, FilingFailed};
+use pdu::{Wire, WireFailed};
+
+/// A wire that has room for an A-ASSOCIATE-AC and a reply.
+#[derive(Drop)]
+pub(crate) struct StillWire {
+    sent: ArrayVec<u8, 512>,
+    failures: Count,
+}
+
+impl StillWire {
+    pub(crate) fn new() -> StillWire {
+        StillWire {
+            sent: ArrayVec::new(),
+            failures: Count::new(),
+        }
+    }
+
+    /// The bytes sent so far.
+    pub(crate) fn sent(&self) -> &[u8] {
+        self.sent.as_slice()
+    }
+}
+
+impl Wire for StillWire {
+    ghost line = { λ w. record { sent = None; failures = w.failures.total } };
+
+    fn send(&mut self, bytes: &[u8]) -> Result<(), WireFailed> {
+        if self.sent.try_extend_from_slice(bytes).is_err() {
+            self.failures.add_one();
+            return Err(WireFailed);
+        }
+        Ok(())
+    }
+}
+
+/// Zeros, as many as come at once.
+static ZEROS: [u8; 4096] = [0; 4096];
+
+/// A filing of one file, which has zeros after its front. It looks at the bytes as they come, and keeps none.
+#[derive(Drop)]
+pub(crate) struct StillFiling<'a> {
+    front: &'a [u8],
+    has_draft: bool,
+    /// How many bytes the last draft has.
+    length: usize,
+    /// Whether each byte was that of the file.
+    is_right: bool,
+    begun: usize,
+    committed: usize,
+}
+
+/// Returns whether the bytes are those of the file from this place on.
+fn are_at(front: &[u8], place: usize, bytes: &[u8]) -> bool {
+    let rest = front.get(place..).unwrap_or(&[]);
+    let (first, zeros) = bytes.split_at(rest.len().min(bytes.len()));
+    rest.starts_with(first) && ZEROS.starts_with(zeros)
+}
+
+impl<'a> StillFiling<'a> {
+    pub(crate) fn new(front: &'a [u8]) -> StillFiling<'a> {
+        StillFiling {
+            front,
+            has_draft: false,
+            length: 0,
+            is_right: true,
+            begun: 0,
+            committed: 0,
+        }
+    }
+
+    /// Whether one draft was begun and filed, of so many bytes, each as it is due.
+    pub(crate) fn has_filed(&self, length: usize) -> bool {
+        (self.begun, self.committed) == (1, 1) && self.is_right && self.length == length
+    }
+
+    /// Whether nothing was filed, and there is no draft.
+    pub(crate) fn is_empty(&self) -> bool {
+        self.committed == 0 && !self.has_draft
+    }
+}
+
+impl Filing for StillFiling<'_> {
+    ghost store = { λ f. record { told = None; has_draft = f.has_draft; failures = 0 } };
+
+    fn begin(&mut self) -> Result<(), FilingFailed> {
+        self.has_draft = true;
+        self.length = 0;
+        self.begun = self.begun.saturating_add(1);
+        Ok(())
+    }
+
+    fn append(&mut self, bytes: &[u8]) -> Result<(), FilingFailed> {
+        self.is_right = self.is_right && are_at(self.front, self.length, bytes);
+        self.length = self.length.saturating_add(bytes.len());
+        Ok(())
+    }
+
+    fn commit(&mut self) -> Result<(), FilingFailed> {
+        self.has_draft = false;
+        self.committed = self.committed.saturating_add(1);
+        Ok(())
+    }
+
+    fn discard(&mut self) {
+        self.has_draft = false;
+    }
+}

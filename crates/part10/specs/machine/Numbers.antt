@@ -1,0 +1,27 @@
+-- The greatest numbers that a folder's files and folders were given, as their file keeps them. This product's own profile.
+use Rattle.std.specs.Prelude.{ℕ, ◌≤◌, ◌&&◌, List, [], ◌∷◌, take, drop, length, codes, Option, Some, None, nat_eq, if◌then◌else◌}
+use Rattle.std.specs.Str.{bytes_eq}
+use Rattle.part10.specs.EntryNames.{entry_number}
+use Rattle.part10.specs.declared.names.EntryKind.TheVariants.{File, Folder}
+use Rattle.part10.specs.declared.numbers.Numbers.{Numbers}
+use Rattle.part10.specs.declared.place.Layout.{Layout}
+use Rattle.part10.specs.declared.place.Layout.TheVariants.{Flat, Levels}
+use Rattle.part10.specs.declared.place.Place.{Place}
+
+-- two numbers that are there, together
+abbrev pub both_numbers : Option ℕ → Option ℕ → Option Numbers
+both_numbers (Some file) (Some folder) = Some (record { file = file; folder = folder })
+both_numbers (Some file) None = None
+both_numbers None folder = None
+
+-- the numbers in a line: the name of a file, a space, the name of a folder, and a line feed
+abbrev pub numbers_of : List ℕ → Option Numbers
+numbers_of line =
+    if nat_eq (length line) 18 && bytes_eq (take 1 (drop 8 line)) (codes " ") && bytes_eq (take 1 (drop 17 line)) (10 ∷ [])
+    then both_numbers (entry_number File (take 8 line)) (entry_number Folder (take 8 (drop 9 line)))
+    else None
+
+-- the number of this place is kept: that of its file or, in folders of files, that of its folder
+abbrev pub IsCovered : Layout → Numbers → Place → Type 0
+IsCovered Flat kept place = place.file ≤ kept.file
+IsCovered (Levels per) kept place = place.folder ≤ kept.folder

@@ -1,0 +1,27 @@
+-- What is written to a socket does not show whether it had closed: an association that has not ended was not given the close.
+use Rattle.std.proofs.Common.{◌∙◌, sym}
+use Rattle.engine.specs.Fields.{association_in}
+use Rattle.serving.proofs.CloseLemmas.{open_unclosed}
+use Rattle.serving.proofs.open_connection.Connection.flush.Goals as goal
+
+pub invariant_of-self-clause-whole : goal.invariant_of-self-clause-whole
+invariant_of-self-clause-whole g c = rw (c.flush.ensures.same_inbox, c.flush.ensures.same_read) c.args.self.now.whole
+
+pub invariant_of-self-clause-taken : goal.invariant_of-self-clause-taken
+invariant_of-self-clause-taken g c = rw c.flush.ensures.same_sent c.args.self.now.taken
+
+pub invariant_of-self-clause-closed : goal.invariant_of-self-clause-closed
+invariant_of-self-clause-closed g c =
+    let was = c.args.self.now in
+    open_unclosed (association_in was.running) _ _ _ _ _ _ _ _ _ was.taken (sym c.is_over.ensures.over ∙ c.if-is_over.false)
+
+pub invariant_of-self-else-pending-before-clause-whole : goal.invariant_of-self-else-pending-before-clause-whole
+invariant_of-self-else-pending-before-clause-whole g c = rw (c.flush.ensures.same_inbox, c.flush.ensures.same_read) c.args.self.now.whole
+
+pub invariant_of-self-else-pending-before-clause-taken : goal.invariant_of-self-else-pending-before-clause-taken
+invariant_of-self-else-pending-before-clause-taken g c = rw c.flush.ensures.same_sent c.args.self.now.taken
+
+pub invariant_of-self-else-pending-before-clause-closed : goal.invariant_of-self-else-pending-before-clause-closed
+invariant_of-self-else-pending-before-clause-closed g c =
+    let was = c.args.self.now in
+    open_unclosed (association_in was.running) _ _ _ _ _ _ _ _ _ was.taken (sym c.is_over.ensures.over ∙ c.if-is_over.false)
