@@ -2,19 +2,23 @@
 # Sends compressed images to `dcmbox serve` with DCMTK's unchanged tools, and what no tool sends with tests/peer.py, and looks
 # at what is filed.
 # Usage: tests/compressed.sh PROGRAM
-# It installs Debian's packages dcmtk, libgdcm-tools and python3-pydicom where what they have is missing.
+# It installs Debian's packages dcmtk, libgdcm-tools, orthanc, curl and python3-pydicom with its decoders where what they have is missing.
 set -u
 program=$(realpath "$1")
 here=$(realpath "$(dirname "$0")")
 . "$here/ports.sh"
 free_port port
+free_port dicom_port
+free_port http_port
 images=/usr/lib/python3/dist-packages/pydicom/data/test_files
 
 tools='dump2dcm dcmconv dcmcjpeg dcmcjpls dcmcrle dcmdjpeg dcmdjpls dcmdrle dcmdump dcmftest dcmsend echoscu storescu gdcmconv'
-for tool in $tools; do
-  if ! command -v "$tool" >/dev/null || [ ! -d "$images" ]; then
-    echo 'installing dcmtk, libgdcm-tools and python3-pydicom'
-    { apt-get update && apt-get install -y --no-install-recommends dcmtk libgdcm-tools python3-pydicom; } >/dev/null || exit 1
+packages='dcmtk libgdcm-tools orthanc curl python3-pydicom python3-numpy python3-gdcm python3-pil'
+for tool in $tools Orthanc curl; do
+  if ! command -v "$tool" >/dev/null || ! /usr/bin/python3 -c 'import pydicom, numpy, gdcm, PIL' 2>/dev/null; then
+    echo "installing $packages"
+    # shellcheck disable=SC2086
+    { apt-get update && apt-get install -y --no-install-recommends $packages; } >/dev/null || exit 1
     break
   fi
 done
@@ -33,7 +37,15 @@ stop() {
     server=
   fi
 }
-trap 'stop; rm -rf "$work"' EXIT
+orthanc=
+stop_orthanc() {
+  if [ -n "$orthanc" ]; then
+    kill "$orthanc" 2>/dev/null
+    wait "$orthanc" 2>/dev/null
+    orthanc=
+  fi
+}
+trap 'stop; stop_orthanc; rm -rf "$work"' EXIT
 cd "$work" || exit 1
 passed=0
 failed=0
@@ -223,6 +235,46 @@ check 'dcmsend sends all on one association' dcmsend -dn "${to_box[@]}" "${compr
 stop
 check 'they are filed bit for bit, too' holds together "${compressed[@]}"
 
+# ---- an archive passes them on: Orthanc sends each as it has it
+
+mkdir archive
+cat >archive.json <<END
+{
+  "StorageDirectory": "$work/archive",
+  "IndexDirectory": "$work/archive",
+  "HttpPort": $http_port,
+  "DicomPort": $dicom_port,
+  "DicomAet": "ARCHIVE",
+  "AuthenticationEnabled": false,
+  "RemoteAccessAllowed": false,
+  "OverwriteInstances": true,
+  "Plugins": [],
+  "DicomModalities": { "box": ["DCMBOX", "127.0.0.1", $port] }
+}
+END
+ask() { curl -sf --max-time 120 "http://127.0.0.1:$http_port/$1" "${@:2}"; }
+Orthanc archive.json >archive.txt 2>&1 &
+orthanc=$!
+for _ in $(seq 300); do
+  ask system >/dev/null && break
+  sleep 0.1
+done
+
+# passes_on FILE : Orthanc takes the file, and stores it to the box.
+passes_on() {
+  local id
+  id=$(ask instances --data-binary "@$1" | sed -n 's/.*"ID" : "\([^"]*\)".*/\1/p')
+  [ -n "$id" ] || { tail -n 5 archive.txt; return 1; }
+  ask modalities/box/store -d "$id" | grep -q '"FailedInstancesCount" : 0'
+}
+start passed_on --all-syntaxes --at-once 4 || exit 1
+for name in "${compressed[@]}"; do
+  check "Orthanc passes on ${name%.dcm}" passes_on "$name"
+done
+stop
+stop_orthanc
+check 'they are filed bit for bit, each in its own syntax' holds passed_on "${compressed[@]}"
+
 # ---- what is filed is decoded to the pixels that were encoded
 
 # like NAME : the filed image that was sent from a file.
@@ -257,6 +309,32 @@ gdcm_decodes() {
   gdcmconv --raw "$(like j2k)" decoded.dcm && tail -c 131072 decoded.dcm | cmp - words.raw
 }
 check 'gdcmconv decodes JPEG 2000' gdcm_decodes
+
+cat >pixels.py <<'END'
+"""Decodes a filed image with pydicom, and compares its pixels with those that were encoded, or with those of the sent file."""
+import pathlib
+import sys
+
+import pydicom
+
+filed, sent, encoded = sys.argv[1:]
+found = pydicom.dcmread(filed).pixel_array
+if encoded:
+    is_same = found.tobytes() == pathlib.Path(encoded).read_bytes()
+else:
+    is_same = found.std() > 1 and (found == pydicom.dcmread(sent).pixel_array).all()
+sys.exit(0 if is_same else 1)
+END
+pydicom_decodes() {
+  timeout 120 /usr/bin/python3 pixels.py "$(like "$1")" "$1.dcm" "${2:-}"
+}
+for name in sv1 lossless jpegls rle no_table fragments j2k; do
+  check "pydicom decodes $name" pydicom_decodes $name words.raw
+done
+check 'pydicom decodes 200 frames of RLE' pydicom_decodes frames_rle frames.raw
+for name in baseline extended near j2k_lossy; do
+  check "pydicom decodes $name" pydicom_decodes $name
+done
 
 # ---- show and check of what is filed
 
