@@ -403,6 +403,7 @@ peer() {
 known=$(sed -n '/made by tools.transfer-syntaxes/,/end -->/s/^    \([0-9.]*\) *[A-Za-z0-9]*$/\1/p' "$here/../docs/CONFORMANCE.md")
 ct=1.2.840.10008.5.1.4.1.1.2
 jpeg=1.2.840.10008.1.2.4.70
+uncompressed=1.2.840.10008.1.2.1.98
 le() { printf "\\x$(printf '%02x' $(($1 & 255)))\\x$(printf '%02x' $(($1 >> 8 & 255)))\\x$(printf '%02x' $(($1 >> 16 & 255)))\\x$(printf '%02x' $(($1 >> 24 & 255)))"; }
 
 # begin INSTANCE : a CT image of an instance of six characters up to the header of its Pixel Data, of undefined length, whose bytes come on standard input.
@@ -419,7 +420,7 @@ fragment() {
 end() { printf '\376\377\335\340\0\0\0\0'; }
 
 start raw --all-syntaxes --at-once 2 || exit 1
-check '128 contexts, each with one compressed syntax' peer 128 contexts $known
+check '128 contexts, each with one syntax that is not native' peer 128 contexts $known
 { begin 2.25.1; fragment 0; fragment 4; printf '\376\377\335\340'; end; } >whole.bin
 check 'a fragment that looks like a delimitation' peer 0000 store $jpeg $ct 2.25.1 whole.bin
 check 'the last of 128 contexts' peer 0000 store $jpeg $ct 2.25.1 whole.bin 128
@@ -448,12 +449,25 @@ check 'a delimitation of two bytes' peer C000 store $jpeg $ct 2.25.1 long_end.bi
   fragment 100
 } >past.bin
 check 'a fragment past the end of its item' peer C000 store $jpeg $ct 2.25.1 past.bin
+# Two frames of four bytes, which DCMTK's tools of Debian do not send in this transfer syntax.
+{ begin 2.25.1; fragment 0; fragment 4; printf 'abcd'; fragment 4; printf '\376\377\335\340'; end; } >frames.bin
+check 'uncompressed fragments' peer 0000 store $uncompressed $ct 2.25.1 frames.bin
+for length in 60 66 78 84 90; do
+  head -c $length frames.bin >cut.bin
+  check "uncompressed fragments, cut after $length bytes" peer C000 store $uncompressed $ct 2.25.1 cut.bin
+done
 check 'and an echo is answered' echoscu "${to_box[@]}"
 stop
 kept() {
-  [ "$(find raw -type f | sort)" = $'raw/I0000001\nraw/I0000002' ] && data_set raw/I0000001 | cmp - whole.bin && data_set raw/I0000002 | cmp - whole.bin
+  [ "$(find raw -type f | sort)" = $'raw/I0000001\nraw/I0000002\nraw/I0000003' ] && data_set raw/I0000001 | cmp - whole.bin &&
+    data_set raw/I0000002 | cmp - whole.bin && data_set raw/I0000003 | cmp - frames.bin
 }
-check 'the two whole ones are filed, and nothing else is left' kept
+check 'the three whole ones are filed, and nothing else is left' kept
+uncompressed_is_shown() {
+  "$program" show --all-syntaxes raw/I0000003 >shown.txt && grep -qxF "syntax $uncompressed" shown.txt &&
+    [ "$(grep -c ' fffe,e000 -- [0-9]* Item$' shown.txt)" -eq 3 ] && "$program" check --strict --all-syntaxes raw/I0000003
+}
+check 'show and check take the uncompressed fragments' uncompressed_is_shown
 check 'the log counts the 128 contexts' grep -q 'released contexts 128 of 128 ' raw.log
 logged_faults() {
   [ "$(sed -n 's/.* status C000 fault \([0-9]*\) .*/\1/p' raw.log | sort -u | tr '\n' ' ')" = '11 14 15 16 17 20 ' ]

@@ -27,7 +27,7 @@ fn syntaxes_are_those_that_are_asked_for(rt: HostRuntime) -> Result<(), Fail> {
     assert!(rt; config.transfers.is_empty());
     let config = with(alloc, ["--all-syntaxes", "", "", ""])?;
     assert!(rt; config.transfers.as_slice() == Transfer::encapsulated());
-    assert!(rt; config.transfers.len() == 23);
+    assert!(rt; config.transfers.len() == 24);
     let config = with(alloc, ["--transfer-syntax", RLE, "--transfer-syntax", JPEG])?;
     let named = [Transfer::RleLossless, Transfer::JpegBaseline8Bit];
     assert!(rt; config.transfers.as_slice() == named.as_slice());
@@ -49,6 +49,9 @@ fn syntaxes_are_those_that_are_asked_for(rt: HostRuntime) -> Result<(), Fail> {
     Ok(())
 }
 
+const UNCOMPRESSED_LINE: &str =
+    "\n  1.2.840.10008.1.2.1.98 EncapsulatedUncompressedExplicitVRLittleEndian\n";
+
 /// Returns whether settings are refused by a text that begins so and then has a line for each known syntax.
 fn names_known(settings: &Result<Config, WordsError>, begins: &str) -> bool {
     match settings {
@@ -56,8 +59,9 @@ fn names_known(settings: &Result<Config, WordsError>, begins: &str) -> bool {
             let text = refusal.as_str();
             text.starts_with(begins)
                 && text.contains("\n  1.2.840.10008.1.2.4.203 HTJ2K\n")
+                && text.contains(UNCOMPRESSED_LINE)
                 && text.ends_with("\n  1.2.840.10008.1.2.5 RLELossless\n")
-                && text.lines().count() == 26
+                && text.lines().count() == 27
         }
         _ => false,
     }

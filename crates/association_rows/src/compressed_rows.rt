@@ -1,11 +1,12 @@
-//! Stores in a compressed transfer syntax: refused unless the settings take it, and then filed bit for bit.
+//! Stores in a transfer syntax in which Pixel Data is encapsulated: refused unless the settings take it, and then filed
+//! bit for bit.
 
 use crate::row::Row;
 use dictionary::Transfer;
 use dimse::status;
 use engine::{ListSource, ListedInput, Report, Standing, run};
 use fixtures::bytes::{after_first, joined, within};
-use fixtures::stores::{CT_SET, INSTANCE, request};
+use fixtures::stores::{CT_SET, Cause, INSTANCE, request};
 use harness::config;
 use negotiate::Config;
 use part10::MemoryFiling;
@@ -16,6 +17,9 @@ use std::test::Fail;
 /// JPEG Lossless, Non-Hierarchical, First-Order Prediction.
 const JPEG_LOSSLESS: &[u8] = b"1.2.840.10008.1.2.4.70";
 
+/// Encapsulated Uncompressed Explicit VR Little Endian.
+const UNCOMPRESSED: &[u8] = b"1.2.840.10008.1.2.1.98";
+
 /// Pixel Data of one frame: an empty offset table, and a JPEG stream in two fragments, which looks like a delimitation in
 /// its middle.
 const FRAME: &[u8] = b"\xe0\x7f\x10\0OB\0\0\xff\xff\xff\xff\
@@ -24,9 +28,35 @@ const FRAME: &[u8] = b"\xe0\x7f\x10\0OB\0\0\xff\xff\xff\xff\
     \xfe\xff\0\xe0\x04\0\0\0\x01\x02\xff\xd9\
     \xfe\xff\xdd\xe0\0\0\0\0";
 
+/// Pixel Data of two frames of four words, each a fragment of its own, after their offset table; the words of the first
+/// look like a delimitation.
+const FRAMES: &[u8] = b"\xe0\x7f\x10\0OW\0\0\xff\xff\xff\xff\
+    \xfe\xff\0\xe0\x08\0\0\0\0\0\0\0\x10\0\0\0\
+    \xfe\xff\0\xe0\x08\0\0\0\xfe\xff\xdd\xe0\0\0\0\0\
+    \xfe\xff\0\xe0\x08\0\0\0\x01\x02\x03\x04\x05\x06\x07\x08\
+    \xfe\xff\xdd\xe0\0\0\0\0";
+
+/// The tags of an item and of the end of a sequence, as a reply has them.
+const ITEM: &[u8] = b"\xfe\xff\0\xe0";
+
+const END: &[u8] = b"\xfe\xff\xdd\xe0";
+
+/// How many bytes are missing, and what the reply names: in the end, in the last fragment, in its header, between two
+/// fragments, and in the offset table.
+const CUTS: [(usize, Cause<'static>); 6] = [
+    (2, (END, TRUNCATED)),
+    (8, (&[], TRUNCATED)),
+    (9, (ITEM, TRUNCATED)),
+    (18, (ITEM, TRUNCATED)),
+    (24, (&[], TRUNCATED)),
+    (44, (ITEM, TRUNCATED)),
+];
+
+const TRUNCATED: &[u8] = b"fault 20 Truncated";
+
 /// The settings of a receiver that takes these transfer syntaxes further.
 fn taking(transfers: &[Transfer]) -> Config {
-    if transfers.len() <= 23 {
+    if transfers.len() <= 24 {
         config().with_transfers(transfers)
     } else {
         config()
@@ -60,11 +90,12 @@ fn outcome(
     (report, wire, filing)
 }
 
-/// Whether the row comes so to a receiver that takes JPEG Lossless, wherever its stream is cut in two.
-fn comes(alloc: Global, row: &Row) -> bool {
+/// Whether the row comes so to a receiver that takes this transfer syntax beside another, wherever its stream is cut in
+/// two.
+fn comes(alloc: Global, row: &Row, transfer: Transfer) -> bool {
     let stream = row.stream.as_slice();
     for cut in 0..stream.len() {
-        let config = taking(&[Transfer::RleLossless, Transfer::JpegLosslessSv1]);
+        let config = taking(&[Transfer::RleLossless, transfer]);
         let (report, wire, filing) = outcome(alloc, &config, stream, cut);
         if report.standing != Standing::Open
             || after_first(wire.sent()) != row.answer.as_slice()
@@ -82,7 +113,45 @@ fn an_encapsulated_frame_is_filed_bit_for_bit(rt: HostRuntime) -> Result<(), Fai
     let row = row(rt.alloc(), set.as_slice(), status::SUCCESS)?;
     assert!(rt; row.files.len() == 1);
     assert!(rt; row.files.as_slice()[0].ends_with(set.as_slice()));
-    assert!(rt; comes(rt.alloc(), &row));
+    assert!(rt; comes(rt.alloc(), &row, Transfer::JpegLosslessSv1));
+    Ok(())
+}
+
+#[test]
+fn uncompressed_fragments_are_filed_bit_for_bit(rt: HostRuntime) -> Result<(), Fail> {
+    let alloc = rt.alloc();
+    let set = joined(alloc, &[&CT_SET, FRAMES])?;
+    let whole = (
+        UNCOMPRESSED,
+        INSTANCE,
+        set.as_slice(),
+        status::SUCCESS,
+        None,
+    );
+    let row = Row::of(alloc, &whole)?;
+    assert!(rt; row.files.len() == 1);
+    assert!(rt; row.files.as_slice()[0].ends_with(set.as_slice()));
+    assert!(rt; comes(alloc, &row, Transfer::EncapsulatedUncompressed));
+    Ok(())
+}
+
+#[test]
+fn a_cut_fragment_is_refused_with_its_fault(rt: HostRuntime) -> Result<(), Fail> {
+    let alloc = rt.alloc();
+    let set = joined(alloc, &[&CT_SET, FRAMES])?;
+    for (missing, cause) in CUTS {
+        let cut = within(set.as_slice(), 0, set.len().saturating_sub(missing));
+        let store = (
+            UNCOMPRESSED,
+            INSTANCE,
+            cut,
+            status::CANNOT_UNDERSTAND,
+            Some(cause),
+        );
+        let row = Row::of(alloc, &store)?;
+        assert!(rt; row.files.is_empty());
+        assert!(rt; comes(alloc, &row, Transfer::EncapsulatedUncompressed));
+    }
     Ok(())
 }
 

@@ -155,10 +155,11 @@ fn identifiers_of_syntaxes(rt: HostRuntime) {
     assert!(rt; APPLICATION_CONTEXT == b"1.2.840.10008.3.1.1.1".as_slice());
 }
 
-/// Deflated, big endian, JPEG and RLE.
+/// Encapsulated uncompressed, deflated, big endian, JPEG and RLE.
 #[test]
 fn other_syntaxes(rt: HostRuntime) {
     for text in [
+        b"1.2.840.10008.1.2.1.98".as_slice(),
         b"1.2.840.10008.1.2.1.99".as_slice(),
         b"1.2.840.10008.1.2.2".as_slice(),
         b"1.2.840.10008.1.2.4.50".as_slice(),
@@ -173,6 +174,10 @@ fn transfer_syntaxes(rt: HostRuntime) {
     assert!(rt; Transfer::of(b"1.2.840.10008.1.2.4.70\0\0") == Some(Transfer::JpegLosslessSv1));
     assert!(rt; Transfer::of(b"1.2.840.10008.1.2.5 ") == Some(Transfer::RleLossless));
     assert!(rt; Transfer::of(b"1.2.840.10008.1.2") == Some(Transfer::Implicit));
+    let uncompressed = Transfer::EncapsulatedUncompressed;
+    assert!(rt; Transfer::of(b"1.2.840.10008.1.2.1.98") == Some(uncompressed));
+    assert!(rt; uncompressed.syntax() == Syntax::Explicit && uncompressed.is_encapsulated());
+    assert!(rt; Transfer::of(b"1.2.840.10008.1.2.1.99").is_none());
     assert!(rt; Transfer::of(b"1.2.840.10008.1.2.2").is_none());
     assert!(rt; Transfer::of(b"1.2.840.10008.1.2.4.94").is_none());
     assert!(rt; Transfer::Htj2k.uid() == b"1.2.840.10008.1.2.4.203".as_slice());

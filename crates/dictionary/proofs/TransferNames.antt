@@ -1,13 +1,14 @@
 -- The text of each transfer syntax names it alone and is short, as `tools/transfer-syntaxes` writes them.
 use Rattle.std.proofs.Common.{◌≡◌, ◌≤◌, Some, length, refl, arith}
 use Rattle.dictionary.specs.declared.transfer.Transfer.{Transfer}
-use Rattle.dictionary.specs.declared.transfer.Transfer.TheVariants.{Implicit, Explicit, JpegBaseline8Bit, JpegExtended12Bit, JpegLossless, JpegLosslessSv1, JpegLsLossless, JpegLsNearLossless, Jpeg2000Lossless, Jpeg2000, Jpeg2000McLossless, Jpeg2000Mc, Mpeg2MainLevel, Mpeg2HighLevel, Mpeg4High41, Mpeg4High41Bd, Mpeg4High42For2d, Mpeg4High42For3d, Mpeg4High42Stereo, HevcMainLevel51, HevcMain10Level51, Htj2kLossless, Htj2kLosslessRpcl, Htj2k, RleLossless}
+use Rattle.dictionary.specs.declared.transfer.Transfer.TheVariants.{Implicit, Explicit, EncapsulatedUncompressed, JpegBaseline8Bit, JpegExtended12Bit, JpegLossless, JpegLosslessSv1, JpegLsLossless, JpegLsNearLossless, Jpeg2000Lossless, Jpeg2000, Jpeg2000McLossless, Jpeg2000Mc, Mpeg2MainLevel, Mpeg2HighLevel, Mpeg4High41, Mpeg4High41Bd, Mpeg4High42For2d, Mpeg4High42For3d, Mpeg4High42Stereo, HevcMainLevel51, HevcMain10Level51, Htj2kLossless, Htj2kLosslessRpcl, Htj2k, RleLossless}
 use Rattle.dictionary.specs.Transfers.{transfer_uid, transfer_named, transfer_of}
 
 pub transfer_back : (t : Transfer) → transfer_of (transfer_uid t) ≡ Some t
 unfolding transfer_named
 transfer_back Implicit = refl
 transfer_back Explicit = refl
+transfer_back EncapsulatedUncompressed = refl
 transfer_back JpegBaseline8Bit = refl
 transfer_back JpegExtended12Bit = refl
 transfer_back JpegLossless = refl
@@ -36,6 +37,7 @@ pub named_back : (t : Transfer) → transfer_named (transfer_uid t) ≡ Some t
 unfolding transfer_named
 named_back Implicit = refl
 named_back Explicit = refl
+named_back EncapsulatedUncompressed = refl
 named_back JpegBaseline8Bit = refl
 named_back JpegExtended12Bit = refl
 named_back JpegLossless = refl
@@ -63,6 +65,7 @@ named_back RleLossless = refl
 pub transfer_short : (t : Transfer) → length (transfer_uid t) ≤ 23
 transfer_short Implicit = omega arith
 transfer_short Explicit = omega arith
+transfer_short EncapsulatedUncompressed = omega arith
 transfer_short JpegBaseline8Bit = omega arith
 transfer_short JpegExtended12Bit = omega arith
 transfer_short JpegLossless = omega arith

@@ -7,11 +7,12 @@ use Rattle.element.specs.Padding.{is_padding, without_trailing}
 use Rattle.element.specs.declared.syntax.Syntax.{Syntax}
 use Rattle.element.specs.declared.syntax.Syntax.TheVariants as layout
 use Rattle.dictionary.specs.declared.transfer.Transfer.{Transfer}
-use Rattle.dictionary.specs.declared.transfer.Transfer.TheVariants.{Implicit, Explicit, JpegBaseline8Bit, JpegExtended12Bit, JpegLossless, JpegLosslessSv1, JpegLsLossless, JpegLsNearLossless, Jpeg2000Lossless, Jpeg2000, Jpeg2000McLossless, Jpeg2000Mc, Mpeg2MainLevel, Mpeg2HighLevel, Mpeg4High41, Mpeg4High41Bd, Mpeg4High42For2d, Mpeg4High42For3d, Mpeg4High42Stereo, HevcMainLevel51, HevcMain10Level51, Htj2kLossless, Htj2kLosslessRpcl, Htj2k, RleLossless}
+use Rattle.dictionary.specs.declared.transfer.Transfer.TheVariants.{Implicit, Explicit, EncapsulatedUncompressed, JpegBaseline8Bit, JpegExtended12Bit, JpegLossless, JpegLosslessSv1, JpegLsLossless, JpegLsNearLossless, Jpeg2000Lossless, Jpeg2000, Jpeg2000McLossless, Jpeg2000Mc, Mpeg2MainLevel, Mpeg2HighLevel, Mpeg4High41, Mpeg4High41Bd, Mpeg4High42For2d, Mpeg4High42For3d, Mpeg4High42Stereo, HevcMainLevel51, HevcMain10Level51, Htj2kLossless, Htj2kLosslessRpcl, Htj2k, RleLossless}
 
 abbrev pub transfer_uid : Transfer → List ℕ
 transfer_uid Implicit = codes "1.2.840.10008.1.2"
 transfer_uid Explicit = codes "1.2.840.10008.1.2.1"
+transfer_uid EncapsulatedUncompressed = codes "1.2.840.10008.1.2.1.98"
 transfer_uid JpegBaseline8Bit = codes "1.2.840.10008.1.2.4.50"
 transfer_uid JpegExtended12Bit = codes "1.2.840.10008.1.2.4.51"
 transfer_uid JpegLossless = codes "1.2.840.10008.1.2.4.57"
@@ -39,6 +40,7 @@ transfer_uid RleLossless = codes "1.2.840.10008.1.2.5"
 abbrev pub transfer_keyword : Transfer → List ℕ
 transfer_keyword Implicit = codes "ImplicitVRLittleEndian"
 transfer_keyword Explicit = codes "ExplicitVRLittleEndian"
+transfer_keyword EncapsulatedUncompressed = codes "EncapsulatedUncompressedExplicitVRLittleEndian"
 transfer_keyword JpegBaseline8Bit = codes "JPEGBaseline8Bit"
 transfer_keyword JpegExtended12Bit = codes "JPEGExtended12Bit"
 transfer_keyword JpegLossless = codes "JPEGLossless"
@@ -67,6 +69,7 @@ abbrev pub all_transfers : List Transfer
 all_transfers =
     Implicit
     ∷ Explicit
+    ∷ EncapsulatedUncompressed
     ∷ JpegBaseline8Bit
     ∷ JpegExtended12Bit
     ∷ JpegLossless

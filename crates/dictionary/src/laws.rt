@@ -44,8 +44,8 @@ pub fn transfers_name_one()
     ensures layouts { (s : element.Syntax) → syntax_in (native s) ≡ s }
 {}
 
-/// The table of transfer syntaxes has 25 rows, with identifiers of 23 bytes at most.
+/// The table of transfer syntaxes has 26 rows, with identifiers of 23 bytes at most.
 pub fn transfers_are_few()
-    ensures rows { length all_transfers ≡ 25 }
+    ensures rows { length all_transfers ≡ 26 }
     ensures short { (t : Transfer) → length (transfer_uid t) ≤ 23 }
 {}

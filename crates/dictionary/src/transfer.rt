@@ -13,6 +13,8 @@ pub enum Transfer {
     Implicit,
     /// ExplicitVRLittleEndian.
     Explicit,
+    /// EncapsulatedUncompressedExplicitVRLittleEndian.
+    EncapsulatedUncompressed,
     /// JPEGBaseline8Bit.
     JpegBaseline8Bit,
     /// JPEGExtended12Bit.
@@ -63,9 +65,10 @@ pub enum Transfer {
 
 impl Transfer {
     /// Each transfer syntax, by the numbers of the identifiers.
-    pub const ALL: [Transfer; 25] = [
+    pub const ALL: [Transfer; 26] = [
         Transfer::Implicit,
         Transfer::Explicit,
+        Transfer::EncapsulatedUncompressed,
         Transfer::JpegBaseline8Bit,
         Transfer::JpegExtended12Bit,
         Transfer::JpegLossless,
@@ -98,6 +101,7 @@ impl Transfer {
         match self {
             Transfer::Implicit => b"1.2.840.10008.1.2",
             Transfer::Explicit => b"1.2.840.10008.1.2.1",
+            Transfer::EncapsulatedUncompressed => b"1.2.840.10008.1.2.1.98",
             Transfer::JpegBaseline8Bit => b"1.2.840.10008.1.2.4.50",
             Transfer::JpegExtended12Bit => b"1.2.840.10008.1.2.4.51",
             Transfer::JpegLossless => b"1.2.840.10008.1.2.4.57",
@@ -131,6 +135,7 @@ impl Transfer {
         match self {
             Transfer::Implicit => "ImplicitVRLittleEndian",
             Transfer::Explicit => "ExplicitVRLittleEndian",
+            Transfer::EncapsulatedUncompressed => "EncapsulatedUncompressedExplicitVRLittleEndian",
             Transfer::JpegBaseline8Bit => "JPEGBaseline8Bit",
             Transfer::JpegExtended12Bit => "JPEGExtended12Bit",
             Transfer::JpegLossless => "JPEGLossless",

@@ -12,7 +12,7 @@ use element::{AeTitle, Uid};
 const MOST_FURTHER: usize = 173;
 
 /// How many further transfer syntaxes can be taken: those of the dictionary in which Pixel Data is encapsulated.
-const MOST_TRANSFERS: usize = 23;
+const MOST_TRANSFERS: usize = 24;
 
 /// The settings of the receiver: who may associate with it, and how much it accepts.
 #[derive(Drop)]
@@ -37,7 +37,7 @@ pub struct Config {
     pub ghost least_data: { 1024 ≤ max_data },
     pub ghost most_data: { max_data ≤ 2 ^ 48 },
     pub ghost few_named: { array_vec_len named ≤ 16 },
-    pub ghost few_transfers: { array_vec_len transfers ≤ 23 },
+    pub ghost few_transfers: { array_vec_len transfers ≤ 24 },
 }
 
 /// A copy of a text.
@@ -79,9 +79,9 @@ fn copied_texts(texts: &[ArrayVec<u8, 64>]) -> ArrayVec<ArrayVec<u8, 64>, 16>
 
 /// A copy of a list of transfer syntaxes.
 fn copied_transfers(transfers: &[Transfer]) -> ArrayVec<Transfer, MOST_TRANSFERS>
-    requires few { length transfers.now ≤ 23 }
+    requires few { length transfers.now ≤ 24 }
     ensures transfers { result.items ≡ transfers.now }
-    ensures few { array_vec_len result ≤ 23 }
+    ensures few { array_vec_len result ≤ 24 }
 {
     let mut copies = ArrayVec::new();
     let _ = copies.try_extend_from_slice(transfers);
@@ -154,7 +154,7 @@ impl Config {
 
     /// Returns the settings with these transfer syntaxes taken beside Explicit and Implicit VR Little Endian.
     pub fn with_transfers(self, transfers: &[Transfer]) -> Config
-        requires few { length transfers.now ≤ 23 }
+        requires few { length transfers.now ≤ 24 }
         ensures ae { result.ae ≡ self.ae }
         ensures callers { result.callers ≡ self.callers }
         ensures max_pdu { result.max_pdu ≡ self.max_pdu }
