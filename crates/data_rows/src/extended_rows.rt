@@ -81,7 +81,7 @@ fn data_of(alloc: Global, said: TwoFragments<'_>) -> Result<Vec<u8>, AllocError>
 
 /// Returns whether a strict check of the data set writes this note, or none where it is empty, and that it is good.
 fn is_noted(alloc: Global, data: &[u8], note: &str) -> Result<bool, Fail> {
-    let end = data.len() + 290;
+    let end = data.len().saturating_add(290);
     let wanted = if note.is_empty() {
         format!(in alloc; "good {end}\n")?
     } else {
@@ -272,7 +272,12 @@ fn tables_up_to_65536_bytes_are_looked_at(rt: HostRuntime) -> Result<(), Fail> {
         let (mut offsets, mut lengths) = (Vec::new(alloc), Vec::new(alloc));
         let mut fragments = Vec::new(alloc);
         for index in 0..count {
-            offsets.push(if index + 1 == count { last } else { index * 8 })?;
+            let offset = if index.saturating_add(1) == count {
+                last
+            } else {
+                index.saturating_mul(8)
+            };
+            offsets.push(offset)?;
             lengths.push(0)?;
             fragments.extend_from_slice(b"\xfe\xff\0\xe0\0\0\0\0")?;
         }
