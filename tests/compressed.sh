@@ -346,7 +346,7 @@ refused 'and none without the option' "$program" check taken/I0000001
 tables_are_right() {
   local name
   for name in "${!proposed[@]}"; do
-    "$program" check --strict --all-syntaxes "$(like "$name")" | grep -qE ' (WrongOffset|WrongCount)$' && return 1
+    "$program" check --strict --all-syntaxes "$(like "$name")" | grep -qE ' (WrongOffset|WrongCount|WrongLength|SecondTable)$' && return 1
   done
   return 0
 }
@@ -360,6 +360,44 @@ offsets_are_shown() {
   "$program" show --all-syntaxes --values "$(like rle)" | grep -A1 ' fffe,e000 -- 4 Item$' | grep -q '^ *= 0$'
 }
 check 'show has the offset of a frame' offsets_are_shown
+
+# ---- extended offset tables, as pydicom writes them and with a fault each
+
+/usr/bin/python3 - <<'END' || exit 1
+import struct
+
+import pydicom
+from pydicom.encaps import encapsulate, encapsulate_extended
+
+frames = [bytes([n]) * (64 + 2 * n) for n in range(200)]
+image = pydicom.dcmread("frames.dcm")
+image.file_meta.TransferSyntaxUID = pydicom.uid.UID("1.2.840.10008.1.2.1.98")
+
+
+def write(name, pixels, offsets, lengths):
+    image.PixelData, image.ExtendedOffsetTable, image.ExtendedOffsetTableLengths = pixels, offsets, lengths
+    image["PixelData"].VR = "OB"
+    image["PixelData"].is_undefined_length = True
+    image.save_as(name, write_like_original=False)
+
+
+pixels, offsets, lengths = encapsulate_extended(frames)
+write("extended.dcm", pixels, offsets, lengths)
+write("offset.dcm", pixels, offsets[:-8] + struct.pack("<Q", 2 ** 32), lengths)
+write("count.dcm", pixels, offsets, lengths[:-8])
+write("length.dcm", pixels, offsets, struct.pack("<Q", 66) + lengths[8:])
+write("second.dcm", encapsulate(frames, has_bot=True), offsets, lengths)
+END
+# tables WANT NAME : the notes of its tables have to be these.
+tables() {
+  "$program" check --strict --all-syntaxes "$2.dcm" >checked.txt
+  [ "$(sed -n 's/^note [0-9]* \(.* 1[5-8] .*\)/\1/p' checked.txt)" = "$1" ] && tail -n 1 checked.txt | grep -q '^good '
+}
+check 'the extended offset table of pydicom' tables '' extended
+check 'one with an offset past the last fragment' tables '7fe0,0001 OV 15 WrongOffset' offset
+check 'one with fewer lengths' tables '7fe0,0002 OV 16 WrongCount' count
+check 'one with a length of two bytes more' tables '7fe0,0002 OV 17 WrongLength' length
+check 'one beside a basic table' tables 'fffe,e000 -- 18 SecondTable' second
 
 # ---- the directory of compressed images of four instances
 

@@ -58,12 +58,23 @@ fn shown(alloc: Global, options: ShowOptions<'_>, data: &[u8]) -> Result<Vec<u8>
 
 /// Returns what a check writes of the file with this data set.
 fn checked(alloc: Global, syntaxes: Syntaxes, strict: bool, data: &[u8]) -> Result<Vec<u8>, Fail> {
+    checked_in(alloc, syntaxes, strict, OutputForm::Lines, data)
+}
+
+/// Returns what a check writes in this form of the file with this data set.
+pub(crate) fn checked_in(
+    alloc: Global,
+    syntaxes: Syntaxes,
+    strict: bool,
+    form: OutputForm,
+    data: &[u8],
+) -> Result<Vec<u8>, Fail> {
     let file = file(alloc, data)?;
     let mut out = Vec::new(alloc);
     let mut input = file.as_slice();
     let options = CheckOptions {
         strict,
-        form: OutputForm::Lines,
+        form,
         syntaxes,
     };
     match check_with(&mut input, options, &mut out) {

@@ -28,6 +28,8 @@ mod dictionary_rows;
 #[cfg(test)]
 mod element_rows;
 #[cfg(test)]
+mod extended_rows;
+#[cfg(test)]
 mod files;
 #[cfg(test)]
 mod fragment_rows;

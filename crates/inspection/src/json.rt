@@ -71,9 +71,8 @@ impl fmt::Display for JudgementJson<'_> {
             Judgement::FormNote(place, tag, vr, fault) => {
                 write_note(f, place, (tag, Some(vr)), (fault.number(), fault.name()))
             }
-            Judgement::TableNote(place, fault) => {
-                let rule = (fault.number(), fault.name());
-                write_note(f, place, (Tag::ITEM, None), rule)
+            Judgement::TableNote(place, tag, vr, fault) => {
+                write_note(f, place, (tag, vr), (fault.number(), fault.name()))
             }
             Judgement::BadHeader(fault) => write_bad_header(f, fault),
             Judgement::BadData(start, fault) => write_bad_data(f, start, fault),

@@ -1,5 +1,5 @@
 //! What is found in a file, as a line tells it.
-use crate::offset_table::TableFault;
+use crate::table_fault::TableFault;
 use crate::texts::{TagText, VrText};
 use element::{Tag, ValueFault, Vr};
 use part10::MetaFault;
@@ -14,8 +14,8 @@ pub enum Judgement {
     Note(u64, Tag, Vr, ValueFault),
     /// A value breaks the form of its VR: where its header stands, and how.
     FormNote(u64, Tag, Vr, FormFault),
-    /// An offset table is wrong: where its item stands, and how.
-    TableNote(u64, TableFault),
+    /// A table of offsets or lengths is wrong: where its header stands, and how.
+    TableNote(u64, Tag, Option<Vr>, TableFault),
     /// The file has a fault in its header, after which nothing is read.
     BadHeader(MetaFault),
     /// The data set that begins at this place of its file has a fault, after which nothing is read.
@@ -60,9 +60,9 @@ impl fmt::Display for Judgement {
                 let rule = (fault.number(), fault.name());
                 write_note(f, place, (TagText(tag), VrText(Some(vr))), rule)
             }
-            Judgement::TableNote(place, fault) => {
+            Judgement::TableNote(place, tag, vr, fault) => {
                 let rule = (fault.number(), fault.name());
-                write_note(f, place, (TagText(Tag::ITEM), VrText(None)), rule)
+                write_note(f, place, (TagText(tag), VrText(vr)), rule)
             }
             Judgement::BadHeader(fault) => {
                 let place = place_of(fault);

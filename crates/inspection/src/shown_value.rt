@@ -1,6 +1,6 @@
 //! The value that is shown next.
+use crate::fragments::opens_fragments;
 use crate::keyword::UNDEFINED;
-use crate::offset_table::opens_fragments;
 use crate::options::OutputForm;
 use crate::value_text::ValueText;
 use arrayvec::ArrayVec;

@@ -1,8 +1,8 @@
 //! `dcmbox check --strict`: also the values that break the table of VRs.
+use crate::frame_tables::FrameTables;
 use crate::judgement::Judgement;
 use crate::limits::LONGEST;
 use crate::notes::Notes;
-use crate::offset_table::OffsetTable;
 use crate::sets::Sets;
 use crate::walk::Listing;
 use arrayvec::ArrayVec;
@@ -40,7 +40,7 @@ pub(crate) struct StrictValues {
     value: ArrayVec<u8, LONGEST>,
     text: ArrayVec<u8, LONGEST>,
     sets: Sets,
-    table: OffsetTable,
+    tables: FrameTables,
     notes: Notes,
 }
 
@@ -51,7 +51,7 @@ impl StrictValues {
             value: ArrayVec::new(),
             text: ArrayVec::new(),
             sets: Sets::new(),
-            table: OffsetTable::new(),
+            tables: FrameTables::new(),
             notes,
         }
     }
@@ -81,7 +81,7 @@ impl StrictValues {
             self.sets.name(due.level, set);
         }
         if due.tag == NUMBER_OF_FRAMES && due.level == 0 {
-            self.table.set_frames(self.value.as_slice());
+            self.tables.set_frames(self.value.as_slice());
         }
         match self.note_of(due) {
             Some(note) => self.notes.add(&note, out),
@@ -116,8 +116,7 @@ impl<O: Write> Listing<O> for StrictValues {
         self.value.clear();
         self.due = None;
         self.sets.hand_down(levels);
-        if let Some(fault) = self.table.on_header(place, levels, header) {
-            let note = Judgement::TableNote(self.table.place(), fault);
+        if let Some(note) = self.tables.on_header(place, levels, header) {
             self.notes.add(&note, out)?;
         }
         let Some(vr) = vr.or(vr_of(tag)) else {
@@ -139,7 +138,7 @@ impl<O: Write> Listing<O> for StrictValues {
     }
 
     fn on_bytes(&mut self, bytes: &[u8], out: &mut O) -> io::Result<()> {
-        self.table.on_bytes(bytes);
+        self.tables.on_bytes(bytes);
         let Some(due) = self.due else {
             return Ok(());
         };

@@ -1,0 +1,82 @@
+//! Where the fragments of encapsulated Pixel Data are (PS3.5 section A.4).
+use crate::keyword::UNDEFINED;
+use element::{Header, Tag, Vr};
+
+/// The tag of Pixel Data.
+const PIXEL_DATA: Tag = Tag(0x7fe0, 0x0010);
+
+/// The bytes of an item's header.
+const ITEM_HEADER: u64 = 8;
+
+/// Returns whether a header opens encapsulated Pixel Data.
+pub(crate) fn opens_fragments(header: &Header) -> bool {
+    let Header { tag, length, vr } = *header;
+    let is_opaque = vr == Some(Vr::OB) || vr == Some(Vr::OW);
+    tag == PIXEL_DATA && is_opaque && length == UNDEFINED
+}
+
+/// What a header is for the fragments of Pixel Data.
+#[derive(Clone, Copy)]
+pub(crate) enum FragmentEvent {
+    /// Nothing: it is outside of them.
+    Outside,
+    /// It opens Pixel Data.
+    Opens,
+    /// The first item, which has the basic offset table.
+    Table,
+    /// A fragment, so many bytes after the first one.
+    Fragment(u64),
+    /// It follows the last item.
+    Ends,
+}
+
+/// What comes next.
+#[derive(Clone, Copy)]
+enum Next {
+    /// A header outside of Pixel Data.
+    Element,
+    /// The first item.
+    Table,
+    /// A fragment, where the first one is at this place.
+    Fragment(u64),
+}
+
+/// Follows the headers of a data set, and finds the fragments of its Pixel Data.
+#[derive(Clone, Copy)]
+pub(crate) struct Fragments {
+    next: Next,
+}
+
+impl Fragments {
+    pub(crate) fn new() -> Fragments {
+        Fragments {
+            next: Next::Element,
+        }
+    }
+
+    /// Follows a header.
+    pub(crate) fn on_header(&mut self, place: u64, header: &Header) -> FragmentEvent {
+        let is_item = header.tag == Tag::ITEM;
+        match self.next {
+            Next::Table if is_item => {
+                let length = u64::from(header.length);
+                self.next = Next::Fragment(
+                    place.saturating_add(ITEM_HEADER).saturating_add(length),
+                );
+                FragmentEvent::Table
+            }
+            Next::Fragment(first) if is_item => FragmentEvent::Fragment(place.saturating_sub(
+                first,
+            )),
+            Next::Element if opens_fragments(header) => {
+                self.next = Next::Table;
+                FragmentEvent::Opens
+            }
+            Next::Element => FragmentEvent::Outside,
+            _ => {
+                self.next = Next::Element;
+                FragmentEvent::Ends
+            }
+        }
+    }
+}

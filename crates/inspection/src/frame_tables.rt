@@ -1,0 +1,224 @@
+//! The tables that say where the frames of encapsulated Pixel Data are, held against its fragments: the basic offset
+//! table (PS3.5 section A.4), and the extended one with its lengths (PS3.3 section C.7.6.3.1.8).
+use crate::fragments::{FragmentEvent, Fragments};
+use crate::judgement::Judgement;
+use crate::number_table::{Met, NumberSize, NumberTable};
+use crate::table_fault::TableFault;
+use element::{Header, Tag, Vr};
+
+/// The tag of Extended Offset Table.
+const OFFSETS: Tag = Tag(0x7fe0, 0x0001);
+
+/// The tag of Extended Offset Table Lengths.
+const LENGTHS: Tag = Tag(0x7fe0, 0x0002);
+
+/// Returns the number that the digits of an integer string spell, or `None` for another one.
+fn number_of(value: &[u8]) -> Option<u64> {
+    let mut number: u64 = 0;
+    for byte in value {
+        if *byte != b' ' {
+            let digit = char::from(*byte).to_digit(10)?;
+            number = number.checked_mul(10)?.checked_add(u64::from(digit))?;
+        }
+    }
+    Some(number)
+}
+
+/// Whose value the bytes are that come.
+#[derive(Clone, Copy)]
+enum TableValue {
+    Other,
+    Basic,
+    Offsets,
+    Lengths,
+}
+
+/// The tables of one Pixel Data.
+#[derive(Drop)]
+pub(crate) struct FrameTables {
+    fragments: Fragments,
+    value: TableValue,
+    basic: NumberTable,
+    offsets: NumberTable,
+    lengths: NumberTable,
+    /// Of the extended table.
+    level: usize,
+    /// Of the data set.
+    frames: Option<u64>,
+    /// That there have to be.
+    count: Option<u64>,
+}
+
+impl FrameTables {
+    pub(crate) fn new() -> FrameTables {
+        FrameTables {
+            fragments: Fragments::new(),
+            value: TableValue::Other,
+            basic: NumberTable::new(NumberSize::Four),
+            offsets: NumberTable::new(NumberSize::Eight),
+            lengths: NumberTable::new(NumberSize::Eight),
+            level: 0,
+            frames: None,
+            count: None,
+        }
+    }
+
+    /// Takes the Number of Frames of the data set.
+    pub(crate) fn set_frames(&mut self, value: &[u8]) {
+        self.frames = number_of(value);
+    }
+
+    /// Forgets the extended table.
+    fn forget(&mut self) {
+        self.offsets.forget();
+        self.lengths.forget();
+    }
+
+    /// Follows a header outside of Pixel Data: an extended table stands before it in its level and its group.
+    fn on_element(&mut self, place: u64, level: usize, header: &Header) {
+        let Header { tag, length, vr } = *header;
+        if tag.0 != OFFSETS.0 || level != self.level {
+            self.forget();
+            self.level = level;
+        }
+        if vr != Some(Vr::OV) {
+            return;
+        }
+        if tag == OFFSETS {
+            self.offsets.begin(place, length);
+            self.value = TableValue::Offsets;
+        } else if tag == LENGTHS {
+            self.lengths.begin(place, length);
+            self.value = TableValue::Lengths;
+        }
+    }
+
+    /// Begins Pixel Data: there are as many lengths as offsets.
+    fn open(&mut self, level: usize) -> Option<Judgement> {
+        if level != self.level {
+            self.forget();
+        }
+        self.basic.forget();
+        self.count = if level == 0 { self.frames } else { None };
+        let (offsets, lengths) = (self.offsets.length(), self.lengths.length());
+        if offsets == lengths {
+            return None;
+        }
+        self.lengths.let_go();
+        let (place, tag) = if lengths > 0 {
+            (self.lengths.place(), LENGTHS)
+        } else {
+            (self.offsets.place(), OFFSETS)
+        };
+        let fault = TableFault::WrongCount;
+        Some(Judgement::TableNote(place, tag, Some(Vr::OV), fault))
+    }
+
+    /// Begins the basic table: it is empty beside an extended one.
+    fn begin_basic(&mut self, place: u64, length: u32) -> Option<Judgement> {
+        if length > 0 && self.offsets.length() > 0 {
+            let fault = TableFault::SecondTable;
+            return Some(Judgement::TableNote(place, Tag::ITEM, None, fault));
+        }
+        self.basic.begin(place, length);
+        self.value = TableValue::Basic;
+        None
+    }
+
+    /// Returns the note of the table of offsets that there is.
+    fn note(&self, fault: TableFault) -> Judgement {
+        if self.offsets.length() > 0 {
+            Judgement::TableNote(self.offsets.place(), OFFSETS, Some(Vr::OV), fault)
+        } else {
+            Judgement::TableNote(self.basic.place(), Tag::ITEM, None, fault)
+        }
+    }
+
+    /// Follows a fragment of a frame, the only one where there are lengths.
+    fn meet_length(&mut self, length: u32) -> Option<Judgement> {
+        if !self.lengths.is_held() || self.lengths.meet_length(length) {
+            return None;
+        }
+        self.lengths.let_go();
+        let fault = TableFault::WrongLength;
+        let place = self.lengths.place();
+        Some(Judgement::TableNote(place, LENGTHS, Some(Vr::OV), fault))
+    }
+
+    /// Follows a fragment, so many bytes after the first one.
+    fn meet(&mut self, at: u64, length: u32) -> Option<Judgement> {
+        let table = if self.offsets.is_held() {
+            &mut self.offsets
+        } else if self.basic.is_held() {
+            &mut self.basic
+        } else {
+            return None;
+        };
+        match table.meet_offset(at) {
+            Met::Named => self.meet_length(length),
+            Met::Further => None,
+            Met::Wrong => {
+                self.lengths.let_go();
+                Some(self.note(TableFault::WrongOffset))
+            }
+        }
+    }
+
+    /// Returns what is wrong with a table of offsets after the last fragment.
+    fn fault_at_end(&self, table: &NumberTable) -> Option<TableFault> {
+        if !table.is_held() {
+            return None;
+        }
+        if table.has_more() {
+            return Some(TableFault::WrongOffset);
+        }
+        match self.count {
+            Some(count) if count != table.count() => Some(TableFault::WrongCount),
+            _ => None,
+        }
+    }
+
+    /// Ends Pixel Data.
+    fn end(&mut self) -> Option<Judgement> {
+        let fault = match self.fault_at_end(&self.offsets) {
+            None => self.fault_at_end(&self.basic),
+            found => found,
+        };
+        let note = match fault {
+            Some(fault) => Some(self.note(fault)),
+            None => None,
+        };
+        self.forget();
+        note
+    }
+
+    /// Follows a header; returns what is found to be wrong with a table.
+    pub(crate) fn on_header(
+        &mut self,
+        place: u64,
+        level: usize,
+        header: &Header,
+    ) -> Option<Judgement> {
+        self.value = TableValue::Other;
+        match self.fragments.on_header(place, header) {
+            FragmentEvent::Outside => {
+                self.on_element(place, level, header);
+                None
+            }
+            FragmentEvent::Opens => self.open(level),
+            FragmentEvent::Table => self.begin_basic(place, header.length),
+            FragmentEvent::Fragment(at) => self.meet(at, header.length),
+            FragmentEvent::Ends => self.end(),
+        }
+    }
+
+    /// Takes bytes of the last header's value.
+    pub(crate) fn on_bytes(&mut self, bytes: &[u8]) {
+        match self.value {
+            TableValue::Other => {}
+            TableValue::Basic => self.basic.take(bytes),
+            TableValue::Offsets => self.offsets.take(bytes),
+            TableValue::Lengths => self.lengths.take(bytes),
+        }
+    }
+}
