@@ -7,6 +7,6 @@ mod observer;
 mod timeouts;
 
 pub use acknowledge::acknowledge_at_once;
-pub use limits::{COMMAND, DEPTH, PIECE, REQUEST, VALUES};
+pub use limits::{COMMAND, DEPTH, REQUEST, VALUES};
 pub use observer::{Observer, ReadEnd};
 pub use timeouts::Timeouts;

@@ -11,6 +11,3 @@ pub const VALUES: usize = 256;
 
 /// The levels of a data set that may be open: a sequence and an item count one each.
 pub const DEPTH: usize = 64;
-
-/// The bytes that one read takes at most.
-pub const PIECE: usize = 65536;

@@ -25,6 +25,9 @@ use std::time::{Clock, Duration, Instant};
 /// once the server ends, in seconds.
 const CLOSING_SECONDS: u64 = 2;
 
+/// How many bytes an association takes in a turn at most.
+const TURN: usize = 65_536;
+
 /// One connection that is served: each that the program accepts becomes one, if the system lets it. It is
 /// given up by `end` alone, since it is not `Drop`.
 pub struct Seat<'a, R: Log + Clock, S: Files<File = File> + Alloc<A = Global> + Clone + Drop>
@@ -97,12 +100,12 @@ impl<'a, R: Log + Clock, S: Files<File = File> + Alloc<A = Global> + Clone + Dro
 
     /// Gives the association its turn, if its socket may have anything, and ends what has taken too
     /// long.
-    pub(crate) fn turn(&mut self, room: &mut [u8], now: Instant)
+    pub(crate) fn turn(&mut self, now: Instant)
         ensures terms { self.new.terms ≡ self.old.terms }
         ensures opening { opening_of self.new.connection ≡ opening_of self.old.connection }
     {
         if self.is_ready {
-            match self.connection.turn(now, room, &self.journal) {
+            match self.connection.turn(now, TURN, &self.journal) {
                 Turn::Next => {}
                 Turn::Socket => self.is_ready = false,
                 Turn::Over => self.is_over = true,
@@ -289,11 +292,10 @@ pub(crate) fn make<'a, R: Log + Clock, S: Files<File = File> + Alloc<A = Global>
 /// Gives an association its turn and, once the server was asked to end, ends it in time. Returns whether it has ended.
 pub(crate) fn turned<R: Log + Clock, S: Files<File = File> + Alloc<A = Global> + Clone + Drop>(
     seat: &mut Seat<'_, R, S>,
-    room: &mut [u8],
     asked: Option<Instant>,
     now: Instant,
 ) -> bool {
-    seat.turn(room, now);
+    seat.turn(now);
     if let Some(asked) = asked {
         seat.stop(asked, now);
     }

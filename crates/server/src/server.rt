@@ -54,7 +54,6 @@ where
     seats: Vec<Option<Box<Option<Seat<'a, R, S>>>>>,
     /// Those whose peers have as many places as one may have.
     queue: Queue<AcceptedStream, Global>,
-    room: Vec<u8>,
     /// Whether connections are accepted yet.
     is_open: bool,
     /// When its last round began.
@@ -265,7 +264,7 @@ impl<'a, R: Log + Clock, S: Files<File = File> + Alloc<A = Global> + Clone + Dro
     fn turn(&mut self, place: usize, now: Instant) -> bool {
         if let Some(Some(seat)) = self.seats.get_mut(place) {
             if let Some(seat) = &mut **seat {
-                return turned(seat, self.room.as_mut_slice(), self.asked, now);
+                return turned(seat, self.asked, now);
             }
         }
         false
@@ -379,7 +378,6 @@ impl<'a, R: Log + Clock, S: Files<File = File> + Alloc<A = Global> + Clone + Dro
             places: _places,
             seats,
             queue: _queue,
-            room: _room,
             is_open: _is_open,
             now,
             may_accept: _may_accept,

@@ -6,7 +6,6 @@ ghost use Rattle.serving.specs.Connections.{opening_of, state_at};
 
 use crate::seat::Seat;
 use crate::socket::Socket;
-use connection::PIECE;
 use log::Log;
 use mio::net::TcpStream;
 use mio::{Events, Interest, Poll, Token};
@@ -39,7 +38,6 @@ impl SystemFailed {
 pub(crate) struct Watch {
     poll: Poll,
     events: Events<Global>,
-    room: Vec<u8>,
 }
 
 /// A connection that is watched, and of which no association is opened yet.
@@ -66,7 +64,6 @@ fn watch_socket<
     let watch = Watch {
         poll,
         events: Events::with_capacity(alloc, 1)?,
-        room: Vec::from_elem(alloc, 0, PIECE)?,
     };
     Ok(WatchedConnection {
         socket,
@@ -116,7 +113,7 @@ impl<R: Log + Clock, S: Files<File = File> + Alloc<A = Global> + Clone + Drop> S
     {
         let mut now = now;
         for _ in 0..u64::MAX {
-            self.turn(watch.room.as_mut_slice(), now);
+            self.turn(now);
             if self.has_ended() {
                 return Ok(now);
             }

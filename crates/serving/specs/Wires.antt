@@ -1,11 +1,11 @@
 -- What contracts see of the bytes of one connection.
-use Rattle.std.specs.Prelude.{◌≡◌, ℕ, ◌≤◌, ◌<◌, List, [], ◌++◌, drop, length, take, Some}
+use Rattle.std.specs.Prelude.{◌≡◌, ℕ, ◌≤◌, ◌<◌, List, [], ◌++◌, length, slice_range, Some}
 use Rattle.engine.specs.Inputs.{Received}
 use Rattle.pdu.specs.Sent.{Line}
 use Rattle.serving.specs.Closes.{ClosesWithSocket, HasClosed}
 use Rattle.serving.specs.declared.inbox.Inbox.{Inbox}
-use Rattle.serving.specs.declared.link.Arrival.{Arrival}
-use Rattle.serving.specs.declared.link.Arrival.TheVariants as arrival
+use Rattle.serving.specs.declared.inbox.Arrival.{Arrival}
+use Rattle.serving.specs.declared.inbox.Arrival.TheVariants as arrival
 use Rattle.serving.specs.declared.link.Link.{Link}
 use Rattle.serving.specs.declared.outbox.Outbox.{Outbox}
 
@@ -23,7 +23,7 @@ sent_over link = link.stream.traced.written.bytes ++ pending_in link.outbox
 
 -- the bytes that were read and wait until the association takes them
 abbrev pub untaken_in : Inbox → List ℕ
-untaken_in inbox = drop inbox.taken inbox.bytes.items
+untaken_in inbox = slice_range inbox.bytes inbox.taken inbox.read
 
 -- what was read is these bytes, which were taken, followed by what waits
 abbrev pub IsTakenOf : {S : Type 0} → List ℕ → Link S → Type 0
@@ -37,11 +37,11 @@ IsClosed link = HasClosed (untaken_in link.inbox) link.stream.ends.total (pendin
 abbrev pub ClosesWith : {S : Type 0} → List Received → Link S → Type 0
 ClosesWith inputs link = ClosesWithSocket inputs (untaken_in link.inbox) link.stream.ends.total (pending_in link.outbox) link.stream.refusals.total
 
--- so the bytes that were read grow, by what stands at the front of a room
-abbrev pub ReadsMore : Arrival → List ℕ → List ℕ → List ℕ → Type 0
-ReadsMore (arrival.Bytes n) old new room = (n ≤ length room) × (new ≡ old ++ take n room)
-ReadsMore arrival.Nothing old new room = new ≡ old
-ReadsMore (arrival.End end) old new room = new ≡ old
+-- so the bytes that were read grow, and those that wait by the same
+abbrev pub ReadsMore : Arrival → List ℕ → List ℕ → List ℕ → List ℕ → Type 0
+ReadsMore (arrival.Bytes n) waits waits_new old new = (more : List ℕ) × (length more ≡ n) × (waits_new ≡ waits ++ more) × (new ≡ old ++ more)
+ReadsMore arrival.Nothing waits waits_new old new = (waits_new ≡ waits) × (new ≡ old)
+ReadsMore (arrival.End end) waits waits_new old new = (waits_new ≡ waits) × (new ≡ old)
 
 -- the socket gave its end at least once where nothing more comes, and not where nothing has come yet
 abbrev pub CountsEnd : Arrival → ℕ → ℕ → Type 0
@@ -51,11 +51,11 @@ CountsEnd (arrival.End end) old new = 0 < new
 
 -- nothing more was read, and all that was read was taken
 abbrev pub NothingMore : {S : Type 0} → Link S → Link S → Type 0
-NothingMore old new = (new.stream.traced.read.bytes ≡ old.stream.traced.read.bytes) × (new.inbox ≡ old.inbox) × (untaken_in new.inbox ≡ [])
+NothingMore old new = (new.stream.traced.read.bytes ≡ old.stream.traced.read.bytes) × (untaken_in old.inbox ≡ []) × (untaken_in new.inbox ≡ [])
 
--- so the bytes that are to be taken are lent at the front of a room, at most so many; the socket has nothing, or nothing more,
+-- so many bytes are to be taken of those that wait, at most as many as was asked for; the socket has nothing, or nothing more,
 -- where all that was read was taken
-abbrev pub Arrives : {S : Type 0} → ℕ → Arrival → Link S → Link S → List ℕ → Type 0
-Arrives most (arrival.Bytes n) old new room = (n ≤ length room) × (n ≤ most) × ((taken : List ℕ) → IsTakenOf taken old → IsTakenOf (taken ++ take n room) new)
-Arrives most arrival.Nothing old new room = NothingMore old new
-Arrives most (arrival.End end) old new room = NothingMore old new
+abbrev pub Arrives : {S : Type 0} → ℕ → Arrival → Link S → Link S → Type 0
+Arrives most (arrival.Bytes n) old new = (n ≤ length (untaken_in new.inbox)) × (n ≤ most) × ((taken : List ℕ) → IsTakenOf taken old → IsTakenOf taken new)
+Arrives most arrival.Nothing old new = NothingMore old new
+Arrives most (arrival.End end) old new = NothingMore old new

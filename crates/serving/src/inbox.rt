@@ -1,32 +1,48 @@
 //! What was read from a socket and its association has not taken yet.
-ghost use Rattle.std.specs.Prelude.{◌≡◌, ◌≢◌, ◌≤◌, ◌<◌, ◌++◌, [], drop, length, take};
-ghost use Rattle.arrayvec.specs.ArrayVec.{array_vec_len};
+ghost use Rattle.std.specs.Prelude.{◌≡◌, ◌≤◌, ◌<◌, [], drop, length, true};
 
-use arrayvec::ArrayVec;
+use crate::counted_stream::CountedStream;
+use connection::ReadEnd;
+use std::io::{ErrorKind, Read};
 
-/// How many bytes may wait for an association to take them: so many are read beyond a portion that is no
-/// larger, so that a small message is read at once.
-pub const INBOX: usize = 4096;
+/// How many bytes may wait for an association to take them: four P-DATA-TF PDUs of the maximum length that
+/// most peers keep to, 16,384, and their heads (PS3.8 section 9.3.5).
+pub const INBOX: usize = 65_560;
 
-/// Keeps what was read until its association takes it.
+/// What a socket that does not block gave.
+#[derive(Clone, Copy, Debug, PartialEq, Eq)]
+pub(crate) enum Arrival {
+    /// So many bytes, at least one.
+    Bytes(usize),
+    /// Nothing yet.
+    Nothing,
+    /// Nothing more.
+    End(ReadEnd),
+}
+
+/// Keeps what was read until its association takes it. A socket is read straight into it.
 #[derive(Drop)]
 pub struct Inbox {
-    bytes: ArrayVec<u8, INBOX>,
+    bytes: [u8; INBOX],
     /// How many of them were taken.
     taken: usize,
-    ghost within: { taken ≤ array_vec_len bytes },
+    /// How many of them were read.
+    read: usize,
+    ghost ordered: { taken ≤ read },
+    ghost within: { read ≤ 65560 },
 }
 
 impl Inbox {
-    ghost use Rattle.serving.specs.Wires.{untaken_in};
+    ghost use Rattle.serving.specs.Wires.{CountsEnd, ReadsMore, untaken_in};
 
     /// Creates an inbox of no bytes.
     pub(crate) fn new() -> Inbox
         ensures nothing { untaken_in result ≡ [] }
     {
         Inbox {
-            bytes: ArrayVec::new(),
+            bytes: [0; INBOX],
             taken: 0,
+            read: 0,
         }
     }
 
@@ -34,32 +50,57 @@ impl Inbox {
     pub fn pending(&self) -> &[u8]
         ensures { result.now ≡ untaken_in self.now }
     {
-        &self.bytes.as_slice()[self.taken..]
+        &self.bytes[self.taken..self.read]
     }
 
-    /// Moves the first of the bytes that wait to the front of a room, as many as it has room for. Returns
-    /// how many.
-    pub(crate) fn take_front(&mut self, room: &mut [u8]) -> usize
-        ensures within { result ≤ length room.old }
-        ensures same_room { length room.new ≡ length room.old }
-        ensures moved { untaken_in self.old ≡ take result room.new ++ untaken_in self.new }
-        ensures some { untaken_in self.old ≢ [] → 0 < length room.old → 0 < result }
+    /// Removes the first of the bytes that wait, which the association took.
+    pub(crate) fn drop_front(&mut self, count: usize)
+        requires within { count ≤ length (untaken_in self.old) }
+        ensures { untaken_in self.new ≡ drop count (untaken_in self.old) }
     {
-        let pending = &self.bytes.as_slice()[self.taken..];
-        let count = pending.len().min(room.len());
-        room[..count].copy_from_slice(&pending[..count]);
         self.taken += count;
-        count
     }
 
-    /// Keeps bytes that were read, where none waits.
-    pub(crate) fn keep(&mut self, bytes: &[u8])
-        requires empty { untaken_in self.old ≡ [] }
-        requires fits { length bytes.now ≤ 4096 }
-        ensures { untaken_in self.new ≡ bytes.now }
+    /// Returns whether more is to be read before an association takes so many bytes: none waits, or fewer do
+    /// and the last read left no capacity, so that more may have come.
+    pub(crate) fn is_short(&self, most: usize) -> bool
+        ensures room { result ≡ true → length (untaken_in self.now) < 65560 }
     {
-        self.bytes.clear();
+        let waits = self.read - self.taken;
+        waits == 0 || (waits < most && waits < self.read && self.read == INBOX)
+    }
+
+    /// Moves the bytes that wait to the front.
+    fn move_to_front(&mut self)
+        ensures same { untaken_in self.new ≡ untaken_in self.old }
+        ensures front { self.new.read ≡ length (untaken_in self.old) }
+        ensures none_taken { self.new.taken ≡ 0 }
+    {
+        let (taken, read) = (self.taken, self.read);
+        self.bytes.copy_within(taken..read, 0);
         self.taken = 0;
-        self.bytes.try_extend_from_slice(bytes).unwrap();
+        self.read = read - taken;
+    }
+
+    /// Reads what has come behind what waits, as many bytes as there is capacity for.
+    pub(crate) fn fill<S: Read>(&mut self, stream: &mut CountedStream<S>) -> Arrival
+        requires room { length (untaken_in self.old) < 65560 }
+        ensures reads { ReadsMore result (untaken_in self.old) (untaken_in self.new) stream.old.traced.read.bytes stream.new.traced.read.bytes }
+        ensures ends { CountsEnd result stream.old.ends.total stream.new.ends.total }
+        ensures same_written { stream.new.traced.written ≡ stream.old.traced.written }
+        ensures same_refusals { stream.new.refusals ≡ stream.old.refusals }
+    {
+        self.move_to_front();
+        let end = self.read;
+        let room = &mut self.bytes[..];
+        match stream.read(&mut room[end..]) {
+            Ok(0) => Arrival::End(ReadEnd::Closed),
+            Ok(len) => {
+                self.read = end + len;
+                Arrival::Bytes(len)
+            }
+            Err(error) if error.kind() == ErrorKind::WouldBlock => Arrival::Nothing,
+            Err(_) => Arrival::End(ReadEnd::Failed),
+        }
     }
 }

@@ -1,36 +1,12 @@
 //! The socket of a connection. It does not block: it is read and written as far as it goes.
-ghost use Rattle.std.specs.Prelude.{◌≡◌, ◌≢◌, ◌≤◌, ◌<◌, [], ◌++◌, take, length, IfOk, OnErr, true, false};
+ghost use Rattle.std.specs.Prelude.{◌≡◌, ◌≢◌, ◌≤◌, ◌<◌, [], length, OnErr, true, false};
 
 use crate::counted_stream::CountedStream;
-use crate::inbox::{INBOX, Inbox};
+use crate::inbox::{Arrival, Inbox};
 use crate::outbox::Outbox;
 use crate::traces::SocketTraces;
-use connection::{Observer, ReadEnd};
+use connection::Observer;
 use std::io::{Error, ErrorKind, Read, Write};
-
-/// How many bytes are read beyond a portion that is larger than an inbox: the heads of a P-DATA-TF and of
-/// its presentation data value (PS3.8 section 9.3.5), and nothing of the fragment after them, which is then
-/// one read and one write.
-const HEADS: usize = 12;
-
-/// Returns how many bytes are read beyond a portion.
-fn beyond(portion: usize) -> usize
-    ensures large { 4096 < portion → result ≡ 12 }
-    ensures small { portion ≤ 4096 → result ≡ 4096 }
-{
-    if portion > INBOX { HEADS } else { INBOX }
-}
-
-/// What a socket that does not block gave.
-#[derive(Clone, Copy, Debug, PartialEq, Eq)]
-pub(crate) enum Arrival {
-    /// So many bytes, at least one.
-    Bytes(usize),
-    /// Nothing yet.
-    Nothing,
-    /// Nothing more.
-    End(ReadEnd),
-}
 
 /// A socket, what was read from it, and what it is to send. What it took, followed by what waits in the
 /// outbox, is what the association has sent; what the association has taken, followed by what waits in
@@ -62,59 +38,27 @@ impl<S> Link<S> {
 }
 
 impl<S: Read> Link<S> {
-    ghost use Rattle.serving.specs.Wires.{Arrives, CountsEnd, ReadsMore, untaken_in};
+    ghost use Rattle.serving.specs.Wires.{Arrives, CountsEnd};
 
-    /// Reads what has come, at most as many bytes as there is room for, which the observer is shown.
-    fn read<B: Observer>(&mut self, room: &mut [u8], observer: &B) -> Arrival
-        requires some_room { 0 < length room.old }
-        ensures reads { ReadsMore result self.old.stream.traced.read.bytes self.new.stream.traced.read.bytes room.new }
-        ensures ends { CountsEnd result self.old.stream.ends.total self.new.stream.ends.total }
-        ensures same_room { length room.new ≡ length room.old }
-        ensures same_written { self.new.stream.traced.written ≡ self.old.stream.traced.written }
-        ensures same_refusals { self.new.stream.refusals ≡ self.old.stream.refusals }
-        ensures same_inbox { self.new.inbox ≡ self.old.inbox }
-        ensures same_outbox { self.new.outbox ≡ self.old.outbox }
-    {
-        match self.stream.read(room) {
-            Ok(0) => Arrival::End(ReadEnd::Closed),
-            Ok(len) => {
-                observer.received(&room[..len]);
-                Arrival::Bytes(len)
-            }
-            Err(error) if error.kind() == ErrorKind::WouldBlock => Arrival::Nothing,
-            Err(_) => Arrival::End(ReadEnd::Failed),
-        }
-    }
-
-    /// Lends the next bytes that the association is to take, at most a portion, at the front of the room:
-    /// of those that wait, else of what has come. What was read beyond the portion waits. The observer is
-    /// shown all that is read.
-    pub(crate) fn receive<B: Observer>(
-        &mut self,
-        room: &mut [u8],
-        portion: usize,
-        observer: &B,
-    ) -> Arrival
-        requires some_room { 0 < length room.old }
-        requires some { 0 < portion }
-        ensures arrives { Arrives portion result self.old self.new room.new }
+    /// Returns how many of the bytes in the inbox the association is to take, at most so many: of those that
+    /// wait, and of what has come. The observer is shown all that is read.
+    pub(crate) fn receive<B: Observer>(&mut self, most: usize, observer: &B) -> Arrival
+        requires some { 0 < most }
+        ensures arrives { Arrives most result self.old self.new }
         ensures ends { CountsEnd result self.old.stream.ends.total self.new.stream.ends.total }
         ensures same_written { self.new.stream.traced.written ≡ self.old.stream.traced.written }
         ensures same_refusals { self.new.stream.refusals ≡ self.old.stream.refusals }
         ensures same_outbox { self.new.outbox ≡ self.old.outbox }
     {
-        if !self.inbox.pending().is_empty() {
-            let most = room.len().min(portion);
-            return Arrival::Bytes(self.inbox.take_front(&mut room[..most]));
-        }
-        let most = room.len().min(portion.saturating_add(beyond(portion)));
-        match self.read(&mut room[..most], observer) {
-            Arrival::Bytes(len) if len > portion => {
-                self.inbox.keep(&room[portion..len]);
-                Arrival::Bytes(portion)
+        if self.inbox.is_short(most) {
+            let waits = self.inbox.pending().len();
+            match self.inbox.fill(&mut self.stream) {
+                Arrival::Bytes(_) => observer.received(&self.inbox.pending()[waits..]),
+                arrival if waits == 0 => return arrival,
+                _ => {}
             }
-            arrival => arrival,
         }
+        Arrival::Bytes(self.inbox.pending().len().min(most))
     }
 }
 

@@ -24,10 +24,10 @@ pub use turns::Turn;
 /// A connection: a socket that does not block, and its association with what belongs to it
 /// alone, its filing and its times.
 ///
-/// It never waits: a turn reads and writes as far as the socket goes, and one piece at most. What was read
-/// is taken in portions. Nothing is taken while anything waits that the peer is to take, so what waits is
-/// bounded by what one portion has the association send, and no send ever fails for want of room; and
-/// nothing is read while anything waits that the association is to take.
+/// It never waits: a turn reads and writes as far as the socket goes, and takes so many bytes at most. What
+/// was read is taken in portions. Nothing is taken while anything waits that the peer is to take, so what
+/// waits is bounded by what one portion has the association send, and no send ever fails for want of room;
+/// and no more is read than an inbox holds.
 #[derive(Drop)]
 pub struct Connection<S, F: Filing> {
     link: Link<S>,

@@ -63,18 +63,17 @@ fn connections<'a>(
 
 /// Gives the connections generated turns until all are over. Returns whether they are.
 fn mix(all: &mut [Box<Mixed<'_>>], sides: &[Side], chance: &mut Chance, now: Instant) -> bool {
-    let mut room = [0u8; 512];
     let mut over = 0usize;
     for _ in 0..1_000_000 {
         let place = chance.below(all.len());
-        let most = chance.below(512).min(room.len());
+        let most = chance.below(512);
         let (Some(one), Some(side)) = (all.get_mut(place), sides.get(place)) else {
             return false;
         };
         if one.is_over() {
             continue;
         }
-        if one.turn(now, &mut room[..most], &side.shown) == Turn::Over {
+        if one.turn(now, most, &side.shown) == Turn::Over {
             over = over.saturating_add(1);
         }
         if over >= sides.len() {

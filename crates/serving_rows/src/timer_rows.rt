@@ -20,7 +20,6 @@ fn expires(rt: &HostRuntime, moments: &[Moment<'_>], answers: &[&[u8]]) -> Resul
     let (now, script) = (Instant::now(rt)?, Script::new(rt.alloc()));
     let shown = Audience::new(rt.alloc());
     let mut one = scripted(rt.alloc(), &script, now);
-    let mut room = [0u8; 4096];
     for Moment(seconds, left, bytes) in moments {
         let then = after(now, *seconds);
         let wait = match *left {
@@ -31,7 +30,7 @@ fn expires(rt: &HostRuntime, moments: &[Moment<'_>], answers: &[&[u8]]) -> Resul
             return Ok(false);
         }
         script.send(*bytes)?;
-        let _turn = one.turn(then, &mut room, &shown);
+        let _turn = one.turn(then, 4096, &shown);
         one.expire(then, &shown);
     }
     let sent = joined(rt.alloc(), answers)?;

@@ -6,6 +6,7 @@ use connection::ReadEnd;
 use fixtures::bytes::{front, joined};
 use fixtures::echo;
 use fixtures::stores::{ACCEPT, CT_SET, EXPLICIT, INSTANCE, data, request, store, whole_store};
+use harness::{Step, over_memory};
 use serving::{Turn, Wait};
 use std::test::Fail;
 use std::time::{Duration, Instant};
@@ -15,63 +16,72 @@ fn an_echo_is_answered_in_a_turn(rt: HostRuntime) -> Result<(), Fail> {
     let (now, script) = (Instant::now(&rt)?, Script::new(rt.alloc()));
     let shown = Audience::new(rt.alloc());
     let mut one = scripted(rt.alloc(), &script, now);
-    let mut room = [0u8; 1024];
-    assert!(rt; one.turn(now, &mut room, &shown) == Turn::Socket);
+    assert!(rt; one.turn(now, 1024, &shown) == Turn::Socket);
     script.send(echo::REQUEST)?;
     script.send(echo::ECHO)?;
-    assert!(rt; one.turn(now, &mut room, &shown) == Turn::Socket);
+    assert!(rt; one.turn(now, 1024, &shown) == Turn::Socket);
     let answers = joined(rt.alloc(), &[echo::ACCEPT, echo::REPLY])?;
     assert!(rt; script.took(answers.as_slice()));
     assert!(rt; one.received() == 250 && !one.is_over());
     script.is_closed.set(true);
-    assert!(rt; one.turn(now, &mut room, &shown) == Turn::Over);
+    assert!(rt; one.turn(now, 1024, &shown) == Turn::Over);
     assert!(rt; one.is_over() && shown.end.get() == Some(ReadEnd::Closed));
-    assert!(rt; one.turn(now, &mut room, &shown) == Turn::Over);
+    assert!(rt; one.turn(now, 1024, &shown) == Turn::Over);
     Ok(())
 }
 
 #[test]
-fn a_turn_takes_what_its_room_has(rt: HostRuntime) -> Result<(), Fail> {
+fn a_turn_takes_no_more_than_it_may(rt: HostRuntime) -> Result<(), Fail> {
     let (now, script) = (Instant::now(&rt)?, Script::new(rt.alloc()));
     let shown = Audience::new(rt.alloc());
     let mut one = scripted(rt.alloc(), &script, now);
     script.send(echo::REQUEST)?;
     script.send(echo::ECHO)?;
-    let mut room = [0u8; 100];
-    assert!(rt; one.turn(now, &mut [], &shown) == Turn::Next && one.received() == 0);
-    // The body of the request does not fit beside its head.
-    assert!(rt; one.turn(now, &mut room, &shown) == Turn::Next && one.received() == 6);
-    assert!(rt; one.turn(now, &mut room, &shown) == Turn::Next && one.received() == 100);
+    assert!(rt; one.turn(now, 0, &shown) == Turn::Next && one.received() == 0);
+    // The body of the request is more than what is left beside its head.
+    assert!(rt; one.turn(now, 100, &shown) == Turn::Next && one.received() == 6);
+    assert!(rt; one.turn(now, 100, &shown) == Turn::Next && one.received() == 106);
     assert!(rt; script.took(&[]));
-    // The command does not fit beside the end of the body.
-    assert!(rt; one.turn(now, &mut room, &shown) == Turn::Next && one.received() == 182);
+    // The command is more than what is left beside the end of the body.
+    assert!(rt; one.turn(now, 100, &shown) == Turn::Next && one.received() == 182);
     assert!(rt; script.took(echo::ACCEPT));
-    assert!(rt; one.turn(now, &mut room, &shown) == Turn::Socket && one.received() == 250);
+    assert!(rt; one.turn(now, 100, &shown) == Turn::Socket && one.received() == 250);
     Ok(())
 }
 
 #[test]
-fn a_large_fragment_is_one_piece(rt: HostRuntime) -> Result<(), Fail> {
+fn what_has_come_is_one_read(rt: HostRuntime) -> Result<(), Fail> {
     let (now, script) = (Instant::now(&rt)?, Script::new(rt.alloc()));
     let shown = Audience::new(rt.alloc());
     let mut one = scripted(rt.alloc(), &script, now);
-    let mut room = [0u8; 65536];
     script.send(request(rt.alloc(), EXPLICIT)?.as_slice())?;
-    assert!(rt; one.turn(now, &mut room, &shown) == Turn::Socket);
+    assert!(rt; one.turn(now, 65536, &shown) == Turn::Socket);
     assert!(rt; shown.pieces.get() == 1 && script.reads.get() == 2);
-    // A data set of 60 bytes and of pixels, three fragments of 16,378 bytes.
-    let head = b"\xe0\x7f\x10\0OW\0\0\xb2\xbf\0\0";
-    let pixels = [0u8; 16378];
+    // A data set of 60 bytes and of pixels, five fragments of 16,378 bytes: more than an inbox has room for.
+    let head = b"\xe0\x7f\x10\0OW\0\0\xa6\x3f\x01\0";
+    let mut pixels = [0u8; 16378];
+    for (place, byte) in pixels.iter_mut().enumerate() {
+        *byte = (place % 251) as u8;
+    }
     let first = joined(rt.alloc(), &[&CT_SET, head, front(&pixels, 16318)])?;
-    let command = store(rt.alloc(), INSTANCE)?;
-    script.send(data(rt.alloc(), 3, command.as_slice())?.as_slice())?;
-    script.send(data(rt.alloc(), 0, first.as_slice())?.as_slice())?;
-    script.send(data(rt.alloc(), 0, &pixels)?.as_slice())?;
-    script.send(data(rt.alloc(), 2, &pixels)?.as_slice())?;
-    assert!(rt; one.turn(now, &mut room, &shown) == Turn::Socket);
-    // What came of the first fragment with the command is read with it; then each fragment is one read.
-    assert!(rt; shown.pieces.get() == 1 + 4 && script.reads.get() == 2 + 5);
-    assert!(rt; one.end().filing.files().len() == 1);
+    let mut stream = data(rt.alloc(), 3, store(rt.alloc(), INSTANCE)?.as_slice())?;
+    stream.extend_from_slice(data(rt.alloc(), 0, first.as_slice())?.as_slice())?;
+    for _ in 0..3 {
+        stream.extend_from_slice(data(rt.alloc(), 0, &pixels)?.as_slice())?;
+    }
+    stream.extend_from_slice(data(rt.alloc(), 2, &pixels)?.as_slice())?;
+    script.send(stream.as_slice())?;
+    assert!(rt; one.turn(now, 65536, &shown) == Turn::Next);
+    assert!(rt; one.turn(now, 65536, &shown) == Turn::Socket);
+    assert!(rt; shown.pieces.get() == 1 + 2 && script.reads.get() == 2 + 3);
+    let request = request(rt.alloc(), EXPLICIT)?;
+    let pieces = [
+        Step::Piece(request.as_slice()),
+        Step::Piece(stream.as_slice()),
+    ];
+    let alone = over_memory(rt.alloc(), &pieces);
+    let files = one.end().filing;
+    assert!(rt; files.files().len() == 1 && files.files() == alone.filing.files());
     Ok(())
 }
 
@@ -80,19 +90,18 @@ fn nothing_is_read_while_an_answer_waits(rt: HostRuntime) -> Result<(), Fail> {
     let (now, script) = (Instant::now(&rt)?, Script::new(rt.alloc()));
     let shown = Audience::new(rt.alloc());
     let mut one = scripted(rt.alloc(), &script, now);
-    let mut room = [0u8; 4096];
     script.takes.set(3);
     script.send(echo::REQUEST)?;
     for _ in 0..50 {
         script.send(echo::ECHO)?;
     }
-    assert!(rt; one.turn(now, &mut room, &shown) == Turn::Socket);
+    assert!(rt; one.turn(now, 4096, &shown) == Turn::Socket);
     let reads = script.reads.get();
-    assert!(rt; one.turn(now, &mut room, &shown) == Turn::Socket);
+    assert!(rt; one.turn(now, 4096, &shown) == Turn::Socket);
     assert!(rt; script.reads.get() == reads && one.received() == 170);
     assert!(rt; script.took(front(echo::ACCEPT, 3)));
     script.takes.set(usize::MAX);
-    assert!(rt; one.turn(now, &mut room, &shown) == Turn::Socket);
+    assert!(rt; one.turn(now, 4096, &shown) == Turn::Socket);
     assert!(rt; one.received() == 170 + 50 * 80);
     Ok(())
 }
@@ -102,12 +111,11 @@ fn small_messages_are_read_together(rt: HostRuntime) -> Result<(), Fail> {
     let (now, script) = (Instant::now(&rt)?, Script::new(rt.alloc()));
     let shown = Audience::new(rt.alloc());
     let mut one = scripted(rt.alloc(), &script, now);
-    let mut room = [0u8; 8192];
     script.send(echo::REQUEST)?;
     for _ in 0..20 {
         script.send(echo::ECHO)?;
     }
-    assert!(rt; one.turn(now, &mut room, &shown) == Turn::Socket);
+    assert!(rt; one.turn(now, 8192, &shown) == Turn::Socket);
     assert!(rt; script.reads.get() == 2 && one.received() == 170 + 20 * 80);
     assert!(rt; one.end().exchange.untaken.pending().is_empty());
     Ok(())
@@ -118,11 +126,10 @@ fn what_comes_after_the_end_is_not_taken(rt: HostRuntime) -> Result<(), Fail> {
     let (now, script) = (Instant::now(&rt)?, Script::new(rt.alloc()));
     let shown = Audience::new(rt.alloc());
     let mut one = scripted(rt.alloc(), &script, now);
-    let mut room = [0u8; 4096];
     script.send(echo::REQUEST)?;
     script.send(echo::USER_ABORT)?;
     script.send(echo::ECHO)?;
-    assert!(rt; one.turn(now, &mut room, &shown) == Turn::Over);
+    assert!(rt; one.turn(now, 4096, &shown) == Turn::Over);
     assert!(rt; one.is_over() && one.received() == 180);
     assert!(rt; one.end().exchange.untaken.pending() == echo::ECHO);
     Ok(())
@@ -133,9 +140,8 @@ fn half_a_request_expires(rt: HostRuntime) -> Result<(), Fail> {
     let (now, script) = (Instant::now(&rt)?, Script::new(rt.alloc()));
     let shown = Audience::new(rt.alloc());
     let mut one = scripted(rt.alloc(), &script, now);
-    let mut room = [0u8; 4096];
     script.send(front(echo::REQUEST, 60))?;
-    assert!(rt; one.turn(after(now, 20), &mut room, &shown) == Turn::Socket);
+    assert!(rt; one.turn(after(now, 20), 4096, &shown) == Turn::Socket);
     assert!(rt; one.wait(after(now, 29)) == Wait::Left(Duration::from_secs(1)));
     one.expire(after(now, 29), &shown);
     assert!(rt; !one.is_over() && shown.end.get().is_none());
@@ -151,11 +157,10 @@ fn a_stalled_store_is_aborted(rt: HostRuntime) -> Result<(), Fail> {
     let (now, script) = (Instant::now(&rt)?, Script::new(rt.alloc()));
     let shown = Audience::new(rt.alloc());
     let mut one = scripted(rt.alloc(), &script, now);
-    let mut room = [0u8; 4096];
     script.send(request(rt.alloc(), EXPLICIT)?.as_slice())?;
     let store = whole_store(rt.alloc(), INSTANCE, &CT_SET)?;
     script.send(front(store.as_slice(), 130))?;
-    assert!(rt; one.turn(after(now, 10), &mut room, &shown) == Turn::Socket);
+    assert!(rt; one.turn(after(now, 10), 4096, &shown) == Turn::Socket);
     one.expire(after(now, 609), &shown);
     assert!(rt; script.took(ACCEPT));
     assert!(rt; one.wait(after(now, 610)) == Wait::Silent);
@@ -176,10 +181,9 @@ fn a_peer_that_takes_nothing_is_closed(rt: HostRuntime) -> Result<(), Fail> {
     let (now, script) = (Instant::now(&rt)?, Script::new(rt.alloc()));
     let shown = Audience::new(rt.alloc());
     let mut one = scripted(rt.alloc(), &script, now);
-    let mut room = [0u8; 4096];
     script.takes.set(100);
     script.send(echo::REQUEST)?;
-    assert!(rt; one.turn(now, &mut room, &shown) == Turn::Socket);
+    assert!(rt; one.turn(now, 4096, &shown) == Turn::Socket);
     one.expire(after(now, 600), &shown);
     assert!(rt; one.is_over() && shown.failures.get() == 1);
     let end = one.end();
@@ -193,10 +197,9 @@ fn a_peer_that_takes_at_last_is_not_closed(rt: HostRuntime) -> Result<(), Fail> 
     let (now, script) = (Instant::now(&rt)?, Script::new(rt.alloc()));
     let shown = Audience::new(rt.alloc());
     let mut one = scripted(rt.alloc(), &script, now);
-    let mut room = [0u8; 4096];
     script.takes.set(100);
     script.send(echo::REQUEST)?;
-    assert!(rt; one.turn(now, &mut room, &shown) == Turn::Socket);
+    assert!(rt; one.turn(now, 4096, &shown) == Turn::Socket);
     // As its time is up it takes one byte more, and then all.
     script.takes.set(1);
     one.expire(after(now, 600), &shown);
@@ -215,10 +218,9 @@ fn a_write_that_fails_closes(rt: HostRuntime) -> Result<(), Fail> {
     let (now, script) = (Instant::now(&rt)?, Script::new(rt.alloc()));
     let shown = Audience::new(rt.alloc());
     let mut one = scripted(rt.alloc(), &script, now);
-    let mut room = [0u8; 4096];
     script.fails.set(true);
     script.send(echo::REQUEST)?;
-    assert!(rt; one.turn(now, &mut room, &shown) == Turn::Over);
+    assert!(rt; one.turn(now, 4096, &shown) == Turn::Over);
     assert!(rt; one.is_over() && shown.failures.get() == 1);
     one.expire(after(now, 900), &shown);
     one.abort(after(now, 900), ReadEnd::Idle, &shown);
@@ -232,16 +234,15 @@ fn the_local_user_aborts_while_an_answer_waits(rt: HostRuntime) -> Result<(), Fa
     let (now, script) = (Instant::now(&rt)?, Script::new(rt.alloc()));
     let shown = Audience::new(rt.alloc());
     let mut one = scripted(rt.alloc(), &script, now);
-    let mut room = [0u8; 4096];
     script.takes.set(0);
     script.send(echo::REQUEST)?;
-    assert!(rt; one.turn(now, &mut room, &shown) == Turn::Socket);
+    assert!(rt; one.turn(now, 4096, &shown) == Turn::Socket);
     one.abort(now, ReadEnd::Idle, &shown);
     one.abort(now, ReadEnd::Idle, &shown);
     assert!(rt; !one.is_over());
     script.takes.set(usize::MAX);
     script.is_closed.set(true);
-    assert!(rt; one.turn(now, &mut room, &shown) == Turn::Over);
+    assert!(rt; one.turn(now, 4096, &shown) == Turn::Over);
     let answers = joined(rt.alloc(), &[echo::ACCEPT, echo::USER_ABORT])?;
     assert!(rt; script.took(answers.as_slice()));
     Ok(())

@@ -4,7 +4,6 @@ use crate::socket::AcceptedStream;
 use crate::stopping::clear;
 use crate::terms::ServerTerms;
 use admitting::{Notice, Places, Queue};
-use connection::PIECE;
 use journal::{Listening, Stopped, Teller};
 use log::Log;
 use mio::net::TcpListener;
@@ -46,7 +45,6 @@ fn watched<R: Net>(rt: &R, listener: net::TcpListener) -> io::Result<(Poll, TcpL
 struct Vacancies {
     places: Places<Global>,
     queue: Queue<AcceptedStream, Global>,
-    room: Vec<u8>,
 }
 
 /// Returns the places of a server that is held to these terms.
@@ -54,7 +52,6 @@ fn vacancies_of(alloc: Global, terms: &ServerTerms<'_>) -> Result<Vacancies, All
     Ok(Vacancies {
         places: Places::new(alloc, terms.at_once, terms.per_peer)?,
         queue: Queue::new(alloc, terms.at_once)?,
-        room: Vec::from_elem(alloc, 0, PIECE)?,
     })
 }
 
@@ -78,11 +75,7 @@ where
     let vacancies = vacancies_of(alloc, &terms)?;
     let (folder, first) = filings;
     let filings = filings_of(alloc, terms.at_once, first)?;
-    let Vacancies {
-        places,
-        queue,
-        room,
-    } = vacancies;
+    let Vacancies { places, queue } = vacancies;
     Ok(Server {
         rt,
         poll,
@@ -93,7 +86,6 @@ where
         places,
         seats: Vec::new(alloc),
         queue,
-        room,
         is_open: true,
         now,
         may_accept: true,

@@ -4,7 +4,7 @@ ghost use Rattle.element.specs.Numbers.{IsBytes};
 ghost use Rattle.engine.specs.declared.source.Input.TheVariants as kind;
 
 use super::Connection;
-use crate::link::Arrival;
+use crate::inbox::Arrival;
 use crate::waiting::Wait;
 use connection::{Observer, ReadEnd};
 use engine::Input;
@@ -178,24 +178,27 @@ impl<S: Read + Write, F: Filing> Connection<S, F> {
     ghost use Rattle.engine.specs.Held.{is_ended};
     ghost use Rattle.serving.specs.Connections.{settings_at, opening_of, state_at, untaken_at, waiting_at};
 
-    /// Has the association take a portion of what was read, or else of what has come.
-    fn receive<B: Observer>(&mut self, now: Instant, room: &mut [u8], observer: &B) -> Arrival
+    /// Has the association take a portion of what was read, or else of what has come, at most so many bytes.
+    fn receive<B: Observer>(&mut self, now: Instant, most: usize, observer: &B) -> Arrival
         requires open { is_ended (state_at self.old) ≡ false }
         requires flushed { waiting_at self.old ≡ [] }
-        requires some_room { 0 < length room.old }
+        requires some { 0 < most }
         ensures settings { settings_at self.new ≡ settings_at self.old }
         ensures opening { opening_of self.new ≡ opening_of self.old }
         ensures nothing { result ≡ Arrival.Nothing → untaken_at self.new ≡ [] }
     {
-        let arrival = self.link.receive(room, self.running.portion(), observer);
+        let arrival = self
+            .link
+            .receive(self.running.portion().min(most), observer);
         match arrival {
             Arrival::Nothing => {}
             Arrival::Bytes(len) => {
-                let piece = &room[..len];
+                let piece = &self.link.inbox.pending()[..len];
                 is_of_bytes(piece);
                 self.received = self.received.saturating_add(len as u64);
                 self.given.push(&Input::Piece, piece);
                 self.running.take(Input::Piece, piece, &mut self.link.outbox, &mut self.filing);
+                self.link.inbox.drop_front(len);
                 self.waiting.hear(now);
                 self.waiting.follow(now, self.running.state());
             }
@@ -207,24 +210,24 @@ impl<S: Read + Write, F: Filing> Connection<S, F> {
         arrival
     }
 
-    /// Writes what waits, has the association take what was read and what has come, as many bytes as there
-    /// is room for at most, and writes what it sends for them. Returns whether it then waits for its socket.
-    fn advance<B: Observer>(&mut self, now: Instant, room: &mut [u8], observer: &B) -> bool
+    /// Writes what waits, has the association take what was read and what has come, at most so many bytes,
+    /// and writes what it sends for them. Returns whether it then waits for its socket.
+    fn advance<B: Observer>(&mut self, now: Instant, most: usize, observer: &B) -> bool
         ensures settings { settings_at self.new ≡ settings_at self.old }
         ensures opening { opening_of self.new ≡ opening_of self.old }
         ensures rests { result ≡ true → waiting_at self.new ≡ [] → untaken_at self.new ≡ [] }
     {
-        let mut left = room.len();
-        for _ in 0..=room.len() {
+        let mut left = most;
+        for _ in 0..=most {
             match self.flush(now, observer) {
                 Flush::All => {}
                 Flush::Blocked => return true,
                 Flush::Over => return false,
             }
-            if left == 0 || left < self.running.portion().min(room.len()) {
+            if left == 0 || left < self.running.portion().min(most) {
                 return false;
             }
-            match self.receive(now, room, observer) {
+            match self.receive(now, left, observer) {
                 Arrival::Bytes(len) => left = left.saturating_sub(len),
                 Arrival::Nothing => return true,
                 Arrival::End(_) => return false,
@@ -234,15 +237,14 @@ impl<S: Read + Write, F: Filing> Connection<S, F> {
     }
 
     /// Takes a turn at this time: writes what waits, has the association take what was read and what has
-    /// come, as many bytes as there is room for at most, and writes what it sends for them. The room is lent
-    /// for the turn. A portion for which too little of it is left waits for the next turn, so that no fragment
-    /// is cut where a turn ends.
+    /// come, at most so many bytes, and writes what it sends for them. A portion of which fewer may be taken
+    /// yet waits for the next turn, so that no fragment is cut where a turn ends.
     ///
     /// `over`: it is over exactly where its association has ended.
     ///
     /// `rests`: it waits for its socket only where the peer is to take something, or the association has
     /// taken all that was read.
-    pub fn turn<B: Observer>(&mut self, now: Instant, room: &mut [u8], observer: &B) -> Turn
+    pub fn turn<B: Observer>(&mut self, now: Instant, most: usize, observer: &B) -> Turn
         ensures settings { settings_at self.new ≡ settings_at self.old }
         ensures opening { opening_of self.new ≡ opening_of self.old }
         ensures over { (result ≡ Turn.Over) ↔ (is_ended (state_at self.new) ≡ true) }
@@ -251,7 +253,7 @@ impl<S: Read + Write, F: Filing> Connection<S, F> {
         if self.is_over() {
             return Turn::Over;
         }
-        let rests = self.advance(now, room, observer);
+        let rests = self.advance(now, most, observer);
         if self.is_over() {
             return Turn::Over;
         }

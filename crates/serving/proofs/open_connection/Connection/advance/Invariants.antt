@@ -1,7 +1,7 @@
--- The connection is of the same settings and opened over the same filing, and what is left is within the room.
-use Rattle.std.proofs.Common.{◌≡◌, ◌≤◌, length}
+-- The connection is of the same settings and opened over the same filing, and no more is left than may be taken.
+use Rattle.std.proofs.Common.{◌≡◌, ◌≤◌}
 use Rattle.serving.specs.Connections.{settings_at, opening_of}
 use Rattle.serving.proofs.open_connection.Connection.advance.Given as goal
 
 abbrev pub invariant-loop : goal.invariant-loop
-invariant-loop g l = (settings_at l.self ≡ settings_at l.fn.self) × (opening_of l.self ≡ opening_of l.fn.self) × (l.left ≤ length l.room)
+invariant-loop g l = (settings_at l.self ≡ settings_at l.fn.self) × (opening_of l.self ≡ opening_of l.fn.self) × (l.left ≤ l.most)

@@ -4,7 +4,7 @@ use Rattle.element.specs.Numbers.{IsBytes}
 use Rattle.element.specs.declared.count.Count.{Count}
 use Rattle.serving.specs.declared.outbox.Outbox.{Outbox}
 use Rattle.serving.proofs.CloseLemmas.{one_more_closes, still_closes}
-use Rattle.serving.proofs.InboxLemmas.{within_portion}
+use Rattle.serving.proofs.InboxLemmas.{front_taken, nothing_more, within_portion}
 use Rattle.serving.proofs.TakenLemmas.{keeps_piece, more_bytes, same_link}
 use Rattle.serving.proofs.open_connection.Connection.receive.Goals as goal
 
@@ -15,7 +15,7 @@ invariant_of-self-in-Bytes g c =
     let are = more_bytes _ _ _ refl was.bytes c.is_of_bytes.ensures in
     let kept = same_link _ _ _ _ _ _ _ _ _ _ lent.same_written lent.same_outbox (record { never = was.never; fits = was.fits; whole = refl; taken = was.taken }) in
     let none = ap (λ (o : Outbox). o.bytes.items) lent.same_outbox ∙ c.requires.flushed in
-    let k = keeps_piece _ _ _ _ _ _ _ _ _ _ _ _ _ _ _ _ _ c.take.ensures.settings c.push.ensures c.requires.open c.take.new.wire.full c.take.ensures.moved kept c.portion.result _ refl none (within_portion _ _ _ lent.arrives.1) refl are
+    let k = keeps_piece _ _ _ _ _ _ _ _ _ _ _ _ _ _ _ _ _ c.take.ensures.settings c.push.ensures c.requires.open c.take.new.wire.full c.take.ensures.moved kept c.portion.result _ refl none (within_portion _ _ _ _ _ c.min.ensures lent.arrives.1) refl are
     (λ inputs story failed h. c.portion.ensures.few inputs story failed _ h) in
     record {
       there = c.take.ensures.draft;
@@ -23,7 +23,7 @@ invariant_of-self-in-Bytes g c =
       fits = k.fits;
       bytes = subst IsBytes (sym k.whole) are;
       followed = c.follow.ensures.state ∙ c.state.ensures;
-      whole = rw k.whole (lent.arrives.2 _ was.whole);
+      whole = rw k.whole (front_taken _ _ _ _ _ _ c.pending.ensures c.drop_front.ensures (lent.arrives.2 _ was.whole));
       taken = k.taken;
       closed = one_more_closes _ _ _ _ _ _ _ _ c.push.ensures (λ e. absurd cc);
     }
@@ -34,7 +34,7 @@ invariant_of-self-clause-closed g c =
     still_closes _ _ _ _ _ _ _ _ _ lent.arrives.2 (λ lt. subst (λ (n : ℕ). 0 < n) (sym lent.ends) lt) (ap (λ (o : Outbox). o.bytes.items) lent.same_outbox) (ap (λ (k : Count). k.total) lent.same_refusals) c.args.self.now.closed
 
 pub invariant_of-self-clause-whole : goal.invariant_of-self-clause-whole
-invariant_of-self-clause-whole g c = let lent = c.in-Nothing.ensures.arrives in rw (lent.1, lent.0) c.args.self.now.whole
+invariant_of-self-clause-whole g c = let lent = c.in-Nothing.ensures.arrives in nothing_more _ _ _ _ _ lent.0 lent.1 lent.2 c.args.self.now.whole
 
 pub invariant_of-self-clause-taken : goal.invariant_of-self-clause-taken
 invariant_of-self-clause-taken g c = let lent = c.in-Nothing.ensures in rw (lent.same_written, lent.same_outbox) c.args.self.now.taken
