@@ -17,6 +17,8 @@ use std::rt::Files;
 use std::time::Clock;
 
 /// Serves the association of a connection that is watched.
+// Its frame has the seat: it is none of the loop over several.
+#[inline(never)]
 fn serve_watched<
     'a,
     R: Log + Clock + Net + Alloc<A = Global>,

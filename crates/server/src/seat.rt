@@ -264,6 +264,7 @@ pub(crate) fn end<R: Log + Clock, S: Files<File = File> + Alloc<A = Global> + Cl
 }
 
 /// Gives up the memory of a place, if it has any, and lets its connection go.
+#[inline(never)]
 pub(crate) fn let_go<R: Log + Clock, S: Files<File = File> + Alloc<A = Global> + Clone + Drop>(
     seat: Option<Box<Option<Seat<'_, R, S>>>>,
     now: Instant,
@@ -274,6 +275,7 @@ pub(crate) fn let_go<R: Log + Clock, S: Files<File = File> + Alloc<A = Global> +
 }
 
 /// Takes the memory of a place that has none.
+#[inline(never)]
 pub(crate) fn make<'a, R: Log + Clock, S: Files<File = File> + Alloc<A = Global> + Clone + Drop>(
     alloc: Global,
     seat: &mut Option<Box<Option<Seat<'a, R, S>>>>,

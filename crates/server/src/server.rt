@@ -144,6 +144,9 @@ impl<'a, R: Log + Clock, S: Files<File = File> + Alloc<A = Global> + Clone + Dro
     }
 
     /// Opens an association over a connection, in a place that its peer got.
+    // Not inlined, as is what ends one: its frame has copies of a seat, of 180 KB each, and is left before the
+    // first turn.
+    #[inline(never)]
     fn seat(&mut self, accepted: AcceptedStream, place: usize, now: Instant) -> io::Result<()> {
         let AcceptedStream { stream, peer } = accepted;
         let socket = watched(&self.poll, stream, place)?;
@@ -280,6 +283,7 @@ impl<'a, R: Log + Clock, S: Files<File = File> + Alloc<A = Global> + Clone + Dro
     }
 
     /// Lets the connection of a place go, if it has one, and returns its filing.
+    #[inline(never)]
     fn left_filing(&mut self, place: usize, now: Instant) -> Option<FolderFiling<S>> {
         match self.seats.get_mut(place) {
             Some(Some(seat)) => left_by(seat.take(), now),
