@@ -1,6 +1,6 @@
 //! The greatest numbers that a folder's files and folders were given, kept in a file beside the folder, so that none comes
 //! again once its file was moved away.
-ghost use Rattle.std.specs.Prelude.{◌≡◌, ◌≤◌, option_map, true};
+ghost use Rattle.std.specs.Prelude.{◌≡◌, OnOk, OnErr, true, false};
 
 use crate::names::{EntryKind, EntryName};
 use crate::place::{GREATEST, Layout, Place};
@@ -39,7 +39,7 @@ impl fmt::Display for Numbers {
 }
 
 impl Numbers {
-    ghost use Rattle.part10.specs.machine.Numbers.{IsCovered, numbers_of};
+    ghost use Rattle.part10.specs.machine.Numbers.{Continues, Keeps, is_covered, numbers_of};
 
     /// No number was given.
     const NONE: Numbers = Numbers { file: 0, folder: 0 };
@@ -59,7 +59,7 @@ impl Numbers {
     /// Returns whether the number of this place may be given with these numbers kept: that of its file or, in
     /// a layout of levels, that of its folder.
     fn covers(self, layout: Layout, place: Place) -> bool
-        ensures { result ≡ true → IsCovered layout self place }
+        ensures { result ≡ is_covered layout self place }
     {
         match layout {
             Layout::Flat => place.file <= self.file,
@@ -67,9 +67,11 @@ impl Numbers {
         }
     }
 
-    /// Returns the numbers that are kept before the number of this place is given.
+    /// Returns the numbers that are kept before the number of this place is given, which these don't cover.
     fn with(self, layout: Layout, place: Place) -> Numbers
-        ensures covers { IsCovered layout result place }
+        requires uncovered { is_covered layout self place ≡ false }
+        ensures covers { is_covered layout result place ≡ true }
+        ensures keeps { Keeps self result }
     {
         match layout {
             Layout::Flat => Numbers {
@@ -87,7 +89,9 @@ impl Numbers {
 
     /// Returns the place after which the next file comes, where the last one that is there stands at this
     /// place: behind every number that may have been given. In a layout of levels a new folder begins.
-    pub(crate) fn last(self, layout: Layout, found: Place) -> Place {
+    pub(crate) fn last(self, layout: Layout, found: Place) -> Place
+        ensures { Continues layout self found result }
+    {
         match layout {
             Layout::Flat => Place {
                 folder: found.folder,
@@ -146,6 +150,8 @@ fn read<R: Files + Alloc>(rt: &R, path: &str) -> io::Result<Option<Numbers>> {
 }
 
 impl<A: Allocator> NumbersFile<A> {
+    ghost use Rattle.part10.specs.machine.Numbers.{Keeps, is_covered};
+
     /// Reads the file of numbers, which is made if it is not there.
     ///
     /// Fails with `InvalidData` if it has anything but a line of two numbers.
@@ -162,7 +168,9 @@ impl<A: Allocator> NumbersFile<A> {
     }
 
     /// Returns the greatest numbers that may have been given.
-    pub(crate) fn kept(&self) -> Numbers {
+    pub(crate) fn kept(&self) -> Numbers
+        ensures { result ≡ self.now.kept }
+    {
         self.kept
     }
 
@@ -174,7 +182,11 @@ impl<A: Allocator> NumbersFile<A> {
         rt: &R,
         layout: Layout,
         place: Place,
-    ) -> io::Result<()> {
+    ) -> io::Result<()>
+        ensures kept { OnOk result (is_covered layout self.new.kept place ≡ true) }
+        ensures keeps { Keeps self.old.kept self.new.kept }
+        ensures failed { OnErr result (self.new.kept ≡ self.old.kept) }
+    {
         if !self.kept.covers(layout, place) {
             let numbers = self.kept.with(layout, place);
             replace(rt, self.path.as_str(), numbers)?;

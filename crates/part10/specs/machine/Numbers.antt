@@ -1,5 +1,5 @@
 -- The greatest numbers that a folder's files and folders were given, as their file keeps them. This product's own profile.
-use Rattle.std.specs.Prelude.{ℕ, ◌≤◌, ◌&&◌, List, [], ◌∷◌, take, drop, length, codes, Option, Some, None, nat_eq, if◌then◌else◌}
+use Rattle.std.specs.Prelude.{ℕ, Bool, ◌≡◌, ◌≤◌, ◌&&◌, List, [], ◌∷◌, take, drop, length, codes, Option, Some, None, nat_eq, nat_le, if◌then◌else◌}
 use Rattle.std.specs.Str.{bytes_eq}
 use Rattle.part10.specs.EntryNames.{entry_number}
 use Rattle.part10.specs.declared.names.EntryKind.TheVariants.{File, Folder}
@@ -21,7 +21,16 @@ numbers_of line =
     then both_numbers (entry_number File (take 8 line)) (entry_number Folder (take 8 (drop 9 line)))
     else None
 
--- the number of this place is kept: that of its file or, in folders of files, that of its folder
-abbrev pub IsCovered : Layout → Numbers → Place → Type 0
-IsCovered Flat kept place = place.file ≤ kept.file
-IsCovered (Levels per) kept place = place.folder ≤ kept.folder
+-- whether the number of this place is kept: that of its file or, in folders of files, that of its folder
+abbrev pub is_covered : Layout → Numbers → Place → Bool
+is_covered Flat kept place = nat_le place.file kept.file
+is_covered (Levels per) kept place = nat_le place.folder kept.folder
+
+-- no number that these have is missing from those
+abbrev pub Keeps : Numbers → Numbers → Type 0
+Keeps kept more = (kept.file ≤ more.file) × (kept.folder ≤ more.folder)
+
+-- the file that comes after this place has a number that is not kept, and the place is none before that one
+abbrev pub Continues : Layout → Numbers → Place → Place → Type 0
+Continues Flat kept found last = (kept.file ≤ last.file) × (found.file ≤ last.file) × (last.folder ≡ found.folder)
+Continues (Levels per) kept found last = (kept.folder ≤ last.folder) × (found.folder ≤ last.folder) × (last.file ≡ per)
