@@ -70,7 +70,6 @@ test: packages
 	tests/tour.py $(PROGRAM)
 	tests/interop.sh $(PROGRAM)
 	tests/compressed.sh $(PROGRAM)
-	tests/several.sh $(PROGRAM)
 	tests/package.sh $(PROGRAM)
 	tests/deploy.sh $(PROGRAM)
 
