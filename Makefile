@@ -68,7 +68,6 @@ test: packages
 	tools/wrong-bodies
 	$(OUTSIDE) tests/program
 	tests/tour.py $(PROGRAM)
-	tests/interop.sh $(PROGRAM)
 	tests/compressed.sh $(PROGRAM)
 	tests/package.sh $(PROGRAM)
 	tests/deploy.sh $(PROGRAM)
@@ -79,7 +78,6 @@ outside:
 
 # The tools of DCMTK against the program that is built.
 interop:
-	tests/interop.sh $(PROGRAM)
 	tests/compressed.sh $(PROGRAM)
 
 # The program beside DCMTK's storescp and a floor that checks nothing: prints tables of ratios.
