@@ -69,7 +69,6 @@ test: packages
 	$(OUTSIDE) tests/program
 	tests/tour.py $(PROGRAM)
 	tests/compressed.sh $(PROGRAM)
-	tests/deploy.sh $(PROGRAM)
 
 # The tests from outside alone: all, those of a file as FILE=serving, or those whose name has words as TEST='rejects and caller'.
 outside:
