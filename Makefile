@@ -67,7 +67,6 @@ test: packages
 	rt ci
 	tools/wrong-bodies
 	$(OUTSIDE) tests/program
-	tests/tour.py $(PROGRAM)
 	tests/compressed.sh $(PROGRAM)
 
 # The tests from outside alone: all, those of a file as FILE=serving, or those whose name has words as TEST='rejects and caller'.
