@@ -11,7 +11,7 @@ OUTSIDE := PYTHONDONTWRITEBYTECODE=1 /usr/bin/python3 -m pytest -c tests/pytest.
 PREFIX ?= /usr/local
 DESTDIR ?=
 
-.PHONY: run quick packages test outside interop bench probe docs check wrong-bodies fmt gate-table clean install uninstall deb
+.PHONY: run quick packages test outside bench probe docs check wrong-bodies fmt gate-table clean install uninstall deb
 
 run:
 	@tools/run
@@ -67,15 +67,10 @@ test: packages
 	rt ci
 	tools/wrong-bodies
 	$(OUTSIDE) tests/program
-	tests/compressed.sh $(PROGRAM)
 
-# The tests from outside alone: all, those of a file as FILE=serving, or those whose name has words as TEST='rejects and caller'.
+# The tests from outside alone: all, those of one file as FILE=log, or those whose name has words, as TEST='log and calling title'.
 outside:
 	$(OUTSIDE) $(if $(TEST),-k '$(TEST)') tests/program$(if $(FILE),/test_$(FILE).py)
-
-# The tools of DCMTK against the program that is built.
-interop:
-	tests/compressed.sh $(PROGRAM)
 
 # The program beside DCMTK's storescp and a floor that checks nothing: prints tables of ratios.
 bench: dcmbox

@@ -56,6 +56,17 @@ def identity(sop_class="CTImageStorage", instance="2.25.1.1", modality="CT", ser
 """
 
 
+def study(number):
+    """When an image was made, and its number, in dump2dcm's text."""
+    return f"""(0008,0020) DA [20260101]
+(0008,0030) TM [120000]
+(0008,0050) SH [A1]
+(0020,0010) SH [S1]
+(0020,0011) IS [{number}]
+(0020,0013) IS [{number}]
+"""
+
+
 def pixels(file, rows=16, columns=16, bits=8, vr="OW"):
     """A grayscale image whose pixels are in a file, in dump2dcm's text."""
     return f"""(0028,0002) US 1

@@ -202,9 +202,12 @@ class Peer:
         else:
             self.send_store(2 * contexts - 1, sop_class, instance, data)
             said = f"{status_of(self.receive_pdu()[1]):04X}"
-        self.send(pdu(RELEASE_RQ, bytes(4)))
-        self.receive_pdu()
+        self.release()
         return said
+
+    def release(self):
+        """Requests the release of the association, and takes the answer."""
+        self.until_released(pdu(RELEASE_RQ, bytes(4)))
 
     def send_store(self, context, sop_class, instance, data, is_whole=True):
         self.send(store_command(context, sop_class, instance))

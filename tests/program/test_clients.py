@@ -9,7 +9,7 @@ import time
 
 import pytest
 from box import PATIENCE
-from images import call, digests, dumped, filed, holds, identity, need, pixels
+from images import call, digests, dumped, filed, holds, identity, need, pixels, study
 
 CLASSES = [
     ("CTImageStorage", "CT"),
@@ -19,17 +19,6 @@ CLASSES = [
     ("SecondaryCaptureImageStorage", "OT"),
 ]
 KILLS = 50
-
-
-def study(number):
-    """When an image was made, and its number, in dump2dcm's text."""
-    return f"""(0008,0020) DA [20260101]
-(0008,0030) TM [120000]
-(0008,0050) SH [A1]
-(0020,0010) SH [S1]
-(0020,0011) IS [{number}]
-(0020,0013) IS [{number}]
-"""
 
 
 def image_text(number, pixel_data=True):

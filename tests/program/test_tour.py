@@ -18,7 +18,6 @@ STUDY = """(0008,0020) DA [20260101]
 (0028,0004) CS [monochrome2]
 """
 
-
 def steps():
     """Each command of the tour with the lines that it prints."""
     found = []
