@@ -30,9 +30,9 @@ def replay(expect, work):
 
 
 def test_two_stores(replay):
-    files = replay("flat")
-    assert sorted(files) == ["I0000001", "I0000002"]
-    assert files["I0000001"] == CT_FILE
+    """The files differ in the instance."""
+    second = CT_FILE.replace(b"1.2.3\0", b"1.2.4\0")
+    assert replay("flat") == {"I0000001": CT_FILE, "I0000002": second}
 
 
 def test_folders_of_one_file_each(replay):
