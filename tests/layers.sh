@@ -3,6 +3,8 @@
 # `Public`, and no other lemma. Each lemma of `Public` is the contract of a law. `specs/machine` is a crate's own:
 # no other crate names it, and no definition outside it stands on it, so that a public clause does not either.
 # So that this is seen, no file names a crate's definitions, proofs or machine as a whole.
+# What an association runs has no memory but its own: the crates that it is made of name no allocator and nothing
+# that needs one, but for the devices over memory and over a folder.
 # Usage: layers.sh [TREE]
 set -eu
 cd "${1:-$(dirname "$0")/..}"
@@ -57,5 +59,18 @@ for crate in crates/*/; do
             failed=1
         fi
     done
+done
+
+devices='memory_wire memory_filing folder_filing folder_writer locked_folder listing names numbers'
+for crate in element dictionary sequence pdu acceptor negotiate dimse part10 engine; do
+    [ -d "crates/$crate/src" ] || continue
+    allocating=$(find "crates/$crate/src" -name '*.rt' -print0 |
+        xargs -0 grep -nE '\b(Alloc|AllocGlobal|Allocator|Global|alloc|Vec|String|Box|Rc|Arc|format!)' |
+        grep -vE "/($(echo "$devices" | tr ' ' '|'))\.rt:|^[^:]*:[0-9]+: *//" || true)
+    if [ -n "$allocating" ]; then
+        echo "$allocating"
+        echo "$crate: names an allocator, or what needs one"
+        failed=1
+    fi
 done
 exit $failed

@@ -200,6 +200,8 @@ COPY_FAULTS = [
     ("a table that was changed by hand", "tables.py", [("docs/CONFORMANCE.md", "| Command set | 1,024 bytes |", "| Command set | 2,048 bytes |")], "docs/CONFORMANCE.md isn't what docs/tables.json gives"),
     ("a completion that was changed by hand", "tables.py", [("packaging/dcmbox.bash", "--once", "--twice")], "packaging/dcmbox.bash isn't what docs/tables.json gives"),
     ("a type by the name of another crate's", "names.py", [("crates/acceptor/src/table.rt", "pub fn", "pub struct Walker;\n\npub fn")], "Walker means more than one thing"),
+    ("a body that allocates once", "layers.sh", [("crates/engine/src/association/taking.rt", "        let mut at = 0;", "        let _ = Box::new(devices.alloc(), 0);\n        let mut at = 0;")], "engine: names an allocator, or what needs one"),
+    ("a walk that keeps what it has read", "layers.sh", [("crates/sequence/src/walker.rt", "\n}\n", "\n    kept: Vec<u8>,\n}\n")], "sequence: names an allocator, or what needs one"),
     ("a law that is gone", "booklet.py", [(SENTENCES, "dicomdir::rows_are_grouped", "dicomdir::rows_are_sorted")], "there is no law rows_are_sorted in dicomdir"),
 ]
 

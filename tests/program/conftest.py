@@ -10,7 +10,7 @@ import subprocess
 import tempfile
 
 import pytest
-from box import PATIENCE, Box, prepare
+from box import LITTLE, PATIENCE, Box, prepare
 from images import call, need
 from ports import free_port
 from samples import SAMPLES
@@ -60,8 +60,7 @@ def work():
 
 @pytest.fixture
 def put(work):
-    """Writes files into the folder, each by its name there, and returns the path of the last one.
-    Writes files into the folder, each by its name there, and returns the path of the last one."""
+    """Writes files into the folder by their names there, and returns the path of the last one."""
 
     def written(contents):
         for name, data in contents.items():
@@ -119,8 +118,10 @@ def port():
 
 @pytest.fixture
 def serve(program, port, work, small_disk):
-    """Starts a box over a folder in the working folder, waits until it listens, and ends it before
-    disks are unmounted."""
+    """Starts a box over a folder in the working folder, and waits until it listens.
+
+    It is ended after the test, before disks are unmounted.
+    """
     boxes = []
 
     def started(*options, folder="received", waits=True, **kinds):
@@ -131,6 +132,12 @@ def serve(program, port, work, small_disk):
     yield started
     for box in boxes:
         box.stop()
+
+
+@pytest.fixture
+def taking(serve):
+    """A box in 16 MB of memory that takes each transfer syntax."""
+    return lambda *options: serve("--all-syntaxes", *options, memory=LITTLE)
 
 
 @pytest.fixture

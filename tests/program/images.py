@@ -36,8 +36,7 @@ def call(work, tool, *arguments, check=True):
 
 
 def dumped(work, name, text, *options):
-    """Makes a DICOM file of dump2dcm's text, in Explicit VR Little Endian where nothing else is
-    asked for."""
+    """Makes a DICOM file of dump2dcm's text, in Explicit VR Little Endian without other options."""
     source = pathlib.Path(work, f"{name}.txt")
     source.write_text(text)
     call(work, "dump2dcm", "-q", *(options or ("+te",)), source.name, f"{name}.dcm")
@@ -99,8 +98,7 @@ def filed(folder):
 
 
 def holds(folder, sent):
-    """Whether a folder has the data set of each file that was sent, once, and DCMTK reads each
-    file."""
+    """Whether a folder has each data set that was sent, once; DCMTK has to read each file."""
     files = filed(folder)
     if files:
         tested = call(folder, "dcmftest", *files, check=False).stdout.splitlines()

@@ -1,5 +1,4 @@
-"""A peer of the program that speaks PDUs (PS3.8 9.3) byte by byte, as no tool does, and the
-recordings that it sends."""
+"""A peer of the program that speaks PDUs (PS3.8 9.3), and the recordings that it sends."""
 import pathlib
 import select
 import socket
@@ -277,8 +276,7 @@ def items(body):
 
 
 def acceptance(asked):
-    """The A-ASSOCIATE-AC that takes each context with the first transfer syntax that it proposes.
-    The A-ASSOCIATE-AC that takes each context with the first transfer syntax that it proposes."""
+    """The A-ASSOCIATE-AC that takes each context with the first transfer syntax proposed."""
     answer = asked[:68] + item(0x10, APPLICATION_CONTEXT)
     for kind, content in items(asked[68:]):
         if kind == CONTEXT_RQ:

@@ -64,8 +64,7 @@ def test_a_peer_that_stops_reading(box):
 
 
 def test_a_peer_that_falls_silent(box):
-    """The local user aborts the association after the idle time, and waits for the peer to close.
-    The local user aborts the association after the idle time, and waits for the peer to close."""
+    """The local user aborts it after the idle time, and waits for the peer to close."""
     with box.connect() as peer:
         peer.send(ECHO_REQUEST)
         assert peer.rest().endswith(ABORT)

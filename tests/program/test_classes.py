@@ -60,8 +60,10 @@ def rejected(context):
 
 
 def two_and_two(second, last):
-    """The first two and the last two items of 128 contexts, of which every other one is of a class
-    that is always taken."""
+    """The first two and the last two items of an answer to 128 contexts.
+
+    The first of two is of a class that is always taken.
+    """
     return f"{accepted(3)}{second(5)}[0-9a-f]*{last(253)}{last(255)}"
 
 

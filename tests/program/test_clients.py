@@ -217,8 +217,7 @@ OBJECTS = {
 
 @pytest.fixture(scope="session")
 def objects(tmp_path_factory):
-    """A study of six classes by name, of which an image alone is one of the eleven that are taken
-    without an option."""
+    """A study of six classes by name; the image's alone is taken without an option."""
     work = tmp_path_factory.mktemp("study")
     (work / "pixels.raw").write_bytes(random.Random(2).randbytes(131072))
     document = b"%PDF-1.4\n" + random.Random(3).randbytes(20000) + b"\n%%EOF\n"
@@ -247,8 +246,7 @@ class TestStudy:
     """A study of six classes."""
 
     def test_where_every_class_is_taken(self, serve, run, successes, objects):
-        """`check` and `show` take its files, and `index` leaves five of them out, and counts them.
-        `check` and `show` take its files, and `index` leaves five of them out, and counts them."""
+        """`check` and `show` take its files, and `index` leaves five of them out."""
         box = serve("--all-storage")
         assert successes(*objects) == 6
         assert holds(box.folder, objects.values())
@@ -276,8 +274,10 @@ class TestStudy:
 
 
 def test_kills_at_any_moment(serve, spawn, to_box, explicit, work):
-    """They leave whole files, one for each success that was told, and at most one draft, which the
-    next start removes."""
+    """They leave a whole file for each success that was told, and at most one draft.
+
+    The next start removes the draft.
+    """
     need("storescu")
     moments = random.Random()
     told = 0

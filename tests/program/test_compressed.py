@@ -1,24 +1,18 @@
-"""Compressed images of DCMTK's and GDCM's tools and of pydicom, and data sets that no tool sends.
+"""Compressed images of DCMTK's and GDCM's tools.
 
-They are filed as they came, under the transfer syntax of their context, and decoded to their
-pixels.
+They are filed as they came, under the transfer syntax of their context, also where an archive
+passes them on, and decoded to their pixels.
 """
-import pathlib
+import json
 import random
 import re
-import struct
-import warnings
+import urllib.request
 
 import pytest
-from box import LITTLE
-from images import call, data_set, dumped, filed, holds, identity, pixels, study, syntax_of
-from peer import CT, EXPLICIT, ROOT, element
-from samples import cases
-
-try:
-    import pydicom
-except ImportError:
-    pydicom = None
+from box import LITTLE, wait_for
+from images import call, data_set, dumped, filed, holds, identity, need, pixels, study, syntax_of
+from peer import EXPLICIT
+from ports import free_port
 
 # An encoded image: the tool and its options, the image, the option with which storescu proposes the
 # transfer syntax, the
@@ -39,10 +33,7 @@ ENCODED = {
     "fragments": ("dcmcjpls -q +el +fs 1", "words", "-xt", "dcmdjpls", True),
 }
 PROPOSED = [name for name, (_, _, option, *_) in ENCODED.items() if option]
-CONFORMANCE = (ROOT / "docs/CONFORMANCE.md").read_text()
-TABLE = CONFORMANCE.split("made by tools/transfer-syntaxes")[1].split("end -->")[0]
-KNOWN = re.findall(r"^    ([0-9.]+) +[A-Za-z0-9]+$", TABLE, re.M)
-JPEG, RLE = "1.2.840.10008.1.2.4.70", "1.2.840.10008.1.2.5"
+RLE = "1.2.840.10008.1.2.5"
 
 
 def ramps():
@@ -89,15 +80,11 @@ def encoded(tmp_path_factory):
 
 
 @pytest.fixture
-def taking(serve):
-    """A box in 16 MB of memory that takes each transfer syntax."""
-    return lambda *options: serve("--all-syntaxes", *options, memory=LITTLE)
-
-
-@pytest.fixture
 def send(tool, to_box, encoded):
-    """Sends an encoded image in its transfer syntax, by storescu or, where it has no option for
-    that, by dcmsend."""
+    """Sends an encoded image in its transfer syntax.
+
+    storescu does, or dcmsend where storescu has no option for that.
+    """
 
     def sent(name, check=True):
         option, path = ENCODED[name][2], encoded / f"{name}.dcm"
@@ -108,16 +95,17 @@ def send(tool, to_box, encoded):
     return sent
 
 
+@pytest.fixture
+def path(taking, send, name):
+    """The path of the file of an encoded image that was sent."""
+    box = taking()
+    send(name)
+    return box.folder / "I0000001"
+
+
 @pytest.mark.parametrize("name", ENCODED)
 class TestFiled:
     """An encoded image that was sent."""
-
-    @pytest.fixture
-    def path(self, taking, send, name):
-        """The path of the file."""
-        box = taking()
-        send(name)
-        return box.folder / "I0000001"
 
     def test_bit_for_bit(self, path, encoded, name):
         """Its header names the transfer syntax."""
@@ -125,8 +113,7 @@ class TestFiled:
         assert syntax_of(path) == syntax_of(encoded / f"{name}.dcm")
 
     def test_decoded_to_its_pixels(self, path, encoded, work, name):
-        """Without loss to those that were encoded, and else to those that are decoded of what was
-        sent."""
+        """Without loss to those that were encoded, and else to those of what was sent."""
         _, image, _, tool, is_exact = ENCODED[name]
         options = ["--raw"] if tool == "gdcmconv" else ["-q"]
         call(work, tool, *options, path, "decoded.dcm")
@@ -144,10 +131,72 @@ class TestFiled:
         assert run("check", path).returncode != 0
 
 
+# Of JPEG-LS of several frames GDCM gives pydicom other pixels.
+@pytest.mark.parametrize("name", [name for name in ENCODED if name != "frames_jpegls"])
+def test_decoded_by_pydicom(path, encoded, name):
+    for module in ("numpy", "gdcm", "PIL"):
+        pytest.importorskip(module, reason="make packages installs it")
+    pydicom = pytest.importorskip("pydicom", reason="make packages installs it")
+    _, image, _, _, is_exact = ENCODED[name]
+    found = pydicom.dcmread(path).pixel_array
+    if is_exact:
+        assert found.tobytes() == (encoded / f"{image}.raw").read_bytes()
+    else:
+        sent = pydicom.dcmread(encoded / f"{name}.dcm").pixel_array
+        assert found.std() > 1 and (found == sent).all()
+
+
 def test_all_on_one_association(taking, tool, to_box, encoded):
     paths = [encoded / f"{name}.dcm" for name in ENCODED]
     box = taking("--at-once", "4")
     tool("dcmsend", "-dn", *to_box, *paths)
+    assert holds(box.folder, paths)
+
+
+class Orthanc:
+    """An archive that sends what it gets to a box, by its interface over HTTP."""
+
+    def __init__(self, work, port, spawn):
+        self.url = f"http://127.0.0.1:{free_port()}"
+        settings = {
+            "StorageDirectory": str(work / "archive"),
+            "IndexDirectory": str(work / "archive"),
+            "HttpPort": int(self.url.rsplit(":")[-1]),
+            "DicomPort": free_port(),
+            "DicomAet": "ARCHIVE",
+            "AuthenticationEnabled": False,
+            "RemoteAccessAllowed": False,
+            "OverwriteInstances": True,
+            "Plugins": [],
+            "DicomModalities": {"box": ["DCMBOX", "127.0.0.1", port]},
+        }
+        (work / "archive").mkdir()
+        (work / "archive.json").write_text(json.dumps(settings))
+        spawn("Orthanc", "archive.json", said="archive.txt")
+        wait_for(self.is_there, "Orthanc answers")
+
+    def ask(self, path, data=None):
+        with urllib.request.urlopen(f"{self.url}/{path}", data, timeout=120) as answer:
+            return json.load(answer)
+
+    def is_there(self):
+        try:
+            return self.ask("system")
+        except OSError:
+            return None
+
+    def pass_on(self, path):
+        """Takes a file, and stores it to the box; returns how many instances failed."""
+        instance = self.ask("instances", path.read_bytes())["ID"]
+        return self.ask("modalities/box/store", instance.encode())["FailedInstancesCount"]
+
+
+def test_an_archive_passes_them_on(taking, spawn, work, port, encoded):
+    """Each in its own transfer syntax."""
+    need("Orthanc")
+    box = taking("--at-once", "4")
+    archive, paths = Orthanc(work, port, spawn), [encoded / f"{name}.dcm" for name in ENCODED]
+    assert {path.stem: archive.pass_on(path) for path in paths} == dict.fromkeys(ENCODED, 0)
     assert holds(box.folder, paths)
 
 
@@ -206,150 +255,6 @@ class TestIndex:
         assert index("--all-syntaxes", "--keep")[0] == "images 4 left out 0"
 
 
-def fragment(content, length=None):
-    """A fragment, or the head of one with another length."""
-    length = len(content) if length is None else length
-    return bytes.fromhex("feff00e0") + struct.pack("<L", length) + content
-
-
-# A CT image up to the header of its Pixel Data, of undefined length.
-BEGIN = (
-    element((8, 0x16), "UI", CT.encode() + b"\0")
-    + element((8, 0x18), "UI", b"2.25.1")
-    + b"\340\177\20\0OB\0\0\377\377\377\377"
-)
-TABLE_OF_NONE = fragment(b"")
-DELIMITATION = bytes.fromhex("feffdde0")
-END = DELIMITATION + bytes(4)
-# An offset table without an offset, and a fragment that looks like a delimitation.
-WHOLE = BEGIN + TABLE_OF_NONE + fragment(DELIMITATION) + END
-FOUR_GIGABYTES = BEGIN + TABLE_OF_NONE + fragment(bytes(100000), length=(1 << 32) - 2)
-# An item of 28 bytes in an Icon Image Sequence, whose Pixel Data has a fragment that claims more.
-PAST_ITS_ITEM = (
-    WHOLE[:48]
-    + b"\210\0\0\2SQ\0\0\377\377\377\377"
-    + fragment(BEGIN[-12:] + TABLE_OF_NONE + fragment(b"", length=100), length=28)
-)
-
-
-class TestFragments:
-    """Fragments that no tool sends."""
-
-    @pytest.fixture
-    def box(self, taking):
-        return taking("--at-once", "2")
-
-    def test_128_contexts_each_with_one_compressed_syntax(self, box):
-        contexts = [(CT, KNOWN[n % len(KNOWN)]) for n in range(128)]
-        with box.connect() as peer:
-            accepted = [(0, syntax) for _, syntax in contexts]
-            assert peer.associate(contexts) == accepted
-            peer.release()
-        box.until_logged("released contexts 128 of 128 ")
-
-    @pytest.mark.parametrize("contexts", [1, 128])
-    def test_one_that_looks_like_a_delimitation(self, box, contexts):
-        """In the only context, and in the last of 128."""
-        with box.connect() as peer:
-            assert peer.store(JPEG, CT, "2.25.1", WHOLE, contexts) == "0000"
-        assert box.files() == ["I0000001"]
-        assert data_set(box.folder / "I0000001") == WHOLE
-
-    @pytest.mark.parametrize(
-        "fault, data",
-        cases(
-            *((f"cut after {size} bytes", 20, WHOLE[:size]) for size in (60, 66, 72, 76)),
-            ("one that claims 4 GB", 20, FOUR_GIGABYTES),
-            (
-                "one of undefined length",
-                14,
-                BEGIN + TABLE_OF_NONE + fragment(b"", length=(1 << 32) - 1),
-            ),
-            ("one of odd length", 11, BEGIN + TABLE_OF_NONE + fragment(b"abc") + END),
-            (
-                "an element in its place",
-                15,
-                BEGIN + TABLE_OF_NONE + b"\340\177\21\0\0\0\0\0" + END,
-            ),
-            (
-                "a delimitation of two bytes",
-                16,
-                BEGIN + TABLE_OF_NONE + DELIMITATION + b"\2\0\0\0ab",
-            ),
-            ("one past the end of its item", 17, PAST_ITS_ITEM),
-        ),
-    )
-    def test_with_a_fault(self, box, fault, data):
-        """Nothing is left of it, the log names the fault, and an echo is answered."""
-        with box.connect() as peer:
-            assert peer.store(JPEG, CT, "2.25.1", data) == "C000"
-        assert box.echoes()
-        assert box.files() == []
-        box.until_logged(f" status C000 fault {fault} ")
-
-    def test_a_peer_that_goes_in_one(self, box):
-        with box.connect() as peer:
-            assert peer.associate([(CT, JPEG)]) == [(0, JPEG)]
-            peer.send_store(1, CT, "2.25.1", FOUR_GIGABYTES, is_whole=False)
-        box.until_logged("dropped 1 .* closed by the peer")
-        assert box.files() == []
-
-    def test_one_that_claims_more_than_the_limit(self, taking):
-        box = taking("--max-data", "1024")
-        with box.connect() as peer:
-            assert peer.store(JPEG, CT, "2.25.1", FOUR_GIGABYTES) == "A700"
-        assert box.files() == []
-
-    @pytest.mark.parametrize(
-        "fragments",
-        cases(
-            ("a million without a byte", TABLE_OF_NONE * (2 + (1 << 20))),
-            ("one of 64 MiB", TABLE_OF_NONE + fragment(bytes(64 << 20))),
-        ),
-    )
-    def test_many_or_long(self, taking, fragments):
-        """They are filed bit for bit, in 16 MB of memory."""
-        box, data = taking(), BEGIN + fragments + END
-        with box.connect() as peer:
-            assert peer.store(JPEG, CT, "2.25.1", data) == "0000"
-        assert data_set(box.folder / "I0000001") == data
-
-
-def samples_of_pydicom():
-    """The compressed images of pydicom that name their class, and whose elements have VRs."""
-    folder = pathlib.Path(pydicom.__file__).parent / "data/test_files"
-    for path in sorted(folder.glob("*.dcm")):
-        try:
-            image = pydicom.dcmread(path, specific_tags=["SOPClassUID", "SOPInstanceUID"])
-        except pydicom.errors.InvalidDicomError:
-            continue
-        is_compressed = image.file_meta.get("TransferSyntaxUID") in KNOWN
-        if is_compressed and image.get("SOPClassUID") and data_set(path)[4:6].isalpha():
-            yield pytest.param(path, image, id=path.name)
-
-
-with warnings.catch_warnings():
-    warnings.simplefilter("ignore")
-    SAMPLES = list(samples_of_pydicom()) if pydicom else []
-
-
-def test_there_are_samples():
-    if pydicom is None:
-        pytest.skip("there is no pydicom: make packages installs it")
-    assert len(SAMPLES) > 20
-
-
-@pytest.mark.parametrize("path, image", SAMPLES)
-def test_a_sample_of_pydicom(taking, path, image):
-    """It is filed bit for bit."""
-    box, syntax = taking("--all-storage"), image.file_meta.TransferSyntaxUID
-    data = data_set(path)
-    with box.connect() as peer:
-        said = peer.store(syntax, image.SOPClassUID, image.get("SOPInstanceUID", ""), data)
-    assert said == "0000"
-    assert data_set(box.folder / "I0000001") == data
-
-
 class TestWithoutTheOption:
     """Compressed images are refused, but those of a transfer syntax that is named."""
 
@@ -358,10 +263,6 @@ class TestWithoutTheOption:
         box = serve(memory=LITTLE)
         assert send(name, check=False).returncode != 0
         assert box.files() == []
-
-    def test_the_context_is_refused_for_its_transfer_syntax(self, serve):
-        with serve(memory=LITTLE).connect() as peer:
-            assert peer.store(JPEG, CT, "2.25.1", WHOLE) == "result 4"
 
     def test_an_image_without_compression_is_taken(self, serve, tool, to_box, encoded):
         box = serve(memory=LITTLE)
@@ -376,8 +277,7 @@ class TestWithoutTheOption:
 
 
 def test_the_native_one_is_preferred(taking, tool, to_box, encoded):
-    """storescu proposes the native ones beside a compressed one in one context where it combines
-    them."""
+    """storescu combines the native ones and a compressed one in one context."""
     box = taking()
     tool("storescu", "-xr", "+C", *to_box, encoded / "words.dcm")
     assert syntax_of(box.folder / "I0000001") == EXPLICIT

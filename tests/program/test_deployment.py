@@ -115,8 +115,10 @@ class TestUnits:
 
 
 def test_haproxy_in_front_of_four_boxes(root, spawn, images, work):
-    """Eight senders at once are served while two are down, and while three are, and each image is
-    filed once."""
+    """Eight senders at once are served while two are down, and while three are.
+
+    Each image is filed once.
+    """
     need("haproxy", "storescu")
     balancer, *ports = [free_port() for _ in range(5)]
     boxes = [root.run("dcmbox@.service", port, str(port)) for port in ports[:2]]

@@ -53,8 +53,7 @@ class TestIndex:
         expect(0, listing("S0000001/I0000001"), "", "checkdir", "two/DICOMDIR")
 
     def test_of_five_files(self, expect, put, run):
-        """Two images of a series, one of another series of the study, a double, and one without
-        Study ID."""
+        """Two images of a series, one of another series, a double, and one without Study ID."""
         put(
             {
                 "five/I0000001": IMAGE,
@@ -103,8 +102,7 @@ class TestDescriptions:
 
 
 class TestOfAnotherProgram:
-    """A directory that another program wrote stays, unless its images are kept or it is to be
-    replaced."""
+    """A directory that another program wrote stays, unless it is to be kept or replaced."""
 
     @pytest.fixture
     def others(self, put, work):

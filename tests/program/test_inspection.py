@@ -1,5 +1,4 @@
-"""`show` and `check` over several files, over folders and over standard input, and what they say as
-JSON."""
+"""`show` and `check` over several files, over folders and standard input, and as JSON."""
 import json
 import re
 import subprocess
@@ -26,8 +25,7 @@ def counts(files, good=0, faulty=0, unread=0, notes=0):
 
 @pytest.fixture
 def many(put, work):
-    """A folder with a good file, one with a note, a folder with a cut file, and what is no file of
-    it."""
+    """A folder with a good file, one with a note, a cut one in a folder, and what is no file."""
     put(
         {
             "many/I0000001": CT_FILE,

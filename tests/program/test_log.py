@@ -1,5 +1,4 @@
-"""What the log tells of each of twenty causes of an administrator's questions, which real clients
-make."""
+"""What the log tells of twenty causes of an administrator's questions."""
 import json
 import re
 
@@ -182,8 +181,7 @@ class TestUnfinished:
         ),
     )
     def test_in_a_store(self, serve, end, place, sent, size):
-        """A request, and after its answer a store up to a place, these bytes, and the end of the
-        connection."""
+        """After a request's answer come a store up to a place, these bytes, and the end."""
         box = serve()
         with box.connect() as peer:
             assert len(peer.exchange(STORES_REQUEST, 171)) == 171

@@ -48,8 +48,7 @@ def test_arguments(run, samples, refuse, is_refused, arguments):
 
 @pytest.mark.parametrize("options", [(), ("--per", "1")], ids=["flat", "into_folders"])
 def test_a_replay_of_two_stores(run, samples, work, refuse, is_refused, options):
-    """A store is filed where its reply says so, and memory that runs out leaves no draft and no
-    part of a file."""
+    """A store is filed where its reply says so, and no draft and no part of a file is left."""
     (work / "whole").mkdir()
     assert run("replay", "stores.bin", "--out", "whole").returncode == 0
     whole = {(work / "whole" / name).read_bytes() for name in ("I0000001", "I0000002")}

@@ -27,8 +27,7 @@ def files(samples, put):
 
 
 def first_line(program, work, *arguments):
-    """The status of the program, its first line, and its errors, where its output is closed after a
-    line of it."""
+    """The status, the first line and the errors where the output is closed after a line."""
     with subprocess.Popen(
         [program, *arguments], cwd=work, stdout=subprocess.PIPE, stderr=subprocess.PIPE, text=True
     ) as process:

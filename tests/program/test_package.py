@@ -120,8 +120,7 @@ def test_a_version_that_was_not_released_has_no_package(work):
 
 
 def test_the_units_start_boxes(units, tree):
-    """By their own command lines, with the options that the package brings, but for the port that
-    one of them names."""
+    """By their own command lines, with the package's options but for a port."""
     installed, port, other = units(tree), free_port(), free_port()
     installed.use_port(port)
     boxes = [

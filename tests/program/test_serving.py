@@ -1,5 +1,4 @@
-"""Whether `serve` does what its options say, for one association after the other and for several at
-once."""
+"""Whether `serve` does what its options say, also for several associations at once."""
 import os
 import re
 import shutil

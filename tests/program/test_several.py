@@ -43,8 +43,7 @@ def stall():
 
 @pytest.fixture
 def stall_in_a_store(stall):
-    """A peer that stores the first of the two images up to the middle of its data set, and stalls.
-    A peer that stores the first of the two images up to the middle of its data set, and stalls."""
+    """A peer that stalls in the middle of the data set of the first of the two stores."""
 
     def stalled(box):
         drafts = len(drafts_of(box))
@@ -194,14 +193,13 @@ def test_an_association_that_lasts_too_long(serve):
     """It is aborted, though the peer sends an echo each 0.2 s."""
     box = serve("--at-once", "2", "--longest", "2")
     with box.connect() as peer:
-        answer = peer.exchange(ECHO_REQUEST, 169)
+        answer, end = peer.exchange(ECHO_REQUEST, 169), time.monotonic() + PATIENCE
         while not answer.endswith(ABORT):
+            assert time.monotonic() < end, "it lasts"
             if peer.is_silent(0.2):
                 peer.send(ECHO_COMMAND)
             else:
-                came = peer.receive(1)
-                assert came, "the connection is closed without an A-ABORT"
-                answer += came
+                answer += peer.receive(1) or pytest.fail("it is closed without an A-ABORT")
     box.until_logged(r"in ([2-9]|1\d) s .* aborted: it lasted too long")
 
 

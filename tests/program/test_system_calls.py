@@ -1,5 +1,4 @@
-"""What the program asks of the system, which strace shows, and calls that strace cuts short or lets
-fail."""
+"""What the program asks of the system, and calls that strace cuts short or lets fail."""
 import re
 
 import pytest

@@ -29,8 +29,7 @@ class Units:
         path.write_text(options.replace("--port 11112 ", f"--port {port} "))
 
     def run(self, name, port, instance=""):
-        """Runs a unit's command line with the options of /etc/default/dcmbox, and waits until it
-        listens on the port."""
+        """Runs a unit's command line with the root's options until it listens on the port."""
         unit = self.unit(name).replace("%i", instance)
         for kind, base in (("StateDirectory", "var/lib"), ("RuntimeDirectory", "run")):
             for folders in re.findall(rf"^{kind}=(.*)$", unit, re.M):
