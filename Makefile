@@ -2,12 +2,16 @@
 # tests without proof; `make test` is the whole gate.
 PROGRAM := crates/cli/out/cli
 
+# The tests that try the program from outside, as many side by side as there are processors.
+WORKERS ?= $(shell nproc)
+OUTSIDE := PYTHONDONTWRITEBYTECODE=1 /usr/bin/python3 -m pytest -c tests/pytest.ini --program=$(PROGRAM) -n $(WORKERS)
+
 # Where `make install` puts the program, its manual page, its completion and its systemd units. Their options,
 # /etc/default/dcmbox, it leaves as they are where they are there; `make uninstall` leaves them too.
 PREFIX ?= /usr/local
 DESTDIR ?=
 
-.PHONY: run quick test interop bench probe docs check wrong-bodies fmt gate-table clean install uninstall deb
+.PHONY: run quick packages test outside bench probe docs check wrong-bodies fmt gate-table clean install uninstall deb
 
 run:
 	@tools/run
@@ -36,13 +40,19 @@ quick:
 	tests/scripts.py
 	tools/quick
 
+# Installs what the tests use of Debian (tests/packages.txt) where some of it is missing.
+packages:
+	@wanted=$$(grep -v '^#' tests/packages.txt); \
+	if [ "$$(dpkg-query -W -f '$${db:Status-Status}\n' $$wanted 2>/dev/null | grep -cx installed)" -ne "$$(echo $$wanted | wc -w)" ]; then \
+		apt-get update && apt-get install -y --no-install-recommends $$wanted; \
+	fi
+
 # Looks at what the crates cite of each other, whether the documents that scripts make are fresh and whether what claims
 # and links name is there, tries the scripts that look, proves every crate and its tests from nothing, runs the tests and
 # the program, tries the wrong bodies, and then tries the program from outside: with invalid arguments and missing files,
 # along docs/TOUR.md, under strace, with the tools of DCMTK, also on compressed images, by what its log tells, with several
-# peers at once, as a Debian package, and as docs/DEPLOY.md has it. What of pydicom, dicom3tools, DCMTK and its headers,
-# GDCM's tools, strace, curl, openssl, exFAT's tools, lintian, HAProxy, stunnel and systemd is missing it installs.
-test:
+# peers at once, as a Debian package, and as docs/DEPLOY.md has it.
+test: packages
 	tests/layers.sh
 	tests/definitions.py
 	tests/booklet.py
@@ -56,20 +66,11 @@ test:
 	tests/scripts.py
 	rt ci
 	tools/wrong-bodies
-	tests/tables.py --program $(PROGRAM)
-	tests/program.sh $(PROGRAM)
-	tests/tour.py $(PROGRAM)
-	tests/interop.sh $(PROGRAM)
-	tests/compressed.sh $(PROGRAM)
-	tests/log.sh $(PROGRAM)
-	tests/several.sh $(PROGRAM)
-	tests/package.sh $(PROGRAM)
-	tests/deploy.sh $(PROGRAM)
+	$(OUTSIDE) tests/program
 
-# The tools of DCMTK against the program that is built.
-interop:
-	tests/interop.sh $(PROGRAM)
-	tests/compressed.sh $(PROGRAM)
+# The tests from outside alone: all, those of one file as FILE=log, or those whose name has words, as TEST='log and calling title'.
+outside:
+	$(OUTSIDE) $(if $(TEST),-k '$(TEST)') tests/program$(if $(FILE),/test_$(FILE).py)
 
 # The program beside DCMTK's storescp and a floor that checks nothing: prints tables of ratios.
 bench: dcmbox

@@ -1,14 +1,41 @@
-"""Finds TCP ports for a test in Python, as tests/ports.sh does for one in bash: it asks that script."""
-import pathlib
-import subprocess
+"""Finds TCP ports for tests and benchmarks.
 
-SCRIPT = pathlib.Path(__file__).resolve().parent / "ports.sh"
-HOLDERS = []
+A port is from 20000 to 31999, below those that the system gives to connections, and is this
+process's own until it ends: another run on this machine finds it locked.
+"""
+import fcntl
+import os
+import pathlib
+import random
+import re
+
+LOCKS = pathlib.Path(f"/tmp/dcmbox-ports-{os.getuid()}")
+HELD = []
+
+
+def sockets():
+    """The local address, the local port and the state of every TCP socket of this machine.
+
+    The address and the state are in hexadecimal, as the system shows them.
+    """
+    tables = (pathlib.Path(f"/proc/net/{name}") for name in ("tcp", "tcp6"))
+    text = "\n".join(table.read_text() for table in tables if table.exists())
+    found = re.findall(r"^ *\d+: ([0-9A-F]+):([0-9A-F]{4}) \S+ ([0-9A-F]{2}) ", text, re.M)
+    return [(address, int(port, 16), state) for address, port, state in found]
 
 
 def free_port():
-    """A port on which nobody listens. It is this process's own until that ends, which closes the holder's input."""
-    words = ["bash", "-c", '. "$0"; free_port port; echo "$port"; read -r', str(SCRIPT)]
-    holder = subprocess.Popen(words, stdin=subprocess.PIPE, stdout=subprocess.PIPE, text=True)
-    HOLDERS.append(holder)
-    return int(holder.stdout.readline())
+    """A port on which nobody listens."""
+    LOCKS.mkdir(exist_ok=True)
+    for port in random.Random().sample(range(20000, 32000), 200):
+        lock = open(LOCKS / str(port), "a")
+        try:
+            fcntl.flock(lock, fcntl.LOCK_EX | fcntl.LOCK_NB)
+        except BlockingIOError:
+            lock.close()
+            continue
+        if port not in (used for _, used, _ in sockets()):
+            HELD.append(lock)
+            return port
+        lock.close()
+    raise RuntimeError("no port is free")

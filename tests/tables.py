@@ -5,7 +5,6 @@ docs/CONFORMANCE.md from the code.
 tables.py                    fails where a document isn't what the table gives, or where the table
                              isn't what the code has
 tables.py --write            writes the documents anew
-tables.py --program PROGRAM  compares the options with what the program says of itself, too
 tables.py --tree DIR         does so for another tree
 
 Between markers it makes parts of man/dcmbox.1 and docs/CONFORMANCE.md; it makes packaging/dcmbox.bash whole.
@@ -13,7 +12,6 @@ Between markers it makes parts of man/dcmbox.1 and docs/CONFORMANCE.md; it makes
 import json
 import pathlib
 import re
-import subprocess
 import sys
 
 ARGUMENTS = sys.argv[1:]
@@ -399,21 +397,6 @@ def version_faults():
     return faults
 
 
-def help_faults(program):
-    faults = []
-    for command in TABLES["commands"]:
-        text = subprocess.run(
-            [program, "help", command["name"]], capture_output=True, text=True
-        ).stdout
-        told = " ".join(text.split())
-        for name in command["options"]:
-            if f"--{name}" not in told or OPTIONS[name]["help"] not in told:
-                faults.append(
-                    f"{program} help {command['name']} doesn't say: --{name} {OPTIONS[name]['help']}"
-                )
-    return faults
-
-
 def main():
     made = {
         file: with_parts(file, (ROOT / file).read_text())
@@ -431,8 +414,6 @@ def main():
             for file, text in made.items()
             if (ROOT / file).read_text() != text
         ]
-    if ARGUMENTS[:1] == ["--program"]:
-        faults += help_faults(ARGUMENTS[1])
     for fault in faults:
         print(fault)
     return int(bool(faults))

@@ -1,0 +1,265 @@
+"""What the tests of the program share: see the fixtures.
+
+A test installs nothing; `make packages` does.
+"""
+import functools
+import os
+import pathlib
+import re
+import subprocess
+import tempfile
+
+import pytest
+from box import LITTLE, PATIENCE, Box, prepare
+from images import call, need
+from ports import free_port
+from samples import SAMPLES
+from units import Units
+
+ROOT = pathlib.Path(__file__).resolve().parents[2]
+
+
+def pytest_addoption(parser):
+    parser.addoption("--program", default=ROOT / "crates/cli/out/cli", help="the program to try")
+
+
+def pytest_configure(config):
+    """Takes `log and calling title` as -k does: `log and calling_title`.
+
+    The program's path holds in every folder.
+    """
+    config.option.program = str(pathlib.Path(config.option.program).resolve())
+    separate = r"(?<!\band)(?<!\bor)(?<!\bnot) (?!and\b|or\b|not\b)"
+    config.option.keyword = re.sub(separate, "_", config.option.keyword)
+
+
+def pytest_sessionfinish(session):
+    """Fails where more is skipped than MAY_SKIP says."""
+    reporter = session.config.pluginmanager.get_plugin("terminalreporter")
+    skipped = len(reporter.stats.get("skipped", [])) if reporter else 0
+    allowed = int(os.environ.get("MAY_SKIP", 0))
+    if session.exitstatus == 0 and skipped > allowed:
+        reporter.write_line(f"{skipped} skipped, and MAY_SKIP allows {allowed}")
+        session.exitstatus = pytest.ExitCode.TESTS_FAILED
+
+
+@pytest.fixture(scope="session")
+def program(pytestconfig):
+    """The path of the program."""
+    path = pathlib.Path(pytestconfig.getoption("--program"))
+    assert path.is_file(), f"there is no program {path}"
+    return path
+
+
+@pytest.fixture
+def work():
+    """A folder, which goes with all that is in it after the test."""
+    with tempfile.TemporaryDirectory(prefix="dcmbox-") as folder:
+        yield pathlib.Path(folder)
+
+
+@pytest.fixture
+def put(work):
+    """Writes files into the folder by their names there, and returns the path of the last one."""
+
+    def written(contents):
+        for name, data in contents.items():
+            path = work / name
+            path.parent.mkdir(parents=True, exist_ok=True)
+            path.write_bytes(data)
+        return path
+
+    return written
+
+
+@pytest.fixture
+def run(program, work):
+    """Runs the program with arguments in the folder.
+
+    `memory` is in kilobytes, `before` is a command that runs the program, and the other ones are
+    those of subprocess.run.
+    """
+
+    def done(*arguments, memory=None, before=(), text=True, **kinds):
+        if "input" not in kinds:
+            kinds.setdefault("stdin", subprocess.DEVNULL)
+        return subprocess.run(
+            [*before, program, *arguments],
+            cwd=work,
+            text=text,
+            timeout=PATIENCE,
+            preexec_fn=prepare(memory) if memory else None,
+            **{"stdout": subprocess.PIPE, "stderr": subprocess.PIPE, **kinds},
+        )
+
+    return done
+
+
+@pytest.fixture
+def expect(run):
+    """Runs the program.
+
+    Its status is this, and the patterns match the whole of its output and of its errors.
+    """
+
+    def expected(status, output, errors, *arguments, **kinds):
+        done = run(*arguments, **kinds)
+        assert done.returncode == status, (done.stdout, done.stderr)
+        assert re.fullmatch(output, done.stdout.rstrip("\n"), re.DOTALL), done.stdout
+        assert re.fullmatch(errors, done.stderr.rstrip("\n"), re.DOTALL), done.stderr
+
+    return expected
+
+
+@pytest.fixture
+def port():
+    return free_port()
+
+
+@pytest.fixture
+def serve(program, port, work, small_disk):
+    """Starts a box over a folder in the working folder, and waits until it listens.
+
+    It is ended after the test, before disks are unmounted.
+    """
+    boxes = []
+
+    def started(*options, folder="received", waits=True, **kinds):
+        box = Box(program, port, work, folder, options, **kinds)
+        boxes.append(box)
+        return box.until_listening() if waits else box
+
+    yield started
+    for box in boxes:
+        box.stop()
+
+
+@pytest.fixture
+def taking(serve):
+    """A box in 16 MB of memory that takes each transfer syntax."""
+    return lambda *options: serve("--all-syntaxes", *options, memory=LITTLE)
+
+
+@pytest.fixture
+def small_disk(work):
+    """Mounts file systems on folders of the working folder, and unmounts them after the test."""
+    mounted = []
+
+    def mount(name, *options):
+        folder = work / name
+        folder.mkdir(exist_ok=True)
+        done = subprocess.run(
+            ["mount", *options, folder], capture_output=True, text=True, timeout=PATIENCE
+        )
+        if done.returncode != 0:
+            pytest.skip(f"mount {' '.join(map(str, options))} fails here: {done.stderr.strip()}")
+        mounted.append(folder)
+        return folder
+
+    yield mount
+    for folder in mounted:
+        subprocess.run(["umount", folder], check=True, timeout=PATIENCE)
+
+
+@pytest.fixture
+def tool(work):
+    """Runs a tool in the working folder."""
+    return functools.partial(call, work)
+
+
+@pytest.fixture
+def to_box(port):
+    """The arguments with which DCMTK's clients call the box."""
+    return ["-aec", "DCMBOX", "127.0.0.1", str(port)]
+
+
+@pytest.fixture(params=[(), ("--at-once", "4")], ids=["one_after_the_other", "several_at_once"])
+def form(request):
+    """The options by which a box serves one association after the other, and several at once."""
+    return request.param
+
+
+@pytest.fixture
+def samples(put):
+    """Writes the small files and recordings into the folder."""
+    put(SAMPLES)
+
+
+@pytest.fixture(scope="session")
+def refusing(tmp_path_factory):
+    """What refuses memory to a program that it is loaded before (see refusing.c)."""
+    need("cc")
+    library = tmp_path_factory.mktemp("refusing") / "refusing.so"
+    source = pathlib.Path(__file__).with_name("refusing.c")
+    words = ["cc", "-shared", "-fPIC", "-o", library, source]
+    subprocess.run(words, check=True, timeout=PATIENCE)
+    return library
+
+
+@pytest.fixture
+def refuse(refusing):
+    """A command that refuses memory to a program; it writes to refused.txt."""
+
+    def words(which):
+        shell = ["sh", "-c", 'exec "$@" 9>refused.txt', "sh"]
+        return [*shell, "env", f"REFUSED={which}", f"LD_PRELOAD={refusing}"]
+
+    return words
+
+
+@pytest.fixture
+def trace():
+    """A command that runs a program under strace with these options; its calls are in calls.txt."""
+    need("strace")
+
+    def words(*options):
+        return ["strace", "-qq", "-o", "calls.txt", *options]
+
+    return words
+
+
+@pytest.fixture
+def calls(work):
+    """The lines of calls.txt that strace wrote."""
+    return lambda: (work / "calls.txt").read_text().splitlines()
+
+
+@pytest.fixture
+def spawn(work):
+    """Starts a command in the working folder, and ends it after the test.
+
+    What it says is in the file `said`.
+    """
+    processes = []
+
+    def started(*words, said="said.txt", cwd=work):
+        with open(work / said, "wb") as file:
+            process = subprocess.Popen(
+                [str(word) for word in words],
+                cwd=cwd,
+                stdin=subprocess.DEVNULL,
+                stdout=file,
+                stderr=subprocess.STDOUT,
+                preexec_fn=prepare(None),
+            )
+        processes.append(process)
+        return process
+
+    yield started
+    for process in processes:
+        process.kill()
+        process.wait(PATIENCE)
+
+
+@pytest.fixture
+def units():
+    """Runs the systemd units of a root, and ends them after the test."""
+    roots = []
+
+    def of(root):
+        roots.append(Units(root))
+        return roots[-1]
+
+    yield of
+    for root in roots:
+        root.stop()

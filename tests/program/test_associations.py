@@ -1,0 +1,135 @@
+"""Associations over TCP: what a peer does costs the box that association alone.
+
+Each box has 16 MB of memory.
+"""
+import pathlib
+import re
+import resource
+from contextlib import suppress
+
+import pytest
+from box import LITTLE
+from peer import ABORT, ECHO, ECHO_COMMAND, ECHO_REQUEST, FIRST_REPLY, STORES, STORES_ANSWER
+from samples import SAMPLES
+
+INFO = r"\[INFO  cli::serve\] 20[0-9-]{8}T[0-9:]{8}\.[0-9]{3}Z "
+
+
+@pytest.fixture
+def box(serve):
+    """A box with timers that are short."""
+    return serve("--timeout", "4", "--idle", "4", memory=LITTLE)
+
+
+def test_the_recorded_echo(serve, port):
+    """Its log has its line, and nothing is printed."""
+    box = serve("--once", "--timeout", "30", memory=LITTLE)
+    assert box.echoes()
+    assert box.ended() == 0
+    line = (
+        f"{INFO}127\\.0\\.0\\.1:[0-9]+ Ended held 0 files 0 dropped 0 received 260 in [0-9]+ s "
+        'calling "SCANNER1" called "DCMBOX" released contexts 1 of 1 stored 0 refused 0 failed 0'
+    )
+    whole = f"{INFO}listening on 127\\.0\\.0\\.1:{port}\n{line}\n{INFO}stopped\n"
+    assert re.fullmatch(whole, box.log), box.log
+    assert box.printed == ""
+
+
+def test_a_peer_that_sends_slowly(box):
+    """A request byte by byte, and never whole: the ARTIM timer runs from its start."""
+    with box.connect() as peer, suppress(OSError):
+        for byte in ECHO[:60]:
+            peer.send(bytes([byte]))
+            if not peer.is_silent(0.3):
+                break
+    box.until_logged(r"Ended held 0 files 0 dropped 0 received [1-9]\d? in ([4-9]|1[0-5]) s")
+
+
+def test_the_timer_starts_anew_with_the_answer(serve):
+    """An A-ABORT answers what is no PDU, and the peer does not close the connection."""
+    box = serve("--timeout", "6", memory=LITTLE)
+    with box.connect() as peer:
+        assert peer.is_silent(3)
+        peer.send(SAMPLES["text.bin"])
+        assert peer.rest() == ABORT
+    box.until_logged(r"Ended held 0 files 0 dropped 0 received 18 in ([89]|\d\d) s")
+
+
+def test_a_peer_that_stops_reading(box):
+    """Echoes without end, and no reply is read: a send fails after the idle time."""
+    with box.connect() as peer:
+        with suppress(OSError):
+            peer.send(ECHO_REQUEST + ECHO_COMMAND * (1 << 18))
+        box.until_logged(r"Ended held 0 files 0 dropped 0 received \d{6,8} in ([4-9]|\d\d) s")
+
+
+def test_a_peer_that_falls_silent(box):
+    """The local user aborts it after the idle time, and waits for the peer to close."""
+    with box.connect() as peer:
+        peer.send(ECHO_REQUEST)
+        assert peer.rest().endswith(ABORT)
+    box.until_logged(r"Ended held 0 files 0 dropped 0 received 170 in ([7-9]|\d\d) s")
+
+
+def test_the_next_peer_is_served_and_logged(box):
+    """One line an association."""
+    with box.connect() as peer:
+        peer.send(ECHO[:12])
+    with box.connect() as peer:
+        peer.send(SAMPLES["text.bin"])
+        assert peer.receive(10) == ABORT
+    assert box.echoes()
+    box.until_logged(" received 260 in ")
+    assert len(re.findall(" Ended held ", box.log)) == 3
+
+
+class TestStart:
+    """Boxes that can't be started."""
+
+    def test_a_folder_that_another_box_receives_into(self, box, run, port):
+        done = run("serve", "--port", str(port), "--out", "received")
+        refused = "dcmbox: received: the folder can.t be opened: .*; end the other program that"
+        assert done.returncode == 3
+        assert re.search(f"{refused} receives into it", done.stderr)
+
+    def test_a_port_that_is_in_use(self, box, run, port, work):
+        (work / "other").mkdir()
+        done = run("serve", "--port", str(port), "--out", "other")
+        assert done.returncode == 3
+        refused = f"dcmbox: {port}: can.t be listened on: .*choose another port"
+        assert re.search(refused, done.stderr)
+
+    @pytest.mark.parametrize("address", ["localhost", "192.0.2.1"])
+    def test_an_address_that_this_machine_does_not_have(self, run, port, address):
+        done = run("serve", "--port", str(port), "--out", ".", "--bind", address)
+        assert done.returncode == 3
+        refused = f"dcmbox: {address}: can't be listened on: .*--bind takes an IP address of this"
+        assert re.search(f"{refused} machine", done.stderr)
+
+
+def test_each_association_counts_its_own_files(serve, form):
+    """Two stores, the second cut in its data set, and then both whole."""
+    box = serve("--timeout", "30", *form, memory=LITTLE)
+    assert box.answers(STORES[:500], FIRST_REPLY)
+    box.until_logged("Ended held 0 files 1 dropped 1 received 500 in")
+    assert box.answers(STORES, STORES_ANSWER)
+    box.until_logged("Ended held 0 files 2 dropped 0 received 534 in")
+
+
+def test_without_a_free_descriptor_no_connection_is_accepted(serve, form):
+    """Until there is one again; the box waits before it tries again."""
+    box = serve("--timeout", "30", *form, memory=LITTLE)
+    assert box.echoes()
+    box.until_logged("received 260 in")
+    numbers = {int(path.name) for path in pathlib.Path(f"/proc/{box.pid}/fd").iterdir()}
+    free = next(number for number in range(1 << 10) if number not in numbers)
+    before = resource.prlimit(box.pid, resource.RLIMIT_NOFILE)
+    resource.prlimit(box.pid, resource.RLIMIT_NOFILE, (free, before[1]))
+    refused = "a connection could not be accepted: "
+    with box.connect() as peer:
+        box.until_logged(rf"^\[ERROR cli::serve\] 20[^ ]*Z {refused}")
+        assert peer.is_silent(1)
+        assert len(re.findall(refused, box.log)) <= 40
+    resource.prlimit(box.pid, resource.RLIMIT_NOFILE, before)
+    assert box.echoes()
+    box.until_logged("received 260 in", count=2)

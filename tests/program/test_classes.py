@@ -1,0 +1,169 @@
+"""Recorded stores of a report, with each setting of the storage classes."""
+import re
+
+import pytest
+from peer import (
+    EXPLICIT,
+    RELEASE_RQ,
+    ROOT,
+    data_set_pdus,
+    element,
+    pdu,
+    request,
+    store_command,
+)
+from samples import cases
+
+REPORT = "1.2.840.10008.5.1.4.1.1.88.33"
+DATA_SET = (
+    element((0x0008, 0x0016), "UI", REPORT.encode() + b"\0")
+    + element((0x0008, 0x0018), "UI", b"1.2.3\0")
+    + element((0x0008, 0x0060), "CS", b"SR")
+    + element((0x0040, 0xA040), "CS", b"CONTAINER ")
+)
+STORED = "[0-9a-f]*00000009020000000000[0-9a-f]*06000000000400000000Ended held 0 files 1"
+ABORTED = "[0-9a-f]*07000000000400000206Ended held 0 files 0"
+
+
+def standard_classes():
+    """The storage classes of the standard, in the order of its table."""
+    statement = (ROOT / "docs/CONFORMANCE.md").read_text()
+    table = statement.split("made by tools/storage-classes")[1]
+    return re.findall(r"^    ([0-9.]+) ", table, re.M)
+
+
+def recording(count):
+    """A report is stored in the last of so many contexts.
+
+    The others are for the first classes of the standard's table.
+    """
+    classes = [*standard_classes()[: count - 1], REPORT]
+    last = 2 * count - 1
+    return b"".join(
+        [
+            request([(sop_class, EXPLICIT) for sop_class in classes]),
+            store_command(last, REPORT, "1.2.3", number=7),
+            *data_set_pdus(last, DATA_SET),
+            pdu(RELEASE_RQ, bytes(4)),
+        ]
+    )
+
+
+def accepted(context):
+    """The item of an answer that accepts the context in Explicit VR Little Endian."""
+    return f"2100001b{context:02x}00000040000013" + EXPLICIT.encode().hex()
+
+
+def rejected(context):
+    """The item that rejects its abstract syntax."""
+    return f"21000019{context:02x}00030040000011" + b"1.2.840.10008.1.2".hex()
+
+
+def two_and_two(second, last):
+    """The first two and the last two items of an answer to 128 contexts.
+
+    The first of two is of a class that is always taken.
+    """
+    return f"{accepted(3)}{second(5)}[0-9a-f]*{last(253)}{last(255)}"
+
+
+@pytest.fixture
+def replay(run, put):
+    """What a replay prints in one line."""
+    put({"one.bin": recording(1), "all.bin": recording(128)})
+
+    def done(*arguments):
+        return run("replay", *arguments).stdout.replace("\n", "")
+
+    return done
+
+
+@pytest.mark.parametrize(
+    "answer, arguments, files",
+    cases(
+        (
+            "where every class is taken",
+            f"[0-9a-f]*{accepted(1)}{STORED}",
+            "one.bin --all-storage",
+            ["I0000001"],
+        ),
+        (
+            "where its class is named",
+            f"[0-9a-f]*{accepted(1)}{STORED}",
+            f"one.bin --storage-class 2.25.1 --storage-class {REPORT}",
+            ["I0000001"],
+        ),
+        (
+            "where another class is named",
+            f"[0-9a-f]*{rejected(1)}{ABORTED}",
+            "one.bin --storage-class 2.25.1",
+            [],
+        ),
+        (
+            "where eleven classes are taken",
+            f"[0-9a-f]*{rejected(1)}{ABORTED}",
+            "one.bin",
+            [],
+        ),
+        (
+            "in the last of 128 contexts",
+            f"[0-9a-f]*{two_and_two(accepted, accepted)}{STORED}",
+            "all.bin --all-storage --cut 7",
+            ["I0000001"],
+        ),
+        (
+            "in the last of 128 contexts, where eleven classes are taken",
+            f"[0-9a-f]*{two_and_two(rejected, rejected)}{ABORTED}",
+            "all.bin",
+            [],
+        ),
+    ),
+)
+def test_a_report(replay, work, answer, arguments, files):
+    (work / "reports").mkdir()
+    assert re.fullmatch(f"02[0-9a-f]*{answer}", replay(*arguments.split(), "--out", "reports"))
+    assert sorted(path.name for path in (work / "reports").iterdir()) == files
+
+
+def test_a_filed_report(replay, expect, work):
+    """It is good, it is shown, and it is filed bit for bit, as the next one is."""
+    replay("one.bin", "--all-storage", "--out", ".")
+    replay("one.bin", "--all-storage", "--out", ".")
+    assert (work / "I0000001").read_bytes() == (work / "I0000002").read_bytes()
+    expect(0, "good [0-9]*", "", "check", "I0000001")
+    expect(0, f"class {REPORT}\n.*end [0-9]*", "", "show", "I0000001")
+    assert (work / "I0000001").read_bytes().endswith(DATA_SET)
+
+
+SIXTEEN = [word for n in range(1, 17) for word in ("--storage-class", f"2.25.{n}")]
+SERVE, REPLAY = "serve --out . --port 11112", "replay one.bin --out ."
+
+
+def test_sixteen_classes(expect):
+    errors = "dcmbox: missing: the folder .*"
+    expect(3, "", errors, "serve", "--out", "missing", "--port", "11112", *SIXTEEN)
+
+
+@pytest.mark.parametrize("command", [SERVE, REPLAY], ids=["serve", "replay"])
+def test_a_seventeenth_class(expect, replay, command):
+    errors = "error: --storage-class may be given 16 times at most"
+    expect(2, "", errors, *command.split(), *SIXTEEN, "--storage-class", "2.25.17")
+
+
+@pytest.mark.parametrize(
+    "errors, arguments",
+    cases(
+        (
+            "a class that is named twice",
+            r"error: --storage-class names '2\.25\.1' twice",
+            f"{REPLAY} --storage-class 2.25.1 --storage-class 2.25.2 --storage-class 2.25.1",
+        ),
+        (
+            "a class that is no UID",
+            "error: --storage-class takes a UID .* not 'CTImageStorage'",
+            f"{SERVE} --storage-class CTImageStorage",
+        ),
+    ),
+)
+def test_refused(expect, replay, errors, arguments):
+    expect(2, "", errors, *arguments.split())

@@ -1,0 +1,166 @@
+"""The directories (DICOMDIR) that `index` writes, and that `checkdir` lists."""
+import re
+import subprocess
+
+import pytest
+from samples import DIRECTORY, IMAGE, cases, changed
+
+pytestmark = pytest.mark.usefixtures("samples")
+RECORDS = "0000000320 PATIENT\n0000000404   STUDY\n0000000534     SERIES\n0000000626       IMAGE"
+ONE, COUNTED = "records 4", "images 1 left out 0"
+ANOTHER_PROGRAM = "dcmbox: others: the folder.s DICOMDIR was written by another program, and stays"
+
+
+def listing(file_id, indexed="IMAGE"):
+    return f"{RECORDS.removesuffix('IMAGE')}{indexed} {file_id}\n{ONE}"
+
+
+@pytest.mark.parametrize(
+    "status, output, directory",
+    cases(
+        ("a directory is listed", 0, listing("I0000001"), DIRECTORY),
+        ("a cut directory", 1, "fault 20 Truncated at 710 tag 0004,1510", DIRECTORY[:710]),
+        (
+            "a record that follows itself",
+            1,
+            "fault 61 Cycle at 320",
+            changed(DIRECTORY, 336, b"\100\1\0\0"),
+        ),
+        (
+            "a record type of control characters",
+            0,
+            listing("I0000001", r"\?\[2J\?"),
+            changed(DIRECTORY, 676, b"\33[2J\7"),
+        ),
+    ),
+)
+def test_checkdir(expect, put, status, output, directory):
+    put({"listed.bin": directory})
+    expect(status, output, "", "checkdir", "listed.bin")
+
+
+class TestIndex:
+    """Directories of images."""
+
+    def test_of_an_image(self, expect, put, work):
+        put({"one/I0000001": IMAGE})
+        expect(0, ONE, COUNTED, "index", "one", "--uid", "2.25.1")
+        assert (work / "one/DICOMDIR").read_bytes() == DIRECTORY
+
+    def test_of_an_image_in_a_folder_of_a_folder(self, expect, put):
+        put({"two/S0000001/I0000001": IMAGE})
+        expect(0, ONE, COUNTED, "index", "two", "--uid", "2.25.1")
+        expect(0, listing("S0000001/I0000001"), "", "checkdir", "two/DICOMDIR")
+
+    def test_of_five_files(self, expect, put, run):
+        """Two images of a series, one of another series, a double, and one without Study ID."""
+        put(
+            {
+                "five/I0000001": IMAGE,
+                "five/I0000002": changed(changed(IMAGE, 208, b"2"), 428, b"2"),
+                "five/I0000003": changed(changed(IMAGE, 206, b"2"), 398, b"2"),
+                "five/I0000004": IMAGE,
+                "five/I0000005": IMAGE[:406] + b"\0\0" + IMAGE[410:],
+            }
+        )
+        told = "skipped I0000005 missing 0020,0010\ndouble I0000004\nrecords 7"
+        expect(0, told, "images 3 left out 2", "index", "five", "--uid", "2.25.1")
+        listed = run("checkdir", "five/DICOMDIR").stdout
+        assert re.sub(r"^\d* *", "", listed, flags=re.M).splitlines() == [
+            *("PATIENT", "STUDY", "SERIES", "IMAGE I0000001", "IMAGE I0000002"),
+            *("SERIES", "IMAGE I0000003", "records 7"),
+        ]
+
+
+class TestDescriptions:
+    """Series Description stands in the record of the series where it is asked for."""
+
+    @pytest.fixture
+    def index(self, expect, put, work):
+        """The directory of an image with this Series Description."""
+
+        def made(value, *options):
+            size = len(value).to_bytes(2, "little")
+            description = b"\10\0\76\20LO" + size + value
+            put({"described/I0000001": IMAGE[:344] + description + IMAGE[344:]})
+            expect(0, ONE, COUNTED, "index", "described", "--uid", "2.25.1", *options)
+            return (work / "described/DICOMDIR").read_bytes()
+
+        return made
+
+    def test_not_asked_for(self, index):
+        assert index(b"AXIAL ") == DIRECTORY
+
+    def test_asked_for(self, index, run):
+        assert len(index(b"AXIAL ", "--descriptions")) == 802
+        shown = run("show", "--tag", "0008,103e", "described/DICOMDIR").stdout
+        assert len(shown.splitlines()) == 1
+
+    @pytest.mark.parametrize("options", [(), ("--descriptions",)])
+    def test_too_long(self, index, options):
+        assert index(b" " * 300, *options) == DIRECTORY
+
+
+class TestOfAnotherProgram:
+    """A directory that another program wrote stays, unless it is to be kept or replaced."""
+
+    @pytest.fixture
+    def others(self, put, work):
+        """The path of the directory, whose implementation class UID is another one."""
+        place = DIRECTORY.index(b"2.25.20260101")
+        directory = changed(DIRECTORY, place, b"2.25.20260102")
+        put({"others/I0000001": IMAGE, "others/DICOMDIR": directory})
+        return work / "others/DICOMDIR"
+
+    def test_it_stays_as_it_was(self, expect, others):
+        before = others.read_bytes()
+        errors = f"{ANOTHER_PROGRAM} as it is; .*--keep.*--replace.*"
+        expect(3, "", errors, "index", "others", "--uid", "2.25.1")
+        assert others.read_bytes() == before
+        assert sorted(path.name for path in others.parent.iterdir()) == ["DICOMDIR", "I0000001"]
+
+    @pytest.mark.parametrize("option", ["--keep", "--replace"])
+    def test_it_gives_way(self, expect, others, option):
+        expect(0, ONE, COUNTED, "index", "others", "--uid", "2.25.1", option)
+        assert others.read_bytes() == DIRECTORY
+
+    def test_a_directory_that_can_not_be_looked_at(self, expect, others):
+        others.unlink()
+        others.mkdir()
+        errors = "dcmbox: others: the folder's DICOMDIR can't be looked at: Is a directory"
+        expect(3, "", errors + ".*--replace.*", "index", "others", "--uid", "2.25.1")
+
+
+class TestUid:
+    """The UID of a directory."""
+
+    @pytest.fixture(autouse=True)
+    def folder(self, put):
+        put({"indexed/I0000001": IMAGE})
+
+    @pytest.mark.parametrize("uid", ["2.25.01", "2..25", ".2.25", "2.25.", "02.25"])
+    def test_warned_of(self, expect, uid):
+        warning = "dcmbox: --uid is taken as it is, but a component of it is empty or begins with 0"
+        expect(0, ONE, f"{warning}\n{COUNTED}", "index", "indexed", "--uid", uid)
+
+    @pytest.mark.parametrize("uid", ["2.0.25", "0", "2.25.10"])
+    def test_taken(self, expect, uid):
+        expect(0, ONE, COUNTED, "index", "indexed", "--uid", uid)
+
+    def test_each_new_one_is_another(self, expect, run):
+        instances = []
+        for _ in range(2):
+            expect(0, ONE, COUNTED, "index", "indexed", "--new-uid")
+            shown = run("show", "indexed/DICOMDIR").stdout
+            instances.append(re.search(r"^instance (.*)$", shown, re.M)[1])
+        first, second = instances
+        assert first != second
+        assert all(re.fullmatch(r"2\.25\.[1-9][0-9]{30,38}", instance) for instance in instances)
+
+    @pytest.mark.parametrize("errors", ["/dev/full", "&-"])
+    def test_what_is_said_is_lost(self, program, work, errors):
+        """Nobody takes standard error, and the directory is there."""
+        words = ["sh", "-c", f'exec "$0" index indexed --uid 2.25.1 2>{errors}', program]
+        done = subprocess.run(words, cwd=work, stdout=subprocess.PIPE, text=True, timeout=60)
+        assert (done.returncode, done.stdout) == (0, f"{ONE}\n")
+        assert (work / "indexed/DICOMDIR").read_bytes() == DIRECTORY

@@ -1,0 +1,278 @@
+"""`show` and `check` over several files, over folders and standard input, and as JSON."""
+import json
+import re
+import subprocess
+
+import pytest
+from box import LITTLE, PATIENCE
+from images import need
+from samples import CT_FILE, CUT_FAULT, ELEMENTS, SAMPLES, SHOWN, cases
+
+pytestmark = pytest.mark.usefixtures("samples")
+LISTING = SHOWN + ELEMENTS
+NOTE = "note 0000000288 0008,0060 CS 1 BadCharacter\n"
+CHECKED = f"file ct\\.dcm\ngood 336\nfile control\\.dcm\n{NOTE}good 312\n"
+BELOW = (
+    f"file many/I0000001\ngood 336\nfile many/I0000002\n{NOTE}good 312\n"
+    f"file many/deeper/I0000001\n{CUT_FAULT}\n"
+)
+
+
+def counts(files, good=0, faulty=0, unread=0, notes=0):
+    """The last line of a check of several files."""
+    return f"files {files} good {good} faulty {faulty} unread {unread} notes {notes}"
+
+
+@pytest.fixture
+def many(put, work):
+    """A folder with a good file, one with a note, a cut one in a folder, and what is no file."""
+    put(
+        {
+            "many/I0000001": CT_FILE,
+            "many/I0000002": SAMPLES["control.dcm"],
+            "many/deeper/I0000001": SAMPLES["cut.dcm"],
+        }
+    )
+    (work / "many/deeper/empty").mkdir()
+    (work / "many/up").symlink_to(work)
+    (work / "many/linked").symlink_to("../ct.dcm")
+    subprocess.run(["mkfifo", work / "many/pipe"], check=True)
+
+
+@pytest.mark.parametrize(
+    "status, output, errors, arguments",
+    cases(
+        (
+            "two files are checked",
+            0,
+            CHECKED + counts(2, good=2, notes=1),
+            "",
+            "check ct.dcm control.dcm",
+        ),
+        (
+            "a cut file among others",
+            1,
+            f"{CHECKED}file cut\\.dcm\n{CUT_FAULT}\n" + counts(3, good=2, faulty=1, notes=1),
+            "",
+            "check ct.dcm control.dcm cut.dcm",
+        ),
+        (
+            "two files are shown",
+            1,
+            f"file ct\\.dcm\n{LISTING}end 336\nfile cut\\.dcm\n{LISTING}{CUT_FAULT}",
+            "",
+            "show ct.dcm cut.dcm",
+        ),
+        (
+            "a missing file among others",
+            3,
+            "file missing\\.dcm\nfile ct\\.dcm\ngood 336\n" + counts(2, good=1, unread=1),
+            r"dcmbox: missing\.dcm: the file can.t be opened: .*check its name.*"
+            "\ndcmbox: a file or a folder can.t be read, as is told above",
+            "check missing.dcm ct.dcm",
+        ),
+        (
+            "the files in a folder",
+            1,
+            BELOW + counts(3, good=2, faulty=1, notes=1),
+            "",
+            "check -r many",
+        ),
+        (
+            "a folder whose name ends with a slash, and a file",
+            1,
+            f"{BELOW}file ct\\.dcm\ngood 336\n" + counts(4, good=3, faulty=1, notes=1),
+            "",
+            "check many/ --recursive ct.dcm",
+        ),
+        ("an empty folder", 0, counts(0), "", "check -r many/deeper/empty"),
+        (
+            "one file where folders may be",
+            0,
+            "file ct\\.dcm\ngood 336\n" + counts(1, good=1),
+            "",
+            "check -r ct.dcm",
+        ),
+        (
+            "a missing folder",
+            3,
+            "file missing\n" + counts(1, unread=1),
+            "dcmbox: missing: the file can.t be opened: .*\ndcmbox: missing: a file .*",
+            "check -r missing",
+        ),
+        (
+            "a folder among files",
+            3,
+            "file many\nfile ct\\.dcm\ngood 336\n" + counts(2, good=1, unread=1),
+            "dcmbox: many: the file can.t be read: Is a directory.*",
+            "check many ct.dcm",
+        ),
+        ("a strict check", 1, f"{NOTE}good 312", "", "check --strict control.dcm"),
+        ("a strict check without notes", 0, "good 336", "", "check --strict ct.dcm"),
+        (
+            "a strict check of two files",
+            1,
+            CHECKED + counts(2, good=2, notes=1),
+            "",
+            "check --strict ct.dcm control.dcm",
+        ),
+    ),
+)
+@pytest.mark.usefixtures("many")
+def test_files(expect, status, output, errors, arguments):
+    expect(status, output, errors, *arguments.split())
+
+
+@pytest.mark.usefixtures("many")
+def test_a_name_with_control_characters(expect, put):
+    put({"many/deeper/empty/a\33[mb": b""})
+    output = "file many/deeper/empty/a\\?\\[mb\nfault 50 NotPart10 at 128\n" + counts(1, faulty=1)
+    expect(1, output, "", "check", "-r", "many/deeper/empty")
+
+
+@pytest.mark.usefixtures("many")
+def test_a_name_that_is_not_utf_8(expect, put):
+    put({"many/deeper/empty/a\udcff": b""})
+    errors = "dcmbox: many/deeper/empty: .*\ndcmbox: many/deeper/empty: a file .*"
+    expect(3, counts(1, unread=1), errors, "check", "-r", "many/deeper/empty")
+
+
+class TestStandardInput:
+    """Files that come on standard input."""
+
+    @pytest.fixture
+    def given(self, run, work):
+        """Runs the program with a file as its standard input."""
+
+        def done(name, *arguments):
+            with open(work / name) as file:
+                return run(*arguments, stdin=file)
+
+        return done
+
+    def test_is_checked(self, given):
+        assert given("ct.dcm", "check", "-").stdout == "good 336\n"
+
+    def test_a_cut_file(self, given):
+        done = given("cut.dcm", "check", "-")
+        assert (done.returncode, done.stdout) == (1, CUT_FAULT + "\n")
+
+    def test_among_others(self, run):
+        shown = run("show", "-", "cut.dcm", text=False, input=CT_FILE).stdout.decode()
+        heads = r"^(file (?:-|cut.dcm)|end 336|fault 20 .*)$"
+        assert len(re.findall(heads, shown, re.M)) == 4
+
+    def test_another_transfer_syntax(self, given):
+        done = given("big.dcm", "check", "-")
+        assert done.returncode == 1
+        assert done.stderr.startswith("dcmbox: -: its transfer syntax is ExplicitVRBigEndian")
+
+
+@pytest.mark.parametrize(
+    "status, output, arguments",
+    cases(
+        (
+            "values",
+            0,
+            r"class 1\.2\.840\.10008\.5\.1\.4\.1\.1\.2"
+            "\ninstance 1\\.2\\.3\nsyntax 1\\.2\\.840\\.10008\\.1\\.2\\.1"
+            "\n0000000288 0008,0016 UI 26 SOPClassUID"
+            "\n           = 1\\.2\\.840\\.10008\\.5\\.1\\.4\\.1\\.1\\.2"
+            "\n0000000322 0008,0018 UI 6 SOPInstanceUID"
+            "\n           = 1\\.2\\.3\nend 336",
+            "--values ct.dcm",
+        ),
+        (
+            "control characters of values",
+            0,
+            "0000000288 0008,0060 CS 4 Modality\n           = c%1b\\[m\n"
+            "0000000300 0009,1001 LT 4 \\?\n           = %1b\\[2J",
+            "--values --tag 0008,0060 --tag 0009,1001 control.dcm",
+        ),
+        (
+            "one element",
+            0,
+            "0000000322 0008,0018 UI 6 SOPInstanceUID\n           = 1\\.2\\.3",
+            "--values --tag 0008,0018 ct.dcm",
+        ),
+        ("two elements", 0, ELEMENTS.strip(), "--tag 0008,0018 --tag 0008,0016 ct.dcm"),
+        ("an element of a cut file", 1, CUT_FAULT, "--tag 0010,0010 cut.dcm"),
+    ),
+)
+def test_values(expect, status, output, arguments):
+    expect(status, output, "", "show", *arguments.split())
+
+
+def test_a_check_as_json(run):
+    done = run("check", "--json", "control.dcm")
+    note = '{"place":288,"tag":"0008,0060","vr":"CS","number":1,"name":"BadCharacter"}'
+    said = f'{{"file":"control.dcm","notes":[{note}],"result":"good","length":312}}\n'
+    assert (done.returncode, done.stdout, done.stderr) == (0, said, "")
+
+
+def test_json_of_several_files(run, put):
+    put({'a"b\\.dcm': CT_FILE})
+    names = ["ct.dcm", "control.dcm", "cut.dcm", 'a"b\\.dcm', "missing.dcm", "."]
+    done = run("check", "--json", *names)
+    objects = [json.loads(line) for line in done.stdout.splitlines()]
+    assert done.returncode == 3
+    assert [one["file"] for one in objects] == names
+    results = ["good", "good", "fault", "good", "unread", "unread"]
+    assert [one["result"] for one in objects] == results
+    fault = objects[2]
+    assert (fault["number"], fault["place"], fault["tag"]) == (20, 330, "0008,0018")
+    assert "notes" not in objects[4] and objects[5]["notes"] == []
+
+
+def test_json_of_elements(run):
+    done = run("show", "--json", "--values", "ct.dcm", "cut.dcm", "header.dcm", ".")
+    good, cut, header, folder = [json.loads(line) for line in done.stdout.splitlines()]
+    assert done.returncode == 3
+    assert (good["instance"], good["length"]) == ("1.2.3", 336)
+    assert [one["value"] for one in good["elements"]] == ["1.2.840.10008.5.1.4.1.1.2", "1.2.3"]
+    assert cut["result"] == "fault" and "value" not in cut["elements"][1]
+    assert [one["keyword"] for one in cut["elements"]] == ["SOPClassUID", "SOPInstanceUID"]
+    assert header["elements"] == [] and folder["result"] == "unread"
+
+
+@pytest.mark.parametrize("command", ["check", "show"])
+def test_another_transfer_syntax(expect, command):
+    syntax = r"ExplicitVRBigEndian \(1\.2\.840\.10008\.1\.2\.2\)"
+    errors = rf"dcmbox: big\.dcm: its transfer syntax is {syntax}, which is not taken"
+    expect(1, "fault 53 OtherSyntax at 132", errors, command, "big.dcm")
+
+
+def test_files_are_counted_on_a_terminal(program, work):
+    need("script")
+    command = f"'{program}' check ct.dcm control.dcm ct.dcm >out.txt"
+    done = subprocess.run(
+        ["script", "-qec", command, "/dev/null"],
+        cwd=work,
+        stdin=subprocess.DEVNULL,
+        capture_output=True,
+        timeout=PATIENCE,
+    )
+    assert b"\rfiles 2" in done.stdout
+    last = (work / "out.txt").read_text().splitlines()[-1]
+    assert last == counts(3, good=3, notes=1)
+
+
+def test_files_are_not_counted_elsewhere(run):
+    assert "files" not in run("check", "ct.dcm", "control.dcm").stderr
+
+
+def test_a_large_file_in_little_memory(run, work):
+    """A value of 1 GiB, which takes no room on the disk, in 16 MB of memory."""
+    with open(work / "large.dcm", "wb") as file:
+        file.write(SAMPLES["header.dcm"] + b"\340\177\20\0OW\0\0\0\0\0\100")
+        file.truncate(288 + 12 + (1 << 30))
+    assert run("check", "large.dcm", memory=LITTLE).stdout == "good 1073742124\n"
+
+
+@pytest.mark.parametrize("command", ["replay large.bin --out .", "checkdir large.bin"])
+def test_too_little_memory(expect, work, command):
+    """A recording of 1 GiB, which takes no room on the disk, and 400 MB of memory."""
+    with open(work / "large.bin", "wb") as file:
+        file.truncate(1 << 30)
+    errors = "dcmbox: large.bin: out of memory; give the program more"
+    expect(3, "", errors, *command.split(), memory=400000)

@@ -1,0 +1,297 @@
+"""What the log tells of twenty causes of an administrator's questions."""
+import json
+import re
+
+import pytest
+from images import call, data_set, dumped, identity, pixels
+from peer import ABORT, RELEASE, STORES, STORES_REQUEST
+from samples import cases, changed
+
+TITLES = 'calling "SCANNER1" called "DCMBOX"'
+NOBODY = 'calling "" called ""'
+NONE = "stored 0 refused 0 failed 0"
+CT = "class CTImageStorage instance 2.25.1.1"
+RECORDED = "class CTImageStorage instance 1.2.3"
+# Has storescu propose CT images in one transfer syntax alone.
+PROFILE = """[[TransferSyntaxes]]
+[One]
+TransferSyntax1 = {}
+[[PresentationContexts]]
+[One]
+PresentationContext1 = CTImageStorage\\One
+[[Profiles]]
+[One]
+PresentationContexts = One
+"""
+
+
+@pytest.fixture
+def to_box(port):
+    return ["-aet", "SCANNER1", "-aec", "DCMBOX", "127.0.0.1", str(port)]
+
+
+@pytest.fixture
+def image(work):
+    """Makes an image of a class, of rows and columns of zeros."""
+
+    def made(sop_class="CTImageStorage", rows=16, columns=16):
+        (work / "pixels.raw").write_bytes(bytes(rows * columns))
+        text = identity(sop_class, modality="OT") + pixels("pixels.raw", rows, columns)
+        return dumped(work, "image", text)
+
+    return made
+
+
+def lines_of(box):
+    """The log without its first line, and without times, ports, numbers of bytes and of seconds."""
+    stamp = r"^\[([A-Z]+) +cli::serve\] 20\d\d-\d\d-\d\dT\d\d:\d\d:\d\d\.\d{3}Z 127\.0\.0\.1:\d+ "
+    lines = [re.sub(stamp, r"\1 ", line) for line in box.lines[1:]]
+    return [re.sub(r" received \d+ in \d+ s ", " .. ", line) for line in lines]
+
+
+def tells(box, *wanted):
+    """Waits until an association has ended, and holds the log against these lines."""
+    box.until_logged("^.INFO .* Ended held 0 files ")
+    assert lines_of(box) == list(wanted)
+
+
+def ended(titles, end, contexts, counts=NONE, files=0, dropped=0):
+    """The line of an association."""
+    head = f"INFO Ended held 0 files {files} dropped {dropped} .. {titles}"
+    return f"{head} {end} contexts {contexts} {counts}"
+
+
+class TestClients:
+    """Associations of echoscu and storescu."""
+
+    def test_an_echo(self, serve, tool, to_box):
+        box = serve()
+        tool("echoscu", *to_box)
+        tells(box, ended(TITLES, "released", "1 of 1"))
+
+    def test_a_store(self, serve, tool, to_box, image):
+        box = serve("--verbose")
+        tool("storescu", "-R", *to_box, image())
+        size = len(data_set(box.folder / "I0000001"))
+        tells(
+            box,
+            f"DEBUG store {CT} bytes {size} status 0000 file I0000001",
+            ended(TITLES, "released", "2 of 2", "stored 1 refused 0 failed 0", files=1),
+        )
+
+    def test_another_called_title(self, serve, tool, port):
+        box = serve()
+        words = ("-aet", "SCANNER1", "-aec", "OTHER", "127.0.0.1", port)
+        assert tool("echoscu", *words, check=False).returncode != 0
+        why = "rejected: called AE title not recognized"
+        titles = 'calling "SCANNER1" called "OTHER"'
+        tells(box, f"WARN {why} {titles}", ended(titles, why, "0 of 1"))
+
+    def test_another_calling_title(self, serve, tool, to_box):
+        box = serve("--caller", "SCANNER2")
+        assert tool("echoscu", *to_box, check=False).returncode != 0
+        why = "rejected: calling AE title not recognized"
+        tells(box, f"WARN {why} {TITLES}", ended(TITLES, why, "0 of 1"))
+
+
+class TestContexts:
+    """Presentation contexts that are refused."""
+
+    @pytest.mark.parametrize(
+        "syntax, name",
+        cases(
+            ("no acceptable context", "1.2.840.10008.1.2.2", "ExplicitVRBigEndian"),
+            ("a compressed syntax alone", "1.2.840.10008.1.2.4.70", "JPEGLosslessSV1"),
+        ),
+    )
+    def test_for_their_transfer_syntax(self, serve, tool, to_box, image, work, syntax, name):
+        image()
+        tool("dcmcjpeg", "image.dcm", "jpeg.dcm")
+        (work / "profile.txt").write_text(PROFILE.format(syntax))
+        sent = "jpeg.dcm" if name.startswith("JPEG") else "image.dcm"
+        box = serve("--verbose")
+        tool("storescu", "-xf", "profile.txt", "One", *to_box, sent, check=False)
+        refused = "context 1 refused: transfer syntaxes not supported"
+        tells(
+            box,
+            f"DEBUG {refused} class CTImageStorage syntaxes {name}",
+            ended(TITLES, "closed by the peer", "0 of 1"),
+        )
+
+    def test_of_an_unknown_class(self, serve, tool, to_box, image):
+        report = image("BasicTextSRStorage")
+        box = serve("--verbose")
+        tool("storescu", "-R", *to_box, report, check=False)
+        refused = "refused: abstract syntax not supported class BasicTextSRStorage syntaxes"
+        tells(
+            box,
+            f"DEBUG context 1 {refused} ExplicitVRLittleEndian",
+            f"DEBUG context 3 {refused} ExplicitVRBigEndian ImplicitVRLittleEndian",
+            ended(TITLES, "closed by the peer", "0 of 2"),
+        )
+
+
+class TestNoAssociation:
+    """Connections of which none becomes an association, and one that falls silent."""
+
+    def test_a_port_scan(self, serve):
+        box = serve()
+        box.connect().close()
+        tells(box, ended(NOBODY, "closed by the peer", "0 of 0"))
+
+    @pytest.mark.parametrize(
+        "kind, command",
+        cases(
+            ("a TLS hello", 16, "openssl s_client -connect 127.0.0.1:{}"),
+            ("HTTP", 47, "curl -s --max-time 60 http://127.0.0.1:{}/"),
+        ),
+    )
+    def test_another_protocol(self, serve, port, tool, kind, command):
+        box = serve()
+        tool(*command.format(port).split(), check=False)
+        why = f"aborted: by the service user (PDU type {kind})"
+        tells(box, f"WARN {why}", ended(NOBODY, why, "0 of 0"))
+
+    def test_a_request_that_is_never_finished(self, serve):
+        box = serve("--timeout", "1")
+        with box.connect() as peer:
+            peer.send(STORES_REQUEST[:100])
+            tells(box, ended(NOBODY, "ARTIM timer expired", "0 of 0"))
+
+    def test_a_peer_that_falls_silent(self, serve):
+        box = serve("--idle", "1", "--timeout", "1")
+        with box.connect() as peer:
+            peer.send(STORES_REQUEST)
+            why = "aborted: the peer was idle"
+            tells(box, f"WARN {why}", ended(TITLES, why, "1 of 1"))
+
+
+class TestUnfinished:
+    """A store whose reply does not come.
+
+    The command of the store ends at byte 292, and its data set at 352.
+    """
+
+    @pytest.mark.parametrize(
+        "end, place, sent, size",
+        cases(
+            ("an abort", "aborted by the peer", 292, ABORT, 0),
+            ("a close", "closed by the peer", 320, b"", 0),
+            ("a release", "released", 292, RELEASE, 10),
+        ),
+    )
+    def test_in_a_store(self, serve, end, place, sent, size):
+        """After a request's answer come a store up to a place, these bytes, and the end."""
+        box = serve()
+        with box.connect() as peer:
+            assert len(peer.exchange(STORES_REQUEST, 171)) == 171
+            assert len(peer.exchange(STORES[180:place] + sent, size)) == size
+        tells(
+            box,
+            f"WARN not stored: no reply, {end} {RECORDED} stores 1",
+            ended(TITLES, end, "1 of 1", dropped=1),
+        )
+
+
+@pytest.mark.parametrize(
+    "why, place, new",
+    cases(
+        ("a bad data set", "status C000 fault 10 BadVr tag 0008,0016", 308, b"ui"),
+        (
+            "a class that is not that of the command",
+            "status A900 fault 45 ClassMismatch tag 0008,0016",
+            336,
+            b"4",
+        ),
+    ),
+)
+def test_a_data_set_with_a_fault(serve, why, place, new):
+    """The first of the two stores, with other bytes at a place."""
+    box = serve()
+    with box.connect() as peer:
+        peer.until_released(changed(STORES[:352] + RELEASE, place, new))
+    tells(
+        box,
+        f"WARN not stored: {why} {RECORDED}",
+        ended(TITLES, "released", "1 of 1", "stored 0 refused 0 failed 1", dropped=1),
+    )
+
+
+class TestFolder:
+    """A folder that takes no file; the system's error is told once."""
+
+    @pytest.fixture
+    def fails(self, tool, to_box, image):
+        """Has a box refuse an image for this error of the system."""
+
+        def done(box, error, **size):
+            tool("storescu", "-R", *to_box, image(**size), check=False)
+            counts = "stored 0 refused 1 failed 0"
+            tells(
+                box,
+                f"ERROR a file could not be written: {error}",
+                f"WARN not stored: status A700 {CT}",
+                ended(TITLES, "released", "2 of 2", counts, dropped=1),
+            )
+
+        return done
+
+    def test_of_a_full_disk(self, serve, small_disk, fails):
+        small_disk("received", "-t", "tmpfs", "-o", "size=128k", "tmpfs")
+        fails(serve(), "No space left on device (os error 28)", rows=1024, columns=512)
+
+    def test_that_became_read_only(self, serve, small_disk, fails, work):
+        folder = small_disk("received", "-t", "tmpfs", "tmpfs")
+        box = serve()
+        call(work, "mount", "-o", "remount,ro", folder)
+        fails(box, "Read-only file system (os error 30)")
+
+    def test_that_was_removed(self, serve, fails):
+        box = serve()
+        box.folder.rmdir()
+        fails(box, "No such file or directory (os error 2)")
+
+
+class TestLines:
+    """The other form of the log, its levels, and what a line may be."""
+
+    def test_each_is_a_json_object(self, serve, tool, to_box, image):
+        box = serve("--log", "json", "--verbose")
+        tool("storescu", "-R", *to_box, image())
+        box.until_logged('"event":"association"')
+        listening, store, association = lines = [json.loads(line) for line in box.lines]
+        assert [line["event"] for line in lines] == ["listening", "store", "association"]
+        assert listening["address"].startswith("127.0.0.1:")
+        told = {"class": "CTImageStorage", "instance": "2.25.1.1", "status": "0000"}
+        assert {**told, "file": "I0000001"}.items() <= store.items()
+        titles = {"called": "DCMBOX", "calling": "SCANNER1", "end": "released"}
+        assert {**titles, "stored": 1, "accepted": 2, "proposed": 2}.items() <= association.items()
+        for line in lines:
+            assert len(line["time"]) == 24 and line["time"].endswith("Z")
+            assert line["level"] in ("INFO", "DEBUG")
+
+    def test_a_quiet_log_has_warnings_alone(self, serve, tool, to_box, port):
+        box = serve("--quiet")
+        tool("echoscu", *to_box)
+        tool("echoscu", "-aec", "OTHER", "127.0.0.1", port, check=False)
+        box.until_logged("rejected")
+        assert len(box.lines) == 1
+
+    def test_no_title_forges_one(self, serve):
+        box = serve("--verbose")
+        for title in (b"\n\n[ERROR cli::serve] x", b"\33[2J\7", b'"},{"a":"b'):
+            forged = changed(STORES_REQUEST, 10, title.ljust(32)[:32])
+            with box.connect() as peer:
+                peer.send(forged + RELEASE)
+                peer.receive_pdu()
+        box.until_logged("Ended held", count=3)
+        assert len(box.lines) == 7
+        assert re.fullmatch(r"[ -~\n]*", box.log)
+        assert max(map(len, box.lines)) <= 1000
+
+    def test_the_port_and_the_end(self, serve, tool, to_box, port):
+        box = serve("--once")
+        box.until_logged(rf"listening on 127\.0\.0\.1:{port}$")
+        tool("echoscu", *to_box)
+        assert box.ended() == 0
+        assert box.lines[-1].endswith(" stopped")

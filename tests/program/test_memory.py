@@ -1,0 +1,159 @@
+"""The program while its allocations are refused: arguments, replays, and stores over TCP."""
+import re
+import signal
+
+import pytest
+from box import LITTLE, wait_for
+from peer import ECHO, FIRST_REPLY, RELEASED, STORES_ANSWER, SUCCESS
+from samples import LargeStore, cases
+
+NO_MEMORY = (
+    r"dcmbox: (stores\.bin: )?(out of memory"
+    "(; give the program more| for what is sent; replay a shorter recording)?"
+    "|the command line can't be read: out of memory; .*)"
+)
+REFUSED_REPLY = bytes.fromhex("000000090200000000a7")
+
+
+def has_no_memory(done):
+    """Whether the program told that memory ran out, and printed nothing."""
+    told = re.fullmatch(NO_MEMORY, done.stderr.rstrip("\n"), re.DOTALL)
+    return done.returncode == 3 and not done.stdout and bool(told)
+
+
+@pytest.fixture
+def is_refused(work):
+    """Whether an allocation was refused."""
+    return lambda: (work / "refused.txt").stat().st_size > 0
+
+
+@pytest.mark.parametrize(
+    "arguments",
+    cases(
+        ("help is asked for", "serve --help"),
+        ("an option is missing", "replay empty.bin"),
+        (
+            "a number is refused",
+            "serve --port 11112 --out . --caller SCANNER1 --caller SCANNER2 --per 0",
+        ),
+    ),
+)
+def test_arguments(run, samples, refuse, is_refused, arguments):
+    """Each allocation in turn is refused, until a run meets no refusal."""
+    number = 1
+    while has_no_memory(run(*arguments.split(), before=refuse(number))) and is_refused():
+        number += 1
+    assert number > 50 and not is_refused()
+
+
+@pytest.mark.parametrize("options", [(), ("--per", "1")], ids=["flat", "into_folders"])
+def test_a_replay_of_two_stores(run, samples, work, refuse, is_refused, options):
+    """A store is filed where its reply says so, and no draft and no part of a file is left."""
+    (work / "whole").mkdir()
+    assert run("replay", "stores.bin", "--out", "whole").returncode == 0
+    whole = {(work / "whole" / name).read_bytes() for name in ("I0000001", "I0000002")}
+    number, failures, refusals, filed = 1, 0, 0, 0
+    while True:
+        folder = work / f"replayed{number}"
+        folder.mkdir()
+        words = ("replay", "stores.bin", "--out", folder.name, *options)
+        done = run(*words, before=refuse(number))
+        files = [path.read_bytes() for path in folder.rglob("*") if path.is_file()]
+        assert len(set(files)) == len(files) and set(files) <= whole
+        assert not list(folder.rglob("DRAFT*"))
+        if has_no_memory(done):
+            failures += 1
+        else:
+            *lines, last = done.stdout.splitlines()
+            sent, filed = bytes.fromhex("".join(lines)), len(files)
+            assert (done.returncode, done.stderr, last) == (0, "", f"Ended held 0 files {filed}")
+            assert sent.replace(REFUSED_REPLY, SUCCESS) == STORES_ANSWER
+            assert sent.count(SUCCESS) == filed
+            refusals += 1
+        if not is_refused():
+            break
+        number += 1
+    assert filed == 2 and failures >= 50 and refusals > 2
+
+
+@pytest.fixture
+def boxed(serve, refuse):
+    """A box that serves one association, and gets no memory from SIGUSR1 to SIGUSR2."""
+
+    def started(*options):
+        words = ("--once", "--timeout", "30", *options)
+        box = serve(*words, folder="refused", before=refuse("signals"))
+        box.until_logged("listening on")
+        return box
+
+    return started
+
+
+@pytest.fixture(scope="module")
+def store():
+    """A store of 16 MiB."""
+    return LargeStore(16 << 20)
+
+
+def grown(box, size):
+    """Waits until the draft has this size."""
+
+    def has_size():
+        drafts = [path for path in box.folder.iterdir() if path.name.startswith("DRAFT")]
+        return [path for path in drafts if path.stat().st_size == size]
+
+    wait_for(has_size, f"the draft has {size} bytes")
+
+
+def test_a_store_while_each_allocation_is_refused(boxed, is_refused, store, form):
+    """16 MiB are taken in, and no memory is asked for; they are filed once there is some."""
+    box = boxed(*form)
+    with box.connect() as peer:
+        peer.send(store.opening)
+        grown(box, store.opened)
+        box.process.send_signal(signal.SIGUSR1)
+        peer.send(store.middle)
+        grown(box, store.filled)
+        assert not is_refused()
+        box.process.send_signal(signal.SIGUSR2)
+        answer = peer.exchange(store.last, 293)
+    assert box.ended() == 0
+    assert answer == FIRST_REPLY + RELEASED
+    assert box.files() == ["I0000001"]
+    assert (box.folder / "I0000001").read_bytes() == store.file
+
+
+def test_a_file_that_gets_no_memory_for_its_name(boxed, is_refused, store, form):
+    """Its store fails with A700, out of resources."""
+    box = boxed(*form)
+    with box.connect() as peer:
+        peer.send(store.opening)
+        grown(box, store.opened)
+        box.process.send_signal(signal.SIGUSR1)
+        answer = peer.exchange(store.middle + store.last, 293)
+        box.process.send_signal(signal.SIGUSR2)
+    box.ended()
+    assert REFUSED_REPLY in answer and is_refused()
+    assert box.files() == []
+
+
+def test_an_echo_while_each_allocation_is_refused(boxed, is_refused):
+    """The log keeps a request in memory until it is answered; without memory it tells less."""
+    box = boxed()
+    box.process.send_signal(signal.SIGUSR1)
+    answer = box.exchange(ECHO, 269)
+    box.ended()
+    assert is_refused()
+    assert answer[:1] == b"\2" and answer.endswith(RELEASED)
+    box.until_logged('calling "" called "" released contexts 0 of 0')
+
+
+def test_a_store_of_64_mib(serve):
+    """It is answered, and filed in 16 MB of memory."""
+    store = LargeStore(67059712)
+    box = serve("--once", memory=LITTLE)
+    answer = box.exchange(store.opening + store.middle + store.last, 293)
+    assert answer == FIRST_REPLY + RELEASED
+    assert box.ended() == 0
+    assert box.files() == ["I0000001"]
+    assert (box.folder / "I0000001").read_bytes() == store.file

@@ -1,0 +1,188 @@
+"""The Debian package of the program.
+
+Built, looked at by lintian, installed into a fresh root, run there, and removed.
+"""
+import datetime
+import gzip
+import os
+import re
+import subprocess
+
+import pytest
+from images import TOOL_PATIENCE, call, need
+from peer import ROOT
+from ports import free_port
+from samples import cases
+
+FILES = [
+    "usr/bin/dcmbox",
+    "usr/share/man/man1/dcmbox.1.gz",
+    "usr/share/bash-completion/completions/dcmbox",
+    "lib/systemd/system/dcmbox.service",
+    "lib/systemd/system/dcmbox@.service",
+    "etc/default/dcmbox",
+    "usr/share/doc/dcmbox/copyright",
+    "usr/share/doc/dcmbox/changelog.gz",
+    "usr/share/doc/dcmbox/NEWS.gz",
+    "usr/share/doc/dcmbox/CONFORMANCE.md",
+    "usr/share/doc/dcmbox/PROFILE.md",
+    "usr/share/doc/dcmbox/DEPLOY.md",
+]
+
+
+@pytest.fixture(scope="session")
+def package(program, tmp_path_factory):
+    """The path of the package."""
+    need("strip", "dpkg-deb")
+    folder = tmp_path_factory.mktemp("package")
+    made = call(ROOT, ROOT / "packaging/make-deb", program, folder).stdout
+    return folder / made.strip().rsplit("/")[-1]
+
+
+@pytest.fixture(scope="session")
+def version(program):
+    return call(ROOT, program, "--version").stdout.split()[1]
+
+
+@pytest.fixture
+def tree(package, work):
+    """What is in the package; a machine's own dpkg may leave some of it out of its root."""
+    call(work, "dpkg-deb", "--extract", package, "tree")
+    return work / "tree"
+
+
+class Root:
+    """A root with nothing in it but what dpkg and the helpers of systemd's units keep.
+
+    The C library is the machine's.
+    """
+
+    def __init__(self, path):
+        self.path = path
+        for folder in ("dpkg/info", "dpkg/updates", "dpkg/triggers", "systemd"):
+            (path / "var/lib" / folder).mkdir(parents=True)
+        for name in ("status", "available"):
+            (path / "var/lib/dpkg" / name).touch()
+
+    def dpkg(self, *arguments):
+        options = ("--force-depends", "--force-script-chrootless", "--log=/dev/null")
+        call(self.path, "dpkg", f"--root={self.path}", *options, *arguments)
+
+    def standing(self):
+        """The paths in the root, but for dpkg's own files."""
+        own = self.path / "var/lib/dpkg"
+        return {path for path in self.path.rglob("*") if not path.is_relative_to(own)}
+
+
+@pytest.fixture
+def root(work):
+    return Root(work / "root")
+
+
+def test_lintian_has_no_error(package, work):
+    call(work, "lintian", "--allow-root", "--fail-on", "error", package)
+
+
+@pytest.mark.parametrize("file", FILES)
+def test_it_has(tree, file):
+    assert (tree / file).stat().st_size > 0
+
+
+def test_it_is_installed_into_a_fresh_root_and_removed_without_a_trace(root, package, version):
+    before = root.standing()
+    root.dpkg("--install", package)
+    said = call(root.path, root.path / "usr/bin/dcmbox", "--version").stdout
+    assert said == f"dcmbox {version}\n"
+    unit = (root.path / "lib/systemd/system/dcmbox.service").read_text()
+    assert re.search("^ExecStart=/usr/bin/dcmbox serve ", unit, re.M)
+    root.dpkg("--install", package)
+    root.dpkg("--purge", "dcmbox")
+    assert root.standing() == before
+
+
+def test_its_changelog_names_the_version_and_its_day(tree, version):
+    released = re.search(
+        rf"^## {re.escape(version)}, (.*)$", (ROOT / "CHANGELOG.md").read_text(), re.M
+    )
+    day = datetime.date.fromisoformat(released[1]).strftime("%a, %d %b %Y")
+    changelog = gzip.open(tree / "usr/share/doc/dcmbox/changelog.gz", "rt").read()
+    assert changelog.startswith(f"dcmbox ({version}) ")
+    assert f" {day} " in changelog
+
+
+def test_a_version_that_was_not_released_has_no_package(work):
+    unreleased = work / "unreleased"
+    unreleased.write_text("#!/bin/sh\necho dcmbox 9.9.9\n")
+    unreleased.chmod(0o755)
+    done = call(ROOT, ROOT / "packaging/make-deb", unreleased, work, check=False)
+    assert done.returncode != 0
+    assert "no heading '## 9.9.9, DATE'" in done.stderr
+
+
+def test_the_units_start_boxes(units, tree):
+    """By their own command lines, with the package's options but for a port."""
+    installed, port, other = units(tree), free_port(), free_port()
+    installed.use_port(port)
+    boxes = [
+        installed.run("dcmbox.service", port),
+        installed.run("dcmbox@.service", other, str(other)),
+    ]
+    assert [box.poll() for box in boxes] == [None, None]
+
+
+@pytest.fixture
+def asks(package, work):
+    """What a maintainer script asks, but for the state of deb-systemd-helper.
+
+    It asks commands that only note how they are called, where /run is as under systemd.
+    """
+    need("unshare", "mount")
+    call(work, "dpkg-deb", "--control", package, "control")
+    (work / "noting").mkdir()
+    for command in ("systemctl", "deb-systemd-helper", "deb-systemd-invoke"):
+        noting = work / "noting" / command
+        noting.write_text(f'#!/bin/sh\necho "{command} $*" >>{work}/asked.txt\n')
+        noting.chmod(0o755)
+    mounting = 'mount -t tmpfs none /run && mkdir -p /run/systemd/system && exec "$@"'
+
+    def asked(script, *arguments):
+        (work / "asked.txt").write_text("")
+        subprocess.run(
+            ["unshare", "--mount", "sh", "-c", mounting, "sh", f"control/{script}", *arguments],
+            cwd=work,
+            env={**os.environ, "PATH": f"{work}/noting:{os.environ['PATH']}"},
+            check=True,
+            timeout=TOOL_PATIENCE,
+        )
+        lines = (work / "asked.txt").read_text().splitlines()
+        return [line for line in lines if not re.match("deb-systemd-helper [^p]", line)]
+
+    return asked
+
+
+RELOAD = "systemctl --system daemon-reload"
+BOXES = "dcmbox.service dcmbox@*.service"
+
+
+@pytest.mark.parametrize(
+    "script, wanted",
+    cases(
+        ("once installed it has its units read", "postinst configure", [RELOAD]),
+        ("an upgrade lets boxes run", "prerm upgrade 9.9.9", []),
+        ("a removal stops boxes", "prerm remove", [f"deb-systemd-invoke stop {BOXES}"]),
+        ("a removal has the units forgotten", "postrm remove", [RELOAD]),
+        (
+            "a purge forgets that they were enabled",
+            "postrm purge",
+            ["deb-systemd-helper purge dcmbox.service"],
+        ),
+    ),
+)
+def test_maintainer_script(asks, script, wanted):
+    words = script.split()
+    assert asks(*words, *([""] if words[0] == "postinst" else [])) == wanted
+
+
+def test_an_upgrade_starts_those_anew_that_run(asks, version):
+    wanted = [RELOAD, f"deb-systemd-invoke try-restart {BOXES}"]
+    assert asks("postinst", "configure", version) == wanted

@@ -1,0 +1,269 @@
+"""Whether `serve` does what its options say, also for several associations at once."""
+import os
+import re
+import shutil
+import struct
+import subprocess
+
+import pytest
+from box import LITTLE, PATIENCE, listeners
+from peer import (
+    ECHO,
+    ECHO_REQUEST,
+    RELEASE,
+    STORES,
+    STORES_ANSWER,
+    SUCCESS,
+    element,
+    values,
+)
+from samples import CT_FILE, HEADER, cases
+
+REFUSED_ANSWER = STORES_ANSWER.replace(SUCCESS, bytes.fromhex("000000090200000000a7"))
+
+
+@pytest.fixture
+def start(serve, form):
+    """A box of either form in 16 MB of memory that serves one association."""
+
+    def started(*options, **kinds):
+        kinds.setdefault("memory", LITTLE)
+        return serve("--once", "--timeout", "4", *form, *options, **kinds)
+
+    return started
+
+
+@pytest.mark.parametrize(
+    "address, options",
+    cases(
+        ("the loopback address alone where none is given", "0100007F", []),
+        ("every address where that is asked for", "00000000", ["--bind", "0.0.0.0"]),
+        ("the address that is given", "0200007F", ["--bind", "127.0.0.2"]),
+    ),
+)
+def test_listens_on(start, port, address, options):
+    start(*options)
+    assert listeners(port) == [address]
+
+
+@pytest.mark.parametrize(
+    "answer, options",
+    cases(
+        # Rejected for good, by the service user: calling or called AE title not recognized.
+        ("a caller that is not named", "03000000000400010103", "--caller SCANNER2"),
+        (
+            "a caller whose title goes on",
+            "03000000000400010103",
+            "--caller SCANNER2 --caller SCANNER",
+        ),
+        ("another called title", "03000000000400010107", "--ae ARCHIVE"),
+    ),
+)
+def test_rejects(start, answer, options):
+    """Then the connection ends."""
+    box = start(*options.split())
+    with box.connect() as peer:
+        peer.send(ECHO_REQUEST)
+        assert peer.rest() == bytes.fromhex(answer)
+
+
+def test_a_caller_that_is_named_is_served(start):
+    assert start("--caller", "SCANNER2", "--caller", "SCANNER1").echoes()
+
+
+@pytest.mark.parametrize(
+    "length, options",
+    cases(
+        ("16384 where none is given", 16384, ""),
+        ("the least", 1024, "--max-pdu 1024"),
+        ("the greatest", 131072, "--max-pdu 131072"),
+        ("not the longest data set", 16384, "--max-data 1024"),
+    ),
+)
+def test_the_maximum_length_that_is_told(start, length, options):
+    answer = start(*options.split()).exchange(ECHO, 269)
+    at = answer.index(b"\x51\0\0\4") + 4
+    assert struct.unpack(">L", answer[at : at + 4])[0] == length
+
+
+class TestLongestPdu:
+    """A P-DATA-TF PDU may be as long as was told, and no longer."""
+
+    @pytest.fixture
+    def peer(self, start):
+        with start("--max-pdu", "1024").connect() as peer:
+            assert len(peer.exchange(ECHO_REQUEST, 169)) == 169
+            yield peer
+
+    def test_of_this_length(self, peer):
+        peer.send(struct.pack(">BxLx", 4, 1024))
+        assert peer.is_silent(2)
+
+    def test_longer(self, peer):
+        """It is aborted at the length, by the service provider, for an invalid parameter.
+
+        Then the timer expires.
+        """
+        peer.send(struct.pack(">BxLx", 4, 1025))
+        assert peer.rest() == bytes.fromhex("07000000000400000206")
+
+
+def data_set(size, came):
+    """A data set whose pixels say that they have so many bytes, and of which so many come.
+
+    60 bytes are before them.
+    """
+    head = element((0x7FE0, 0x0010), "OW", b"")[:8] + struct.pack("<L", size)
+    return STORES[304:352] + head + bytes(came)
+
+
+@pytest.mark.parametrize(
+    "status, size, came",
+    cases(
+        ("of as many bytes as are taken", 0x0000, 964, 964),
+        ("of more bytes than are taken", 0xA700, 966, 966),
+        ("that says that it has more", 0xA700, 966, 0),
+    ),
+)
+def test_a_data_set(start, status, size, came):
+    """At most 1,024 bytes are taken."""
+    box = start("--max-data", "1024", memory=None)
+    store = STORES[:292] + values(1, 2, data_set(size, came)) + RELEASE
+    answer = box.exchange(store, 293)
+    at = answer.index(bytes.fromhex("0000000902000000"))
+    assert struct.unpack("<H", answer[at + 8 : at + 10])[0] == status
+    if status == 0:
+        assert box.files() == ["I0000001"]
+        assert (box.folder / "I0000001").read_bytes() == HEADER + data_set(size, came)
+    else:
+        box.until_logged("not stored: status A700")
+        assert box.files() == []
+
+
+def test_a_folder_that_took_the_name_of_the_locked_one(serve, run, put, work):
+    """It gets nothing, and another program stores into it.
+
+    Under its own name the locked one is stored into again.
+    """
+    put({"stores.bin": STORES})
+    box = serve("--timeout", "30")
+    box.until_logged("listening on")
+    moved = box.folder.rename(work / "moved")
+    box.folder.mkdir()
+    assert box.answers(STORES, REFUSED_ANSWER)
+    box.until_logged("a file could not be written: the folder was replaced by another one")
+    assert box.files() == os.listdir(moved) == []
+
+    assert run("replay", "stores.bin", "--out", "received").returncode == 0
+    assert box.answers(STORES, REFUSED_ANSWER)
+    assert box.files() == ["I0000001", "I0000002"]
+    assert (box.folder / "I0000001").read_bytes() == CT_FILE
+
+    box.folder.rename(work / "other")
+    moved.rename(box.folder)
+    assert box.answers(STORES, STORES_ANSWER)
+    assert box.files() == ["I0000001", "I0000002"]
+
+
+def test_standard_descriptors_that_are_closed_get_no_line(serve):
+    """What is logged goes nowhere: an association and a file get other numbers."""
+    closed = ["sh", "-c", 'exec "$@" <&- >&- 2>&-', "sh"]
+    box = serve("-v", "--once", "--timeout", "30", before=closed)
+    assert box.answers(STORES, STORES_ANSWER)
+    box.ended()
+    assert box.files() == ["I0000001", "I0000002"]
+    assert (box.folder / "I0000001").read_bytes() == CT_FILE
+
+
+def test_a_folder_of_files_that_is_moved_away(serve, work):
+    """It is made again, and one that is put back keeps its files: no store is lost."""
+    box = serve("--timeout", "30", "--per", "3")
+    assert box.answers(STORES, STORES_ANSWER)
+    taken = (box.folder / "S0000001").rename(work / "taken")
+    (box.folder / "S0000002").mkdir()
+    (box.folder / "S0000002/I0000001").write_bytes(CT_FILE)
+    assert box.answers(STORES, STORES_ANSWER)
+    assert sorted(os.listdir(taken)) == ["I0000001", "I0000002"]
+    assert os.listdir(box.folder / "S0000001") == ["I0000003"]
+    assert sorted(os.listdir(box.folder / "S0000002")) == ["I0000001", "I0000002"]
+
+
+class TestNumbers:
+    """A file of numbers keeps those that were given, so that none comes again."""
+
+    @pytest.fixture
+    def store(self, serve):
+        """Stores the two images into a new box."""
+
+        def stored(*options):
+            box = serve("--once", "--timeout", "30", "--numbers", "numbers.txt", *options)
+            assert box.answers(STORES, STORES_ANSWER)
+            assert box.ended() == 0
+            return box
+
+        return stored
+
+    def test_that_run_low_are_warned_of_once(self, serve, put, work):
+        """The first file from the number 9000000 on has a warning, and no other one."""
+        put({"received/I8999998": b""})
+        box = serve("--timeout", "30", "--numbers", "numbers.txt")
+        for _ in range(2):
+            assert box.answers(STORES, STORES_ANSWER)
+        assert box.files() == ["I8999998", "I8999999", "I9000000", "I9000001", "I9000002"]
+        warning = r"^\[WARN .* few numbers are left, .*: I9000000 of 9999999$"
+        assert len(re.findall(warning, box.log, re.M)) == 1
+        assert (work / "numbers.txt").read_text() == "I9000098 S0000000\n"
+
+    def test_do_not_come_again(self, store, put):
+        put({"numbers.txt": b"I9000098 S0000000\n"})
+        assert store().files() == ["I9000099", "I9000100"]
+
+    def test_of_folders_do_not_come_again(self, store):
+        box = store("--per", "1")
+        for name in box.files():
+            shutil.rmtree(box.folder / name)
+        assert store("--per", "1").files() == ["S0000003", "S0000004"]
+
+    def test_that_are_damaged(self, expect, put, work, port):
+        """They stay as they are."""
+        put({"numbers.txt": b"I9000100\n"})
+        refused = "the file of numbers can't be read or made: it has no line of two numbers; .*"
+        words = ("serve", "--port", str(port), "--out", ".", "--numbers", "numbers.txt")
+        expect(3, "", f"dcmbox: numbers.txt: {refused}", *words)
+        assert (work / "numbers.txt").read_text() == "I9000100\n"
+
+
+def test_a_peer_of_ipv4_is_logged_as_such(serve):
+    """Also where every address of both versions of IP is listened on."""
+    box = serve("--once", "--timeout", "30", "--bind", "::", memory=LITTLE)
+    assert box.echoes()
+    box.ended()
+    assert re.search(r" 127\.0\.0\.1:[0-9]+ Ended", box.log)
+
+
+def test_a_port_that_the_system_keeps(program, work):
+    """For programs with more rights than those of nobody."""
+    least = int(open("/proc/sys/net/ipv4/ip_unprivileged_port_start").read())
+    if os.getuid() != 0 or least <= 104:
+        pytest.skip("no user without rights can be had here, or no port is kept")
+    copied, kept = work / "program", work / "kept"
+    shutil.copy(program, copied)
+    kept.mkdir()
+    for path, mode in ((copied, 0o755), (work, 0o755), (kept, 0o777)):
+        path.chmod(mode)
+    done = subprocess.run(
+        [copied, "serve", "--port", "104", "--out", "kept"],
+        cwd=work,
+        capture_output=True,
+        text=True,
+        timeout=PATIENCE,
+        user=65534,
+        group=65534,
+        extra_groups=[],
+    )
+    refused = (
+        "dcmbox: 104: can't be listened on: Permission denied "
+        "[^;]*; choose a port from 1024 on.*CAP_NET_BIND_SERVICE\n"
+    )
+    assert (done.returncode, done.stdout) == (3, "")
+    assert re.fullmatch(refused, done.stderr), done.stderr

@@ -1,0 +1,248 @@
+"""A box that serves several associations at once.
+
+Peers that stall keep nobody out, each data set arrives as it was sent, one address can't take every
+place, and a stop lets stores end.
+"""
+import re
+import signal
+import time
+from contextlib import ExitStack
+
+import pytest
+from box import PATIENCE, wait_for
+from images import digests, dumped, identity, need
+from peer import (
+    ABORT,
+    ECHO,
+    ECHO_ANSWER,
+    ECHO_COMMAND,
+    ECHO_REQUEST,
+    RELEASED,
+    STORES,
+    STORES_REQUEST,
+    SUCCESS,
+)
+
+SENDERS, EACH = 8, 10
+# What a peer that stalls sends: a byte or a half of a request.
+BYTE, HALF = ECHO[:1], ECHO[:90]
+
+
+@pytest.fixture
+def stall():
+    """Connects peers that send this, and then nothing more; they are closed after the test."""
+    with ExitStack() as peers:
+
+        def stalled(box, sent, address="127.0.0.1"):
+            peer = peers.enter_context(box.connect(address))
+            peer.send(sent)
+            return peer
+
+        yield stalled
+
+
+@pytest.fixture
+def stall_in_a_store(stall):
+    """A peer that stalls in the middle of the data set of the first of the two stores."""
+
+    def stalled(box):
+        drafts = len(drafts_of(box))
+        peer = stall(box, STORES_REQUEST)
+        assert len(peer.receive(171)) == 171
+        peer.send(STORES[180:320])
+        wait_for(lambda: len(drafts_of(box)) == drafts + 1, "a store has begun")
+        return peer
+
+    return stalled
+
+
+@pytest.fixture
+def stall_without_reading(stall):
+    """A peer that sends echoes, and reads no reply, until the box takes no more."""
+
+    def stalled(box):
+        peer = stall(box, ECHO_REQUEST)
+        peer.socket.settimeout(1)
+        with pytest.raises(TimeoutError):
+            while True:
+                peer.send(ECHO_COMMAND * 1000)
+        return peer
+
+    return stalled
+
+
+def drafts_of(box):
+    return [name for name in box.files() if name.startswith("DRAFT")]
+
+
+def echo_answered(peer):
+    """Whether the answer to the recorded echo, which was sent, comes."""
+    return peer.receive(len(ECHO_ANSWER)) == ECHO_ANSWER
+
+
+@pytest.fixture(scope="module")
+def sent(tmp_path_factory):
+    """The images of each sender, 8 KiB of pixels of their own each."""
+    work = tmp_path_factory.mktemp("sent")
+    for n in range(SENDERS * EACH):
+        (work / "pixels.raw").write_bytes(n.to_bytes(8, "big") * 1024)
+        text = identity(instance=f"2.25.1.{n}") + "(7fe0,0010) OW =pixels.raw\n"
+        dumped(work, f"image{n}", text)
+    images = [work / f"image{n}.dcm" for n in range(SENDERS * EACH)]
+    return [images[n * EACH : (n + 1) * EACH] for n in range(SENDERS)]
+
+
+@pytest.fixture
+def senders(spawn, sent, to_box):
+    """Starts a storescu for each sender, so many times."""
+    need("storescu")
+
+    def started(times=1):
+        return [spawn("storescu", *to_box, *images) for images in sent * times]
+
+    return started
+
+
+def has_each(box, sent):
+    """Whether the folder has each data set as it was sent."""
+    found = [box.folder / name for name in box.files() if name.startswith("I")]
+    return digests(found) == digests(image for images in sent for image in images)
+
+
+def test_eight_senders_beside_peers_that_stall(
+    serve, tool, to_box, sent, senders, stall, stall_in_a_store, stall_without_reading
+):
+    """An echo is answered within a second, in one of three tries, and each data set arrives.
+
+    The numbers are given once. A box that is killed then leaves whole files, and the draft of the
+    store that stalled, which the next one removes.
+    """
+    box = serve("--at-once", "16", "--per-peer", "16")
+    stall(box, BYTE)
+    stall(box, HALF)
+    stall_in_a_store(box)
+    stall_without_reading(box)
+    processes = senders()
+    took = []
+    while not took or min(took) >= 1 and len(took) < 3:
+        begun = time.monotonic()
+        tool("echoscu", *to_box)
+        took.append(time.monotonic() - begun)
+    assert min(took) < 1
+    assert [process.wait(PATIENCE) for process in processes] == [0] * SENDERS
+    assert has_each(box, sent)
+    numbers = [int(name[1:]) for name in box.files() if name.startswith("I")]
+    assert numbers == list(range(1, SENDERS * EACH + 1))
+
+    box.stop(signal.SIGKILL)
+    assert len(drafts_of(box)) == 1 and has_each(box, sent)
+    assert drafts_of(serve("--at-once", "4")) == []
+
+
+class TestPlaces:
+    """The places of a box, and the connections that wait for one."""
+
+    def test_one_address_has_as_many_as_it_may_have(self, serve, stall):
+        box = serve("--at-once", "3", "--per-peer", "2", "--timeout", "600")
+        first, _ = stall(box, HALF), stall(box, HALF)
+        third = stall(box, ECHO)
+        box.until_logged("the peer has as many places as it may have, .* connections wait places 2")
+        with box.connect("127.0.0.2") as other:
+            other.send(ECHO)
+            assert echo_answered(other)
+        assert third.is_silent(0)
+        first.close()
+        assert echo_answered(third)
+
+    def test_with_all_taken_the_next_connection_waits(self, serve, stall):
+        """It is served after the ARTIM timer, and it is told once."""
+        box = serve("--at-once", "2", "--per-peer", "2", "--timeout", "2")
+        for _ in range(2):
+            stall(box, HALF)
+        assert echo_answered(stall(box, ECHO, "127.0.0.2"))
+        box.until_logged("all places are taken, and connections wait places 2")
+        box.until_logged("ARTIM timer expired")
+        assert len(re.findall("all places are taken", box.log)) == 1
+
+    def test_a_connection_too_many_is_closed(self, serve, stall):
+        """Of the other connections of an address as many wait as there are places."""
+        box = serve("--at-once", "2", "--per-peer", "1", "--timeout", "600")
+        for _ in range(3):
+            stall(box, HALF)
+        assert stall(box, HALF).rest() == b""
+        box.until_logged("the connection was closed, since too many wait for a place")
+        assert echo_answered(stall(box, ECHO, "127.0.0.2"))
+
+    def test_those_that_wait_get_one_in_their_order(self, serve, stall):
+        """The first gets the place at once when it is free, and keeps it.
+
+        The second is served after it.
+        """
+        box = serve("--at-once", "2", "--per-peer", "1", "--timeout", "600")
+        holder, first, second = stall(box, HALF), stall(box, HALF), stall(box, ECHO)
+        box.until_logged("the peer has as many places as it may have, .* connections wait places 1")
+        holder.close()
+        first.send(ECHO_REQUEST[len(HALF) :])
+        assert first.receive(169) == ECHO_ANSWER[:169]
+        assert second.is_silent(0)
+        first.close()
+        assert echo_answered(second)
+
+
+def test_an_association_that_lasts_too_long(serve):
+    """It is aborted, though the peer sends an echo each 0.2 s."""
+    box = serve("--at-once", "2", "--longest", "2")
+    with box.connect() as peer:
+        answer, end = peer.exchange(ECHO_REQUEST, 169), time.monotonic() + PATIENCE
+        while not answer.endswith(ABORT):
+            assert time.monotonic() < end, "it lasts"
+            if peer.is_silent(0.2):
+                peer.send(ECHO_COMMAND)
+            else:
+                answer += peer.receive(1) or pytest.fail("it is closed without an A-ABORT")
+    box.until_logged(r"in ([2-9]|1\d) s .* aborted: it lasted too long")
+
+
+def test_the_end(serve, stall, stall_in_a_store, put):
+    """A box ends once a file appears.
+
+    Associations without a store are aborted, stores that have begun go on.
+    """
+    stop = put({"stop.txt": b""})
+    options = ("--at-once", "4", "--per-peer", "4", "--stop-file", "stop.txt", "--grace", "8")
+    box = serve(*options)
+    wait_for(lambda: not stop.exists(), "a file that an earlier end left is removed")
+    idle = stall(box, ECHO_REQUEST)
+    assert len(idle.receive(169)) == 169
+    slow, endless = stall_in_a_store(box), stall_in_a_store(box)
+
+    stop.touch()
+    assert idle.rest() == ABORT
+    slow.send(STORES[320:352])
+    answer = slow.rest()
+    assert SUCCESS in answer and answer.endswith(ABORT)
+    assert endless.rest() == ABORT
+    assert box.ended() == 0
+    assert box.files() == ["I0000001"]
+    assert len(re.findall("aborted: the box stops", box.log)) >= 3
+    assert re.search(r"^.INFO .* stopping$", box.log, re.M)
+    assert re.search(r"^.INFO .* stopped$", box.lines[-1])
+    with pytest.raises(OSError):
+        box.connect()
+
+
+def test_one_association_and_the_end(serve):
+    box = serve("--at-once", "4", "--once")
+    answer = box.exchange(ECHO, len(ECHO_ANSWER))
+    assert answer[:1] == b"\2" and answer.endswith(RELEASED)
+    assert box.ended() == 0
+
+
+def test_at_most_5_mb_for_sixteen_associations(serve, senders, stall_in_a_store):
+    """Sixteen senders beside three peers that stall in a store."""
+    box = serve("--at-once", "16", "--per-peer", "16", "--no-sync")
+    for _ in range(3):
+        stall_in_a_store(box)
+    assert [process.wait(PATIENCE) for process in senders(2)] == [0] * 16
+    status = open(f"/proc/{box.pid}/status").read()
+    assert int(re.search(r"VmHWM:\s*(\d+) kB", status)[1]) <= 5120
