@@ -51,7 +51,7 @@ packages:
 # and links name is there, tries the scripts that look, proves every crate and its tests from nothing, runs the tests and
 # the program, tries the wrong bodies, and then tries the program from outside: with invalid arguments and missing files,
 # along docs/TOUR.md, under strace, with the tools of DCMTK, also on compressed images, by what its log tells, with several
-# peers at once, as a Debian package, and as docs/DEPLOY.md has it.
+# peers at once, as a Debian package, and as docs/DEPLOY.md has it. It says of the long steps what they took.
 test: packages
 	tests/layers.sh
 	tests/definitions.py
@@ -63,10 +63,10 @@ test: packages
 	tests/names.py
 	tests/claims.py
 	tests/links.py
-	tests/scripts.py
-	rt ci
-	tools/wrong-bodies
-	$(OUTSIDE) tests/program
+	tools/timed tests/scripts.py
+	tools/timed rt ci
+	tools/timed tools/wrong-bodies
+	tools/timed env $(OUTSIDE) tests/program
 
 # The tests from outside alone: all, those of one file as FILE=log, or those whose name has words, as TEST='log and calling title'.
 outside:
