@@ -111,6 +111,11 @@ class Box:
         wait_for(is_listening, "the box listens")
         return self
 
+    def until_waiting(self):
+        """Waits until it sleeps in a system call, as it does until a connection comes."""
+        stat = pathlib.Path(f"/proc/{self.pid}/stat")
+        wait_for(lambda: stat.read_text().rsplit(")")[-1].split()[0] == "S", "the box waits")
+
     def until_logged(self, pattern, count=1, seconds=PATIENCE):
         """Waits until the pattern is found so many times in the log."""
 

@@ -58,6 +58,14 @@ def work():
         yield pathlib.Path(folder)
 
 
+@pytest.fixture(scope="session")
+def shared():
+    """Makes folders for what several tests use; they go after the last one."""
+    with tempfile.TemporaryDirectory(prefix="dcmbox-") as folder:
+
+        yield lambda name: pathlib.Path(tempfile.mkdtemp(prefix=f"{name}-", dir=folder))
+
+
 @pytest.fixture
 def put(work):
     """Writes files into the folder by their names there, and returns the path of the last one."""
@@ -186,10 +194,10 @@ def samples(put):
 
 
 @pytest.fixture(scope="session")
-def refusing(tmp_path_factory):
+def refusing(shared):
     """What refuses memory to a program that it is loaded before (see refusing.c)."""
     need("cc")
-    library = tmp_path_factory.mktemp("refusing") / "refusing.so"
+    library = shared("refusing") / "refusing.so"
     source = pathlib.Path(__file__).with_name("refusing.c")
     words = ["cc", "-shared", "-fPIC", "-o", library, source]
     subprocess.run(words, check=True, timeout=PATIENCE)

@@ -121,6 +121,7 @@ def test_without_a_free_descriptor_no_connection_is_accepted(serve, form):
     box = serve("--timeout", "30", *form, memory=LITTLE)
     assert box.echoes()
     box.until_logged("received 260 in")
+    box.until_waiting()
     numbers = {int(path.name) for path in pathlib.Path(f"/proc/{box.pid}/fd").iterdir()}
     free = next(number for number in range(1 << 10) if number not in numbers)
     before = resource.prlimit(box.pid, resource.RLIMIT_NOFILE)

@@ -43,9 +43,9 @@ def image_text(number, pixel_data=True):
 
 
 @pytest.fixture(scope="session")
-def made(tmp_path_factory):
+def made(shared):
     """A folder with twenty images, every fourth in Implicit VR, and one without pixels."""
-    work = tmp_path_factory.mktemp("images")
+    work = shared("images")
     (work / "pixels.raw").write_bytes(random.Random(1).randbytes(131072))
     for number in range(1, 21):
         dumped(work, f"image{number}", image_text(number), "+ti" if number % 4 == 0 else "+te")
@@ -216,9 +216,9 @@ OBJECTS = {
 
 
 @pytest.fixture(scope="session")
-def objects(tmp_path_factory):
+def objects(shared):
     """A study of six classes by name; the image's alone is taken without an option."""
-    work = tmp_path_factory.mktemp("study")
+    work = shared("study")
     (work / "pixels.raw").write_bytes(random.Random(2).randbytes(131072))
     document = b"%PDF-1.4\n" + random.Random(3).randbytes(20000) + b"\n%%EOF\n"
     (work / "document.pdf").write_bytes(document + b" " * (len(document) % 2))

@@ -49,9 +49,9 @@ def ramps():
 
 
 @pytest.fixture(scope="session")
-def encoded(tmp_path_factory):
+def encoded(shared):
     """A folder with the images and their pixels, and with each of ENCODED."""
-    work = tmp_path_factory.mktemp("compressed")
+    work = shared("compressed")
     for name, raw in ramps().items():
         (work / f"{name}.raw").write_bytes(raw)
     kinds = {

@@ -48,9 +48,9 @@ def replaced(text, names):
 
 
 @pytest.fixture(scope="session")
-def images(tmp_path_factory):
+def images(shared):
     """Eight images, and one of each class that senders leave out."""
-    work = tmp_path_factory.mktemp("images")
+    work = shared("images")
     made = [dumped(work, f"image{n}", identity(instance=f"2.25.1.{n}")) for n in range(1, 9)]
     rare = [dumped(work, name, identity(name, f"2.25.1.9{n}")) for n, name in enumerate(RARE)]
     return made, rare

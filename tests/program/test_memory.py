@@ -84,6 +84,7 @@ def boxed(serve, refuse):
         words = ("--once", "--timeout", "30", *options)
         box = serve(*words, folder="refused", before=refuse("signals"))
         box.until_logged("listening on")
+        box.until_waiting()
         return box
 
     return started
@@ -144,7 +145,7 @@ def test_an_echo_while_each_allocation_is_refused(boxed, is_refused):
     answer = box.exchange(ECHO, 269)
     box.ended()
     assert is_refused()
-    assert answer[:1] == b"\2" and answer.endswith(RELEASED)
+    assert answer[:1] == b"\2" and answer.endswith(RELEASED), box.log
     box.until_logged('calling "" called "" released contexts 0 of 0')
 
 

@@ -31,10 +31,10 @@ FILES = [
 
 
 @pytest.fixture(scope="session")
-def package(program, tmp_path_factory):
+def package(program, shared):
     """The path of the package."""
     need("strip", "dpkg-deb")
-    folder = tmp_path_factory.mktemp("package")
+    folder = shared("package")
     made = call(ROOT, ROOT / "packaging/make-deb", program, folder).stdout
     return folder / made.strip().rsplit("/")[-1]
 

@@ -81,9 +81,9 @@ def echo_answered(peer):
 
 
 @pytest.fixture(scope="module")
-def sent(tmp_path_factory):
+def sent(shared):
     """The images of each sender, 8 KiB of pixels of their own each."""
-    work = tmp_path_factory.mktemp("sent")
+    work = shared("sent")
     for n in range(SENDERS * EACH):
         (work / "pixels.raw").write_bytes(n.to_bytes(8, "big") * 1024)
         text = identity(instance=f"2.25.1.{n}") + "(7fe0,0010) OW =pixels.raw\n"
@@ -156,7 +156,7 @@ class TestPlaces:
 
     def test_with_all_taken_the_next_connection_waits(self, serve, stall):
         """It is served after the ARTIM timer, and it is told once."""
-        box = serve("--at-once", "2", "--per-peer", "2", "--timeout", "2")
+        box = serve("--at-once", "2", "--per-peer", "2", "--timeout", "5")
         for _ in range(2):
             stall(box, HALF)
         assert echo_answered(stall(box, ECHO, "127.0.0.2"))
