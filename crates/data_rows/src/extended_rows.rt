@@ -71,11 +71,17 @@ fn add_pixels(data: &mut Vec<u8>, basic: &[u32], fragments: &[u8]) -> Result<(),
 
 /// A data set of two fragments that says so.
 fn data_of(alloc: Global, said: TwoFragments<'_>) -> Result<Vec<u8>, AllocError> {
+    let TwoFragments {
+        frames,
+        offsets,
+        lengths,
+        basic,
+    } = said;
     let mut data = Vec::from_slice(alloc, FRAMES)?;
-    data.extend_from_slice(said.frames)?;
-    add_table(&mut data, OFFSETS, said.offsets)?;
-    add_table(&mut data, LENGTHS, said.lengths)?;
-    add_pixels(&mut data, said.basic, FRAGMENTS)?;
+    data.extend_from_slice(frames)?;
+    add_table(&mut data, OFFSETS, offsets)?;
+    add_table(&mut data, LENGTHS, lengths)?;
+    add_pixels(&mut data, basic, FRAGMENTS)?;
     Ok(data)
 }
 
