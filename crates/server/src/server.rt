@@ -144,7 +144,7 @@ impl<'a, R: Log + Clock, S: Files<File = File> + Alloc<A = Global> + Clone + Dro
     }
 
     /// Opens an association over a connection, in a place that its peer got.
-    // Not inlined, as is what ends one: its frame has copies of a seat, of 180 KB each, and is left before the
+    // Not inlined, as is what ends one: its frame has copies of a seat, of some 160 KB each, and is left before the
     // first turn.
     #[inline(never)]
     fn seat(&mut self, accepted: AcceptedStream, place: usize, now: Instant) -> io::Result<()> {
