@@ -238,11 +238,11 @@ def test_one_association_and_the_end(serve):
     assert box.ended() == 0
 
 
-def test_at_most_5_mb_for_sixteen_associations(serve, senders, stall_in_a_store):
+def test_at_most_6_mib_for_sixteen_associations(serve, senders, stall_in_a_store):
     """Sixteen senders beside three peers that stall in a store."""
     box = serve("--at-once", "16", "--per-peer", "16", "--no-sync")
     for _ in range(3):
         stall_in_a_store(box)
     assert [process.wait(PATIENCE) for process in senders(2)] == [0] * 16
     status = open(f"/proc/{box.pid}/status").read()
-    assert int(re.search(r"VmHWM:\s*(\d+) kB", status)[1]) <= 5120
+    assert int(re.search(r"VmHWM:\s*(\d+) kB", status)[1]) <= 6144
