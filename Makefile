@@ -44,7 +44,7 @@ quick:
 packages:
 	@wanted=$$(grep -v '^#' tests/packages.txt); \
 	if [ "$$(dpkg-query -W -f '$${db:Status-Status}\n' $$wanted 2>/dev/null | grep -cx installed)" -ne "$$(echo $$wanted | wc -w)" ]; then \
-		apt-get update && apt-get install -y --no-install-recommends $$wanted; \
+		apt-get update && DEBIAN_FRONTEND=noninteractive apt-get install -y --no-install-recommends $$wanted; \
 	fi
 
 # Looks at what the crates cite of each other, whether the documents that scripts make are fresh and whether what claims
